@@ -1,0 +1,45 @@
+-- Bytes that are read or written piece by piece.
+use Rattle.std.proofs.Common.{◌≡◌, ◌<◌, ◌≤◌, ◌+◌, ℕ, List, [], ◌∷◌, ◌++◌, length, take, drop, min, Option, refl, sym, ◌∙◌, ap, subst, arith, length-drop, length-append, length-take-le}
+use Rattle.std.specs.Io.KnownBytes.{Appends}
+use Rattle.std.proofs.KnownBytes.{Appends-trans}
+use Rattle.std.proofs.Math.Seq.{take-add}
+use Rattle.std.proofs.lemmas.List.{drop-drop, take-append-drop, take_at}
+
+-- the bytes before the rest are written
+pub record AreWritten (old new : Option (List ℕ)) (bytes rest : List ℕ) : Type 0 where
+  pub count : ℕ
+  pub within : count ≤ length bytes
+  pub rest_is : rest ≡ drop count bytes
+  pub taken : Appends old new (take count bytes)
+
+pub written_more : (old mid new : Option (List ℕ)) (bytes rest : List ℕ) (n : ℕ) → n ≤ length rest → Appends mid new (take n rest) → AreWritten old mid bytes rest
+    → AreWritten old new bytes (drop n rest)
+written_more old mid new bytes rest n fits p w =
+    let len : length rest ≡ length (drop w.count bytes) = ap length w.rest_is in
+    let within = w.within in
+    record {
+      count = w.count + n;
+      within = omega (arith, len, length-drop w.count bytes);
+      rest_is = ap (drop n) w.rest_is ∙ drop-drop n w.count bytes;
+      taken = subst (λ (xs : List ℕ). Appends old new xs) (ap (λ xs. take w.count bytes ++ take n xs) w.rest_is ∙ sym (take-add w.count n bytes))
+          (Appends-trans old mid new (take w.count bytes) (take n rest) w.taken p);
+    }
+
+-- a read gives the first of the bytes that are left, and none only at their end
+pub read_takes : (left file into copied rest : List ℕ) (at count piece : ℕ) → left ≡ drop at file → rest ≡ drop at file → copied ≡ take count rest
+    → count ≡ min (min (length rest) (length into)) piece → 0 < piece
+    → (left ≡ take count (copied ++ drop count into) ++ drop (at + count) file) × (count ≡ 0 → 0 < length (copied ++ drop count into) → drop (at + count) file ≡ [])
+read_takes left file into copied rest at count piece is_left is_rest is_copied is_count some =
+    let few : count ≤ length rest = omega arith in
+    let len : length copied ≡ count = ap length is_copied ∙ length-take-le count rest few in (
+      is_left ∙ sym is_rest ∙ sym (take-append-drop count rest) ∙ ap (λ (xs : List ℕ). xs ++ drop count rest) (sym is_copied ∙ sym (take_at copied (drop count into) count len))
+          ∙ ap (λ (xs : List ℕ). take count (copied ++ drop count into) ++ xs) (ap (drop count) is_rest ∙ drop-drop count at file),
+      λ none room.
+          let total : length (copied ++ drop count into) ≡ length copied + length (drop count into) = length-append copied (drop count into) in
+          let all_gone : length rest ≡ 0 = omega (arith, total, length-drop {A = ℕ}) in
+          let past : length rest ≡ length (drop at file) = ap length is_rest in
+          no_items (drop (at + count) file) (omega (arith, past, length-drop at file, length-drop (at + count) file)),
+    ) where
+      no_items : (xs : List ℕ) → length xs ≡ 0 → xs ≡ []
+      no_items [] h = refl
+      no_items (x ∷ xs) h = absurd (omega (arith, h))

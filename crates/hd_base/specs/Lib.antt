@@ -1,0 +1,5 @@
+pub mod Causes
+pub mod Told
+pub mod Calls
+pub mod MemSource
+pub mod MemSink

@@ -1,0 +1,69 @@
+// A source over real files, which tells nothing of their content.
+ghost use Rattle.std.specs.Prelude.{◌≡◌, None, true, false, is_some};
+
+use crate::{Failed, Source};
+use std::fs::OpenOptions;
+use std::io::Read;
+use std::rt::Files;
+
+/// Files of the system. It tells nothing of their content, and counts each fault.
+#[derive(Drop)]
+pub struct FileSource<'a, R: Files> {
+    files: &'a R,
+    file: Option<R::File>,
+    faults: u64,
+}
+
+impl<'a, R: Files> FileSource<'a, R> {
+    /// A source with no file open.
+    pub fn new(files: &'a R) -> Self
+        ensures closed { ⟦<FileSource<'a, R> as Source>⟧.is_open result ≡ false }
+        ensures no_fault { ⟦<FileSource<'a, R> as Source>⟧.faults result ≡ 0 }
+    {
+        FileSource {
+            files,
+            file: None,
+            faults: 0,
+        }
+    }
+}
+
+impl<'a, R: Files> Source for FileSource<'a, R> {
+    ghost is_open = { λ s. is_some s.file };
+
+    ghost faults = { λ s. s.faults };
+
+    ghost allows = { λ _ _. true };
+
+    ghost files = { λ _ _. None };
+
+    ghost left = { λ _. None };
+
+    fn open(&mut self, name: &str) -> Result<(), Failed> {
+        match OpenOptions::new().read(true).open(self.files, name) {
+            Ok(file) => {
+                self.file = Some(file);
+                Ok(())
+            }
+            Err(_) => {
+                self.faults = self.faults.saturating_add(1);
+                Err(Failed)
+            }
+        }
+    }
+
+    fn read(&mut self, into: &mut [u8]) -> Result<usize, Failed> {
+        match &mut self.file {
+            Some(file) => match file.read(into) {
+                Ok(count) => Ok(count),
+                Err(_) => {
+                    self.faults = self.faults.saturating_add(1);
+                    Err(Failed)
+                }
+            },
+            None => unreachable!(),
+        }
+    }
+
+    ghost closed = { λ _ _. tt };
+}

@@ -1,0 +1,24 @@
+//! Lists, and the traits through which the program reads and writes.
+//!
+//! A source or a sink counts its faults, so that a caller can tell which of them a call has met.
+//! Those in memory tell each byte; files and the standard output tell nothing of their content.
+#![tactic(auto)]
+
+mod file_source;
+mod list;
+mod mem_sink;
+mod mem_source;
+mod schedule;
+mod sink;
+mod source;
+mod stdout_sink;
+#[cfg(test)]
+mod tests;
+
+pub use file_source::FileSource;
+pub use list::{List, Memory};
+pub use mem_sink::MemSink;
+pub use mem_source::MemSource;
+pub use sink::{Sink, WriteFault, write_all};
+pub use source::{Failed, ReadError, Source, read_all};
+pub use stdout_sink::StdoutSink;

@@ -1,0 +1,55 @@
+// Which calls of a source or a sink in memory fail.
+ghost use Rattle.std.specs.Prelude.{◌≡◌, ◌↔◌, IsErr};
+ghost use Rattle.std.specs.List.{Contains};
+ghost use Rattle.hd_base.specs.Calls.{next_number};
+ghost use Rattle.hd_base.specs.Causes.{HasCause};
+
+use crate::{Failed, List};
+
+/// Numbers the calls from 0, fails those that are listed, and counts the faults. Both numbers stay
+/// at their last value.
+#[derive(Drop)]
+pub(crate) struct Schedule {
+    fails: List<u64>,
+    calls: u64,
+    faults: u64,
+}
+
+impl Schedule {
+    /// Fails the calls of these numbers.
+    pub(crate) fn new(fails: List<u64>) -> Self
+        ensures { result ≡ record { fails = fails; calls = 0; faults = 0 } }
+    {
+        Schedule {
+            fails,
+            calls: 0,
+            faults: 0,
+        }
+    }
+
+    /// Begins the next call. Where its number is listed, it fails.
+    pub(crate) fn begin(&mut self) -> Result<(), Failed>
+        ensures listed { IsErr result ↔ Contains self.old.fails self.old.calls }
+        ensures number { self.new.calls ≡ next_number self.old.calls }
+        ensures fails { self.new.fails ≡ self.old.fails }
+        ensures cause { HasCause self.old.faults self.new.faults result }
+    {
+        let fails = self.fails.as_slice().contains(&self.calls);
+        self.calls = self.calls.saturating_add(1);
+        if fails {
+            return self.fail();
+        }
+        Ok(())
+    }
+
+    /// Counts a fault, and answers it.
+    pub(crate) fn fail<T>(&mut self) -> Result<T, Failed>
+        ensures err { IsErr result }
+        ensures calls { self.new.calls ≡ self.old.calls }
+        ensures fails { self.new.fails ≡ self.old.fails }
+        ensures cause { HasCause self.old.faults self.new.faults result }
+    {
+        self.faults = self.faults.saturating_add(1);
+        Err(Failed)
+    }
+}

@@ -1,0 +1,117 @@
+-- Positions, present points, their ranks and neighbours.
+use Rattle.std.proofs.Common.{ℕ, ◌≡◌, ◌<◌, ◌≤◌, ◌+◌, ◌/◌, ◌%◌, Bool, true, false, ◌⊎◌, inl, inr, ap, ◌∙◌, sym, refl, arith}
+use Rattle.std.proofs.Math.Nat.{mul-le-mul_right}
+use Rattle.std.proofs.lemmas.Bool.{cases_lt}
+use Rattle.std.proofs.lemmas.Nat.{same_from_place}
+use Rattle.hd_map.specs.declared.types.Pos.{Pos}
+use Rattle.hd_map.specs.declared.types.Size.{Size}
+use Rattle.hd_map.specs.declared.types.Rank.{Rank}
+use Rattle.hd_map.specs.declared.types.Cell.{Cell}
+use Rattle.hd_map.specs.declared.types.Cell.TheVariants.{Height, Bad}
+use Rattle.hd_map.specs.Map.{Map, InGrid, IsMeasured, Present, cell_at, mask_at, place_of, cell_count}
+use Rattle.hd_map.specs.Neighbour.{Neighbour}
+use Rattle.hd_map.specs.Rank.{IsPoint, Near, rank}
+use Rattle.hd_map.proofs.Gather.{same_pos}
+
+-- the index of a position is less than the number of cells
+pub place_inside : (s : Size) (p : Pos) → InGrid s p → place_of s p < cell_count s
+place_inside s p inside = let row : p.y + 1 ≤ s.profiles = omega (arith, inside.profile) in omega (arith, inside.column, mul-le-mul_right s.points row)
+
+-- one index has one position
+pub same_place : (s : Size) (p q : Pos) → InGrid s p → InGrid s q → place_of s p ≡ place_of s q → p ≡ q
+same_place s p q here there e = let at = same_from_place p.y p.x q.y q.x s.points here.column there.column e in same_pos p q at.1 at.0
+
+-- a position is in the grid if its column is, and its index is less than the number of cells
+pub inside_place : (s : Size) (p : Pos) → p.x < s.points → place_of s p < cell_count s → InGrid s p
+inside_place s p column below = record {
+  column = column;
+  profile = elim (cases_lt p.y s.profiles) [
+    | inl row ↦ row
+    | inr past ↦ absurd (omega (arith, below, mul-le-mul_right s.points past))
+  ];
+}
+
+-- the position of an index
+abbrev pub pos_at : Size → ℕ → Pos
+pos_at s k = record { x = k % s.points; y = k / s.points }
+
+-- the index of the position of an index is that index
+pub pos_at-place : (s : Size) (k : ℕ) → 1 ≤ s.points → place_of s (pos_at s k) ≡ k
+pos_at-place s k some = omega (arith, some)
+
+-- the position of an index is in the grid
+pub pos_at-inside : (s : Size) (k : ℕ) → 1 ≤ s.points → k < cell_count s → InGrid s (pos_at s k)
+pos_at-inside s k some below = inside_place s (pos_at s k) (omega (arith, some)) (rw (pos_at-place s k some) below)
+
+-- the index of a position has that position
+pub pos_at-of : (s : Size) (p : Pos) → InGrid s p → pos_at s (place_of s p) ≡ p
+pos_at-of s p inside =
+    let some : 1 ≤ s.points = omega (arith, inside.column) in
+    same_place s (pos_at s (place_of s p)) p (pos_at-inside s (place_of s p) some (place_inside s p inside)) inside (pos_at-place s (place_of s p) some)
+
+-- one rank has one position
+pub same_point : (m : Map) (p q : Pos) → Present m p → Present m q → rank m p ≡ rank m q → p ≡ q
+same_point m p q here there e = same_place m.size p q here.in_grid there.in_grid (ap (λ (r : Rank). r.index) e)
+
+-- points of one index are one
+pub same_index : (m : Map) (a b : Rank) → IsPoint m a → IsPoint m b → a.index ≡ b.index → a ≡ b
+same_index m a b one other e =
+    let places : place_of m.size one.at ≡ place_of m.size other.at = ap (λ (r : Rank). r.index) (sym one.rank_is) ∙ e ∙ ap (λ (r : Rank). r.index) other.rank_is in
+    one.rank_is ∙ ap (rank m) (same_place m.size one.at other.at one.present.in_grid other.present.in_grid places) ∙ sym other.rank_is
+
+-- whether a cell is measured
+measured_or_not : (c : Cell) → IsMeasured c ⊎ (IsMeasured c → ⊥)
+measured_or_not (Height h) = inl tt
+measured_or_not Bad = inr (λ no. no)
+
+-- whether a mask is clear
+clear_or_not : (b : Bool) → (b ≡ false) ⊎ (b ≡ false → ⊥)
+clear_or_not false = inl refl
+clear_or_not true = inr (λ e. cc)
+
+-- each position of the grid has a present point, or none
+pub present_or_not : (m : Map) (p : Pos) → InGrid m.size p → Present m p ⊎ (Present m p → ⊥)
+present_or_not m p inside = elim (measured_or_not (cell_at m p)) [
+  | inl measured ↦ elim (clear_or_not (mask_at m p)) [
+    | inl clear ↦ inl (record { in_grid = inside; measured = measured; shown = clear })
+    | inr masked ↦ inr (λ here. masked here.shown)
+  ]
+  | inr bad ↦ inr (λ here. bad here.measured)
+]
+
+-- the rank of a present point is that of a point
+pub point_at : (m : Map) (p : Pos) → Present m p → IsPoint m (rank m p)
+point_at m p here = record { at = p; present = here; rank_is = refl }
+
+-- neighbours are so both ways
+pub Neighbour-sym : (m : Map) (p q : Pos) → Neighbour m p q → Neighbour m q p
+Neighbour-sym m p q n = record {
+  from = n.to;
+  to = n.from;
+  columns = (n.columns.1, n.columns.0);
+  rows = (n.rows.1, n.rows.0);
+  different = λ e. n.different (sym e);
+}
+
+-- points that are near are so both ways
+pub Near-sym : (m : Map) (a b : Rank) → Near m a b → Near m b a
+Near-sym m a b n = record { from = n.to; to = n.from; neighbour = Neighbour-sym m n.from n.to n.neighbour; from_rank = n.to_rank; to_rank = n.from_rank }
+
+-- what has a near one is a point
+pub Near-from : (m : Map) (a b : Rank) → Near m a b → IsPoint m a
+Near-from m a b n = record { at = n.from; present = n.neighbour.from; rank_is = n.from_rank }
+
+-- what is near is a point
+pub Near-to : (m : Map) (a b : Rank) → Near m a b → IsPoint m b
+Near-to m a b n = record { at = n.to; present = n.neighbour.to; rank_is = n.to_rank }
+
+-- the ranks of two neighbours are near
+pub Near-at : (m : Map) (p q : Pos) → Neighbour m p q → Near m (rank m p) (rank m q)
+Near-at m p q n = record { from = p; to = q; neighbour = n; from_rank = refl; to_rank = refl }
+
+-- the positions of two near points are neighbours
+pub Neighbour-of : (m : Map) (p q : Pos) → Present m p → Present m q → Near m (rank m p) (rank m q) → Neighbour m p q
+Neighbour-of m p q here there n =
+    let from : n.from ≡ p = same_point m n.from p n.neighbour.from here (sym n.from_rank) in
+    let to : n.to ≡ q = same_point m n.to q n.neighbour.to there (sym n.to_rank) in
+    rw (from, to) at n.neighbour

@@ -1,0 +1,98 @@
+-- The map that a grid is seen as, and its present points.
+use Rattle.std.specs.Prelude.{◌≡◌, ◌<◌, ◌≤◌, ◌≤ℤ◌, ◌+◌, ◌*◌, ℕ, ℤ, pos, negsuc, Bool, true, false, List, length, slice_index_or, Option, Some, None}
+use Rattle.hd_map.specs.declared.types.Pos.{Pos}
+use Rattle.hd_map.specs.declared.types.Size.{Size}
+use Rattle.hd_map.specs.declared.types.Cell.{Cell}
+use Rattle.hd_map.specs.declared.types.Cell.TheVariants.{Height, Bad}
+use Rattle.hd_map.specs.declared.types.DataType.{DataType}
+use Rattle.hd_map.specs.declared.types.DataType.TheVariants.{U8, U16, U32, I8, I16, I32}
+
+-- a sampled surface: its size, the type of its heights, and its cells and masks by index
+pub record Map : Type 0 where
+  pub size : Size
+  pub data_type : DataType
+  pub cells : List Cell
+  pub masks : List Bool
+
+-- how many cells a map of this size has
+abbrev pub cell_count : Size → ℕ
+cell_count s = s.profiles * s.points
+
+-- the position lies in a grid of this size
+pub record InGrid (s : Size) (p : Pos) : Type 0 where
+  pub column : p.x < s.points
+  pub profile : p.y < s.profiles
+
+-- the index of a position in the lists of a map
+abbrev pub place_of : Size → Pos → ℕ
+place_of s p = p.y * s.points + p.x
+
+-- the least height of a data type
+abbrev pub least_height : DataType → ℤ
+least_height U8 = pos 0
+least_height U16 = pos 0
+least_height U32 = pos 0
+least_height I8 = negsuc 127
+least_height I16 = negsuc 32767
+least_height I32 = negsuc 2147483647
+
+-- the greatest height of a data type
+abbrev pub greatest_height : DataType → ℤ
+greatest_height U8 = pos 255
+greatest_height U16 = pos 65535
+greatest_height U32 = pos 4294967295
+greatest_height I8 = pos 127
+greatest_height I16 = pos 32767
+greatest_height I32 = pos 2147483647
+
+-- a height of the type, or none
+abbrev pub IsCellOf : DataType → Cell → Type 0
+IsCellOf t c = (h : ℤ) → c ≡ Height h → (least_height t ≤ℤ h) × (h ≤ℤ greatest_height t)
+
+-- the limits of a map's size
+pub record IsSize (s : Size) : Type 0 where
+  pub some_points : 1 ≤ s.points
+  pub points : s.points ≤ 65535
+  pub some_profiles : 1 ≤ s.profiles
+  pub profiles : s.profiles ≤ 65535
+  pub cells : s.profiles * s.points ≤ 4194304
+
+-- each cell is of the data type
+abbrev pub AreCellsOf : DataType → List Cell → Type 0
+AreCellsOf t cells = (k : ℕ) → k < length cells → IsCellOf t (slice_index_or cells k Bad)
+
+-- the size is within the limits, the lists are of that size, and the heights are of the type
+pub record IsMap (m : Map) : Type 0 where
+  pub size : IsSize m.size
+  pub cells : length m.cells ≡ cell_count m.size
+  pub masks : length m.masks ≡ cell_count m.size
+  pub heights : AreCellsOf m.data_type m.cells
+
+-- the cell at a position
+abbrev pub cell_at : Map → Pos → Cell
+cell_at m p = slice_index_or m.cells (place_of m.size p) Bad
+
+-- whether the position is masked
+abbrev pub mask_at : Map → Pos → Bool
+mask_at m p = slice_index_or m.masks (place_of m.size p) false
+
+-- the height of a cell that is measured and not masked
+abbrev pub shown_height : Cell → Bool → Option ℤ
+shown_height (Height h) false = Some h
+shown_height (Height h) true = None
+shown_height Bad masked = None
+
+-- the height of a measured cell
+abbrev pub height_or_zero : Cell → ℤ
+height_or_zero (Height h) = h
+height_or_zero Bad = pos 0
+
+abbrev pub IsMeasured : Cell → Type 0
+IsMeasured (Height h) = Unit {0}
+IsMeasured Bad = ⊥
+
+-- a point is present if its cell is a height and its mask is not set
+pub record Present (m : Map) (p : Pos) : Type 0 where
+  pub in_grid : InGrid m.size p
+  pub measured : IsMeasured (cell_at m p)
+  pub shown : mask_at m p ≡ false

@@ -1,0 +1,125 @@
+// A grid that is seen as a map.
+ghost use Rattle.std.specs.Prelude.{◌≡◌, ◌<◌, ◌^◌, ◌/◌, ◌%◌, ℕ, ◌↔◌, IsTrue};
+ghost use Rattle.hd_map.specs.Map.{Map, IsMap, IsSize, InGrid, Present, place_of, cell_count, cell_at, mask_at, shown_height};
+ghost use Rattle.hd_map.specs.Rank.{rank};
+ghost use Rattle.hd_map.specs.Sets.{SetsCell, SetsMask, CountsChange};
+
+use crate::{Cell, DataType, MapError, Pos, Rank, Size};
+
+/// A rectangular grid of whole-number heights, some of them not measured and some masked. It is
+/// seen as a map (a sampled surface after ISO 25178-2).
+pub trait Grid {
+    /// The map that it is seen as.
+    ghost map: { Self → Map };
+
+    /// Whether the second grid comes from the first by sets.
+    ghost comes_from: { Self → Self → Type 0 };
+
+    /// How many changes it has counted.
+    ghost changes: { Self → ℕ };
+
+    /// How many points and profiles it has.
+    fn size(&self) -> Size
+        ensures { result ≡ (map self.now).size };
+
+    /// The type of its heights.
+    fn data_type(&self) -> DataType
+        ensures { result ≡ (map self.now).data_type };
+
+    /// The cell at a position, whether it is masked or not.
+    fn cell(&self, at: Pos) -> Cell
+        requires { InGrid (map self.now).size at }
+        ensures { result ≡ cell_at (map self.now) at };
+
+    /// Whether a position is masked.
+    fn masked(&self, at: Pos) -> bool
+        requires { InGrid (map self.now).size at }
+        ensures { result ≡ mask_at (map self.now) at };
+
+    /// Sets the cell at a position; the mask stays. `Outside` comes exactly where the position is
+    /// not in the grid, else `HeightRange` exactly where the height is not of the data type.
+    fn set_cell(&mut self, at: Pos, cell: Cell) -> Result<(), MapError>
+        requires { changes self.old < 2 ^ 63 }
+        ensures sets { SetsCell (map self.old) at cell result (map self.new) }
+        ensures origin { comes_from self.old self.new }
+        ensures count { CountsChange (map self.old) (map self.new) (changes self.old) (changes self.new) };
+
+    /// Sets the mask at a position; the cell stays. `Outside` comes exactly where the position is
+    /// not in the grid.
+    fn set_mask(&mut self, at: Pos, masked: bool) -> Result<(), MapError>
+        requires { changes self.old < 2 ^ 63 }
+        ensures sets { SetsMask (map self.old) at masked result (map self.new) }
+        ensures origin { comes_from self.old self.new }
+        ensures count { CountsChange (map self.old) (map self.new) (changes self.old) (changes self.new) };
+
+    /// The size is within the limits, the lists are of that size, and the heights are of the type.
+    ghost whole: { (grid : Self) → IsMap (map grid) };
+
+    /// Each grid comes from itself.
+    ghost itself: { (grid : Self) → comes_from grid grid };
+
+    /// What comes from a grid that comes from another comes from that other.
+    ghost onward: { (a b c : Self) → comes_from a b → comes_from b c → comes_from a c };
+}
+
+/// Whether the position lies in a grid of this size.
+pub fn contains(size: Size, at: Pos) -> bool
+    ensures { IsTrue result ↔ InGrid size at }
+{
+    at.x < size.points && at.y < size.profiles
+}
+
+/// The index of a position in a grid of this size: profile by profile, column by column.
+pub fn index_of(size: Size, at: Pos) -> u32
+    requires limits { IsSize size }
+    requires in_grid { InGrid size at }
+    ensures value { result ≡ place_of size at }
+    ensures in_map { result < cell_count size }
+{
+    at.y * size.points + at.x
+}
+
+/// The position of an index in a grid of this size.
+pub fn position_of(size: Size, index: u32) -> Pos
+    requires { index < cell_count size }
+    ensures in_grid { InGrid size result }
+    ensures column { result.x ≡ index % size.points }
+    ensures profile { result.y ≡ index / size.points }
+    ensures value { place_of size result ≡ index }
+{
+    Pos {
+        x: index % size.points,
+        y: index / size.points,
+    }
+}
+
+/// The height of a present point in steps, and none where the point is not present.
+pub fn height<G: Grid>(grid: &G, at: Pos) -> Option<i64>
+    requires { InGrid (G.map grid.now).size at }
+    ensures { result ≡ shown_height (cell_at (G.map grid.now) at) (mask_at (G.map grid.now) at) }
+{
+    match grid.cell(at) {
+        Cell::Height(height) if !grid.masked(at) => Some(height),
+        _ => None,
+    }
+}
+
+/// Whether the point is present: measured and not masked.
+pub fn is_present<G: Grid>(grid: &G, at: Pos) -> bool
+    requires { InGrid (G.map grid.now).size at }
+    ensures { IsTrue result ↔ Present (G.map grid.now) at }
+{
+    height(grid, at).is_some()
+}
+
+/// The rank of a present point.
+pub fn rank_of<G: Grid>(grid: &G, at: Pos) -> Rank
+    requires { Present (G.map grid.now) at }
+    ensures { result ≡ rank (G.map grid.now) at }
+{
+    let index = index_of(grid.size(), at);
+    match grid.cell(at) {
+        Cell::Height(height) => Rank { height, index },
+        Cell::Bad => unreachable!(),
+    }
+}

@@ -1,0 +1,49 @@
+// The neighbours of a point.
+ghost use Rattle.std.specs.Prelude.{◌≡◌, ◌<◌, ◌≤◌, ◌+◌, ◌↔◌, ℕ, MatchOption, map};
+ghost use Rattle.std.specs.List.{Contains, AllPairs};
+ghost use Rattle.hd_map.specs.Map.{InGrid, Present, place_of};
+ghost use Rattle.hd_map.specs.Neighbour.{Neighbour};
+
+use crate::{Grid, Pos, contains, is_present};
+use smallvec::SmallVec;
+use std::alloc::Global;
+
+/// The neighbours of a present point, in position order.
+pub fn neighbours<G: Grid>(alloc: Global, grid: &G, at: Pos) -> SmallVec<Pos, 8>
+    requires { Present (G.map grid.now) at }
+    ensures all { (q : _) → Contains result.items q ↔ Neighbour (G.map grid.now) at q }
+    ensures ordered { AllPairs (λ a b. place_of (G.map grid.now).size a < place_of (G.map grid.now).size b) result.items }
+{
+    let mut found = SmallVec::new(alloc);
+    for step in 0..9u32 {
+        if step != 4 {
+            if let Some(q) = present_at(grid, at, step % 3, step / 3) {
+                found.push_reserved(q);
+            }
+        }
+    }
+    found
+}
+
+// The point at a step, if one is present there.
+fn present_at<G: Grid>(grid: &G, at: Pos, x: u32, y: u32) -> Option<Pos>
+    requires near { InGrid (G.map grid.now).size at }
+    requires x { x ≤ 2 }
+    requires y { y ≤ 2 }
+    ensures { MatchOption result ((q : _) → q.x + 1 ≡ at.x + x → q.y + 1 ≡ at.y + y → Present (G.map grid.now) q → ⊥)
+        (λ q. (q.x + 1 ≡ at.x + x) × (q.y + 1 ≡ at.y + y) × Present (G.map grid.now) q) }
+{
+    let size = grid.size();
+    if at.x + x == 0 || at.y + y == 0 {
+        return None;
+    }
+    let q = Pos {
+        x: at.x + x - 1,
+        y: at.y + y - 1,
+    };
+    if contains(size, q) && is_present(grid, q) {
+        Some(q)
+    } else {
+        None
+    }
+}

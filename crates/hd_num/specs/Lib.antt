@@ -1,0 +1,4 @@
+pub mod Lines
+pub mod Span
+pub mod Text
+pub mod Whole

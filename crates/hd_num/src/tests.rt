@@ -1,0 +1,160 @@
+// What no clause says: the outcomes that the rules give for words and texts from outside.
+use crate::{
+    Whole, next_line, push_text, push_unsigned, push_whole, read_count, read_whole, split_words,
+};
+use hd_base::List;
+use std::test::Fail;
+
+#[test]
+fn words_as_whole_numbers(rt: HostRuntime) -> Result<(), Fail> {
+    let cases: [(&[u8], Whole); 38] = [
+        (b"0", Whole::Is(0)),
+        (b"5", Whole::Is(5)),
+        (b"+5", Whole::Is(5)),
+        (b"-5", Whole::Is(-5)),
+        (b"-0", Whole::Is(0)),
+        (b"+0", Whole::Is(0)),
+        (b"007", Whole::Is(7)),
+        (b"-007", Whole::Is(-7)),
+        (b"-32768", Whole::Is(-32_768)),
+        (b"9223372036854775807", Whole::Is(9_223_372_036_854_775_807)),
+        (b"9223372036854775808", Whole::Outside),
+        (b"+9223372036854775808", Whole::Outside),
+        (
+            b"-9223372036854775807",
+            Whole::Is(-9_223_372_036_854_775_807),
+        ),
+        (b"-9223372036854775808", Whole::Is(i64::MIN)),
+        (b"-9223372036854775809", Whole::Outside),
+        (b"18446744073709551615", Whole::Outside),
+        (b"18446744073709551616", Whole::Outside),
+        (b"18446744073709551621", Whole::Outside),
+        (b"-18446744073709551617", Whole::Outside),
+        (b"123456789012345678901234567890", Whole::Outside),
+        (b"-123456789012345678901234567890", Whole::Outside),
+        (b"00000000000000000000000000000000000000007", Whole::Is(7)),
+        (b"-0000000000000000000000000000005", Whole::Is(-5)),
+        (b"", Whole::Not),
+        (b"+", Whole::Not),
+        (b"-", Whole::Not),
+        (b"--1", Whole::Not),
+        (b"+-5", Whole::Not),
+        (b"-+5", Whole::Not),
+        (b"1 ", Whole::Not),
+        (b" 1", Whole::Not),
+        (b"1-", Whole::Not),
+        (b"1.0", Whole::Not),
+        (b"0x1", Whole::Not),
+        (b"1e3", Whole::Not),
+        (b"\xB2\xB3", Whole::Not),
+        (b"1\x00", Whole::Not),
+        (b"99999999999999999999999999a", Whole::Not),
+    ];
+    for (word, outcome) in &cases {
+        assert_eq!(rt; read_whole(word), *outcome, "at {word:?}");
+    }
+    Ok(())
+}
+
+#[test]
+fn long_words(rt: HostRuntime) -> Result<(), Fail> {
+    let mut word = vec![in rt.alloc(); b'9'; 4000]?;
+    assert_eq!(rt; read_whole(word.as_slice()), Whole::Outside);
+    word.push(b'x')?;
+    assert_eq!(rt; read_whole(word.as_slice()), Whole::Not);
+    let mut zeros = vec![in rt.alloc(); b'0'; 4000]?;
+    zeros.push(b'5')?;
+    assert_eq!(rt; read_whole(zeros.as_slice()), Whole::Is(5));
+    assert_eq!(rt; read_count(zeros.as_slice()), Some(5));
+    Ok(())
+}
+
+#[test]
+fn words_as_counts(rt: HostRuntime) {
+    let cases: [(&[u8], Option<u32>); 9] = [
+        (b"0", Some(0)),
+        (b"007", Some(7)),
+        (b"4294967295", Some(4_294_967_295)),
+        (b"4294967296", None),
+        (b"18446744073709551617", None),
+        (b"", None),
+        (b"+1", None),
+        (b"-0", None),
+        (b"1,0", None),
+    ];
+    for (word, count) in &cases {
+        assert_eq!(rt; read_count(word), *count, "at {word:?}");
+    }
+}
+
+// The lines of a text, each with `|` after it.
+fn barred_lines(rt: &HostRuntime, text: &[u8]) -> Result<Vec<u8>, Fail> {
+    let mut out = List::new(rt.alloc());
+    let mut from = 0;
+    'lines: while let Some((span, next)) = next_line(text, from) {
+        push_text(&mut out, &text[span.start..span.end])?;
+        push_text(&mut out, b"|")?;
+        from = next;
+    }
+    Ok(out.into_vec())
+}
+
+#[test]
+fn lines_of_texts(rt: HostRuntime) -> Result<(), Fail> {
+    let cases: [(&[u8], &[u8]); 8] = [
+        (b"", b""),
+        (b"\n", b"|"),
+        (b"\n\n", b"||"),
+        (b"a", b"a|"),
+        (b"a\n", b"a|"),
+        (b"a\nbc", b"a|bc|"),
+        (b"\na\n\nb\n", b"|a||b|"),
+        (b"a\r\nb\r", b"a\r|b\r|"),
+    ];
+    for (text, lines) in &cases {
+        assert_eq!(rt; barred_lines(&rt, text)?.as_slice(), *lines, "at {text:?}");
+    }
+    Ok(())
+}
+
+// The words of a line, each with `|` after it.
+fn barred_words(rt: &HostRuntime, line: &[u8]) -> Result<Vec<u8>, Fail> {
+    let mut out = List::new(rt.alloc());
+    for span in split_words(rt.alloc(), line)?.as_slice() {
+        let word = line.get(span.start..span.end).ok_or("not within the line")?;
+        push_text(&mut out, word)?;
+        push_text(&mut out, b"|")?;
+    }
+    Ok(out.into_vec())
+}
+
+#[test]
+fn words_of_lines(rt: HostRuntime) -> Result<(), Fail> {
+    let cases: [(&[u8], &[u8]); 8] = [
+        (b"", b""),
+        (b" \t\r", b""),
+        (b"a", b"a|"),
+        (b"set 1 2", b"set|1|2|"),
+        (b"  a\t\tbc \r", b"a|bc|"),
+        (b"a\rb", b"a|b|"),
+        (b"a\x0Bb\x00c d", b"a\x0Bb\x00c|d|"),
+        (b"\xC2\xA0 \xFF", b"\xC2\xA0|\xFF|"),
+    ];
+    for (line, words) in &cases {
+        assert_eq!(rt; barred_words(&rt, line)?.as_slice(), *words, "at {line:?}");
+    }
+    Ok(())
+}
+
+#[test]
+fn printed_numbers(rt: HostRuntime) -> Result<(), Fail> {
+    let mut out = List::new(rt.alloc());
+    for n in [0, 7, -7, i64::MAX, i64::MIN] {
+        push_whole(&mut out, n)?;
+        push_text(&mut out, b" ")?;
+    }
+    push_unsigned(&mut out, u64::MAX)?;
+    let text: &[u8] = b"0 7 -7 9223372036854775807 -9223372036854775808 18446744073709551615";
+    assert_eq!(rt; out.as_slice(), text);
+    Ok(())
+}

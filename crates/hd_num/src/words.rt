@@ -1,0 +1,39 @@
+// The words of a line.
+ghost use Rattle.std.specs.Prelude.{◌≡◌, ◌≤◌, All, IfOk, length, map};
+ghost use Rattle.hd_num.specs.Lines.{IsPieceEnd, is_blank, words_of};
+ghost use Rattle.hd_num.specs.Span.{IsPart, text_at};
+
+use crate::Span;
+use bstr::ByteSlice;
+use hd_base::{List, Memory};
+use std::alloc::Global;
+
+/// The words of a line in order: its longest runs of bytes that are not blanks. A blank is a
+/// space, a tab or a carriage return. `Memory` comes where the list is refused its memory.
+pub fn split_words(alloc: Global, line: &[u8]) -> Result<List<Span>, Memory>
+    ensures words { IfOk result (λ words. map (text_at line.now) words ≡ words_of line.now) }
+    ensures parts { IfOk result (λ words. All (IsPart line.now) words) }
+{
+    let mut words = List::new(alloc);
+    let mut start = 0;
+    'pieces: while start < line.len() {
+        let end = word_end(line, start);
+        if start < end {
+            words.push(Span { start, end })?;
+        }
+        start = end + 1;
+    }
+    Ok(words)
+}
+
+// The index of the first blank from an index on, or the length of the line.
+fn word_end(line: &[u8], from: usize) -> usize
+    requires { from ≤ length line.now }
+    ensures { IsPieceEnd is_blank line.now from result }
+{
+    let rest = &line[from..];
+    match rest.find_byteset(b" \t\r") {
+        Some(count) => from + count,
+        None => line.len(),
+    }
+}

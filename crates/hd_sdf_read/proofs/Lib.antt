@@ -1,0 +1,7 @@
+mod Cells
+mod Files
+mod Header
+mod Integers
+mod Numbers
+mod Options
+mod Tokens

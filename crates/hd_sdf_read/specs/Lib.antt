@@ -1,0 +1,4 @@
+pub mod Data
+pub mod Header
+pub mod Plain
+pub mod Reading

@@ -1,0 +1,4 @@
+pub mod Round
+pub mod Ways
+pub mod Tracing
+pub mod Unmeasured

@@ -1,0 +1,26 @@
+-- The texts that the program prints beside its answers, each line ended by LF.
+use Rattle.std.specs.Prelude.{◌++◌, ◌^◌, ℕ, List, [], ◌∷◌, codes}
+
+-- a line
+abbrev pub line : List ℕ → List ℕ
+line text = text ++ 10 ∷ []
+
+unfoldable pub usage_text : List ℕ
+usage_text =
+    line (codes "usage: hilldale dales SURFACE")
+    ++ line (codes "usage: hilldale run SURFACE SCRIPT [--tile N] [--save OUT]")
+    ++ line (codes "usage: hilldale check SURFACE CERT")
+    ++ line (codes "usage: hilldale demo W H NUMBER EDITS [--tile N]")
+
+unfoldable pub too_long_text : List ℕ
+too_long_text = line (codes "surface refused: file too long")
+
+unfoldable pub not_plain_text : List ℕ
+not_plain_text = line (codes "surface refused: not a plain file")
+
+unfoldable pub read_fault_text : List ℕ
+read_fault_text = line (codes "read fault")
+
+-- the greatest length of a surface file
+abbrev pub surface_limit : ℕ
+surface_limit = 268435456

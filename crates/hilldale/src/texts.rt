@@ -1,0 +1,20 @@
+// The texts that the program prints beside its answers.
+
+/// The words that the program takes.
+pub const USAGE: &str = "usage: hilldale dales SURFACE
+usage: hilldale run SURFACE SCRIPT [--tile N] [--save OUT]
+usage: hilldale check SURFACE CERT
+usage: hilldale demo W H NUMBER EDITS [--tile N]
+";
+
+/// A surface file with more bytes than the limit.
+pub const SURFACE_TOO_LONG: &str = "surface refused: file too long\n";
+
+/// A surface file that is not plain.
+pub const NOT_PLAIN: &str = "surface refused: not a plain file\n";
+
+/// A source that failed.
+pub const READ_FAULT: &str = "read fault\n";
+
+/// The greatest number of bytes of a surface file.
+pub const SURFACE_LIMIT: usize = 268_435_456;
