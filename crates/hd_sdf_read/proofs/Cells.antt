@@ -20,6 +20,7 @@ pub record Parts (tokens : List (List ℕ)) (k : ℕ) (token : List ℕ) (rest :
   pub more : take (k + 1) tokens ≡ take k tokens ++ token ∷ []
   pub left : drop (k + 1) tokens ≡ rest
 
+-- the first of those that are left is the element at the place
 pub parts : (tokens : List (List ℕ)) (k : ℕ) (token : List ℕ) (rest : List (List ℕ)) → drop k tokens ≡ token ∷ rest → Parts tokens k token rest
 parts tokens k token rest e = elim (cases_lt k (length tokens)) [
   | inl inside ↦
@@ -39,6 +40,7 @@ no_data test tokens k count before wrong = elim (cases_lt k (length tokens)) [
   | inr past ↦ let none : is_end (drop count tokens) ≡ false = rw (drop_all count tokens (omega arith)) refl in and_right _ _ none
 ]
 
+-- what the test says
 int_le-true : (a b : ℤ) → int_le a b ≡ true → a ≤ℤ b
 int_le-true a b e = grind (arith, ints)
 

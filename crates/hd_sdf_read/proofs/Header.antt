@@ -8,10 +8,12 @@ use Rattle.hd_map.specs.declared.types.DataType.{DataType}
 use Rattle.hd_sdf_read.specs.Header.{lines, begins, has, is_extent, is_type, size_at, type_at, name_lines, extent_lines, scale_lines, encoding_lines, header_lines, data_text}
 use Rattle.hd_sdf_read.specs.Reading.{Skips, SkipsAll, SkipsEntry, SkipsExtent, SkipsType}
 
+-- `&&` may be grouped either way
 and_assoc : (a b c : Bool) → (a && (b && c)) ≡ (a && b && c)
 and_assoc true b c = refl
 and_assoc false b c = refl
 
+-- what is false with `true` is false with anything
 stays_false : (a b : Bool) → (a && true) ≡ false → (a && b) ≡ false
 stays_false true b wrong = absurd (true≢false wrong)
 stays_false false b wrong = refl
@@ -50,10 +52,12 @@ begins_stops rule others (line ∷ ls) wrong = stays_false (ltb 0 (length ls) &&
 pub begins_goes : {rule : List ℕ → Bool} {text rest : List ℕ} (others : List (List ℕ → Bool)) → Skips rule text rest → begins (rule ∷ others) (lines text) ≡ begins others (lines rest)
 begins_goes {rule} {text} {rest} others skips = begins_line rule others text rest skips.line skips.lines_are ∙ rw skips.met refl
 
+-- no rule takes no line
 pub skips_none : {text : List ℕ} → SkipsAll [] text text
 unfolding begins
 skips_none = record { met = refl; lines_are = refl }
 
+-- one more rule takes the line before
 pub skips_more : {rule : List ℕ → Bool} {others : List (List ℕ → Bool)} {text middle rest : List ℕ} → Skips rule text middle → SkipsAll others middle rest → SkipsAll (rule ∷ others) text rest
 skips_more {others = others} first then = record { met = begins_goes others first ∙ then.met; lines_are = then.lines_are ∙ rw first.lines_are refl }
 
@@ -68,9 +72,11 @@ begins_append (rule ∷ rules) others (line ∷ lines) = rw (begins_append rules
 pub skips_entry : {key text rest value : List ℕ} (is_value : List ℕ → Bool) → SkipsEntry key text rest value → is_value value ≡ true → Skips (has key is_value) text rest
 skips_entry is_value entry met = record { line = entry.line; lines_are = entry.lines_are; met = and_from _ _ entry.key_is (rw entry.value_is at met) }
 
+-- an extent meets its rule
 pub skips_extent : {key text rest : List ℕ} {n : ℕ} → SkipsExtent key text rest n → Skips (has key is_extent) text rest
 skips_extent skips = skips_entry is_extent skips.entry skips.extent
 
+-- a type meets its rule
 pub skips_type : {key text rest : List ℕ} {t : DataType} → SkipsType key text rest t → Skips (has key is_type) text rest
 skips_type skips = skips_entry is_type skips.entry (rw skips.type_is refl)
 
@@ -97,10 +103,12 @@ header_is ls =
     ∙ ap (λ b. b && begins encoding_lines (drop 10 ls)) (begins_append (name_lines ++ extent_lines) scale_lines ls
     ∙ ap (λ b. b && begins scale_lines (drop 6 ls)) (begins_append name_lines extent_lines ls))
 
+-- the size, counted from the extents on
 pub size_at_drop : (ls : List (List ℕ)) → size_at 1 (drop 4 ls) ≡ size_at 5 ls
 unfolding size_at
 size_at_drop ls = rw (get_or-drop 4 ls 0 [], get_or-drop 4 ls 1 []) refl
 
+-- the type, counted from the encoding on
 pub type_at_drop : (ls : List (List ℕ)) → type_at 2 (drop 10 ls) ≡ type_at 12 ls
 unfolding type_at
 type_at_drop ls = rw (get_or-drop 10 ls 1 []) refl

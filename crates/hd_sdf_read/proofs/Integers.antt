@@ -16,6 +16,7 @@ use Rattle.hd_sdf_read.specs.Data.{is_gap, is_bad, is_datum, cell_of, tokens}
 use Rattle.hd_sdf_read.specs.Reading.{TakesInteger, TakesDatum}
 use Rattle.hd_sdf_read.proofs.Tokens.{tokens_at_front}
 
+-- a digit is no gap
 digit_no_gap : (byte : ℕ) → is_ascii_digit byte ≡ true → is_gap byte ≡ false
 digit_no_gap byte digit = grind (arith, nat_tests)
 

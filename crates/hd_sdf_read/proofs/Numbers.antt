@@ -19,6 +19,7 @@ number_bound ds i n short digits value = rw value (digits_value_short own (take 
 pub leading_bound : (ds : List ℕ) (i n : ℕ) → i ≤ 11 → are_digits (take i ds) ≡ true → n ≡ number (take i ds) → n < 100000000000
 leading_bound ds i n few digits value = rw value (digits_value_short own (take i ds) 11 digits (rw length-take (omega arith)))
 
+-- the value of a digit
 digit_value_is : (c : ℕ) → is_ascii_digit c ≡ true → digit_value c ≡ c - 48
 digit_value_is c digit = grind (arith, nat_tests)
 

@@ -32,6 +32,7 @@ pub line_without_end : (text : List ℕ) → ((k : ℕ) → k < length text → 
 unfolding lines
 line_without_end text none = split_nowhere (λ b. eqb b 10) text none
 
+-- an empty text has no token
 pub tokens_nil : tokens [] ≡ []
 unfolding tokens
 tokens_nil = refl
@@ -60,6 +61,7 @@ no_gap_left (byte ∷ text) some = elim (cases_Bool (is_gap byte)) [
   | inr other ↦ rw other (rw other (omega arith))
 ]
 
+-- a token is no longer than the text
 pub position_bound : (text : List ℕ) → position_or_len is_gap text ≤ length text
 position_bound text = prefix_len-le-length (λ byte. not (is_gap byte)) text
 

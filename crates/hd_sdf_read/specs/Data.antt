@@ -15,7 +15,7 @@ is_gap byte = byte == 32 || byte == 10
 unfoldable pub tokens : List ℕ → List (List ℕ)
 tokens text = filter (λ token. nat_lt 0 (length token)) (slice_split is_gap text)
 
--- 1 to 10 digits, with a minus or without
+-- 1 to 10 digits, with a minus before them or without
 abbrev pub is_integer : List ℕ → Bool
 is_integer token = is_in_range 1 10 (length (without_minus token)) && are_digits (without_minus token)
 

@@ -53,6 +53,7 @@ type_of value =
     else if bytes_eq value (codes "6") then Some I32
     else None
 
+-- the number of a type
 abbrev pub is_type : List ℕ → Bool
 is_type value = is_some (type_of value)
 
@@ -71,7 +72,7 @@ value_after key line = drop (length key) line
 abbrev pub has : List ℕ → (List ℕ → Bool) → List ℕ → Bool
 has key is_value line = bytes_eq (take (length key) line) key && is_value (value_after key line)
 
--- what the lines of a header are, in order: the title and the names
+-- first come the title and the names
 unfoldable pub name_lines : List (List ℕ → Bool)
 name_lines = is_text (codes "aBCR-1.0")
     ∷ has (codes "ManufacID = ") is_name
@@ -101,6 +102,7 @@ encoding_lines = has (codes "Compression = ") is_zero
     ∷ is_text (codes "*")
     ∷ []
 
+-- what the fourteen lines of a header are, in order
 abbrev pub header_lines : List (List ℕ → Bool)
 header_lines = name_lines ++ extent_lines ++ scale_lines ++ encoding_lines
 
@@ -125,9 +127,11 @@ size_at n lines = record {
 unfoldable pub type_at : ℕ → List (List ℕ) → DataType
 type_at n lines = unwrap_or (type_of (value_after (codes "DataType = ") (line lines n))) U8
 
+-- the size, by lines 5 and 6
 abbrev pub size_in : List (List ℕ) → Size
 size_in lines = size_at 5 lines
 
+-- the type, by line 12
 abbrev pub type_in : List (List ℕ) → DataType
 type_in lines = type_at 12 lines
 

@@ -1,5 +1,6 @@
 // The values of a header, and numbers.
-ghost use Rattle.std.specs.Prelude.{◌≡◌, ◌≤◌, take, true, false, length, ◌<◌, IfSome, MatchOption};
+ghost use Rattle.std.specs.Prelude.{slice_index, ◌≡◌, ◌≤◌, take, true, false, length, ◌<◌, IfSome, MatchOption};
+ghost use Rattle.std.specs.Char.{is_ascii_digit};
 ghost use Rattle.hd_sdf_read.specs.Header.{are_digits, number, without_minus, is_name, is_extent, is_scale, is_zero, type_of};
 
 use hd_map::DataType;
@@ -26,6 +27,7 @@ pub fn leading_digits(text: &[u8]) -> (usize, u64)
     ensures digits { are_digits (take result.0 text.now) ≡ true }
     ensures value { result.1 ≡ number (take result.0 text.now) }
     ensures bound { result.1 < 100000000000 }
+    ensures most { result.0 < 11 → result.0 < length text.now → is_ascii_digit (slice_index text.now result.0) ≡ false }
 {
     let mut number = 0u64;
     'digits: for (place, byte) in text.iter().enumerate() {

@@ -1,4 +1,4 @@
-pub mod Pits
-pub mod Roots
-pub mod Ends
+pub mod Answered
+pub mod Runs
 pub mod WordLemmas
+pub mod Ends

@@ -1,5 +1,5 @@
 -- How a run ends once its last text is known.
-use Rattle.std.specs.Prelude.{◌≡◌, ◌≢◌, ◌⊎◌, ℕ, Bool, List, Option, take, IsTrue}
+use Rattle.std.specs.Prelude.{◌≡◌, ◌⊎◌, ℕ, Bool, List, Option, take, IsTrue}
 use Rattle.std.specs.Io.KnownBytes.{Appends}
 use Rattle.hd_base.specs.Causes.{Rose}
 use Rattle.hilldale.specs.declared.status.Status.{Status}

@@ -1,8 +1,11 @@
 pub mod Status
 pub mod Words
+pub mod Reads
 pub mod Texts
-pub mod Regions
+pub mod Prefix
 pub mod Outcome
 pub mod Causes
-pub mod Reading
+pub mod Inputs
+pub mod Answering
 pub mod Finish
+pub mod Running

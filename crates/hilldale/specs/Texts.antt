@@ -1,5 +1,5 @@
 -- The texts that the program prints beside its answers, each line ended by LF.
-use Rattle.std.specs.Prelude.{◌++◌, ◌^◌, ℕ, List, [], ◌∷◌, codes}
+use Rattle.std.specs.Prelude.{◌++◌, ℕ, List, [], ◌∷◌, codes}
 
 -- a line
 abbrev pub line : List ℕ → List ℕ
@@ -21,6 +21,13 @@ not_plain_text = line (codes "surface refused: not a plain file")
 unfoldable pub read_fault_text : List ℕ
 read_fault_text = line (codes "read fault")
 
+unfoldable pub second_too_long_text : List ℕ
+second_too_long_text = line (codes "second input too long")
+
 -- the greatest length of a surface file
 abbrev pub surface_limit : ℕ
 surface_limit = 268435456
+
+-- the greatest length of a script
+abbrev pub script_limit : ℕ
+script_limit = 16777216

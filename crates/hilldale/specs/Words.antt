@@ -1,31 +1,88 @@
 -- The form of the program's words.
-use Rattle.std.specs.Prelude.{◌++◌, ℕ, Bool, true, false, List, [], ◌∷◌, Option, Some, None, codes, nat_eq, if◌then◌else◌}
-use Rattle.std.specs.List.{before_first, after_first, list_any}
-use Rattle.std.specs.Option.{option_and_then}
+use Rattle.std.specs.Prelude.{◌&&◌, ℕ, Bool, false, List, [], ◌∷◌, length, drop, Option, Some, None, codes, nat_eq, nat_le, if◌then◌else◌}
+use Rattle.std.specs.Option.{option_copied, option_map, option_and_then}
+use Rattle.std.specs.List.{starts_with}
 use Rattle.std.specs.Str.{bytes_eq}
+use Rattle.std.specs.Str.Parse.{digits_value}
+use Rattle.hd_num.specs.Whole.{is_numeral}
+use Rattle.hilldale.specs.declared.words.Asked.{Asked}
+use Rattle.hilldale.specs.declared.words.Stage.{Stage}
+use Rattle.hilldale.specs.declared.words.Stage.TheVariants.{Options, TileValue, Names}
 
--- the word that ends the options
-abbrev pub ends_options : List ℕ → Bool
-ends_options word = bytes_eq word (codes "--")
+-- what the words ask for: a surface, a script or the one line `dales`, and the side of a tile
+pub record Request : Type 0 where
+  pub surface : List ℕ
+  pub script : Option (List ℕ)
+  pub tile : ℕ
+
+-- the names among the words after the command, and the values of `--tile`
+pub record Given : Type 0 where
+  pub names : List (List ℕ)
+  pub tiles : List (List ℕ)
+
+abbrev pub with_name : List ℕ → Option Given → Option Given
+with_name word given = option_map (λ g. record { names = word ∷ g.names; tiles = g.tiles }) given
+
+abbrev pub with_tile : List ℕ → Option Given → Option Given
+with_tile value given = option_map (λ g. record { names = g.names; tiles = value ∷ g.tiles }) given
 
 -- whether a word begins with `-`
 abbrev pub begins_with_dash : List ℕ → Bool
 begins_with_dash [] = false
 begins_with_dash (byte ∷ bytes) = nat_eq byte 45
 
--- the names of a command without options: no word before the first `--` begins with `-`
-abbrev pub names_of : List (List ℕ) → Option (List (List ℕ))
-names_of words =
-    if list_any begins_with_dash (before_first ends_options words) then None else Some (before_first ends_options words ++ after_first ends_options words)
+-- the words after the command, read from left to right. The word `--` ends the options, `--tile` takes the next word as
+-- its value and `--tile=V` takes V; another word that begins with `-` is refused, and each other word is a name
+abbrev pub given_of : Stage → List (List ℕ) → Option Given
+given_of Options [] = Some (record { names = []; tiles = [] })
+given_of Options (word ∷ words) =
+    if bytes_eq word (codes "--") then given_of Names words
+    else if bytes_eq word (codes "--tile") then given_of TileValue words
+    else if starts_with nat_eq word (codes "--tile=") then with_tile (drop 7 word) (given_of Options words)
+    else if begins_with_dash word then None
+    else with_name word (given_of Options words)
+given_of TileValue [] = None
+given_of TileValue (value ∷ words) = with_tile value (given_of Options words)
+given_of Names words = Some (record { names = words; tiles = [] })
 
--- the one name, where there is one and it is not empty
-abbrev pub only_name : List (List ℕ) → Option (List ℕ)
-only_name [] = None
-only_name ([] ∷ names) = None
-only_name ((byte ∷ bytes) ∷ []) = Some (byte ∷ bytes)
-only_name ((byte ∷ bytes) ∷ (name ∷ names)) = None
+-- the side of a tile, where `--tile` is given at most once: 64, or one to three digits with a value from 8 to 256
+abbrev pub tile_of : List (List ℕ) → Option ℕ
+tile_of [] = Some 64
+tile_of (value ∷ []) = if is_numeral value && nat_le (length value) 3 && nat_le 8 (digits_value 10 value) && nat_le (digits_value 10 value) 256 then Some (digits_value 10 value) else None
+tile_of (value ∷ (other ∷ more)) = None
 
--- the name of the surface, where the words have their form: `dales` and one name
-abbrev pub surface_name : List (List ℕ) → Option (List ℕ)
-surface_name [] = None
-surface_name (command ∷ words) = if bytes_eq command (codes "dales") then option_and_then only_name (names_of words) else None
+-- a name that is not empty
+abbrev pub filled : List ℕ → Option (List ℕ)
+filled [] = None
+filled (byte ∷ bytes) = Some (byte ∷ bytes)
+
+-- what `dales` asks for, by the names and the values of `--tile`
+abbrev pub dales_names : List (List ℕ) → List (List ℕ) → Option Request
+dales_names (surface ∷ []) [] = option_map (λ name. record { surface = name; script = None; tile = 64 }) (filled surface)
+dales_names _ _ = None
+
+-- `dales SURFACE` has one name and no option
+abbrev pub dales_form : Given → Option Request
+dales_form given = dales_names given.names given.tiles
+
+-- what `run` asks for, by the names and the values of `--tile`
+abbrev pub run_names : List (List ℕ) → List (List ℕ) → Option Request
+run_names (surface ∷ (script ∷ [])) tiles =
+    option_and_then (λ name. option_and_then (λ second. option_map (λ side. record { surface = name; script = Some second; tile = side }) (tile_of tiles)) (filled script)) (filled surface)
+run_names _ _ = None
+
+-- `run SURFACE SCRIPT` has two names, and may have `--tile`
+abbrev pub run_form : Given → Option Request
+run_form given = run_names given.names given.tiles
+
+-- what the words ask for, where they have their form
+abbrev pub form_of : List (List ℕ) → Option Request
+form_of [] = None
+form_of (command ∷ words) =
+    if bytes_eq command (codes "dales") then option_and_then dales_form (given_of Options words)
+    else if bytes_eq command (codes "run") then option_and_then run_form (given_of Options words)
+    else None
+
+-- what the program's answer stands for
+abbrev pub request_of : Asked → Request
+request_of asked = record { surface = asked.surface.now; script = option_copied asked.script; tile = asked.tile }

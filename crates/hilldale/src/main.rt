@@ -1,9 +1,12 @@
-//! The program `hilldale`: the dales of a measured surface, each number of them proved.
+//! The program `hilldale`: measured surfaces, edited and reported on by scripts, each number of
+//! them proved.
 #![tactic(auto)]
 
-mod dales;
+mod answers;
+mod inputs;
+mod run;
 mod status;
-mod surface;
+mod stop;
 #[cfg(test)]
 mod tests;
 mod texts;

@@ -32,19 +32,34 @@ fn file(alloc: Global, points: u32, profiles: u32, code: u32, data: &str) -> Res
     )?)
 }
 
-// How a run is fed: the bytes of a piece, and the calls that fail.
+// The three-point profile 0 5 1.
+fn profile(alloc: Global, code: u32) -> Result<String, Fail> {
+    file(alloc, 3, 1, code, "0 5 1")
+}
+
+// How a run is fed: the surface `A` and the script `B`, the bytes of a piece, and the calls of each
+// source and of the sink that fail.
 #[derive(Drop)]
 struct Feed<'a> {
+    surface: &'a str,
+    script: &'a str,
     piece: usize,
-    source_fails: &'a [u64],
+    surface_fails: &'a [u64],
+    script_fails: &'a [u64],
     sink_fails: &'a [u64],
 }
 
-const WHOLE: Feed<'static> = Feed {
-    piece: 4096,
-    source_fails: &[],
-    sink_fails: &[],
-};
+// A feed without faults.
+fn whole<'a>(surface: &'a str, script: &'a str) -> Feed<'a> {
+    Feed {
+        surface,
+        script,
+        piece: 4096,
+        surface_fails: &[],
+        script_fails: &[],
+        sink_fails: &[],
+    }
+}
 
 // The words as the program gets them.
 fn words_of(alloc: Global, words: &[&str]) -> Result<Vec<String>, Fail> {
@@ -55,37 +70,45 @@ fn words_of(alloc: Global, words: &[&str]) -> Result<Vec<String>, Fail> {
     Ok(given)
 }
 
-// A source of the one file `A`.
-fn source_of(alloc: Global, surface: &str, feed: &Feed) -> Result<MemSource, Fail> {
-    let name = List::from_vec(b"A".as_slice().to_vec(alloc)?);
-    let bytes = List::from_vec(surface.as_bytes().to_vec(alloc)?);
+// A source of one file.
+fn source_of(
+    alloc: Global,
+    name: &str,
+    text: &str,
+    fails: &[u64],
+    piece: usize,
+) -> Result<MemSource, Fail> {
+    let name = List::from_vec(name.as_bytes().to_vec(alloc)?);
+    let bytes = List::from_vec(text.as_bytes().to_vec(alloc)?);
     let files = List::from_vec(vec![in alloc; (name, bytes)]?);
-    let fails = List::from_vec(feed.source_fails.to_vec(alloc)?);
-    Ok(MemSource::new(files, fails, feed.piece.max(1)))
+    let fails = List::from_vec(fails.to_vec(alloc)?);
+    Ok(MemSource::new(files, fails, piece.max(1)))
 }
 
 // A sink with ample room.
-fn sink_of(alloc: Global, feed: &Feed) -> Result<MemSink, Fail> {
-    let fails = List::from_vec(feed.sink_fails.to_vec(alloc)?);
-    let mut sink = MemSink::new(alloc, fails, feed.piece.max(1));
+fn sink_of(alloc: Global, fails: &[u64], piece: usize) -> Result<MemSink, Fail> {
+    let fails = List::from_vec(fails.to_vec(alloc)?);
+    let mut sink = MemSink::new(alloc, fails, piece.max(1));
     sink.reserve(65536).ok().ok_or("no room")?;
     Ok(sink)
 }
 
-// The status and the output of a run on the file `A`.
-fn run(
-    alloc: Global,
-    words: &[&str],
-    surface: &str,
-    feed: &Feed,
-) -> Result<(Status, String), Fail> {
+// The status and the output of a run.
+fn run(alloc: Global, words: &[&str], feed: &Feed) -> Result<(Status, String), Fail> {
     let given = words_of(alloc, words)?;
-    let mut source = source_of(alloc, surface, feed)?;
-    let mut script = source_of(alloc, "", feed)?;
-    let mut out = sink_of(alloc, feed)?;
+    let mut surface = source_of(alloc, "A", feed.surface, feed.surface_fails, feed.piece)?;
+    let mut script = source_of(alloc, "B", feed.script, feed.script_fails, feed.piece)?;
+    let mut out = sink_of(alloc, feed.sink_fails, feed.piece)?;
     let mut saved = MemSink::new(alloc, List::new(alloc), 1);
     let words = given.as_slice();
-    let status = top(alloc, words, &mut source, &mut script, &mut out, &mut saved);
+    let status = top(
+        alloc,
+        words,
+        &mut surface,
+        &mut script,
+        &mut out,
+        &mut saved,
+    );
     let text = String::from_utf8(out.bytes().to_vec(alloc)?);
     Ok((status, text.ok().ok_or("no text")?))
 }
@@ -109,16 +132,10 @@ fn lists_the_dales_of_small_surfaces(rt: HostRuntime) -> Result<(), Fail> {
             "12 13\nBAD 15 16 17 18\n19",
             "dales 2\ndale 0 0 12 5\ndale 3 0 15 2\n",
         ),
-        (
-            3,
-            3,
-            "0 9 1\n4 9 5\n6 2 6",
-            "dales 3\ndale 0 0 0 4\ndale 2 0 1 2\ndale 1 2 2 3\n",
-        ),
     ];
     for (points, profiles, data, dales) in cases {
         let surface = file(rt.alloc(), points, profiles, 5, data)?;
-        let (status, text) = run(rt.alloc(), &["dales", "A"], surface.as_str(), &WHOLE)?;
+        let (status, text) = run(rt.alloc(), &["dales", "A"], &whole(surface.as_str(), ""))?;
         assert_eq!(rt; status, Status::Done);
         assert_eq!(rt; text.as_str(), dales);
     }
@@ -126,25 +143,64 @@ fn lists_the_dales_of_small_surfaces(rt: HostRuntime) -> Result<(), Fail> {
 }
 
 #[test]
-fn one_slope_is_one_dale(rt: HostRuntime) -> Result<(), Fail> {
+fn a_set_on_a_slope_takes_its_points_for_every_tile(rt: HostRuntime) -> Result<(), Fail> {
     let mut data = String::new(rt.alloc());
     for y in 0..64u32 {
         for x in 0..64u32 {
             write!(data, "{} ", x + y)?;
         }
-        data.push_str("\n")?;
     }
     let surface = file(rt.alloc(), 64, 64, 5, data.as_str())?;
-    let (status, text) = run(rt.alloc(), &["dales", "A"], surface.as_str(), &WHOLE)?;
-    assert_eq!(rt; status, Status::Done);
-    assert_eq!(rt; text.as_str(), "dales 1\ndale 0 0 0 4096\n");
+    let script = "dales\nset 7 7 -5\ndales\n";
+    let answers =
+        "dales 1\ndale 0 0 0 4096\nline 2 ok\ndales 2\ndale 0 0 0 3812\ndale 7 7 -5 284\n";
+    let cases: [&[&str]; 3] = [
+        &["run", "A", "B"],
+        &["run", "--tile", "8", "A", "B"],
+        &["run", "A", "B", "--tile=256"],
+    ];
+    for words in cases {
+        let (status, text) = run(rt.alloc(), words, &whole(surface.as_str(), script))?;
+        assert_eq!(rt; status, Status::Done);
+        assert_eq!(rt; text.as_str(), answers);
+    }
+    Ok(())
+}
+
+#[test]
+fn lines_of_a_script_are_answered_in_order(rt: HostRuntime) -> Result<(), Fail> {
+    let surface = profile(rt.alloc(), 0)?;
+    let cases = [
+        ("", Status::Done, ""),
+        ("; nothing\r\n\r\n \t\n;", Status::Done, ""),
+        ("dales", Status::Done, PROFILE_DALES),
+        (
+            "set 1 0 256\ndales\nset 1 0 255\nset 3 0 1\n",
+            Status::LineRefused,
+            "line 1 refused: height out of range at 1 0\ndales 2\ndale 0 0 0 2\ndale 2 0 1 1\nline 3 ok\nline 4 refused: 3 0 is outside\n",
+        ),
+        (
+            "bad 0 0\r\n; then\r\ndales\r\nplot\r\nset 1 0\r\nbad x 0",
+            Status::LineRefused,
+            "line 1 ok\ndales 1\ndale 2 0 1 2\nline 4 refused: unknown command\nline 5 refused: wrong number of words\nline 6 refused: word 2 has not its form\n",
+        ),
+    ];
+    for (script, wanted, answers) in cases {
+        let (status, text) = run(
+            rt.alloc(),
+            &["run", "A", "B"],
+            &whole(surface.as_str(), script),
+        )?;
+        assert_eq!(rt; status, wanted);
+        assert_eq!(rt; text.as_str(), answers);
+    }
     Ok(())
 }
 
 #[test]
 fn words_without_their_form_are_told_the_usage(rt: HostRuntime) -> Result<(), Fail> {
-    let surface = file(rt.alloc(), 3, 1, 5, "0 5 1")?;
-    let cases: [&[&str]; 14] = [
+    let surface = profile(rt.alloc(), 5)?;
+    let cases: [&[&str]; 22] = [
         &[],
         &["dales"],
         &["dales", "-x"],
@@ -152,16 +208,24 @@ fn words_without_their_form_are_told_the_usage(rt: HostRuntime) -> Result<(), Fa
         &["dales", ""],
         &["dales", "A", "A"],
         &["dales", "--"],
-        &["dales", "--", "A", "A"],
+        &["dales", "A", "--tile", "8"],
         &["Dales", "A"],
         &["--", "dales", "A"],
         &["run", "A"],
-        &["check", "A", "A"],
+        &["run", "A", "B", "B"],
+        &["run", "A", ""],
+        &["run", "A", "B", "--tile", "4"],
+        &["run", "A", "B", "--tile=257"],
+        &["run", "A", "B", "--tile=0064"],
+        &["run", "A", "B", "--tile"],
+        &["run", "A", "B", "--tile", "8", "--tile", "8"],
+        &["run", "A", "B", "--save", "C"],
+        &["check", "A", "B"],
         &["demo", "3", "1", "7", "1"],
         &["--help"],
     ];
     for words in cases {
-        let (status, text) = run(rt.alloc(), words, surface.as_str(), &WHOLE)?;
+        let (status, text) = run(rt.alloc(), words, &whole(surface.as_str(), "dales"))?;
         assert_eq!(rt; status, Status::Usage);
         assert_eq!(rt; text.as_str(), USAGE);
     }
@@ -169,15 +233,18 @@ fn words_without_their_form_are_told_the_usage(rt: HostRuntime) -> Result<(), Fa
 }
 
 #[test]
-fn a_name_may_stand_behind_the_end_of_options(rt: HostRuntime) -> Result<(), Fail> {
-    let surface = file(rt.alloc(), 3, 1, 5, "0 5 1")?;
-    let cases: [&[&str]; 3] = [
+fn options_and_their_end_may_stand_between_the_names(rt: HostRuntime) -> Result<(), Fail> {
+    let surface = profile(rt.alloc(), 5)?;
+    let cases: [&[&str]; 6] = [
         &["dales", "A"],
         &["dales", "--", "A"],
         &["dales", "A", "--"],
+        &["run", "--tile=008", "A", "--", "B"],
+        &["run", "A", "--tile", "256", "B"],
+        &["run", "--", "A", "B"],
     ];
     for words in cases {
-        let (status, text) = run(rt.alloc(), words, surface.as_str(), &WHOLE)?;
+        let (status, text) = run(rt.alloc(), words, &whole(surface.as_str(), "dales\n"))?;
         assert_eq!(rt; status, Status::Done);
         assert_eq!(rt; text.as_str(), PROFILE_DALES);
     }
@@ -186,35 +253,51 @@ fn a_name_may_stand_behind_the_end_of_options(rt: HostRuntime) -> Result<(), Fai
 
 #[test]
 fn a_file_that_is_not_plain_is_refused(rt: HostRuntime) -> Result<(), Fail> {
-    let refused = "surface refused: not a plain file\n";
-    let decimal = file(rt.alloc(), 3, 1, 3, "0 5 1")?;
-    let short = file(rt.alloc(), 3, 1, 5, "0 5")?;
-    for surface in [decimal.as_str(), short.as_str(), ""] {
-        let (status, text) = run(rt.alloc(), &["dales", "A"], surface, &WHOLE)?;
+    let decimal = profile(rt.alloc(), 3)?;
+    for surface in [decimal.as_str(), ""] {
+        let (status, text) = run(rt.alloc(), &["run", "A", "C"], &whole(surface, "dales"))?;
         assert_eq!(rt; status, Status::SurfaceRefused);
-        assert_eq!(rt; text.as_str(), refused);
+        assert_eq!(rt; text.as_str(), "surface refused: not a plain file\n");
     }
     Ok(())
 }
 
 #[test]
 fn a_file_that_is_not_there_is_a_read_fault(rt: HostRuntime) -> Result<(), Fail> {
-    let (status, text) = run(rt.alloc(), &["dales", "B"], "", &WHOLE)?;
-    assert_eq!(rt; status, Status::ReadFault);
-    assert_eq!(rt; text.as_str(), "read fault\n");
+    let surface = profile(rt.alloc(), 5)?;
+    let cases: [&[&str]; 2] = [&["dales", "C"], &["run", "A", "C"]];
+    for words in cases {
+        let (status, text) = run(rt.alloc(), words, &whole(surface.as_str(), "dales"))?;
+        assert_eq!(rt; status, Status::ReadFault);
+        assert_eq!(rt; text.as_str(), "read fault\n");
+    }
     Ok(())
+}
+
+// A run of `dales` in small pieces, where the calls of these numbers fail.
+fn run_in_pieces(
+    alloc: Global,
+    piece: usize,
+    surface_fails: &[u64],
+    script_fails: &[u64],
+    sink_fails: &[u64],
+) -> Result<(Status, String), Fail> {
+    let surface = profile(alloc, 5)?;
+    let feed = Feed {
+        surface: surface.as_str(),
+        script: "dales\n",
+        piece,
+        surface_fails,
+        script_fails,
+        sink_fails,
+    };
+    run(alloc, &["run", "A", "B"], &feed)
 }
 
 #[test]
 fn pieces_of_any_size_make_the_same_output(rt: HostRuntime) -> Result<(), Fail> {
-    let surface = file(rt.alloc(), 3, 1, 5, "0 5 1")?;
     for piece in [1, 2, 3, 7] {
-        let feed = Feed {
-            piece,
-            source_fails: &[],
-            sink_fails: &[],
-        };
-        let (status, text) = run(rt.alloc(), &["dales", "A"], surface.as_str(), &feed)?;
+        let (status, text) = run_in_pieces(rt.alloc(), piece, &[], &[], &[])?;
         assert_eq!(rt; status, Status::Done);
         assert_eq!(rt; text.as_str(), PROFILE_DALES);
     }
@@ -222,62 +305,42 @@ fn pieces_of_any_size_make_the_same_output(rt: HostRuntime) -> Result<(), Fail> 
 }
 
 #[test]
-fn each_call_of_the_source_that_fails_is_a_read_fault(rt: HostRuntime) -> Result<(), Fail> {
-    let surface = file(rt.alloc(), 3, 1, 5, "0 5 1")?;
-    // The calls are an open, a read for each 64 bytes, and one that finds the end.
-    let calls = 2 + (surface.len() as u64).div_ceil(64);
-    for call in 0..calls + 1 {
-        let feed = Feed {
-            piece: 64,
-            source_fails: &[call],
-            sink_fails: &[],
-        };
-        let (status, text) = run(rt.alloc(), &["dales", "A"], surface.as_str(), &feed)?;
-        let (wanted, output) = if call < calls {
-            (Status::ReadFault, "read fault\n")
-        } else {
-            (Status::Done, PROFILE_DALES)
-        };
-        assert_eq!(rt; status, wanted);
-        assert_eq!(rt; text.as_str(), output);
+fn each_call_of_a_source_that_fails_is_a_read_fault(rt: HostRuntime) -> Result<(), Fail> {
+    // An open, a read for each 64 bytes, and one that finds the end: 5 of the surface, 3 of the script.
+    for call in 0..6u64 {
+        let (status, text) = run_in_pieces(rt.alloc(), 64, &[call], &[], &[])?;
+        let fails = call < 5;
+        assert_eq!(rt; status == Status::ReadFault, fails, "at {call}");
+        assert_eq!(rt;
+            text.as_str(),
+            if fails { "read fault\n" } else { PROFILE_DALES }
+        );
+        let (status, text) = run_in_pieces(rt.alloc(), 64, &[], &[call], &[])?;
+        let fails = call < 3;
+        assert_eq!(rt; status == Status::ReadFault, fails, "at {call}");
+        assert_eq!(rt;
+            text.as_str(),
+            if fails { "read fault\n" } else { PROFILE_DALES }
+        );
     }
     Ok(())
 }
 
 #[test]
 fn each_call_of_the_sink_that_fails_is_a_write_fault(rt: HostRuntime) -> Result<(), Fail> {
-    let surface = file(rt.alloc(), 3, 1, 5, "0 5 1")?;
-    // The calls are a write for each 4 bytes and a flush.
-    let calls = 1 + (PROFILE_DALES.len() as u64).div_ceil(4);
-    for call in 0..calls + 1 {
-        let feed = Feed {
-            piece: 4,
-            source_fails: &[],
-            sink_fails: &[call],
-        };
-        let (status, text) = run(rt.alloc(), &["dales", "A"], surface.as_str(), &feed)?;
-        if call < calls {
-            assert_eq!(rt; status, Status::WriteFault);
-            assert_eq!(rt;
-                text.len() as u64,
-                (4 * call).min(PROFILE_DALES.len() as u64)
-            );
-            assert!(rt; PROFILE_DALES.starts_with(text.as_str()));
-        } else {
-            assert_eq!(rt; status, Status::Done);
-        }
+    // A write for each 4 of the 34 bytes, and a flush.
+    for call in 0..11u64 {
+        let (status, text) = run_in_pieces(rt.alloc(), 4, &[], &[], &[call])?;
+        assert_eq!(rt; status == Status::WriteFault, call < 10, "at {call}");
+        assert!(rt; PROFILE_DALES.starts_with(text.as_str()));
+        assert_eq!(rt; text.len() as u64, (4 * call).min(34), "at {call}");
     }
     Ok(())
 }
 
 #[test]
 fn a_read_fault_that_cannot_be_told_is_a_write_fault(rt: HostRuntime) -> Result<(), Fail> {
-    let feed = Feed {
-        piece: 4,
-        source_fails: &[0],
-        sink_fails: &[1],
-    };
-    let (status, text) = run(rt.alloc(), &["dales", "A"], "", &feed)?;
+    let (status, text) = run_in_pieces(rt.alloc(), 4, &[0], &[], &[1])?;
     assert_eq!(rt; status, Status::WriteFault);
     assert_eq!(rt; text.as_str(), "read");
     Ok(())

@@ -1,55 +1,241 @@
 // The program's words, judged without taking memory.
-ghost use Rattle.std.specs.Prelude.{◌≡◌, [], ◌∷◌, map, string_bytes, None, if◌then◌else◌};
-ghost use Rattle.std.specs.Option.{option_copied, option_and_then};
-ghost use Rattle.hilldale.specs.Words.{names_of, only_name, surface_name, begins_with_dash};
+ghost use Rattle.std.specs.Prelude.{◌≡◌, ◌≤◌, [], ◌∷◌, ◌++◌, length, drop, map, codes, nat_eq, string_bytes, IfNone, IfSome, if◌then◌else◌};
+ghost use Rattle.std.specs.List.{starts_with};
+ghost use Rattle.std.specs.Option.{option_copied, option_map, option_to_list};
+ghost use Rattle.hilldale.specs.Words.{begins_with_dash, dales_form, filled, form_of, given_of, request_of, run_form, tile_of};
+ghost use Rattle.hilldale.specs.Reads.{HasNoForm, IsRefused, LeadsTo, found_so_far};
 
-/// The name of the surface, where the words have the form of `dales SURFACE`. The word `--` ends
-/// the options, of which there are none; after it each word is a name.
-pub fn surface_in(words: &[String]) -> Option<&str>
-    ensures { option_copied result ≡ surface_name (map string_bytes words.now) }
+use hd_num::read_count;
+
+/// What the words ask for: a surface, the script to run or none, and the side of a tile.
+#[derive(Clone, Copy, Debug)]
+pub struct Asked<'a> {
+    /// The name of the surface.
+    pub surface: &'a str,
+    /// The name of the script, where one is to run.
+    pub script: Option<&'a str>,
+    /// The side of a tile, in points.
+    pub tile: u32,
+}
+
+// What the next word may be: an option or a name, the value of `--tile`, or a name alone.
+#[derive(Clone, Copy)]
+enum Stage {
+    Options,
+    TileValue,
+    Names,
+}
+
+// The names so far.
+#[derive(Clone, Copy)]
+enum FoundNames<'a> {
+    Zero,
+    One(&'a str),
+    Two(&'a str, &'a str),
+}
+
+// What the words so far have given.
+#[derive(Clone, Copy)]
+struct Found<'a> {
+    names: FoundNames<'a>,
+    tile: Option<&'a [u8]>,
+}
+
+// How far the words are read.
+#[derive(Clone, Copy)]
+struct Progress<'a> {
+    stage: Stage,
+    found: Found<'a>,
+}
+
+/// What the words ask for: `dales SURFACE`, or `run SURFACE SCRIPT`, which may have `--tile SIDE`
+/// or `--tile=SIDE`. The word `--` ends the options. None comes exactly where the words have
+/// neither form.
+pub fn asked_in(words: &[String]) -> Option<Asked<'_>>
+    ensures form { option_map request_of result ≡ form_of (map string_bytes words.now) }
+    ensures tile { IfSome result (λ asked. 8 ≤ asked.tile × asked.tile ≤ 256) }
 {
     let (command, rest) = words.split_first()?;
     if command.as_str() == "dales" {
-        name_in(rest)
+        dales_asked(found_in(rest)?)
+    } else if command.as_str() == "run" {
+        run_asked(found_in(rest)?)
     } else {
         None
     }
 }
 
-// The only name among the words after the command.
-fn name_in(words: &[String]) -> Option<&str>
-    ensures { option_copied result ≡ option_and_then only_name (names_of (map string_bytes words.now)) }
+// What the words after the command give. None comes where they are refused, or are too many for
+// either form.
+fn found_in(words: &[String]) -> Option<Found<'_>>
+    ensures none { IfNone result (HasNoForm (given_of Stage.Options (map string_bytes words.now))) }
+    ensures some { IfSome result (λ found. given_of Stage.Options (map string_bytes words.now) ≡ Some (found_so_far found)) }
 {
-    match words {
-        [] => None,
-        [name] => plain_name(name.as_str()),
-        [first, second] => {
-            if first.as_str() == "--" {
-                filled_name(second.as_str())
-            } else if second.as_str() == "--" {
-                plain_name(first.as_str())
-            } else {
-                None
-            }
-        }
+    let mut progress = Progress {
+        stage: Stage::Options,
+        found: Found {
+            names: FoundNames::Zero,
+            tile: None,
+        },
+    };
+    for word in words {
+        progress = after_word(progress, word.as_str())?;
+    }
+    match progress.stage {
+        Stage::Options | Stage::Names => Some(progress.found),
+        Stage::TileValue => None,
+    }
+}
+
+// Reads the next word.
+fn after_word<'a>(progress: Progress<'a>, word: &'a str) -> Option<Progress<'a>>
+    ensures none { IfNone result (IsRefused progress.entry word.now) }
+    ensures some { IfSome result (λ next. LeadsTo progress.entry word.now next) }
+{
+    match progress.stage {
+        Stage::Options => after_option(progress.found, word),
+        Stage::TileValue => with_tile(progress.found, word.as_bytes()),
+        Stage::Names => Some(Progress {
+            stage: Stage::Names,
+            found: with_name(progress.found, word)?,
+        }),
+    }
+}
+
+// Reads the next word where it is an option or a name.
+fn after_option<'a>(found: Found<'a>, word: &'a str) -> Option<Progress<'a>>
+    ensures none { IfNone result (IsRefused (record { stage = Stage.Options; found = found.entry }) word.now) }
+    ensures some { IfSome result (λ next. LeadsTo (record { stage = Stage.Options; found = found.entry }) word.now next) }
+{
+    if word == "--" {
+        Some(Progress {
+            stage: Stage::Names,
+            found,
+        })
+    } else if word == "--tile" {
+        Some(Progress {
+            stage: Stage::TileValue,
+            found,
+        })
+    } else if let Some(value) = joined_tile(word) {
+        with_tile(found, value)
+    } else if is_option(word) {
+        None
+    } else {
+        Some(Progress {
+            stage: Stage::Options,
+            found: with_name(found, word)?,
+        })
+    }
+}
+
+// The value in `--tile=VALUE`.
+fn joined_tile(word: &str) -> Option<&[u8]>
+    ensures { option_copied result ≡ (if starts_with nat_eq word.now (codes "--tile=") then Some (drop 7 word.now) else None) }
+{
+    word.as_bytes().strip_prefix(b"--tile=")
+}
+
+// Whether a word begins with `-`.
+fn is_option(word: &str) -> bool
+    ensures { result ≡ begins_with_dash word.now }
+{
+    matches!(word.as_bytes(), [b'-', ..])
+}
+
+// One more value of `--tile`, where it is the first.
+fn with_tile<'a>(found: Found<'a>, value: &'a [u8]) -> Option<Progress<'a>>
+    ensures none { IfNone result (IsRefused (record { stage = Stage.TileValue; found = found.entry }) value.now) }
+    ensures some { IfSome result (λ next. LeadsTo (record { stage = Stage.TileValue; found = found.entry }) value.now next) }
+{
+    match found.tile {
+        Some(_) => None,
+        None => Some(Progress {
+            stage: Stage::Options,
+            found: Found {
+                names: found.names,
+                tile: Some(value),
+            },
+        }),
+    }
+}
+
+// One more name, where there are not two yet.
+fn with_name<'a>(found: Found<'a>, name: &'a str) -> Option<Found<'a>>
+    ensures none { IfNone result (length (found_so_far found.entry).names ≡ 2) }
+    ensures some { IfSome result (λ more. found_so_far more ≡ record { names = (found_so_far found.entry).names ++ (name.now ∷ []); tiles = (found_so_far found.entry).tiles }) }
+{
+    let names = match found.names {
+        FoundNames::Zero => FoundNames::One(name),
+        FoundNames::One(first) => FoundNames::Two(first, name),
+        FoundNames::Two(..) => return None,
+    };
+    Some(Found {
+        names,
+        tile: found.tile,
+    })
+}
+
+// What `dales` asks for.
+fn dales_asked(found: Found<'_>) -> Option<Asked<'_>>
+    ensures form { option_map request_of result ≡ dales_form (found_so_far found.entry) }
+    ensures tile { IfSome result (λ asked. 8 ≤ asked.tile × asked.tile ≤ 256) }
+{
+    match (found.names, found.tile) {
+        (FoundNames::One(surface), None) => Some(Asked {
+            surface: filled_name(surface)?,
+            script: None,
+            tile: 64,
+        }),
         _ => None,
     }
 }
 
-// A word before the end of the options, where it is a name.
-fn plain_name(word: &str) -> Option<&str>
-    ensures { option_copied result ≡ (if begins_with_dash word.now then None else only_name (word.now ∷ [])) }
+// What `run` asks for.
+fn run_asked(found: Found<'_>) -> Option<Asked<'_>>
+    ensures form { option_map request_of result ≡ run_form (found_so_far found.entry) }
+    ensures tile { IfSome result (λ asked. 8 ≤ asked.tile × asked.tile ≤ 256) }
 {
-    if word.starts_with('-') {
-        None
-    } else {
-        filled_name(word)
+    match found.names {
+        FoundNames::Two(surface, script) => Some(Asked {
+            surface: filled_name(surface)?,
+            script: Some(filled_name(script)?),
+            tile: tile_side(found.tile)?,
+        }),
+        _ => None,
     }
 }
 
-// A word that is not empty.
-fn filled_name(word: &str) -> Option<&str>
-    ensures { option_copied result ≡ only_name (word.now ∷ []) }
+// A name that is not empty.
+fn filled_name(name: &str) -> Option<&str>
+    ensures { option_copied result ≡ filled name.now }
 {
-    if word.is_empty() { None } else { Some(word) }
+    if name.is_empty() { None } else { Some(name) }
+}
+
+// The side of a tile: 64 where none is given, else a number of one to three digits.
+fn tile_side(value: Option<&[u8]>) -> Option<u32>
+    ensures form { result ≡ tile_of (option_to_list (option_copied value.entry)) }
+    ensures bounds { IfSome result (λ side. 8 ≤ side × side ≤ 256) }
+{
+    match value {
+        None => Some(64),
+        Some(digits) => given_side(digits),
+    }
+}
+
+// The side of a tile that is given.
+fn given_side(digits: &[u8]) -> Option<u32>
+    ensures form { result ≡ tile_of (digits.now ∷ []) }
+    ensures bounds { IfSome result (λ side. 8 ≤ side × side ≤ 256) }
+{
+    if digits.len() > 3 {
+        return None;
+    }
+    let side = read_count(digits)?;
+    if (8..=256).contains(&side) {
+        Some(side)
+    } else {
+        None
+    }
 }

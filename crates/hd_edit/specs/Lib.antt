@@ -1,0 +1,3 @@
+pub mod Edit
+pub mod State
+pub mod Board

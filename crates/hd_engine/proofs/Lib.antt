@@ -1,0 +1,4 @@
+pub mod Pits
+pub mod Roots
+pub mod Kept
+pub mod Determined

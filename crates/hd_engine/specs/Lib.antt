@@ -1,0 +1,4 @@
+pub mod Regions
+pub mod Refusals
+pub mod Answers
+pub mod Session

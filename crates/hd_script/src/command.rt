@@ -1,0 +1,45 @@
+// What a line asks for, and its refusals.
+ghost use Rattle.std.specs.Prelude.{◌≡◌};
+ghost use Rattle.hd_script.specs.declared.command.LineError.TheVariants.{Memory as out_of_memory};
+
+use hd_base::Memory;
+use hd_edit::Edit;
+use thiserror::Error;
+
+/// What a line of a script asks for.
+#[derive(Debug, PartialEq, Eq, Drop)]
+pub enum Command {
+    /// An edit of the map.
+    Do(Edit),
+    /// The list of the dales.
+    Dales,
+}
+
+/// Why a line was refused. `LineTooLong` is tried first, and then the others in the order in which
+/// they stand here.
+#[derive(Debug, PartialEq, Eq, Drop, Error)]
+pub enum LineError {
+    /// Want of memory; it may come in place of any other answer.
+    #[error("out of memory")]
+    Memory,
+    /// The first word is no command.
+    #[error("unknown command")]
+    UnknownCommand,
+    /// The line has not as many words as its command takes.
+    #[error("wrong number of words")]
+    WordCount,
+    /// The number of the first word that has not its form; the command is word 1.
+    #[error("word {0} has not its form")]
+    BadWord(u32),
+    /// The line has more than 4,096 bytes.
+    #[error("line too long")]
+    LineTooLong,
+}
+
+impl From<Memory> for LineError {
+    ghost from_gives = { λ _ error. error ≡ out_of_memory };
+
+    fn from(_: Memory) -> Self {
+        LineError::Memory
+    }
+}

@@ -1,0 +1,39 @@
+-- The words after the command, read one by one.
+use Rattle.std.specs.Prelude.{◌≡◌, ◌++◌, ℕ, List, [], ◌∷◌, Option, None}
+use Rattle.std.specs.Option.{option_copied, option_to_list, option_map, option_and_then}
+use Rattle.hilldale.specs.Words.{Given, given_of, dales_form, run_form}
+use Rattle.hilldale.specs.declared.words.Found.{Found}
+use Rattle.hilldale.specs.declared.words.FoundNames.{FoundNames}
+use Rattle.hilldale.specs.declared.words.FoundNames.TheVariants.{Zero, One, Two}
+use Rattle.hilldale.specs.declared.words.Progress.{Progress}
+
+-- the names that were found
+abbrev pub names_in : FoundNames → List (List ℕ)
+names_in Zero = []
+names_in (One first) = first.now ∷ []
+names_in (Two first second) = first.now ∷ second.now ∷ []
+
+-- what was found, as names and values of `--tile`
+abbrev pub found_so_far : Found → Given
+found_so_far found = record { names = names_in found.names; tiles = option_to_list (option_copied found.tile) }
+
+-- what was given before, and then what the later words give
+abbrev pub followed_by : Given → Option Given → Option Given
+followed_by before later = option_map (λ more. record { names = before.names ++ more.names; tiles = before.tiles ++ more.tiles }) later
+
+-- what was found, and then what the words that are left give
+abbrev pub given_after : Progress → List (List ℕ) → Option Given
+given_after progress words = followed_by (found_so_far progress.found) (given_of progress.stage words)
+
+-- neither form has such words
+pub record HasNoForm (given : Option Given) : Type 0 where
+  pub dales : option_and_then dales_form given ≡ None
+  pub run : option_and_then run_form given ≡ None
+
+-- with this word next there is neither form, whatever the later words are
+abbrev pub IsRefused : Progress → List ℕ → Type 0
+IsRefused progress word = (words : List (List ℕ)) → HasNoForm (given_after progress (word ∷ words))
+
+-- after this word the later words give, from next on, what the word and they give from progress on
+abbrev pub LeadsTo : Progress → List ℕ → Progress → Type 0
+LeadsTo progress word next = (words : List (List ℕ)) → given_after progress (word ∷ words) ≡ given_after next words

@@ -1,0 +1,45 @@
+// Reading the surface file and the script.
+ghost use Rattle.std.specs.Prelude.{◌≡◌, ◌≤◌, ℕ, List as Items, length, Some, IsTrue, IfOk};
+ghost use Rattle.hilldale.specs.Inputs.{IsSurfaceRead, IsScriptRead, HasReadStop};
+ghost use Rattle.hilldale.specs.Texts.{script_limit};
+
+use crate::stop::Stop;
+use crate::texts::{SCRIPT_LIMIT, SURFACE_LIMIT};
+use hd_base::{List, ReadError, Source, read_all};
+use hd_map::Surface;
+use hd_sdf_read::{PlainError, read_plain};
+use std::alloc::Global;
+
+/// The surface under this name. Its bytes are read whole, or to one past the limit, and let go.
+pub fn read_surface<S: Source>(alloc: Global, source: &mut S, name: &str) -> Result<Surface, Stop>
+    requires { IsTrue (S.allows source.old name.now) }
+    ensures told { (bytes : Items ℕ) → S.files source.old name.now ≡ Some bytes → IsSurfaceRead bytes result }
+    ensures cause { HasReadStop (S.faults source.old) (S.faults source.new) result }
+{
+    let bytes = match read_all(alloc, source, name, SURFACE_LIMIT) {
+        Ok(bytes) => bytes,
+        Err(ReadError::Memory) => return Err(Stop::Memory),
+        Err(ReadError::ReadFault) => return Err(Stop::ReadFault),
+        Err(ReadError::TooLong(_)) => return Err(Stop::SurfaceTooLong),
+    };
+    match read_plain(alloc, bytes.as_slice()) {
+        Ok(surface) => Ok(surface),
+        Err(PlainError::Memory) => Err(Stop::Memory),
+        Err(PlainError::NotPlain) => Err(Stop::NotPlain),
+    }
+}
+
+/// The script under this name, whole, or read to one byte past the limit.
+pub fn read_script<R: Source>(alloc: Global, source: &mut R, name: &str) -> Result<List<u8>, Stop>
+    requires { IsTrue (R.allows source.old name.now) }
+    ensures told { (bytes : Items ℕ) → R.files source.old name.now ≡ Some bytes → IsScriptRead bytes result }
+    ensures within { IfOk result (λ read. length read ≤ script_limit) }
+    ensures cause { HasReadStop (R.faults source.old) (R.faults source.new) result }
+{
+    match read_all(alloc, source, name, SCRIPT_LIMIT) {
+        Ok(bytes) => Ok(bytes),
+        Err(ReadError::Memory) => Err(Stop::Memory),
+        Err(ReadError::ReadFault) => Err(Stop::ReadFault),
+        Err(ReadError::TooLong(_)) => Err(Stop::ScriptTooLong),
+    }
+}
