@@ -1,0 +1,77 @@
+#!/usr/bin/env python3
+"""Writes the sample surfaces of this folder, each the same at every call: make.py [FOLDER]."""
+import math
+import pathlib
+import random
+import sys
+
+HEADER = """aBCR-1.0
+ManufacID = {name}
+CreateDate = 010120260000
+ModDate = 010120260000
+NumPoints = {points}
+NumProfiles = {profiles}
+Xscale = {x}
+Yscale = {y}
+Zscale = 1e-9
+Zresolution = -1
+Compression = 0
+DataType = 5
+CheckType = 0
+*
+"""
+
+
+def profile(_):
+    """Three points: two dales and the hill between them."""
+    return [[0, 5, 1]]
+
+
+def turned(random):
+    """A turned profile's lay: feed marks of 12 points, with a little noise."""
+    return [[round(400 * abs(math.sin(math.pi * x / 12)) + random.gauss(0, 12)) for x in range(96)] for _ in range(24)]
+
+
+def ground(random):
+    """A ground texture: fine lay along the profile, with five deep scratches across it."""
+    heights = [[0] * 64 for _ in range(64)]
+    for x in range(64):
+        lay = random.gauss(0, 90)
+        for y in range(64):
+            heights[y][x] = round(lay + random.gauss(0, 25))
+    for _ in range(5):
+        x, slope, depth = random.uniform(0, 63), random.uniform(-0.6, 0.6), random.randint(300, 700)
+        for y in range(64):
+            for beside in (-1, 0, 1):
+                at = round(x + slope * y) + beside
+                if 0 <= at < 64:
+                    heights[y][at] -= depth if beside == 0 else depth // 2
+    return heights
+
+
+def dimples(random):
+    """A laser-dimpled texture: round dimples in a square pattern of 16 points on a flat land."""
+    def height(x, y):
+        dx, dy = (x % 16) - 8, (y % 16) - 8
+        return round(-900 * math.exp(-(dx * dx + dy * dy) / 14)) + random.randint(-3, 3)
+    return [[height(x, y) for x in range(64)] for y in range(48)]
+
+
+def plateau(random):
+    """A stepped plateau, three steps high, with points that the instrument could not measure along its edges."""
+    heights = [[250 * sum(edge <= x < 48 - edge and edge <= y < 40 - edge for edge in (6, 12, 17)) for x in range(48)] for y in range(40)]
+    edges = [[any(heights[y][x] != heights[b][a] for a in range(max(x - 1, 0), min(x + 2, 48)) for b in range(max(y - 1, 0), min(y + 2, 40))) for x in range(48)] for y in range(40)]
+    return [[None if edges[y][x] and random.random() < 0.6 else heights[y][x] + random.randint(-4, 4) for x in range(48)] for y in range(40)]
+
+
+def main():
+    folder = pathlib.Path(sys.argv[1] if len(sys.argv) > 1 else pathlib.Path(__file__).parent)
+    for make in (profile, turned, ground, dimples, plateau):
+        rows = make(random.Random(2026))
+        scale = {'profile': ('1e-6', '1e-6'), 'turned': ('5e-6', '9e-6')}.get(make.__name__, ('2e-6', '2e-6'))
+        text = HEADER.format(name=make.__name__, points=len(rows[0]), profiles=len(rows), x=scale[0], y=scale[1])
+        lines = (' '.join('BAD' if z is None else str(z) for z in row) for row in rows)
+        (folder / f'{make.__name__}.sdf').write_text(text + '\n'.join(lines) + '\n*\n')
+
+
+main()
