@@ -28,13 +28,15 @@ pub struct Session {
 }
 
 impl Model for Session {
-    ghost use Rattle.std.specs.Prelude.{[]};
+    ghost use Rattle.std.specs.Prelude.{[], ◌≤◌};
     ghost use Rattle.hd_map.specs.Surface.{map_of};
     ghost use Rattle.hd_engine.specs.Session.{SessionState};
 
     ghost Value = { SessionState };
 
     ghost view = { λ s. record { state = record { map = map_of s.board.grid; earlier = []; elements = s.board.elements }; asked = s.asked } };
+
+    ghost invariant = { λ s. (8 ≤ s.tile) × (s.tile ≤ 256) };
 }
 
 impl Session {

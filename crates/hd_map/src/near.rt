@@ -8,11 +8,28 @@ use crate::{Grid, Pos, contains, is_present};
 use smallvec::SmallVec;
 use std::alloc::Global;
 
-/// The neighbours of a present point, in position order.
+/// The neighbours of a point, in position order: the present points whose column and profile differ
+/// from its own by at most one. A point that is not present has none. The list lies inline and takes
+/// no memory.
 pub fn neighbours<G: Grid>(alloc: Global, grid: &G, at: Pos) -> SmallVec<Pos, 8>
+    requires { InGrid (G.map grid.now).size at }
+    ensures all { (q : _) → Contains result.items q ↔ Neighbour (G.map grid.now) at q }
+    ensures ordered { AllPairs (λ a b. place_of (G.map grid.now).size a < place_of (G.map grid.now).size b) result.items }
+    ensures inline { result.capacity ≡ 8 }
+{
+    if is_present(grid, at) {
+        points_round(alloc, grid, at)
+    } else {
+        SmallVec::new(alloc)
+    }
+}
+
+// The neighbours of a present point.
+fn points_round<G: Grid>(alloc: Global, grid: &G, at: Pos) -> SmallVec<Pos, 8>
     requires { Present (G.map grid.now) at }
     ensures all { (q : _) → Contains result.items q ↔ Neighbour (G.map grid.now) at q }
     ensures ordered { AllPairs (λ a b. place_of (G.map grid.now).size a < place_of (G.map grid.now).size b) result.items }
+    ensures inline { result.capacity ≡ 8 }
 {
     let mut found = SmallVec::new(alloc);
     for step in 0..9u32 {

@@ -1,3 +1,4 @@
+#![tactic(auto)]
 //! Reads plain files: surfaces in the ASCII form of ISO 25178-71 (SDF), kept to one strict form.
 //!
 //! A plain file begins with these fourteen lines, each ended by LF, with no blanks but those shown:
@@ -20,7 +21,6 @@
 //! Then come tokens, parted by spaces and LFs: a datum for each cell, profile by profile, and `*`.
 //! A datum is `BAD`, for a cell that was not measured, or a minus or none and 1 to 10 digits, a
 //! number in the range of the type.
-#![tactic(auto)]
 
 ghost use Rattle.std.specs.Prelude.{◌≡◌, IfOk, None, Some};
 ghost use Rattle.hd_map.specs.Surface.{map_of};

@@ -1,7 +1,7 @@
 use Rattle.std.proofs.Common.{arith, ◌∙◌}
 use Rattle.hd_map.proofs.Gather.{gathered_push, gathered_none, gathered_centre, gathered_all}
-use Rattle.hd_map.proofs.near.neighbours.Goals as goal
-use Rattle.hd_map.proofs.near.neighbours.Goals.{then-step-ne4+in-Some, then-step-ne4+in_default, else-step-ne4}
+use Rattle.hd_map.proofs.near.points_round.Goals as goal
+use Rattle.hd_map.proofs.near.points_round.Goals.{then-step-ne4+in-Some, then-step-ne4+in_default, else-step-ne4}
 
 pub loop-step-preserved : goal.loop-step-preserved
 loop-step-preserved g c =
