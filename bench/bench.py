@@ -13,24 +13,13 @@ import os
 import pathlib
 import statistics
 import subprocess
+import sys
 import tempfile
 import time
 
-HEADER = """aBCR-1.0
-ManufacID = bench
-CreateDate = 010120260000
-ModDate = 010120260000
-NumPoints = {n}
-NumProfiles = {n}
-Xscale = 1e-6
-Yscale = 1e-6
-Zscale = 1e-9
-Zresolution = -1
-Compression = 0
-DataType = 6
-CheckType = 0
-*
-"""
+ROOT = pathlib.Path(__file__).resolve().parent.parent
+sys.path.insert(0, str(ROOT / 'examples'))
+from make import write_plain  # noqa: E402
 
 
 def draws(s):
@@ -49,11 +38,7 @@ def rows(kind, n):
 
 
 def write_surface(name, kind, n):
-    with open(name, 'w') as out:
-        out.write(HEADER.format(n=n))
-        for row in rows(kind, n):
-            out.write(' '.join(map(str, row)) + '\n')
-        out.write('*\n')
+    write_plain(name, 'bench', ('1e-6', '1e-6'), 6, n, n, rows(kind, n))
 
 
 def timed(words, rounds):
@@ -70,7 +55,7 @@ def timed(words, rounds):
 
 def main():
     words = argparse.ArgumentParser(description=__doc__, formatter_class=argparse.RawDescriptionHelpFormatter)
-    words.add_argument('--binary', default=str(pathlib.Path(__file__).parent.parent / 'crates/hilldale/out/hilldale'))
+    words.add_argument('--binary', default=str(ROOT / 'crates/hilldale/out/hilldale'))
     words.add_argument('--rounds', type=int, default=5)
     words.add_argument('sizes', nargs='*', type=int, default=[512, 1024, 2048])
     given = words.parse_args()

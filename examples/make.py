@@ -16,10 +16,19 @@ Yscale = {y}
 Zscale = 1e-9
 Zresolution = -1
 Compression = 0
-DataType = 5
+DataType = {code}
 CheckType = 0
 *
 """
+
+
+def write_plain(name, maker, scales, code, points, profiles, rows):
+    """Writes a plain file: rows of heights, None for a point that was not measured."""
+    with open(name, 'w') as out:
+        out.write(HEADER.format(name=maker, points=points, profiles=profiles, x=scales[0], y=scales[1], code=code))
+        for row in rows:
+            out.write(' '.join('BAD' if z is None else str(z) for z in row) + '\n')
+        out.write('*\n')
 
 
 def profile(_):
@@ -68,10 +77,9 @@ def main():
     folder = pathlib.Path(sys.argv[1] if len(sys.argv) > 1 else pathlib.Path(__file__).parent)
     for make in (profile, turned, ground, dimples, plateau):
         rows = make(random.Random(2026))
-        scale = {'profile': ('1e-6', '1e-6'), 'turned': ('5e-6', '9e-6')}.get(make.__name__, ('2e-6', '2e-6'))
-        text = HEADER.format(name=make.__name__, points=len(rows[0]), profiles=len(rows), x=scale[0], y=scale[1])
-        lines = (' '.join('BAD' if z is None else str(z) for z in row) for row in rows)
-        (folder / f'{make.__name__}.sdf').write_text(text + '\n'.join(lines) + '\n*\n')
+        scales = {'profile': ('1e-6', '1e-6'), 'turned': ('5e-6', '9e-6')}.get(make.__name__, ('2e-6', '2e-6'))
+        write_plain(folder / f'{make.__name__}.sdf', make.__name__, scales, 5, len(rows[0]), len(rows), rows)
 
 
-main()
+if __name__ == '__main__':
+    main()

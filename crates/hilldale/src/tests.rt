@@ -306,21 +306,44 @@ fn pieces_of_any_size_make_the_same_output(rt: HostRuntime) -> Result<(), Fail> 
 
 #[test]
 fn each_call_of_a_source_that_fails_is_a_read_fault(rt: HostRuntime) -> Result<(), Fail> {
-    // An open, a read for each 64 bytes, and one that finds the end: 5 of the surface, 3 of the script.
-    for call in 0..6u64 {
+    // An open, a read for each 64 bytes, and one that finds the end: 6 calls for the 217 bytes of
+    // the surface, 3 for the script.
+    for call in 0..7u64 {
         let (status, text) = run_in_pieces(rt.alloc(), 64, &[call], &[], &[])?;
-        let fails = call < 5;
-        assert_eq!(rt; status == Status::ReadFault, fails, "at {call}");
+        assert_eq!(rt;
+            status,
+            if call < 6 {
+                Status::ReadFault
+            } else {
+                Status::Done
+            },
+            "at {call}"
+        );
         assert_eq!(rt;
             text.as_str(),
-            if fails { "read fault\n" } else { PROFILE_DALES }
+            if call < 6 {
+                "read fault\n"
+            } else {
+                PROFILE_DALES
+            }
         );
         let (status, text) = run_in_pieces(rt.alloc(), 64, &[], &[call], &[])?;
-        let fails = call < 3;
-        assert_eq!(rt; status == Status::ReadFault, fails, "at {call}");
+        assert_eq!(rt;
+            status,
+            if call < 3 {
+                Status::ReadFault
+            } else {
+                Status::Done
+            },
+            "at {call}"
+        );
         assert_eq!(rt;
             text.as_str(),
-            if fails { "read fault\n" } else { PROFILE_DALES }
+            if call < 3 {
+                "read fault\n"
+            } else {
+                PROFILE_DALES
+            }
         );
     }
     Ok(())
@@ -331,7 +354,15 @@ fn each_call_of_the_sink_that_fails_is_a_write_fault(rt: HostRuntime) -> Result<
     // A write for each 4 of the 34 bytes, and a flush.
     for call in 0..11u64 {
         let (status, text) = run_in_pieces(rt.alloc(), 4, &[], &[], &[call])?;
-        assert_eq!(rt; status == Status::WriteFault, call < 10, "at {call}");
+        assert_eq!(rt;
+            status,
+            if call < 10 {
+                Status::WriteFault
+            } else {
+                Status::Done
+            },
+            "at {call}"
+        );
         assert!(rt; PROFILE_DALES.starts_with(text.as_str()));
         assert_eq!(rt; text.len() as u64, (4 * call).min(34), "at {call}");
     }
