@@ -53,6 +53,11 @@ def timed(words, rounds):
     return statistics.median(seconds), memory, output
 
 
+def dales_in(output):
+    begin = output.index(b'dales ') + 6
+    return output[begin:output.index(b'\n', begin)].decode()
+
+
 def main():
     words = argparse.ArgumentParser(description=__doc__, formatter_class=argparse.RawDescriptionHelpFormatter)
     words.add_argument('--binary', default=str(ROOT / 'crates/hilldale/out/hilldale'))
@@ -67,7 +72,7 @@ def main():
                 write_surface(name, kind, n)
                 counted = timed(['wc', '-l', name], given.rounds)[0]
                 seconds, memory, output = timed([given.binary, 'dales', name], given.rounds)
-                print(f"| {kind} {n} by {n} | {seconds:.3f} | {seconds / counted:.0f} | {memory:.0f} | {output.split()[1].decode()} |", flush=True)
+                print(f"| {kind} {n} by {n} | {seconds:.3f} | {seconds / counted:.0f} | {memory:.0f} | {dales_in(output)} |", flush=True)
         write_surface(name, 'noise', 1024)
         d = draws(11)
         with open(script, 'w') as out:
@@ -76,7 +81,7 @@ def main():
             out.write('dales\n')
         alone = timed([given.binary, 'dales', name], given.rounds)[0]
         seconds, memory, output = timed([given.binary, 'run', name, script], given.rounds)
-        print(f"| 200,000 sets and `dales` | {seconds:.3f} | {seconds / alone:.2f} to `dales` alone | {memory:.0f} | {output.split(b'dales ')[1].split()[0].decode()} |")
+        print(f"| 200,000 sets and `dales` | {seconds:.3f} | {seconds / alone:.2f} to `dales` alone | {memory:.0f} | {dales_in(output)} |")
 
 
 main()
