@@ -1,14 +1,12 @@
 -- The roots of a map's points, by index.
-use Rattle.std.proofs.Common.{◌≡◌, ◌<◌, ℕ, true, List, length, get_or, Option, Some, None, inl, inr, refl, sym, ap, ◌∙◌}
+use Rattle.std.proofs.Common.{◌≡◌, ◌<◌, ℕ, List, length, get_or, Option, Some, None, inl, inr, sym, ap, ◌∙◌}
 use Rattle.std.proofs.lemmas.Option.{slice_get-get_or}
-use Rattle.std.proofs.lemmas.Bool.{false≢true}
 use Rattle.hd_map.specs.declared.types.Pos.{Pos}
 use Rattle.hd_map.specs.declared.types.SideName.{SideName}
 use Rattle.hd_map.specs.Map.{Map, IsMap, InGrid, Present, place_of, cell_count}
 use Rattle.hd_map.specs.Region.{AreRegions}
 use Rattle.hd_map.proofs.Points.{pos_at, pos_at-place, pos_at-inside, present_or_not, place_inside}
 use Rattle.hd_map.proofs.Nexts.{root-is_pit}
-use Rattle.hd_engine.specs.Regions.{names}
 
 not_none : (o : Option ℕ) (n : ℕ) → o ≡ Some n → Some o ≡ Some None → ⊥
 not_none o n some none = cc
@@ -42,13 +40,3 @@ root_inside m side roots whole regions k n below is =
     let n_is : n ≡ (found.0).index = same_number (get_or roots (place_of m.size p) None) n (found.0).index is' (sym (slice_get-get_or roots (place_of m.size p) None there) ∙ found.2) in
     let index_is : (found.0).index ≡ place_of m.size point.at = ap (λ r. r.index) point.rank_is in
     rw (n_is, index_is, regions.whole) (place_inside m.size point.at point.present.in_grid)
-
--- the pit's own point is present
-pub own_present : (m : Map) (side : SideName) (roots : List (Option ℕ)) (k : ℕ) → AreRegions m side roots → names (get_or roots k None) k ≡ true
-    → (p : Pos) → InGrid m.size p → place_of m.size p ≡ k → Present m p
-own_present m side roots k regions own p inside place =
-    let own' : names (get_or roots (place_of m.size p) None) k ≡ true = ap (λ i. names (get_or roots i None) k) place ∙ own in
-    elim (get_or roots (place_of m.size p) None) as (λ root. get_or roots (place_of m.size p) None ≡ root → names root k ≡ true → Present m p) [
-      | Some n ↦ λ is _. rooted_present m side roots p n regions inside is
-      | None ↦ λ _ not. absurd (false≢true not)
-    ] refl own'

@@ -10,29 +10,13 @@ use Rattle.hd_map.specs.Neighbour.{Neighbour, IsNear}
 use Rattle.hd_map.specs.Order.{IsNotAbove}
 use Rattle.hd_map.specs.Rank.{rank, below_by}
 use Rattle.hd_map.specs.Region.{LowerNeighbour, IsNext, IsPit}
-use Rattle.hd_map.proofs.Gather.{same_pos}
-use Rattle.hd_map.proofs.Sides.{below_by-order, not_above-refl, not_above-trans, below-not_above, below-apart}
+use Rattle.hd_map.proofs.Sides.{below_by-order, not_above-refl, not_above-trans, below-not_above}
 use Rattle.hd_map.proofs.Points.{same_place, same_point, point_at, Near-at}
 use Rattle.hd_steep.specs.Lowest.{InStretch, IsLowestOf}
 
 -- no point is chosen
 pub lowest_none : (m : Map) (side : SideName) (Chosen : Pos → Type 0) (first : Rank) → ((q : Pos) → Chosen q → Present m q → ⊥) → IsLowestOf m side Chosen first first
 lowest_none m side Chosen first none = record { origin = inl refl; least = λ q chosen here. absurd (none q chosen here) }
-
--- the point is taken, since it is below the first rank
-pub lowest_taken : (m : Map) (side : SideName) (first : Rank) (at : Pos) → Present m at → below_by side (rank m at) first ≡ true
-    → IsLowestOf m side (λ q. q ≡ at) first (rank m at)
-lowest_taken m side first at here below = record {
-  origin = inr (record { at = at; chosen = refl; present = here; rank_is = refl; below = below });
-  least = λ q e there. subst (λ (p : Pos). IsNotAbove (below_by side) (rank m at) (rank m p)) (sym e) (not_above-refl (below_by side) (below_by-order side) (rank m at));
-}
-
--- the point is left, since it is not below the first rank
-pub lowest_left : (m : Map) (side : SideName) (first : Rank) (at : Pos) → below_by side (rank m at) first ≡ false → IsLowestOf m side (λ q. q ≡ at) first first
-lowest_left m side first at not = record {
-  origin = inl refl;
-  least = λ q e there. subst (λ (p : Pos). IsNotAbove (below_by side) first (rank m p)) (sym e) not;
-}
 
 -- the lowest is not above the first rank
 lowest_not_above : (m : Map) (side : SideName) (Chosen : Pos → Type 0) (first low : Rank) → IsLowestOf m side Chosen first low → IsNotAbove (below_by side) low first
@@ -71,19 +55,6 @@ lowest_join m side P Q R first low last from_p from_q of_r before now =
       ];
     }
 
--- the columns of a stretch before the next one, and that one
-pub stretch_more : (m : Map) (side : SideName) (y left x : ℕ) (first low last : Rank) → left ≤ x → IsLowestOf m side (InStretch y left x) first low
-    → IsLowestOf m side (λ q. q ≡ record { x = x; y = y }) low last → IsLowestOf m side (InStretch y left (x + 1)) first last
-stretch_more m side y left x first low last start before now =
-    lowest_join m side (InStretch y left x) (λ q. q ≡ record { x = x; y = y }) (InStretch y left (x + 1)) first low last
-    (λ q s. record { profile = s.profile; from = s.from; to = omega (arith, s.to) })
-    (λ q e. let ex : q.x ≡ x = ap (λ (p : Pos). p.x) e in let ey : q.y ≡ y = ap (λ (p : Pos). p.y) e in record { profile = ey; from = omega arith; to = omega arith })
-    (λ q here s. elim (cases_lt q.x x) [
-      | inl less ↦ inl (record { profile = s.profile; from = s.from; to = less })
-      | inr not ↦ inr (same_pos q (record { x = x; y = y }) (omega (arith, s.to)) s.profile)
-    ])
-    before now
-
 -- the positions round one, in the profiles before a given one
 pub record IsRound (at : Pos) (y : ℕ) (q : Pos) : Type 0 where
   pub columns : IsNear at.x q.x
@@ -94,10 +65,6 @@ pub record IsRound (at : Pos) (y : ℕ) (q : Pos) : Type 0 where
 pub record AreColumns (m : Map) (at : Pos) (left right : ℕ) : Type 0 where
   pub near : (x : ℕ) → left ≤ x → x < right → IsNear at.x x
   pub all : (q : Pos) → Present m q → IsNear at.x q.x → (left ≤ q.x) × (q.x < right)
-
--- before the first profile round a position there is none of its neighbours
-pub round_none : (m : Map) (side : SideName) (at : Pos) (y : ℕ) → ((k : ℕ) → IsNear at.y k → y ≤ k) → IsLowestOf m side (IsRound at y) (rank m at) (rank m at)
-round_none m side at y low = lowest_none m side (IsRound at y) (rank m at) (λ q round here. let h = low q.y round.profiles in absurd (omega (arith, h, round.before)))
 
 -- the profiles before the next one, and that one
 pub round_more : (m : Map) (side : SideName) (at : Pos) (y left right : ℕ) (first low last : Rank) → IsNear at.y y → AreColumns m at left right
@@ -111,26 +78,6 @@ round_more m side at y left right first low last near columns before now =
       | inr not ↦ let within = columns.all q here r.columns in inr (record { profile = omega (arith, r.before); from = within.0; to = within.1 })
     ])
     before now
-
--- after the last profile
-pub round_all : (m : Map) (side : SideName) (at : Pos) (y : ℕ) (low : Rank) → Present m at → ((q : Pos) → Present m q → IsNear at.y q.y → q.y < y)
-    → IsLowestOf m side (IsRound at y) (rank m at) low → IsLowestOf m side (Neighbour m at) (rank m at) low
-round_all m side at y low here all so_far = record {
-  origin = elim so_far.origin [
-    | inl same ↦ inl same
-    | inr one ↦
-        let below : below_by side (rank m one.at) (rank m at) ≡ true = rw (← one.rank_is) one.below in
-        let apart : at ≡ one.at → ⊥ = λ e. below-apart (below_by side) (below_by-order side) (rank m one.at) (rank m at) below (ap (rank m) (sym e)) in
-        inr (record {
-          at = one.at;
-          chosen = record { from = here; to = one.present; columns = one.chosen.columns; rows = one.chosen.profiles; different = apart };
-          present = one.present;
-          rank_is = one.rank_is;
-          below = one.below;
-        })
-  ];
-  least = λ q n there. so_far.least q (record { columns = n.columns; profiles = n.rows; before = all q there n.rows }) there;
-}
 
 -- a lower neighbour of a point is the rank of a neighbour
 lower_at : (m : Map) (side : SideName) (at : Pos) (low : Rank) → Present m at → LowerNeighbour m side (rank m at) low → (q : Pos) × Neighbour m at q × (low ≡ rank m q)

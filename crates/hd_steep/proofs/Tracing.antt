@@ -1,8 +1,8 @@
 -- Links as they are set and followed.
-use Rattle.std.proofs.Common.{◌≡◌, ◌<◌, ◌≤◌, ◌+◌, ℕ, List, length, get_or, set, replicate, Option, Some, None, IsSome, ◌⊎◌, inl, inr, ap, ◌∙◌, sym, subst, refl, arith}
+use Rattle.std.proofs.Common.{◌≡◌, ◌<◌, ◌≤◌, ◌+◌, ℕ, List, length, get_or, set, Option, Some, None, IsSome, ◌⊎◌, inl, inr, ap, ◌∙◌, sym, subst, refl, arith}
 use Rattle.std.specs.Prelude.{unwrap_or}
 use Rattle.std.proofs.Math.ListN.{length-set}
-use Rattle.std.proofs.lemmas.List.{get_or-set_same, get_or-set_other, get_or-replicate, length-replicate}
+use Rattle.std.proofs.lemmas.List.{get_or-set_same, get_or-set_other}
 use Rattle.std.proofs.lemmas.Bool.{cases_eq, false≢true}
 use Rattle.std.proofs.lemmas.Option.{slice_get-get_or}
 use Rattle.hd_map.specs.declared.types.Pos.{Pos}
@@ -40,14 +40,6 @@ pub record AreBegun (m : Map) (side : SideName) (index : ℕ) (links : List (Opt
   pub whole : length links ≡ cell_count m.size
   pub present : (p : Rank) → IsPoint m p → p.index < index → LinksOnward m side links p
   pub absent : (p : Pos) → InGrid m.size p → (Present m p → ⊥) → link_at links (place_of m.size p) ≡ None
-
--- at first there is no link
-pub begun_none : (m : Map) (side : SideName) → AreBegun m side 0 (replicate (cell_count m.size) None)
-begun_none m side = record {
-  whole = length-replicate (cell_count m.size) None;
-  present = λ p point below. absurd (omega (arith, below));
-  absent = λ p inside not. get_or-replicate {A = Option ℕ} (cell_count m.size) (place_of m.size p) None None (place_inside m.size p inside);
-}
 
 -- the point at the index is linked
 pub begun_more : (m : Map) (side : SideName) (index : ℕ) (links : List (Option ℕ)) (at : Pos) (low : Rank) → Present m at → place_of m.size at ≡ index
@@ -221,10 +213,6 @@ shortened_end m side old new p here root so_far e = elim so_far.linked [
 pub record AreLed (m : Map) (side : SideName) (index : ℕ) (links : List (Option ℕ)) : Type 0 where
   pub whole : AreLinks m side links
   pub led : (p : Rank) → IsPoint m p → p.index < index → LinksToRoot m side links p
-
--- at first none is led
-pub led_none : (m : Map) (side : SideName) (links : List (Option ℕ)) → AreLinks m side links → AreLed m side 0 links
-led_none m side links links' = record { whole = links'; led = λ p point below. absurd (omega (arith, below)) }
 
 -- the point at the index is led
 pub led_more : (m : Map) (side : SideName) (index : ℕ) (old new : List (Option ℕ)) (at : Pos) → Present m at → place_of m.size at ≡ index → AreLed m side index old

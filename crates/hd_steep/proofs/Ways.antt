@@ -54,17 +54,9 @@ pub record IsWalk (m : Map) (side : SideName) (p q : Pos) : Type 0 where
   pub present : Present m q
   pub onward : (r : Rank) → IsRoot m side (rank m q) r → IsRoot m side (rank m p) r
 
--- a walk begins at its point
-pub walk_start : (m : Map) (side : SideName) (p : Pos) → Present m p → IsWalk m side p p
-walk_start m side p here = record { present = here; onward = λ r root. root }
-
 -- a walk goes on to the next
 pub walk_step : (m : Map) (side : SideName) (p q s : Pos) → IsWalk m side p q → Present m s → IsNext m side (rank m q) (rank m s) → IsWalk m side p s
 walk_step m side p q s walk there n = record { present = there; onward = λ r root. walk.onward r (root-step m side (rank m q) (rank m s) r n root) }
-
--- a walk ends at a pit
-pub walk_pit : (m : Map) (side : SideName) (p q : Pos) → IsWalk m side p q → IsPit m side (rank m q) → IsRoot m side (rank m p) (rank m q)
-walk_pit m side p q walk pit = walk.onward (rank m q) (root-pit m side (rank m q) pit)
 
 -- the index of a point that has the same root as p
 pub record IsOnWay (m : Map) (side : SideName) (p : Rank) (k : ℕ) : Type 0 where

@@ -1,7 +1,7 @@
 -- Answers as they are written, line by line.
 use Rattle.std.proofs.Common.{◌≡◌, ◌+◌, ◌++◌, ◌&&◌, ℕ, Bool, true, false, List, [], ◌∷◌, take, drop, Option, Result, Ok, Err, IsErr, refl, sym, ap, ◌∙◌, subst, append_assoc, append-nil, take-append-drop}
 use Rattle.std.specs.Io.KnownBytes.{Appends}
-use Rattle.std.proofs.KnownBytes.{Appends-trans, Appends-nil}
+use Rattle.std.proofs.KnownBytes.{Appends-trans}
 use Rattle.hd_map.specs.Map.{IsMap}
 use Rattle.hd_edit.specs.State.{State}
 use Rattle.hd_engine.specs.Answers.{Reply, IsAnswer, AreAnswers}
@@ -25,15 +25,6 @@ pub record AreAnswered (first : State) (all : List (List ℕ)) (s : State) (numb
   pub written : Appends old new got
   pub onward : (others : Reply) (after : State) → AreAnswers s number rest others after → AreAnswers first 1 all (joined accepted got others) after
   pub back : (reply : Reply) (after : State) → AreAnswers first 1 all reply after → (others : Reply) × AreAnswers s number rest others after × (reply ≡ joined accepted got others)
-
--- no line is answered yet
-pub answered_none : (s : State) (all : List (List ℕ)) (told : Option (List ℕ)) → AreAnswered s all s 1 all true told told
-answered_none s all told = record {
-  got = [];
-  written = Appends-nil told;
-  onward = λ others after h. h;
-  back = λ reply after h. (reply, h, refl);
-}
 
 and_assoc : (a b c : Bool) → (a && (b && c)) ≡ ((a && b) && c)
 and_assoc true b c = refl

@@ -12,17 +12,11 @@ use Rattle.hilldale.specs.declared.stop.Stop.TheVariants.{Memory, ReadFault, Wri
 use Rattle.hilldale.specs.declared.status.Status.TheVariants.{SurfaceRefused, TooLong}
 use Rattle.hilldale.specs.Prefix.{IsPrefixOf}
 use Rattle.hilldale.specs.Words.{Request}
-use Rattle.hilldale.specs.Texts.{surface_limit, script_limit, too_long_text, not_plain_text, second_too_long_text}
+use Rattle.hilldale.specs.Texts.{surface_limit, script_limit, second_too_long_text}
 use Rattle.hilldale.specs.Outcome.{Outcome, surface_of, lines_asked, first_state, IsOutcomeOfLines, IsOutcomeOfMap, IsOutcomeOfRun}
 use Rattle.hilldale.specs.Answering.{AnswersLines}
 use Rattle.hilldale.specs.Inputs.{IsScriptRead}
 use Rattle.hilldale.specs.Running.{IsRun, BeginsRun}
-
-pub surface_of-long : (bytes : List ℕ) → surface_limit < length bytes → surface_of bytes ≡ Err too_long_text
-surface_of-long bytes long = let test : nat_lt surface_limit (length bytes) ≡ true = grind (arith, nat_tests) in rw test refl
-
-pub surface_of-other : (bytes : List ℕ) → length bytes ≤ surface_limit → plain_map bytes ≡ None → surface_of bytes ≡ Err not_plain_text
-surface_of-other bytes fits none = let test : nat_lt surface_limit (length bytes) ≡ false = grind (arith, nat_tests) in rw (test, none) refl
 
 pub surface_of-plain : (bytes : List ℕ) (m : Map) → length bytes ≤ surface_limit → plain_map bytes ≡ Some m → surface_of bytes ≡ Ok m
 surface_of-plain bytes m fits is = let test : nat_lt surface_limit (length bytes) ≡ false = grind (arith, nat_tests) in rw (test, is) refl
