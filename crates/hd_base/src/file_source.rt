@@ -1,9 +1,11 @@
 // A source over real files, which tells nothing of their content.
 ghost use Rattle.std.specs.Prelude.{◌≡◌, None, true, false, is_some};
+ghost use Rattle.hd_base.specs.FileSource.{FileSourceState};
 
 use crate::{Failed, Source};
 use std::fs::OpenOptions;
 use std::io::Read;
+use std::marker::Model;
 use std::rt::Files;
 
 /// Files of the system. It tells nothing of their content, and counts each fault.
@@ -14,11 +16,16 @@ pub struct FileSource<'a, R: Files> {
     faults: u64,
 }
 
+impl<'a, R: Files> Model for FileSource<'a, R> {
+    ghost Value = { FileSourceState };
+
+    ghost view = { λ s. record { has_file = is_some s.file; fault_count = s.faults } };
+}
+
 impl<'a, R: Files> FileSource<'a, R> {
-    /// A source with no file open.
+    /// A source with no file open, that has not failed.
     pub fn new(files: &'a R) -> Self
-        ensures closed { ⟦<FileSource<'a, R> as Source>⟧.is_open result ≡ false }
-        ensures no_fault { ⟦<FileSource<'a, R> as Source>⟧.faults result ≡ 0 }
+        ensures { result ≡ record { has_file = false; fault_count = 0 } }
     {
         FileSource {
             files,
@@ -29,9 +36,9 @@ impl<'a, R: Files> FileSource<'a, R> {
 }
 
 impl<'a, R: Files> Source for FileSource<'a, R> {
-    ghost is_open = { λ s. is_some s.file };
+    ghost is_open = { λ s. s.has_file };
 
-    ghost faults = { λ s. s.faults };
+    ghost faults = { λ s. s.fault_count };
 
     ghost allows = { λ _ _. true };
 

@@ -15,7 +15,8 @@ pub struct WriteFault;
 
 /// A place to write one file at a time to.
 ///
-/// The count of faults starts at 0, never falls, and stands still at its last value.
+/// A call that fails answers `Failed` and counts a fault; no other call changes the count, which
+/// starts at 0 and stands still at its last value.
 pub trait Sink {
     /// Whether a file is open.
     ghost is_open: { Self → Bool };

@@ -30,7 +30,8 @@ pub enum ReadError {
 
 /// A place to read files from, by their names, one at a time.
 ///
-/// The count of faults starts at 0, never falls, and stands still at its last value.
+/// A call that fails answers `Failed` and counts a fault; no other call changes the count, which
+/// starts at 0 and stands still at its last value.
 pub trait Source {
     /// Whether a file is open.
     ghost is_open: { Self → Bool };
@@ -76,7 +77,7 @@ pub trait Source {
 /// Reads the file of a name to its end, or to one byte past the limit of bytes.
 ///
 /// `ReadFault` comes only where the source failed, `TooLong(limit)` exactly where more bytes than
-/// the limit are there.
+/// the limit are there, and `Memory` where the bytes are refused their memory.
 pub fn read_all<S: Source>(
     alloc: Global,
     source: &mut S,

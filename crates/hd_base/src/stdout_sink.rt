@@ -4,8 +4,10 @@ ghost use Rattle.std.specs.Prelude.{◌≡◌, None, true, IsTrue};
 use crate::{Failed, Sink};
 use std::io;
 use std::io::Write;
+use std::marker::Model;
 
-/// The standard output. It tells nothing of what it got, and counts each fault.
+/// The standard output. It tells nothing of what it got, and counts each fault. Contracts see it
+/// as that count.
 ///
 /// Each write goes to the system at once, so a flush has nothing to do.
 #[derive(Drop)]
@@ -14,8 +16,16 @@ pub struct StdoutSink<'a, P: Print> {
     faults: u64,
 }
 
+impl<'a, P: Print> Model for StdoutSink<'a, P> {
+    ghost use Rattle.std.specs.Prelude.{ℕ};
+
+    ghost Value = { ℕ };
+
+    ghost view = { λ s. s.faults };
+}
+
 impl<'a, P: Print> StdoutSink<'a, P> {
-    /// A sink that is open.
+    /// A sink that is open and has not failed.
     pub fn new(to: &'a P) -> Self
         ensures open { IsTrue (⟦<StdoutSink<'a, P> as Sink>⟧.is_open result) }
         ensures no_fault { ⟦<StdoutSink<'a, P> as Sink>⟧.faults result ≡ 0 }
@@ -27,7 +37,7 @@ impl<'a, P: Print> StdoutSink<'a, P> {
 impl<'a, P: Print> Sink for StdoutSink<'a, P> {
     ghost is_open = { λ _. true };
 
-    ghost faults = { λ s. s.faults };
+    ghost faults = { λ s. s };
 
     ghost allows = { λ _ _. true };
 

@@ -14,6 +14,15 @@ fn list_of<T: Copy>(alloc: Global, items: &[T]) -> Result<List<T>, Fail> {
     Ok(list)
 }
 
+#[test]
+fn a_list_keeps_its_items_in_order(rt: HostRuntime) -> Result<(), Fail> {
+    let mut list = List::with_capacity(rt.alloc(), 2)?;
+    list.push(1u32)?;
+    list.extend_from_slice(&[2, 3])?;
+    assert_eq!(rt; list.as_slice(), [1, 2, 3].as_slice());
+    Ok(())
+}
+
 // Two files of one name, of which the first has five bytes.
 fn five_bytes(alloc: Global, fails: &[u64], piece: usize) -> Result<MemSource, Fail>
     requires { 0 < piece }

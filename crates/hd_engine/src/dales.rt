@@ -15,7 +15,8 @@ use hd_steep::regions;
 use std::alloc::Global;
 
 /// The answer that lists the dales of a map: their number, and a line for each pit in position
-/// order with its column, its profile, its height in steps and the number of its points.
+/// order with its column, its profile, its height in steps and the number of its points. `Memory`
+/// comes where the regions or the text are refused their memory.
 pub fn list_dales<G: Grid>(alloc: Global, grid: &G) -> Result<List<u8>, Memory>
     ensures { IfOk result (ListsRegions Dales (G.map grid.now)) }
 {

@@ -57,35 +57,31 @@ gathered_push m at q step found here not_centre below ex ey there g =
           place_less m.size.points r.x r.y q.x q.y s.0.to.in_grid.column (omega (arith, s.0.columns, one.columns)) (omega (arith, s.0.columns, one.columns)) (omega (arith, s.1, number)));
     }
 
--- nothing is present at this step
-pub gathered_none : (m : Map) (at : Pos) (step : ℕ) (found : List Pos) → step < 9
-    → ((q : Pos) → q.x + 1 ≡ at.x + step % 3 → q.y + 1 ≡ at.y + step / 3 → Present m q → ⊥) → (step ≡ 4 → ⊥) → Gathered m at step found → Gathered m at (step + 1) found
-gathered_none m at step found below none not_centre g = record {
+-- the position at this step is none of the neighbours
+gathered_same : (m : Map) (at : Pos) (step : ℕ) (found : List Pos) → ((q : Pos) → Neighbour m at q → 3 * q.y + q.x + 4 ≡ 3 * at.y + at.x + step → ⊥)
+    → Gathered m at step found → Gathered m at (step + 1) found
+gathered_same m at step found none g = record {
   room = omega (arith, g.room);
   room_after = λ h. omega (arith, g.room, g.room_after);
   sound = λ r h. let s = g.sound r h in (s.0, omega (arith, s.1));
   complete = λ r n h. elim (cases_lt (3 * r.y + r.x + 4) (3 * at.y + at.x + step)) [
     | inl old ↦ g.complete r n old
-    | inr new ↦
-        let at_step = only_one at r step below (omega (arith, n.columns)) (omega (arith, n.columns)) (omega (arith, n.rows)) (omega (arith, n.rows)) (omega arith) in
-        absurd (none r at_step.0 at_step.1 n.to)
+    | inr new ↦ absurd (none r n (omega arith))
   ];
   ordered = g.ordered;
 }
 
+-- nothing is present at this step
+pub gathered_none : (m : Map) (at : Pos) (step : ℕ) (found : List Pos) → step < 9
+    → ((q : Pos) → q.x + 1 ≡ at.x + step % 3 → q.y + 1 ≡ at.y + step / 3 → Present m q → ⊥) → Gathered m at step found → Gathered m at (step + 1) found
+gathered_none m at step found below none = gathered_same m at step found (λ q n e.
+    let at_step = only_one at q step below (omega (arith, n.columns)) (omega (arith, n.columns)) (omega (arith, n.rows)) (omega (arith, n.rows)) e in
+    none q at_step.0 at_step.1 n.to)
+
 -- the point itself is none of its neighbours
 pub gathered_centre : (m : Map) (at : Pos) (step : ℕ) (found : List Pos) → step ≡ 4 → Gathered m at step found → Gathered m at (step + 1) found
-gathered_centre m at step found centre g = record {
-  room = omega (arith, g.room);
-  room_after = λ h. omega (arith, g.room, g.room_after);
-  sound = λ r h. let s = g.sound r h in (s.0, omega (arith, s.1));
-  complete = λ r n h. elim (cases_lt (3 * r.y + r.x + 4) (3 * at.y + at.x + step)) [
-    | inl old ↦ g.complete r n old
-    | inr new ↦
-        absurd (n.different (same_pos at r (omega (arith, n.columns, n.rows)) (omega (arith, n.columns, n.rows))))
-  ];
-  ordered = g.ordered;
-}
+gathered_centre m at step found centre = gathered_same m at step found (λ q n e.
+    n.different (same_pos at q (omega (arith, n.columns, n.rows)) (omega (arith, n.columns, n.rows))))
 
 -- after all steps
 pub gathered_all : (m : Map) (at : Pos) (step : ℕ) (found : List Pos) → 9 ≤ step → Gathered m at step found → (q : Pos) → (Contains found q → Neighbour m at q) × (Neighbour m at q → Contains found q)

@@ -83,20 +83,6 @@ present_or_not m p inside = elim (measured_or_not (cell_at m p)) [
 pub point_at : (m : Map) (p : Pos) → Present m p → IsPoint m (rank m p)
 point_at m p here = record { at = p; present = here; rank_is = refl }
 
--- neighbours are so both ways
-pub Neighbour-sym : (m : Map) (p q : Pos) → Neighbour m p q → Neighbour m q p
-Neighbour-sym m p q n = record {
-  from = n.to;
-  to = n.from;
-  columns = (n.columns.1, n.columns.0);
-  rows = (n.rows.1, n.rows.0);
-  different = λ e. n.different (sym e);
-}
-
--- points that are near are so both ways
-pub Near-sym : (m : Map) (a b : Rank) → Near m a b → Near m b a
-Near-sym m a b n = record { from = n.to; to = n.from; neighbour = Neighbour-sym m n.from n.to n.neighbour; from_rank = n.to_rank; to_rank = n.from_rank }
-
 -- what has a near one is a point
 pub Near-from : (m : Map) (a b : Rank) → Near m a b → IsPoint m a
 Near-from m a b n = record { at = n.from; present = n.neighbour.from; rank_is = n.from_rank }
@@ -108,10 +94,3 @@ Near-to m a b n = record { at = n.to; present = n.neighbour.to; rank_is = n.to_r
 -- the ranks of two neighbours are near
 pub Near-at : (m : Map) (p q : Pos) → Neighbour m p q → Near m (rank m p) (rank m q)
 Near-at m p q n = record { from = p; to = q; neighbour = n; from_rank = refl; to_rank = refl }
-
--- the positions of two near points are neighbours
-pub Neighbour-of : (m : Map) (p q : Pos) → Present m p → Present m q → Near m (rank m p) (rank m q) → Neighbour m p q
-Neighbour-of m p q here there n =
-    let from : n.from ≡ p = same_point m n.from p n.neighbour.from here (sym n.from_rank) in
-    let to : n.to ≡ q = same_point m n.to q n.neighbour.to there (sym n.to_rank) in
-    rw (from, to) at n.neighbour

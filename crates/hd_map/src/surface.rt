@@ -22,7 +22,8 @@ impl Surface {
     /// A surface with these cells by index, none of them masked.
     ///
     /// Both sizes are from 1 to 65,535 with at most 4,194,304 cells, there are as many cells as the
-    /// size says, and each height is in the range of the type.
+    /// size says, and each height is in the range of the type. `Memory` comes where the masks are
+    /// refused their memory.
     pub fn new(
         alloc: Global,
         size: Size,

@@ -1,50 +1,66 @@
 // What a map is made of.
 use thiserror::Error;
 
-/// A position: the column in a profile, and the profile, both from 0.
+/// A position in a grid, counted in points from 0.
 #[derive(Clone, Copy, Debug, Default, PartialEq, Eq)]
 pub struct Pos {
+    /// The column: the place in a profile.
     pub x: u32,
+    /// The profile.
     pub y: u32,
 }
 
-/// How many points a profile has, and how many profiles there are, each from 1 to 65,535; together
-/// at most 4,194,304 points.
+/// The size of a grid. Both numbers are from 1 to 65,535, and there are at most 4,194,304 points
+/// together.
 #[derive(Clone, Copy, Debug, PartialEq, Eq)]
 pub struct Size {
+    /// How many points a profile has (NumPoints of ISO 25178-71).
     pub points: u32,
+    /// How many profiles there are (NumProfiles of ISO 25178-71).
     pub profiles: u32,
 }
 
-/// A measured height in steps, or none.
+/// What was measured at a point.
 #[derive(Clone, Copy, Debug, PartialEq, Eq)]
 pub enum Cell {
+    /// A height in steps.
     Height(i64),
+    /// None (`BAD` of ISO 25178-71).
     Bad,
 }
 
-/// The type of the heights, which gives their range (DataType of ISO 25178-71).
+/// The type of the heights, which gives their range in steps (DataType of ISO 25178-71).
 #[derive(Clone, Copy, Debug, PartialEq, Eq)]
 pub enum DataType {
+    /// From 0 to 255.
     U8,
+    /// From 0 to 65,535.
     U16,
+    /// From 0 to 4,294,967,295.
     U32,
+    /// From -128 to 127.
     I8,
+    /// From -32,768 to 32,767.
     I16,
+    /// From -2,147,483,648 to 2,147,483,647.
     I32,
 }
 
-/// The height of a present point in steps and its index, by which points are compared.
+/// A present point by what points are compared by: its height, and at one height its index.
 #[derive(Clone, Copy, Debug, PartialEq, Eq)]
 pub struct Rank {
+    /// The height in steps.
     pub height: i64,
+    /// The index: the profile times the points of a profile, plus the column.
     pub index: u32,
 }
 
-/// Which regions are meant: dales, or hills, for which the order of ranks is reversed.
+/// Which regions of ISO 25178-2 are meant.
 #[derive(Clone, Copy, Debug, PartialEq, Eq)]
 pub enum SideName {
+    /// Dales: points are compared by rank.
     Dales,
+    /// Hills: points are compared by rank, reversed.
     Hills,
 }
 

@@ -1,5 +1,5 @@
 -- Whole files.
-use Rattle.std.proofs.Common.{◌≡◌, ℕ, true, false, List, Some, None, Ok, Err, Result, MatchResult, IfOk, IsErrAnd, map, take, replicate, refl, subst}
+use Rattle.std.proofs.Common.{◌≡◌, ℕ, true, false, List, Some, None, map, take, replicate, refl}
 use Rattle.std.proofs.lemmas.Bool.{and_from, and_left, and_right}
 use Rattle.hd_map.specs.declared.types.Cell.{Cell}
 use Rattle.hd_map.specs.declared.types.DataType.{DataType}
@@ -32,10 +32,3 @@ unfolding plain_map
 map_with_both bytes text size t cells m header plain all e =
     let whole : is_plain (lines bytes) ≡ true = and_from _ _ header.header (rw (header.size_is, header.type_is, header.rest_is) at plain) in
     rw (whole, e, all, header.size_is, header.type_is, header.rest_is) refl
-
--- what holds of a value still holds where the error was replaced
-pub ok_kept : {X E F : Type 0} (P : X → Type 0) (Q : E → F → Type 0) (r : Result X E) (m : Result X F) → MatchResult r (λ x. m ≡ Ok x) (λ e. IsErrAnd m (Q e)) → IfOk r P → IfOk m P
-ok_kept P Q (Ok x) (Ok y) known holds = let same : x ≡ y = cc in subst P same holds
-ok_kept P Q (Err e) (Ok y) known holds = absurd known
-ok_kept P Q (Ok x) (Err f) known holds = tt
-ok_kept P Q (Err e) (Err f) known holds = tt

@@ -12,7 +12,8 @@ use hd_base::List;
 use hd_map::{Cell, greatest_of, least_of};
 use std::alloc::Global;
 
-// The cells of the data after a header.
+/// The cells of the data after a header. `NotPlain` comes where a datum or the end is wrong or
+/// missing, or more follows.
 pub fn read_cells(alloc: Global, header: Header, text: &[u8]) -> Result<List<Cell>, PlainError>
     requires { IsSize header.size }
     ensures cells { IfOk result (λ cells. cells ≡ map cell_of (take (cell_count header.size) (tokens text.now))) }
@@ -24,17 +25,19 @@ pub fn read_cells(alloc: Global, header: Header, text: &[u8]) -> Result<List<Cel
     let count = header.size.profiles as usize * header.size.points as usize;
     let least = least_of(header.data_type);
     let greatest = greatest_of(header.data_type);
-    let mut cells = Vec::with_capacity(alloc, count).map_err(|_| PlainError::Memory)?;
+    // A datum and the gap after it take two bytes at least.
+    let room = count.min(text.len() / 2 + 1);
+    let mut cells = List::with_capacity(alloc, room)?;
     let mut rest = text;
     'data: for _ in 0..count {
         let Some((cell, after)) = next_datum(least, greatest, rest) else {
             return Err(PlainError::NotPlain);
         };
-        cells.push_reserved(cell);
+        cells.push(cell)?;
         rest = after;
     }
     if is_end(rest) {
-        Ok(List::from_vec(cells))
+        Ok(cells)
     } else {
         Err(PlainError::NotPlain)
     }

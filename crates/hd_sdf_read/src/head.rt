@@ -8,14 +8,14 @@ use crate::lines::{skip_text, take_entry};
 use crate::values::{extent, is_name, is_scale, is_zero, type_of};
 use hd_map::{DataType, Size};
 
-// What a header says of the data.
+/// What a header says of the data.
 #[derive(Clone, Copy)]
 pub struct Header {
     pub size: Size,
     pub data_type: DataType,
 }
 
-// The size and the type that a header at the front of a text gives, and the text after it.
+/// The size and the type that a header at the front of a text gives, and the text after it.
 pub fn read_header(text: &[u8]) -> Option<(Header, &[u8])>
     ensures { MatchOption result (is_header (lines text.now) ≡ false) (λ parts. IsHeaderOf (lines text.now) parts.0.size parts.0.data_type parts.1.now) }
 {

@@ -25,6 +25,7 @@
 ghost use Rattle.std.specs.Prelude.{◌≡◌, IfOk, None, Some};
 ghost use Rattle.hd_map.specs.Surface.{map_of};
 ghost use Rattle.hd_sdf_read.specs.Plain.{plain_map};
+ghost use Rattle.hd_sdf_read.specs.declared.PlainError.TheVariants.{Memory as out_of_memory};
 
 mod data;
 mod head;
@@ -35,6 +36,7 @@ mod values;
 
 use crate::data::read_cells;
 use crate::head::read_header;
+use hd_base::Memory;
 use hd_map::Surface;
 use std::alloc::Global;
 use thiserror::Error;
@@ -50,11 +52,19 @@ pub enum PlainError {
     NotPlain,
 }
 
+impl From<Memory> for PlainError {
+    ghost from_gives = { λ _ error. error ≡ out_of_memory };
+
+    fn from(_: Memory) -> Self {
+        PlainError::Memory
+    }
+}
+
 /// Reads a plain file. The heights are in steps, as they stand in the file; the scales are tested
 /// and not kept. No cell is masked.
 ///
 /// Memory is taken only for the cells that the header says, once their number is known to be within
-/// the limit.
+/// the limit, and for no more of them than the bytes that are left can hold.
 ///
 /// # Errors
 ///
@@ -67,5 +77,5 @@ pub fn read_plain(alloc: Global, bytes: &[u8]) -> Result<Surface, PlainError>
         return Err(PlainError::NotPlain);
     };
     let cells = read_cells(alloc, header, text)?;
-    Surface::new(alloc, header.size, header.data_type, cells).map_err(|_| PlainError::Memory)
+    Ok(Surface::new(alloc, header.size, header.data_type, cells)?)
 }

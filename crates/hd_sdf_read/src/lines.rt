@@ -3,7 +3,7 @@ ghost use Rattle.std.specs.Prelude.{◌≡◌, ◌∷◌, [], List, ℕ, Bool, f
 ghost use Rattle.hd_sdf_read.specs.Header.{lines, begins, has, is_text};
 ghost use Rattle.hd_sdf_read.specs.Reading.{Skips, SkipsEntry};
 
-// The first line of a text without its LF, and what follows it; none where no LF ends it.
+/// The first line of a text without its LF, and what follows it; none where no LF ends it.
 pub fn take_line(text: &[u8]) -> Option<(&[u8], &[u8])>
     ensures { MatchOption result (lines text.now ≡ text.now ∷ []) (λ parts. lines text.now ≡ parts.0.now ∷ lines parts.1.now) }
 {
@@ -15,7 +15,7 @@ pub fn take_line(text: &[u8]) -> Option<(&[u8], &[u8])>
     None
 }
 
-// What follows the first line, if that is this text.
+/// What follows the first line, if that is this text.
 pub fn skip_text<'a>(text: &'a [u8], wanted: &[u8]) -> Option<&'a [u8]>
     ensures { MatchOption result (begins (is_text wanted.now ∷ []) (lines text.now) ≡ false) (λ rest. Skips (is_text wanted.now) text.now rest.now) }
 {
@@ -23,7 +23,7 @@ pub fn skip_text<'a>(text: &'a [u8], wanted: &[u8]) -> Option<&'a [u8]>
     if line == wanted { Some(rest) } else { None }
 }
 
-// What the first line has after this key, and what follows the line.
+/// What the first line has after this key, and what follows the line.
 pub fn take_entry<'a>(text: &'a [u8], key: &[u8]) -> Option<(&'a [u8], &'a [u8])>
     ensures { MatchOption result ((is_value : List ℕ → Bool) → begins (has key.now is_value ∷ []) (lines text.now) ≡ false)
         (λ parts. SkipsEntry key.now text.now parts.1.now parts.0.now) }

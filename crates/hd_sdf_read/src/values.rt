@@ -5,7 +5,7 @@ ghost use Rattle.hd_sdf_read.specs.Header.{are_digits, number, without_minus, is
 
 use hd_map::DataType;
 
-// The number that at most ten digits write; none where there is another byte.
+/// The number that at most ten digits write; none where there is another byte.
 pub fn number(digits: &[u8]) -> Option<u64>
     requires { length digits.now ≤ 10 }
     ensures value { MatchOption result (are_digits digits.now ≡ false) (λ n. (are_digits digits.now ≡ true) × (n ≡ number digits.now)) }
@@ -21,7 +21,7 @@ pub fn number(digits: &[u8]) -> Option<u64>
     Some(number)
 }
 
-// How many digits a text begins with, up to eleven, and the number that they write.
+/// How many digits a text begins with, up to eleven, and the number that they write.
 pub fn leading_digits(text: &[u8]) -> (usize, u64)
     ensures inside { result.0 ≤ length text.now }
     ensures digits { are_digits (take result.0 text.now) ≡ true }
@@ -39,7 +39,7 @@ pub fn leading_digits(text: &[u8]) -> (usize, u64)
     (text.len(), number)
 }
 
-// The text without the minus that it may begin with.
+/// The text without the minus that it may begin with.
 pub fn without_minus(text: &[u8]) -> &[u8]
     ensures { result.now ≡ without_minus text.now }
 {
@@ -50,7 +50,7 @@ pub fn without_minus(text: &[u8]) -> &[u8]
     }
 }
 
-// Whether this is a name.
+/// Whether this is a name.
 pub fn is_name(value: &[u8]) -> bool
     ensures { result ≡ is_name value.now }
 {
@@ -65,7 +65,7 @@ pub fn is_name(value: &[u8]) -> bool
     true
 }
 
-// The number of an extent, if this is one.
+/// The number of an extent, if this is one.
 pub fn extent(value: &[u8]) -> Option<u32>
     ensures bound { IfSome result (λ n. (1 ≤ n) × (n ≤ 65535)) }
     ensures value { MatchOption result (is_extent value.now ≡ false) (λ n. (is_extent value.now ≡ true) × (n ≡ number value.now)) }
@@ -81,7 +81,7 @@ pub fn extent(value: &[u8]) -> Option<u32>
     }
 }
 
-// Whether this is a scale.
+/// Whether this is a scale.
 pub fn is_scale(value: &[u8]) -> bool
     ensures { result ≡ is_scale value.now }
 {
@@ -92,14 +92,14 @@ pub fn is_scale(value: &[u8]) -> bool
     }
 }
 
-// Whether this is `0`.
+/// Whether this is `0`.
 pub fn is_zero(value: &[u8]) -> bool
     ensures { result ≡ is_zero value.now }
 {
     value == b"0".as_slice()
 }
 
-// The type of the heights that this stands for.
+/// The type of the heights that this stands for.
 pub fn type_of(value: &[u8]) -> Option<DataType>
     ensures { result ≡ type_of value.now }
 {

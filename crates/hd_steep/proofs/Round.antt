@@ -1,5 +1,5 @@
 -- The lowest of several points, found piece by piece.
-use Rattle.std.proofs.Common.{◌≡◌, ◌<◌, ◌≤◌, ◌+◌, ℕ, true, false, ◌⊎◌, inl, inr, ap, ◌∙◌, sym, subst, refl, arith}
+use Rattle.std.proofs.Common.{◌≡◌, ◌<◌, ◌≤◌, ◌+◌, ℕ, true, false, ◌⊎◌, inl, inr, ap, ◌∙◌, sym, subst, arith}
 use Rattle.std.proofs.lemmas.Bool.{cases_lt}
 use Rattle.hd_map.specs.declared.types.Pos.{Pos}
 use Rattle.hd_map.specs.declared.types.Rank.{Rank}
@@ -13,10 +13,6 @@ use Rattle.hd_map.specs.Region.{LowerNeighbour, IsNext, IsPit}
 use Rattle.hd_map.proofs.Sides.{below_by-order, not_above-refl, not_above-trans, below-not_above}
 use Rattle.hd_map.proofs.Points.{same_place, same_point, point_at, Near-at}
 use Rattle.hd_steep.specs.Lowest.{InStretch, IsLowestOf}
-
--- no point is chosen
-pub lowest_none : (m : Map) (side : SideName) (Chosen : Pos → Type 0) (first : Rank) → ((q : Pos) → Chosen q → Present m q → ⊥) → IsLowestOf m side Chosen first first
-lowest_none m side Chosen first none = record { origin = inl refl; least = λ q chosen here. absurd (none q chosen here) }
 
 -- the lowest is not above the first rank
 lowest_not_above : (m : Map) (side : SideName) (Chosen : Pos → Type 0) (first low : Rank) → IsLowestOf m side Chosen first low → IsNotAbove (below_by side) low first

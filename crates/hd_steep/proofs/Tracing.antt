@@ -66,15 +66,19 @@ begun_more m side index links at low here is lowest so_far =
       ];
     }
 
+-- no point has the index of a position where none is present
+no_point_at : (m : Map) (index : ℕ) (at : Pos) → InGrid m.size at → (Present m at → ⊥) → place_of m.size at ≡ index → (p : Rank) → IsPoint m p → p.index ≡ index → ⊥
+no_point_at m index at in_grid not is p point same =
+    let e : at ≡ point.at = same_place m.size at point.at in_grid point.present.in_grid (is ∙ sym same ∙ ap (λ (r : Rank). r.index) point.rank_is) in
+    not (subst (λ (q : Pos). Present m q) (sym e) point.present)
+
 -- no point stands at the index
 pub begun_skip : (m : Map) (side : SideName) (index : ℕ) (links : List (Option ℕ)) (at : Pos) → InGrid m.size at → (Present m at → ⊥) → place_of m.size at ≡ index
     → AreBegun m side index links → AreBegun m side (index + 1) links
 begun_skip m side index links at in_grid not is so_far = record {
   whole = so_far.whole;
   present = λ p point below. elim (cases_eq p.index index) [
-    | inl same ↦
-        let e : at ≡ point.at = same_place m.size at point.at in_grid point.present.in_grid (is ∙ sym same ∙ ap (λ (r : Rank). r.index) point.rank_is) in
-        absurd (not (subst (λ (q : Pos). Present m q) (sym e) point.present))
+    | inl same ↦ absurd (no_point_at m index at in_grid not is p point same)
     | inr other ↦ so_far.present p point (omega arith)
   ];
   absent = so_far.absent;
@@ -231,9 +235,7 @@ pub led_skip : (m : Map) (side : SideName) (index : ℕ) (links : List (Option �
 led_skip m side index links at in_grid not is so_far = record {
   whole = so_far.whole;
   led = λ p point below. elim (cases_eq p.index index) [
-    | inl same ↦
-        let e : at ≡ point.at = same_place m.size at point.at in_grid point.present.in_grid (is ∙ sym same ∙ ap (λ (r : Rank). r.index) point.rank_is) in
-        absurd (not (subst (λ (q : Pos). Present m q) (sym e) point.present))
+    | inl same ↦ absurd (no_point_at m index at in_grid not is p point same)
     | inr other ↦ so_far.led p point (omega arith)
   ];
 }

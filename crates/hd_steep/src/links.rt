@@ -16,6 +16,8 @@ use std::alloc::Global;
 /// present.
 ///
 /// It takes 8 bytes a point, and time in proportion to the points, however long the ways down are.
+/// `Memory` comes where these bytes are refused. Dales are those of ISO 25178-2; that each point has
+/// one steepest way down is this project's own rule.
 pub fn regions<G: Grid>(alloc: Global, grid: &G) -> Result<List<Option<u32>>, Memory>
     ensures { IfOk result (AreRegions (G.map grid.now) Dales) }
 {

@@ -2,6 +2,7 @@
 use crate::{Status, top};
 use hd_base::{List, MemSink, MemSource};
 use std::alloc::Global;
+use std::process::Abort;
 use std::test::Fail;
 
 const HEADER: &str = "aBCR-1.0
@@ -113,6 +114,20 @@ fn run(alloc: Global, words: &[&str], feed: &Feed) -> Result<(Status, String), F
     Ok((status, text.ok().ok_or("no text")?))
 }
 
+// Compares the status and the output of a run.
+fn expect(
+    rt: &(impl Abort + AllocGlobal),
+    words: &[&str],
+    feed: &Feed,
+    wanted: Status,
+    output: &str,
+) -> Result<(), Fail> {
+    let (status, text) = run(rt.alloc(), words, feed)?;
+    assert_eq!(rt; status, wanted);
+    assert_eq!(rt; text.as_str(), output);
+    Ok(())
+}
+
 #[test]
 fn lists_the_dales_of_small_surfaces(rt: HostRuntime) -> Result<(), Fail> {
     let cases = [
@@ -135,9 +150,8 @@ fn lists_the_dales_of_small_surfaces(rt: HostRuntime) -> Result<(), Fail> {
     ];
     for (points, profiles, data, dales) in cases {
         let surface = file(rt.alloc(), points, profiles, 5, data)?;
-        let (status, text) = run(rt.alloc(), &["dales", "A"], &whole(surface.as_str(), ""))?;
-        assert_eq!(rt; status, Status::Done);
-        assert_eq!(rt; text.as_str(), dales);
+        let feed = whole(surface.as_str(), "");
+        expect(&rt, &["dales", "A"], &feed, Status::Done, dales)?;
     }
     Ok(())
 }
@@ -159,10 +173,9 @@ fn a_set_on_a_slope_takes_its_points_for_every_tile(rt: HostRuntime) -> Result<(
         &["run", "--tile", "8", "A", "B"],
         &["run", "A", "B", "--tile=256"],
     ];
+    let feed = whole(surface.as_str(), script);
     for words in cases {
-        let (status, text) = run(rt.alloc(), words, &whole(surface.as_str(), script))?;
-        assert_eq!(rt; status, Status::Done);
-        assert_eq!(rt; text.as_str(), answers);
+        expect(&rt, words, &feed, Status::Done, answers)?;
     }
     Ok(())
 }
@@ -186,13 +199,8 @@ fn lines_of_a_script_are_answered_in_order(rt: HostRuntime) -> Result<(), Fail> 
         ),
     ];
     for (script, wanted, answers) in cases {
-        let (status, text) = run(
-            rt.alloc(),
-            &["run", "A", "B"],
-            &whole(surface.as_str(), script),
-        )?;
-        assert_eq!(rt; status, wanted);
-        assert_eq!(rt; text.as_str(), answers);
+        let feed = whole(surface.as_str(), script);
+        expect(&rt, &["run", "A", "B"], &feed, wanted, answers)?;
     }
     Ok(())
 }
@@ -224,10 +232,9 @@ fn words_without_their_form_are_told_the_usage(rt: HostRuntime) -> Result<(), Fa
         &["demo", "3", "1", "7", "1"],
         &["--help"],
     ];
+    let feed = whole(surface.as_str(), "dales");
     for words in cases {
-        let (status, text) = run(rt.alloc(), words, &whole(surface.as_str(), "dales"))?;
-        assert_eq!(rt; status, Status::Usage);
-        assert_eq!(rt; text.as_str(), USAGE);
+        expect(&rt, words, &feed, Status::Usage, USAGE)?;
     }
     Ok(())
 }
@@ -243,10 +250,9 @@ fn options_and_their_end_may_stand_between_the_names(rt: HostRuntime) -> Result<
         &["run", "A", "--tile", "256", "B"],
         &["run", "--", "A", "B"],
     ];
+    let feed = whole(surface.as_str(), "dales\n");
     for words in cases {
-        let (status, text) = run(rt.alloc(), words, &whole(surface.as_str(), "dales\n"))?;
-        assert_eq!(rt; status, Status::Done);
-        assert_eq!(rt; text.as_str(), PROFILE_DALES);
+        expect(&rt, words, &feed, Status::Done, PROFILE_DALES)?;
     }
     Ok(())
 }
@@ -255,9 +261,15 @@ fn options_and_their_end_may_stand_between_the_names(rt: HostRuntime) -> Result<
 fn a_file_that_is_not_plain_is_refused(rt: HostRuntime) -> Result<(), Fail> {
     let decimal = profile(rt.alloc(), 3)?;
     for surface in [decimal.as_str(), ""] {
-        let (status, text) = run(rt.alloc(), &["run", "A", "C"], &whole(surface, "dales"))?;
-        assert_eq!(rt; status, Status::SurfaceRefused);
-        assert_eq!(rt; text.as_str(), "surface refused: not a plain file\n");
+        let feed = whole(surface, "dales");
+        let refused = "surface refused: not a plain file\n";
+        expect(
+            &rt,
+            &["run", "A", "C"],
+            &feed,
+            Status::SurfaceRefused,
+            refused,
+        )?;
     }
     Ok(())
 }
@@ -266,10 +278,9 @@ fn a_file_that_is_not_plain_is_refused(rt: HostRuntime) -> Result<(), Fail> {
 fn a_file_that_is_not_there_is_a_read_fault(rt: HostRuntime) -> Result<(), Fail> {
     let surface = profile(rt.alloc(), 5)?;
     let cases: [&[&str]; 2] = [&["dales", "C"], &["run", "A", "C"]];
+    let feed = whole(surface.as_str(), "dales");
     for words in cases {
-        let (status, text) = run(rt.alloc(), words, &whole(surface.as_str(), "dales"))?;
-        assert_eq!(rt; status, Status::ReadFault);
-        assert_eq!(rt; text.as_str(), "read fault\n");
+        expect(&rt, words, &feed, Status::ReadFault, "read fault\n")?;
     }
     Ok(())
 }
@@ -304,47 +315,28 @@ fn pieces_of_any_size_make_the_same_output(rt: HostRuntime) -> Result<(), Fail> 
     Ok(())
 }
 
+// The status and the output where a call of a source has failed, or none has.
+fn read_ends(failed: bool) -> (Status, &'static str) {
+    if failed {
+        (Status::ReadFault, "read fault\n")
+    } else {
+        (Status::Done, PROFILE_DALES)
+    }
+}
+
 #[test]
 fn each_call_of_a_source_that_fails_is_a_read_fault(rt: HostRuntime) -> Result<(), Fail> {
     // An open, a read for each 64 bytes, and one that finds the end: 6 calls for the 217 bytes of
     // the surface, 3 for the script.
     for call in 0..7u64 {
+        let (wanted, output) = read_ends(call < 6);
         let (status, text) = run_in_pieces(rt.alloc(), 64, &[call], &[], &[])?;
-        assert_eq!(rt;
-            status,
-            if call < 6 {
-                Status::ReadFault
-            } else {
-                Status::Done
-            },
-            "at {call}"
-        );
-        assert_eq!(rt;
-            text.as_str(),
-            if call < 6 {
-                "read fault\n"
-            } else {
-                PROFILE_DALES
-            }
-        );
+        assert_eq!(rt; status, wanted, "at {call} of the surface");
+        assert_eq!(rt; text.as_str(), output);
+        let (wanted, output) = read_ends(call < 3);
         let (status, text) = run_in_pieces(rt.alloc(), 64, &[], &[call], &[])?;
-        assert_eq!(rt;
-            status,
-            if call < 3 {
-                Status::ReadFault
-            } else {
-                Status::Done
-            },
-            "at {call}"
-        );
-        assert_eq!(rt;
-            text.as_str(),
-            if call < 3 {
-                "read fault\n"
-            } else {
-                PROFILE_DALES
-            }
-        );
+        assert_eq!(rt; status, wanted, "at {call} of the script");
+        assert_eq!(rt; text.as_str(), output);
     }
     Ok(())
 }

@@ -1,9 +1,5 @@
-use Rattle.std.proofs.Common.{◌≡◌, Some}
-use Rattle.std.proofs.lemmas.Result.{err_from_is_err_and, IfOk-weaker}
-use Rattle.hd_map.specs.Surface.{map_of}
-use Rattle.hd_map.specs.declared.surface.Surface.{Surface}
-use Rattle.hd_sdf_read.specs.Plain.{plain_map}
-use Rattle.hd_sdf_read.proofs.Files.{none_without_header, none_without_data, map_with_both, ok_kept}
+use Rattle.std.proofs.lemmas.Result.{err_from_is_err_and}
+use Rattle.hd_sdf_read.proofs.Files.{none_without_header, none_without_data, map_with_both}
 use Rattle.hd_sdf_read.proofs.read_plain.Goals as goal
 
 pub returns-in_default-clause-not_plain : goal.returns-in_default-clause-not_plain
@@ -15,7 +11,4 @@ returns-in_err-cells-clause-not_plain c = λ e.
     none_without_data c.args.bytes.now c.in-Some.text.now c.in-Some.header.size c.in-Some.header.data_type c.in-Some.ensures (c.in_err-cells.ensures.not_plain (cc (p.1, p.2, e)))
 
 pub returns-clause-surface : goal.returns-clause-surface
-returns-clause-surface c =
-    let P : Surface → Type 0 = λ s. plain_map c.args.bytes.now ≡ Some (map_of s) in
-    ok_kept P _ c.new.result c.map_err.result c.map_err.ensures.cases
-    (IfOk-weaker c.new.result _ P (λ s e. map_with_both c.args.bytes.now c.in-Some.text.now c.in-Some.header.size c.in-Some.header.data_type c.in_ok-cells.cells (map_of s) c.in-Some.ensures c.in_ok-cells.ensures.plain c.in_ok-cells.ensures.cells e) c.new.ensures)
+returns-clause-surface c = map_with_both c.args.bytes.now c.in-Some.text.now c.in-Some.header.size c.in-Some.header.data_type c.in_ok-cells.cells _ c.in-Some.ensures c.in_ok-cells.ensures.plain c.in_ok-cells.ensures.cells c.in_ok-new.ensures

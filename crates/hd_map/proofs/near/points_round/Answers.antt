@@ -13,7 +13,7 @@ loop-step-preserved g c =
         capacity = w.push_reserved.ensures.capacity ∙ c.loop-step.invariant.capacity;
       })
       | then-step-ne4+in_default w ↦ rw w.found-is (record {
-        gathered = gathered_none m c.args.at c.loop-step.step c.loop-step.found.items c.loop-step-test.true w.in_default.ensures w.if-step-ne4.true c.loop-step.invariant.gathered;
+        gathered = gathered_none m c.args.at c.loop-step.step c.loop-step.found.items c.loop-step-test.true w.in_default.ensures c.loop-step.invariant.gathered;
         capacity = c.loop-step.invariant.capacity;
       })
       | else-step-ne4 w ↦ rw w.found-is (record {

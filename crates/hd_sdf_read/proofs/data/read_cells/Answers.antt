@@ -1,7 +1,7 @@
-use Rattle.std.proofs.Common.{◌≡◌, ◌+◌, rules, refl, ap, ◌∙◌, w64, to_z, of_z}
+use Rattle.std.proofs.Common.{◌≡◌, rules, refl, ◌∙◌, w64, to_z, of_z}
 use Rattle.std.proofs.lemmas.Bool.{and_from}
 use Rattle.std.proofs.lemmas.Int.{to_z-of_z}
-use Rattle.std.proofs.lemmas.List.{map_push}
+use Rattle.std.proofs.lemmas.List.{length_push, map_push}
 use Rattle.std.proofs.lemmas.List.Folds.{list_all-append}
 use Rattle.hd_map.specs.Map.{least_height, greatest_height}
 use Rattle.hd_sdf_read.specs.Data.{tokens}
@@ -18,15 +18,14 @@ pub data-preserved : goal.data-preserved
 data-preserved c =
     let step : Parts (tokens c.args.text.now) c.data.counter c.in-Some.ensures.token (tokens c.in-Some.after.now) = parts (tokens c.args.text.now) c.data.counter _ _ (c.data.invariant.left ∙ c.in-Some.ensures.tokens_are) in
     record {
-      room = c.push_reserved.ensures.capacity ∙ c.data.invariant.room;
-      read = c.push_reserved.ensures.len ∙ ap (λ n. n + 1) c.data.invariant.read;
+      read = rw (c.in_ok-push.ensures.ok, length_push, c.data.invariant.read) refl;
       left = step.left;
       plain = rw (step.more, list_all-append) (and_from _ _ c.data.invariant.plain (rw c.in-Some.ensures.datum_is refl));
-      cells = c.push_reserved.ensures.items ∙ rw (c.data.invariant.cells, step.more, map_push, c.in-Some.ensures.cell_is) refl;
+      cells = c.in_ok-push.ensures.ok ∙ rw (c.data.invariant.cells, step.more, map_push, c.in-Some.ensures.cell_is) refl;
     }
 
 pub returns-then-is_end-clause-heights : goal.returns-then-is_end-clause-heights
 returns-then-is_end-clause-heights c =
     let least : to_z w64 (of_z w64 c.least_of-least.result) ≡ least_height c.args.header.data_type = to_z-of_z w64 _ (search rules) ∙ c.least_of-least.ensures in
     let greatest : to_z w64 (of_z w64 c.greatest_of-greatest.result) ≡ greatest_height c.args.header.data_type = to_z-of_z w64 _ (search rules) ∙ c.greatest_of-greatest.ensures in
-    rw (c.from_vec.ensures, c.data.invariant.cells) (cells_fit c.args.header.data_type _ (rw (least, greatest) at c.data.invariant.plain))
+    rw (c.data.invariant.cells) (cells_fit c.args.header.data_type _ (rw (least, greatest) at c.data.invariant.plain))
