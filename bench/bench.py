@@ -4,9 +4,10 @@
     bench/bench.py [--binary PATH] [--rounds N] [SIZE ..]
 
 For each size (512, 1024 and 2048 points each way where none is given) it makes a surface of independent heights (noise)
-and a smooth one (waves), runs `dales` on each and prints the medians in seconds, the time as a ratio to that of `wc -l`,
-the greatest memory, and the dales. The last row is a script of 200,000 sets and one `dales` on 1024 by 1024 points, with
-its ratio to `dales` alone. It is no test: absolute times differ from machine to machine."""
+and a smooth one (waves), runs `dales` on each and prints the median of the seconds and the greatest memory, each also as
+a ratio to that of `wc -l`, and the dales. The last row is a script of 200,000 sets and one `dales` on 1024 by 1024 points,
+with its ratios to `dales` alone. The memory is measured by GNU time, and is left out where /usr/bin/time is missing. It is
+no test: absolute times differ from machine to machine."""
 import argparse
 import math
 import os
@@ -18,6 +19,7 @@ import tempfile
 import time
 
 ROOT = pathlib.Path(__file__).resolve().parent.parent
+GNU_TIME = '/usr/bin/time'
 sys.path.insert(0, str(ROOT / 'examples'))
 from make import write_plain  # noqa: E402
 
@@ -42,15 +44,31 @@ def write_surface(name, kind, n):
 
 
 def timed(words, rounds):
-    seconds, memory, output = [], 0, b''
+    """The median of the seconds, and what was printed."""
+    seconds, output = [], b''
     for _ in range(rounds):
         begun = time.perf_counter()
-        process = subprocess.Popen(words, stdout=subprocess.PIPE)
-        output = process.stdout.read()
-        usage = os.wait4(process.pid, 0)[2]
+        output = subprocess.run(words, stdout=subprocess.PIPE).stdout
         seconds.append(time.perf_counter() - begun)
-        memory = max(memory, usage.ru_maxrss / 1024)
-    return statistics.median(seconds), memory, output
+    return statistics.median(seconds), output
+
+
+def memory_of(words):
+    """The greatest memory in MB, or nothing. A child of this process would be charged with what Python itself takes."""
+    if not os.access(GNU_TIME, os.X_OK):
+        return None
+    with tempfile.NamedTemporaryFile('r') as told:
+        subprocess.run([GNU_TIME, '-f', '%M', '-o', told.name, *words], stdout=subprocess.DEVNULL)
+        return int(told.read().split()[-1]) / 1024
+
+
+def print_row(name, words, beside, rounds):
+    """Prints the row of these words, with the ratios to the words beside them."""
+    seconds, output = timed(words, rounds)
+    memory, least = memory_of(words), memory_of(beside)
+    ratio = seconds / timed(beside, rounds)[0]
+    megabytes = f'{memory:.1f} | {memory / least:.1f}' if memory and least else '- | -'
+    print(f'| {name} | {seconds:.3f} | {ratio:.1f} | {megabytes} | {dales_in(output)} |', flush=True)
 
 
 def dales_in(output):
@@ -64,24 +82,21 @@ def main():
     words.add_argument('--rounds', type=int, default=5)
     words.add_argument('sizes', nargs='*', type=int, default=[512, 1024, 2048])
     given = words.parse_args()
-    print('| Surface | Seconds | To `wc -l` | MB | Dales |\n|---|---|---|---|---|')
+    print('| Surface | Seconds | Ratio | MB | Ratio | Dales |\n|---|---|---|---|---|---|')
     with tempfile.TemporaryDirectory() as folder:
         name, script = f'{folder}/surface.sdf', f'{folder}/script.txt'
+        dales = [given.binary, 'dales', name]
         for n in given.sizes or [512, 1024, 2048]:
             for kind in ('noise', 'waves'):
                 write_surface(name, kind, n)
-                counted = timed(['wc', '-l', name], given.rounds)[0]
-                seconds, memory, output = timed([given.binary, 'dales', name], given.rounds)
-                print(f"| {kind} {n} by {n} | {seconds:.3f} | {seconds / counted:.0f} | {memory:.0f} | {dales_in(output)} |", flush=True)
+                print_row(f'{kind} {n} by {n}', dales, ['wc', '-l', name], given.rounds)
         write_surface(name, 'noise', 1024)
         d = draws(11)
         with open(script, 'w') as out:
             for _ in range(200000):
                 out.write(f'set {next(d) % 1024} {next(d) % 1024} {next(d)}\n')
             out.write('dales\n')
-        alone = timed([given.binary, 'dales', name], given.rounds)[0]
-        seconds, memory, output = timed([given.binary, 'run', name, script], given.rounds)
-        print(f"| 200,000 sets and `dales` | {seconds:.3f} | {seconds / alone:.2f} to `dales` alone | {memory:.0f} | {dales_in(output)} |")
+        print_row('200,000 sets and `dales`, to `dales` alone', [given.binary, 'run', name, script], dales, given.rounds)
 
 
 main()
