@@ -315,48 +315,70 @@ fn pieces_of_any_size_make_the_same_output(rt: HostRuntime) -> Result<(), Fail> 
     Ok(())
 }
 
-// The status and the output where a call of a source has failed, or none has.
-fn read_ends(failed: bool) -> (Status, &'static str) {
-    if failed {
-        (Status::ReadFault, "read fault\n")
-    } else {
-        (Status::Done, PROFILE_DALES)
+// Whose call fails.
+#[derive(Clone, Copy, Debug)]
+enum Failing {
+    Surface,
+    Script,
+    Sink,
+}
+
+// A run where this call fails.
+fn run_failing(
+    alloc: Global,
+    failing: Failing,
+    piece: usize,
+    call: u64,
+) -> Result<(Status, String), Fail> {
+    match failing {
+        Failing::Surface => run_in_pieces(alloc, piece, &[call], &[], &[]),
+        Failing::Script => run_in_pieces(alloc, piece, &[], &[call], &[]),
+        Failing::Sink => run_in_pieces(alloc, piece, &[], &[], &[call]),
     }
 }
 
-#[test]
-fn each_call_of_a_source_that_fails_is_a_read_fault(rt: HostRuntime) -> Result<(), Fail> {
-    // An open, a read for each 64 bytes, and one that finds the end: 6 calls for the 217 bytes of
-    // the surface, 3 for the script.
-    for call in 0..7u64 {
-        let (wanted, output) = read_ends(call < 6);
-        let (status, text) = run_in_pieces(rt.alloc(), 64, &[call], &[], &[])?;
-        assert_eq!(rt; status, wanted, "at {call} of the surface");
-        assert_eq!(rt; text.as_str(), output);
-        let (wanted, output) = read_ends(call < 3);
-        let (status, text) = run_in_pieces(rt.alloc(), 64, &[], &[call], &[])?;
-        assert_eq!(rt; status, wanted, "at {call} of the script");
+// The status and the output of a run where a call fails, and how many bytes are written before it.
+fn failed_end(failing: Failing, written: usize) -> (Status, &'static str) {
+    match failing {
+        Failing::Surface | Failing::Script => (Status::ReadFault, "read fault\n"),
+        Failing::Sink => (
+            Status::WriteFault,
+            PROFILE_DALES.get(..written).unwrap_or(PROFILE_DALES),
+        ),
+    }
+}
+
+// Lets each of so many calls fail in turn, and then none.
+fn expect_faults(
+    rt: &(impl Abort + AllocGlobal),
+    failing: Failing,
+    piece: usize,
+    calls: u64,
+) -> Result<(), Fail> {
+    for call in 0..calls {
+        let (wanted, output) = failed_end(failing, piece.saturating_mul(call as usize));
+        let (status, text) = run_failing(rt.alloc(), failing, piece, call)?;
+        assert_eq!(rt; status, wanted, "at {call} of {failing:?}");
         assert_eq!(rt; text.as_str(), output);
     }
+    let (status, text) = run_failing(rt.alloc(), failing, piece, calls)?;
+    assert_eq!(rt; status, Status::Done, "past the calls of {failing:?}");
+    assert_eq!(rt; text.as_str(), PROFILE_DALES);
     Ok(())
 }
 
 #[test]
-fn each_call_of_the_sink_that_fails_is_a_write_fault(rt: HostRuntime) -> Result<(), Fail> {
-    // A write for each 4 of the 34 bytes, and a flush.
-    for call in 0..11u64 {
-        let (status, text) = run_in_pieces(rt.alloc(), 4, &[], &[], &[call])?;
-        assert_eq!(rt;
-            status,
-            if call < 10 {
-                Status::WriteFault
-            } else {
-                Status::Done
-            },
-            "at {call}"
-        );
-        assert!(rt; PROFILE_DALES.starts_with(text.as_str()));
-        assert_eq!(rt; text.len() as u64, (4 * call).min(34), "at {call}");
+fn each_call_that_fails_is_a_fault_of_its_kind(rt: HostRuntime) -> Result<(), Fail> {
+    // The bytes of a piece, and the calls: an open, a read for each piece of the 217 bytes of the
+    // surface and the 6 of the script, and one that finds the end; a write for each piece of the 34
+    // bytes of the output, and a flush.
+    let table = [
+        (Failing::Surface, 64, 6),
+        (Failing::Script, 64, 3),
+        (Failing::Sink, 4, 10),
+    ];
+    for (failing, piece, calls) in table {
+        expect_faults(&rt, failing, piece, calls)?;
     }
     Ok(())
 }
