@@ -1,3 +1,4 @@
+pub mod Place
 pub mod Regions
 pub mod Refusals
 pub mod Answers

@@ -1,10 +1,10 @@
 -- The lines that answer an edit or a refusal.
 use Rattle.std.specs.Prelude.{◌++◌, ℕ, List, [], ◌∷◌, codes, decimal}
-use Rattle.hd_map.specs.declared.types.Pos.{Pos}
 use Rattle.hd_edit.specs.declared.edit.EditError.{EditError}
 use Rattle.hd_edit.specs.declared.edit.EditError.TheVariants as edit
 use Rattle.hd_script.specs.declared.command.LineError.{LineError}
 use Rattle.hd_script.specs.declared.command.LineError.TheVariants as form
+use Rattle.hd_engine.specs.Place.{place_text}
 
 -- `line N ok`
 abbrev pub ok_line : ℕ → List ℕ
@@ -13,10 +13,6 @@ ok_line number = codes "line " ++ decimal number ++ codes " ok" ++ 10 ∷ []
 -- `line N refused: TEXT`
 abbrev pub refused_line : ℕ → List ℕ → List ℕ
 refused_line number text = codes "line " ++ decimal number ++ codes " refused: " ++ text ++ 10 ∷ []
-
--- the column and the profile of a position, parted by a space
-abbrev pub place_text : Pos → List ℕ
-place_text at = decimal at.x ++ 32 ∷ [] ++ decimal at.y
 
 -- why a line has not its form; want of memory has no text
 abbrev pub form_text : LineError → List ℕ

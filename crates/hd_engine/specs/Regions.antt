@@ -7,6 +7,7 @@ use Rattle.hd_map.specs.declared.types.SideName.{SideName}
 use Rattle.hd_map.specs.declared.types.SideName.TheVariants.{Dales, Hills}
 use Rattle.hd_map.specs.Map.{Map, height_or_zero}
 use Rattle.hd_map.specs.Region.{AreRegions}
+use Rattle.hd_engine.specs.Place.{place_text}
 
 -- whether a point has this root
 abbrev pub names : Option ℕ → ℕ → Bool
@@ -34,9 +35,9 @@ abbrev pub one_word : SideName → List ℕ
 one_word Dales = codes "dale "
 one_word Hills = codes "hill "
 
--- the column and the profile of an index, parted by a space
+-- the text of the position of an index
 abbrev pub position_text : Map → ℕ → List ℕ
-position_text m index = decimal (index % m.size.points) ++ 32 ∷ [] ++ decimal (index / m.size.points)
+position_text m index = place_text (record { x = index % m.size.points; y = index / m.size.points })
 
 abbrev pub height_text : Map → ℕ → List ℕ
 height_text m index = signed_decimal (height_or_zero (slice_index_or m.cells index Bad))

@@ -1,6 +1,6 @@
 // The text of a position.
 ghost use Rattle.std.specs.Prelude.{◌≡◌, ◌++◌, OnOk};
-ghost use Rattle.hd_engine.specs.Refusals.{place_text};
+ghost use Rattle.hd_engine.specs.Place.{place_text};
 
 use hd_base::{List, Memory};
 use hd_map::Pos;

@@ -1,6 +1,7 @@
 // The lines that answer an edit or a refusal.
 ghost use Rattle.std.specs.Prelude.{◌≡◌, ◌++◌, OnOk, codes, decimal};
-ghost use Rattle.hd_engine.specs.Refusals.{ok_line, refused_line, place_text, form_text, edit_text};
+ghost use Rattle.hd_engine.specs.Place.{place_text};
+ghost use Rattle.hd_engine.specs.Refusals.{ok_line, refused_line, form_text, edit_text};
 
 use crate::place::push_place;
 use hd_base::{List, Memory};

@@ -7,7 +7,7 @@ use hd_edit::Edit;
 use thiserror::Error;
 
 /// What a line of a script asks for.
-#[derive(Debug, PartialEq, Eq, Drop)]
+#[derive(Clone, Copy, Debug, PartialEq, Eq)]
 pub enum Command {
     /// An edit of the map.
     Do(Edit),

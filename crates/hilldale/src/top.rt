@@ -49,6 +49,7 @@ pub fn top<S: Source, R: Source, W: Sink, V: Sink>(
         (record { before = V.faults saved.old; now = V.faults saved.new }) }
     ensures read_fault { result ≡ Status.ReadFault → Appends (W.written out.old) (W.written out.new) read_fault_text }
     ensures flushed { OnTold (W.written out.old) (result ≢ Status.WriteFault → result ≢ Status.Memory → IsTrue (W.flushed out.new)) }
+    ensures saved { saved.new ≡ saved.old }
 {
     let Some(asked) = asked_in(words) else {
         return finish(out, USAGE.as_bytes(), Status::Usage);
