@@ -1,23 +1,12 @@
 -- The map after an edit, or its first refusal.
-use Rattle.std.specs.Prelude.{◌&&◌, Bool, ℤ, nat_lt, int_le, Result, Ok, Err, if◌then◌else◌}
-use Rattle.hd_map.specs.declared.types.Pos.{Pos}
-use Rattle.hd_map.specs.declared.types.Size.{Size}
-use Rattle.hd_map.specs.declared.types.DataType.{DataType}
+use Rattle.std.specs.Prelude.{Result, Ok, Err, if◌then◌else◌}
 use Rattle.hd_map.specs.declared.types.Cell.TheVariants.{Height, Bad}
-use Rattle.hd_map.specs.Map.{Map, least_height, greatest_height}
+use Rattle.hd_map.specs.Map.{Map, in_grid, in_range}
 use Rattle.hd_map.specs.Sets.{with_cell}
 use Rattle.hd_edit.specs.declared.edit.Edit.{Edit}
 use Rattle.hd_edit.specs.declared.edit.Edit.TheVariants as edit
 use Rattle.hd_edit.specs.declared.edit.EditError.{EditError}
 use Rattle.hd_edit.specs.declared.edit.EditError.TheVariants.{Outside, HeightRange}
-
--- whether a position lies in a grid of this size
-abbrev pub in_grid : Size → Pos → Bool
-in_grid size at = nat_lt at.x size.points && nat_lt at.y size.profiles
-
--- whether a height is of the data type
-abbrev pub in_range : DataType → ℤ → Bool
-in_range type z = int_le (least_height type) z && int_le z (greatest_height type)
 
 -- a set makes the cell this height, and a bad makes it unmeasured; the mask stays
 abbrev pub edited : Map → Edit → Result Map EditError

@@ -10,13 +10,13 @@ use Rattle.hd_map.specs.declared.types.Pos.{Pos}
 use Rattle.hd_map.specs.declared.types.Cell.{Cell}
 use Rattle.hd_map.specs.declared.types.Cell.TheVariants.{Height, Bad}
 use Rattle.hd_map.specs.declared.types.DataType.{DataType}
-use Rattle.hd_map.specs.Map.{Map, IsMap, IsCellOf, place_of}
+use Rattle.hd_map.specs.Map.{Map, IsMap, IsCellOf, place_of, in_grid, in_range}
 use Rattle.hd_map.specs.Sets.{with_cell}
 use Rattle.hd_edit.specs.declared.edit.Edit.{Edit}
 use Rattle.hd_edit.specs.declared.edit.Edit.TheVariants as edit
 use Rattle.hd_edit.specs.declared.edit.EditError.{EditError}
 use Rattle.hd_edit.specs.declared.edit.EditError.TheVariants.{Outside, HeightRange}
-use Rattle.hd_edit.specs.Edit.{edited, in_grid, in_range}
+use Rattle.hd_edit.specs.Edit.{edited}
 use Rattle.hd_edit.specs.State.{State}
 use Rattle.hd_script.specs.declared.command.Command.{Command}
 use Rattle.hd_script.specs.declared.command.Command.TheVariants as command

@@ -3,9 +3,9 @@ use Rattle.std.proofs.Common.{◌≡◌, ◌<◌, ℕ, List, length, get_or, Opt
 use Rattle.std.proofs.lemmas.Option.{slice_get-get_or}
 use Rattle.hd_map.specs.declared.types.Pos.{Pos}
 use Rattle.hd_map.specs.declared.types.SideName.{SideName}
-use Rattle.hd_map.specs.Map.{Map, IsMap, InGrid, Present, place_of, cell_count}
+use Rattle.hd_map.specs.Map.{Map, IsMap, InGrid, Present, place_of, position_at, cell_count}
 use Rattle.hd_map.specs.Region.{AreRegions}
-use Rattle.hd_map.proofs.Points.{pos_at, pos_at-place, pos_at-inside, present_or_not, place_inside}
+use Rattle.hd_map.proofs.Points.{position_at-place, position_at-inside, present_or_not, place_inside}
 use Rattle.hd_map.proofs.Nexts.{root-is_pit}
 
 not_none : (o : Option ℕ) (n : ℕ) → o ≡ Some n → Some o ≡ Some None → ⊥
@@ -29,9 +29,9 @@ pub root_inside : (m : Map) (side : SideName) (roots : List (Option ℕ)) → Is
     → (k n : ℕ) → k < length roots → get_or roots k None ≡ Some n → n < length roots
 root_inside m side roots whole regions k n below is =
     let fits : k < cell_count m.size = rw (← regions.whole) below in
-    let p : Pos = pos_at m.size k in
-    let place : place_of m.size p ≡ k = pos_at-place m.size k whole.size.some_points in
-    let inside : InGrid m.size p = pos_at-inside m.size k whole.size.some_points fits in
+    let p : Pos = position_at m.size k in
+    let place : place_of m.size p ≡ k = position_at-place m.size k whole.size.some_points in
+    let inside : InGrid m.size p = position_at-inside m.size k whole.size.some_points fits in
     let is' : get_or roots (place_of m.size p) None ≡ Some n = ap (λ i. get_or roots i None) place ∙ is in
     let here : Present m p = rooted_present m side roots p n regions inside is' in
     let found = regions.present p here in

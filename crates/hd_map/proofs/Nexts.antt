@@ -5,7 +5,7 @@ use Rattle.hd_map.specs.declared.types.SideName.{SideName}
 use Rattle.hd_map.specs.Map.{Map, IsMap}
 use Rattle.hd_map.specs.Rank.{below_by}
 use Rattle.hd_map.specs.Region.{IsNext, IsPit, AreNexts, IsRoot}
-use Rattle.hd_map.proofs.Sides.{below_by-order}
+use Rattle.hd_map.specs.SideLaws.{below_by-order}
 use Rattle.hd_map.proofs.Points.{Near-from, Near-to}
 use Rattle.hd_map.proofs.Depth.{depth_by, depth_falls}
 

@@ -1,5 +1,5 @@
 -- Positions, present points, their ranks and neighbours.
-use Rattle.std.proofs.Common.{ℕ, ◌≡◌, ◌<◌, ◌≤◌, ◌+◌, ◌/◌, ◌%◌, Bool, true, false, ◌⊎◌, inl, inr, ap, ◌∙◌, sym, refl, arith}
+use Rattle.std.proofs.Common.{ℕ, ◌≡◌, ◌<◌, ◌≤◌, ◌+◌, Bool, true, false, ◌⊎◌, inl, inr, ap, ◌∙◌, sym, refl, arith}
 use Rattle.std.proofs.Math.Nat.{mul-le-mul_right}
 use Rattle.std.proofs.lemmas.Bool.{cases_lt}
 use Rattle.std.proofs.lemmas.Nat.{same_from_place}
@@ -8,7 +8,7 @@ use Rattle.hd_map.specs.declared.types.Size.{Size}
 use Rattle.hd_map.specs.declared.types.Rank.{Rank}
 use Rattle.hd_map.specs.declared.types.Cell.{Cell}
 use Rattle.hd_map.specs.declared.types.Cell.TheVariants.{Height, Bad}
-use Rattle.hd_map.specs.Map.{Map, InGrid, IsMeasured, Present, cell_at, mask_at, place_of, cell_count}
+use Rattle.hd_map.specs.Map.{Map, InGrid, IsMeasured, Present, cell_at, mask_at, place_of, position_at, cell_count}
 use Rattle.hd_map.specs.Neighbour.{Neighbour}
 use Rattle.hd_map.specs.Rank.{IsPoint, Near, rank}
 use Rattle.hd_map.proofs.Gather.{same_pos}
@@ -31,23 +31,19 @@ inside_place s p column below = record {
   ];
 }
 
--- the position of an index
-abbrev pub pos_at : Size → ℕ → Pos
-pos_at s k = record { x = k % s.points; y = k / s.points }
-
 -- the index of the position of an index is that index
-pub pos_at-place : (s : Size) (k : ℕ) → 1 ≤ s.points → place_of s (pos_at s k) ≡ k
-pos_at-place s k some = omega (arith, some)
+pub position_at-place : (s : Size) (k : ℕ) → 1 ≤ s.points → place_of s (position_at s k) ≡ k
+position_at-place s k some = omega (arith, some)
 
 -- the position of an index is in the grid
-pub pos_at-inside : (s : Size) (k : ℕ) → 1 ≤ s.points → k < cell_count s → InGrid s (pos_at s k)
-pos_at-inside s k some below = inside_place s (pos_at s k) (omega (arith, some)) (rw (pos_at-place s k some) below)
+pub position_at-inside : (s : Size) (k : ℕ) → 1 ≤ s.points → k < cell_count s → InGrid s (position_at s k)
+position_at-inside s k some below = inside_place s (position_at s k) (omega (arith, some)) (rw (position_at-place s k some) below)
 
 -- the index of a position has that position
-pub pos_at-of : (s : Size) (p : Pos) → InGrid s p → pos_at s (place_of s p) ≡ p
-pos_at-of s p inside =
+pub position_at-of : (s : Size) (p : Pos) → InGrid s p → position_at s (place_of s p) ≡ p
+position_at-of s p inside =
     let some : 1 ≤ s.points = omega (arith, inside.column) in
-    same_place s (pos_at s (place_of s p)) p (pos_at-inside s (place_of s p) some (place_inside s p inside)) inside (pos_at-place s (place_of s p) some)
+    same_place s (position_at s (place_of s p)) p (position_at-inside s (place_of s p) some (place_inside s p inside)) inside (position_at-place s (place_of s p) some)
 
 -- one rank has one position
 pub same_point : (m : Map) (p q : Pos) → Present m p → Present m q → rank m p ≡ rank m q → p ≡ q

@@ -2,6 +2,7 @@ pub mod Map
 pub mod Neighbour
 pub mod Order
 pub mod Rank
+pub mod SideLaws
 pub mod Path
 pub mod Region
 pub mod Sets

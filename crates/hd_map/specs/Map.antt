@@ -1,5 +1,5 @@
 -- The map that a grid is seen as, and its present points.
-use Rattle.std.specs.Prelude.{◌≡◌, ◌<◌, ◌≤◌, ◌≤ℤ◌, ◌+◌, ◌*◌, ℕ, ℤ, pos, negsuc, Bool, true, false, List, length, slice_index_or, Option, Some, None}
+use Rattle.std.specs.Prelude.{◌≡◌, ◌<◌, ◌≤◌, ◌≤ℤ◌, ◌+◌, ◌*◌, ◌/◌, ◌%◌, ◌&&◌, ℕ, ℤ, pos, negsuc, nat_lt, int_le, Bool, true, false, List, length, slice_index_or, Option, Some, None}
 use Rattle.hd_map.specs.declared.types.Pos.{Pos}
 use Rattle.hd_map.specs.declared.types.Size.{Size}
 use Rattle.hd_map.specs.declared.types.Cell.{Cell}
@@ -27,6 +27,14 @@ pub record InGrid (s : Size) (p : Pos) : Type 0 where
 abbrev pub place_of : Size → Pos → ℕ
 place_of s p = p.y * s.points + p.x
 
+-- the position of an index
+abbrev pub position_at : Size → ℕ → Pos
+position_at s k = record { x = k % s.points; y = k / s.points }
+
+-- whether a position lies in a grid of this size
+abbrev pub in_grid : Size → Pos → Bool
+in_grid s p = nat_lt p.x s.points && nat_lt p.y s.profiles
+
 -- the least height of a data type
 abbrev pub least_height : DataType → ℤ
 least_height U8 = pos 0
@@ -45,17 +53,29 @@ greatest_height I8 = pos 127
 greatest_height I16 = pos 32767
 greatest_height I32 = pos 2147483647
 
+-- whether a height is of the data type
+abbrev pub in_range : DataType → ℤ → Bool
+in_range t h = int_le (least_height t) h && int_le h (greatest_height t)
+
 -- a height of the type, or none
 abbrev pub IsCellOf : DataType → Cell → Type 0
 IsCellOf t c = (h : ℤ) → c ≡ Height h → (least_height t ≤ℤ h) × (h ≤ℤ greatest_height t)
 
+-- the most points of a profile, and the most profiles
+abbrev pub longest_side : ℕ
+longest_side = 65535
+
+-- the most cells of a map
+abbrev pub most_cells : ℕ
+most_cells = 4194304
+
 -- the limits of a map's size
 pub record IsSize (s : Size) : Type 0 where
   pub some_points : 1 ≤ s.points
-  pub points : s.points ≤ 65535
+  pub points : s.points ≤ longest_side
   pub some_profiles : 1 ≤ s.profiles
-  pub profiles : s.profiles ≤ 65535
-  pub cells : s.profiles * s.points ≤ 4194304
+  pub profiles : s.profiles ≤ longest_side
+  pub cells : s.profiles * s.points ≤ most_cells
 
 -- each cell is of the data type
 abbrev pub AreCellsOf : DataType → List Cell → Type 0

@@ -1,59 +1,66 @@
 // A grid that is seen as a map.
-ghost use Rattle.std.specs.Prelude.{◌≡◌, ◌<◌, ◌^◌, ◌/◌, ◌%◌, ℕ, ◌↔◌, IsTrue};
-ghost use Rattle.hd_map.specs.Map.{Map, IsMap, IsSize, InGrid, Present, place_of, cell_count, cell_at, mask_at, shown_height};
+ghost use Rattle.std.specs.Prelude.{◌≡◌, ◌<◌, ◌^◌, ◌+◌, ℕ, ◌↔◌, IsTrue};
+ghost use Rattle.hd_map.specs.Map.{Map, IsMap, IsSize, InGrid, Present, place_of, position_at, cell_count, cell_at, mask_at, shown_height};
 ghost use Rattle.hd_map.specs.Rank.{rank};
 ghost use Rattle.hd_map.specs.Sets.{SetsCell, SetsMask, CountsChange};
 
 use crate::{Cell, DataType, MapError, Pos, Rank, Size};
 
-/// A rectangular grid of whole-number heights, some of them not measured and some masked. It is
-/// seen as a map (a sampled surface after ISO 25178-2).
-pub trait Grid {
+/// Heights on a rectangular grid, seen as a map (a sampled surface after ISO 25178-2).
+pub trait Heights {
     /// The map that it is seen as.
     ghost map: { Self → Map };
 
+    /// How many points and profiles it has.
+    fn size(&self) -> Size
+        ensures { result ≡ (map self.now).size };
+
+    /// The height of a present point in steps, and none where the point is not present.
+    fn height(&self, at: Pos) -> Option<i64>
+        requires { InGrid (map self.now).size at }
+        ensures { result ≡ shown_height (cell_at (map self.now) at) (mask_at (map self.now) at) };
+
+    /// The size is within the limits, the lists are of that size, and the heights are of the type.
+    ghost whole: { (grid : Self) → IsMap (map grid) };
+}
+
+/// A rectangular grid of whole-number heights, some of them not measured and some masked.
+pub trait Grid: Heights {
     /// Whether the second grid comes from the first by sets.
     ghost comes_from: { Self → Self → Type 0 };
 
     /// How many changes it has counted.
     ghost changes: { Self → ℕ };
 
-    /// How many points and profiles it has.
-    fn size(&self) -> Size
-        ensures { result ≡ (map self.now).size };
-
     /// The type of its heights.
     fn data_type(&self) -> DataType
-        ensures { result ≡ (map self.now).data_type };
+        ensures { result ≡ (Self.map self.now).data_type };
 
     /// The cell at a position, whether it is masked or not.
     fn cell(&self, at: Pos) -> Cell
-        requires { InGrid (map self.now).size at }
-        ensures { result ≡ cell_at (map self.now) at };
+        requires { InGrid (Self.map self.now).size at }
+        ensures { result ≡ cell_at (Self.map self.now) at };
 
     /// Whether a position is masked.
     fn masked(&self, at: Pos) -> bool
-        requires { InGrid (map self.now).size at }
-        ensures { result ≡ mask_at (map self.now) at };
+        requires { InGrid (Self.map self.now).size at }
+        ensures { result ≡ mask_at (Self.map self.now) at };
 
     /// Sets the cell at a position; the mask stays. `Outside` comes exactly where the position is
     /// not in the grid, else `HeightRange` exactly where the height is not of the data type.
     fn set_cell(&mut self, at: Pos, cell: Cell) -> Result<(), MapError>
         requires { changes self.old < 2 ^ 63 }
-        ensures sets { SetsCell (map self.old) at cell result (map self.new) }
+        ensures sets { SetsCell (Self.map self.old) at cell result (Self.map self.new) }
         ensures origin { comes_from self.old self.new }
-        ensures count { CountsChange (map self.old) (map self.new) (changes self.old) (changes self.new) };
+        ensures count { CountsChange (Self.map self.old) (Self.map self.new) (changes self.old) (changes self.new) };
 
     /// Sets the mask at a position; the cell stays. `Outside` comes exactly where the position is
     /// not in the grid.
     fn set_mask(&mut self, at: Pos, masked: bool) -> Result<(), MapError>
         requires { changes self.old < 2 ^ 63 }
-        ensures sets { SetsMask (map self.old) at masked result (map self.new) }
+        ensures sets { SetsMask (Self.map self.old) at masked result (Self.map self.new) }
         ensures origin { comes_from self.old self.new }
-        ensures count { CountsChange (map self.old) (map self.new) (changes self.old) (changes self.new) };
-
-    /// The size is within the limits, the lists are of that size, and the heights are of the type.
-    ghost whole: { (grid : Self) → IsMap (map grid) };
+        ensures count { CountsChange (Self.map self.old) (Self.map self.new) (changes self.old) (changes self.new) };
 
     /// Each grid comes from itself.
     ghost itself: { (grid : Self) → comes_from grid grid };
@@ -82,10 +89,9 @@ pub fn index_of(size: Size, at: Pos) -> u32
 /// The position of an index in a grid of this size.
 pub fn position_of(size: Size, index: u32) -> Pos
     requires { index < cell_count size }
+    ensures value { result ≡ position_at size index }
     ensures in_grid { InGrid size result }
-    ensures column { result.x ≡ index % size.points }
-    ensures profile { result.y ≡ index / size.points }
-    ensures value { place_of size result ≡ index }
+    ensures place { place_of size result ≡ index }
 {
     Pos {
         x: index % size.points,
@@ -93,19 +99,35 @@ pub fn position_of(size: Size, index: u32) -> Pos
     }
 }
 
-/// The height of a present point in steps, and none where the point is not present.
-pub fn height<G: Grid>(grid: &G, at: Pos) -> Option<i64>
-    requires { InGrid (G.map grid.now).size at }
-    ensures { result ≡ shown_height (cell_at (G.map grid.now) at) (mask_at (G.map grid.now) at) }
+/// The position after another one of the grid, profile by profile. After the last one comes the
+/// first of a further profile.
+#[inline]
+pub fn position_after(size: Size, at: Pos) -> Pos
+    requires limits { IsSize size }
+    requires in_grid { InGrid size at }
+    ensures column { result.x < size.points }
+    ensures place { place_of size result ≡ place_of size at + 1 }
 {
-    match grid.cell(at) {
-        Cell::Height(height) if !grid.masked(at) => Some(height),
-        _ => None,
+    if at.x + 1 < size.points {
+        Pos {
+            x: at.x + 1,
+            y: at.y,
+        }
+    } else {
+        Pos { x: 0, y: at.y + 1 }
     }
 }
 
+/// The height of a present point in steps, and none where the point is not present.
+pub fn height<G: Heights>(grid: &G, at: Pos) -> Option<i64>
+    requires { InGrid (G.map grid.now).size at }
+    ensures { result ≡ shown_height (cell_at (G.map grid.now) at) (mask_at (G.map grid.now) at) }
+{
+    grid.height(at)
+}
+
 /// Whether the point is present: measured and not masked.
-pub fn is_present<G: Grid>(grid: &G, at: Pos) -> bool
+pub fn is_present<G: Heights>(grid: &G, at: Pos) -> bool
     requires { InGrid (G.map grid.now).size at }
     ensures { IsTrue result ↔ Present (G.map grid.now) at }
 {
@@ -113,13 +135,13 @@ pub fn is_present<G: Grid>(grid: &G, at: Pos) -> bool
 }
 
 /// The rank of a present point.
-pub fn rank_of<G: Grid>(grid: &G, at: Pos) -> Rank
+pub fn rank_of<G: Heights>(grid: &G, at: Pos) -> Rank
     requires { Present (G.map grid.now) at }
     ensures { result ≡ rank (G.map grid.now) at }
 {
     let index = index_of(grid.size(), at);
-    match grid.cell(at) {
-        Cell::Height(height) => Rank { height, index },
-        Cell::Bad => unreachable!(),
+    match grid.height(at) {
+        Some(height) => Rank { height, index },
+        None => unreachable!(),
     }
 }

@@ -4,14 +4,14 @@ ghost use Rattle.std.specs.List.{Contains, AllPairs};
 ghost use Rattle.hd_map.specs.Map.{InGrid, Present, place_of};
 ghost use Rattle.hd_map.specs.Neighbour.{Neighbour};
 
-use crate::{Grid, Pos, contains, is_present};
+use crate::{Heights, Pos, contains, is_present};
 use smallvec::SmallVec;
 use std::alloc::Global;
 
 /// The neighbours of a point, in position order: the present points whose column and profile differ
 /// from its own by at most one. A point that is not present has none. The list lies inline and takes
 /// no memory.
-pub fn neighbours<G: Grid>(alloc: Global, grid: &G, at: Pos) -> SmallVec<Pos, 8>
+pub fn neighbours<G: Heights>(alloc: Global, grid: &G, at: Pos) -> SmallVec<Pos, 8>
     requires { InGrid (G.map grid.now).size at }
     ensures all { (q : _) → Contains result.items q ↔ Neighbour (G.map grid.now) at q }
     ensures ordered { AllPairs (λ a b. place_of (G.map grid.now).size a < place_of (G.map grid.now).size b) result.items }
@@ -25,7 +25,7 @@ pub fn neighbours<G: Grid>(alloc: Global, grid: &G, at: Pos) -> SmallVec<Pos, 8>
 }
 
 // The neighbours of a present point.
-fn points_round<G: Grid>(alloc: Global, grid: &G, at: Pos) -> SmallVec<Pos, 8>
+fn points_round<G: Heights>(alloc: Global, grid: &G, at: Pos) -> SmallVec<Pos, 8>
     requires { Present (G.map grid.now) at }
     ensures all { (q : _) → Contains result.items q ↔ Neighbour (G.map grid.now) at q }
     ensures ordered { AllPairs (λ a b. place_of (G.map grid.now).size a < place_of (G.map grid.now).size b) result.items }
@@ -43,7 +43,7 @@ fn points_round<G: Grid>(alloc: Global, grid: &G, at: Pos) -> SmallVec<Pos, 8>
 }
 
 // The point at a step, if one is present there.
-fn present_at<G: Grid>(grid: &G, at: Pos, x: u32, y: u32) -> Option<Pos>
+fn present_at<G: Heights>(grid: &G, at: Pos, x: u32, y: u32) -> Option<Pos>
     requires near { InGrid (G.map grid.now).size at }
     requires x { x ≤ 2 }
     requires y { y ≤ 2 }

@@ -2,7 +2,7 @@
 ghost use Rattle.std.specs.Prelude.{◌≡◌, ◌<◌, ◌≤◌, ◌*◌, IfOk, ℕ, length, replicate, false};
 ghost use Rattle.hd_map.specs.Map.{IsSize, IsMap, AreCellsOf, cell_count};
 
-use crate::{Cell, DataType, Grid, MapError, Pos, Size, contains, index_of, is_cell_of};
+use crate::{Cell, DataType, Grid, Heights, MapError, Pos, Size, contains, index_of, is_cell_of};
 use hd_base::{List, Memory};
 use std::alloc::Global;
 
@@ -45,24 +45,35 @@ impl Surface {
     }
 }
 
-impl Grid for Surface {
+impl Heights for Surface {
     ghost use Rattle.hd_map.specs.Surface.{map_of};
 
     ghost map = { map_of };
+
+    ghost whole = { λ s. s.whole };
+
+    fn size(&self) -> Size {
+        self.size
+    }
+
+    fn height(&self, at: Pos) -> Option<i64> {
+        match self.cells[index_of(self.size, at) as usize] {
+            Cell::Height(height) if !self.masks[index_of(self.size, at) as usize] => Some(height),
+            _ => None,
+        }
+    }
+}
+
+impl Grid for Surface {
+    ghost use Rattle.hd_map.specs.Surface.{map_of};
 
     ghost comes_from = { λ _ _. Unit {0} };
 
     ghost changes = { λ _. 0 };
 
-    ghost whole = { λ s. s.whole };
-
     ghost itself = { λ _. tt };
 
     ghost onward = { λ _ _ _ _ _. tt };
-
-    fn size(&self) -> Size {
-        self.size
-    }
 
     fn data_type(&self) -> DataType {
         self.data_type

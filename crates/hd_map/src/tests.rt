@@ -1,6 +1,7 @@
 // Small surfaces, point by point.
 use crate::{
-    Cell, DataType, Grid, MapError, Pos, Size, Surface, contains, height, is_present, neighbours,
+    Cell, DataType, Grid, Heights, MapError, Pos, Size, Surface, contains, height, is_present,
+    neighbours,
 };
 use hd_base::List;
 use std::alloc::Global;

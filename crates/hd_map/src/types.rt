@@ -55,6 +55,17 @@ pub struct Rank {
     pub index: u32,
 }
 
+/// The lowest way over between two regions, by the order of a side.
+#[derive(Clone, Copy, Debug, PartialEq, Eq)]
+pub struct Pass {
+    /// The lower of the two pits.
+    pub a: Rank,
+    /// The other pit.
+    pub b: Rank,
+    /// The higher point of the lowest pair of neighbours, one in each region.
+    pub at: Rank,
+}
+
 /// Which regions of ISO 25178-2 are meant.
 #[derive(Clone, Copy, Debug, PartialEq, Eq)]
 pub enum SideName {

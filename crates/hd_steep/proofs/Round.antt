@@ -10,7 +10,8 @@ use Rattle.hd_map.specs.Neighbour.{Neighbour, IsNear}
 use Rattle.hd_map.specs.Order.{IsNotAbove}
 use Rattle.hd_map.specs.Rank.{rank, below_by}
 use Rattle.hd_map.specs.Region.{LowerNeighbour, IsNext, IsPit}
-use Rattle.hd_map.proofs.Sides.{below_by-order, not_above-refl, not_above-trans, below-not_above}
+use Rattle.hd_map.specs.SideLaws.{below_by-order}
+use Rattle.hd_map.proofs.Sides.{not_above-refl, not_above-trans, below-not_above}
 use Rattle.hd_map.proofs.Points.{same_place, same_point, point_at, Near-at}
 use Rattle.hd_steep.specs.Lowest.{InStretch, IsLowestOf}
 

@@ -4,11 +4,12 @@ use Rattle.std.specs.Prelude.{◌↔◌}
 use Rattle.hd_map.specs.declared.types.Pos.{Pos}
 use Rattle.hd_map.specs.declared.types.Rank.{Rank}
 use Rattle.hd_map.specs.declared.types.SideName.{SideName}
-use Rattle.hd_map.specs.Map.{Map, IsMap, Present}
+use Rattle.hd_map.specs.Map.{Map, IsMap, Present, position_at}
 use Rattle.hd_map.specs.Rank.{rank, below_by, IsPoint}
 use Rattle.hd_map.specs.Region.{IsNext, IsPit, IsRoot}
-use Rattle.hd_map.proofs.Sides.{below_by-order, below-apart}
-use Rattle.hd_map.proofs.Points.{Near-to, point_at, pos_at, pos_at-of}
+use Rattle.hd_map.specs.SideLaws.{below_by-order}
+use Rattle.hd_map.proofs.Sides.{below-apart}
+use Rattle.hd_map.proofs.Points.{Near-to, point_at, position_at-of}
 use Rattle.hd_map.proofs.Depth.{depth_by, depth_falls}
 use Rattle.hd_map.proofs.Nexts.{root-pit, root-step, root-next, root-is_pit, root-unique, root-of_pit, root-below}
 use Rattle.hd_steep.specs.Links.{IsOnward, IsRootIndex}
@@ -36,12 +37,12 @@ onward-root m side p r root =
 
 -- the depth at an index
 abbrev pub depth_at : Map → SideName → ℕ → ℕ
-depth_at m side k = depth_by side (rank m (pos_at m.size k))
+depth_at m side k = depth_by side (rank m (position_at m.size k))
 
 -- the depth at the index of a point is its own
 depth_at-of : (m : Map) (side : SideName) (p : Rank) → IsPoint m p → depth_at m side p.index ≡ depth_by side p
 depth_at-of m side p point =
-    let e : pos_at m.size p.index ≡ point.at = ap (λ (r : Rank). pos_at m.size r.index) point.rank_is ∙ pos_at-of m.size point.at point.present.in_grid in
+    let e : position_at m.size p.index ≡ point.at = ap (λ (r : Rank). position_at m.size r.index) point.rank_is ∙ position_at-of m.size point.at point.present.in_grid in
     ap (λ (q : Pos). depth_by side (rank m q)) e ∙ ap (depth_by side) (sym point.rank_is)
 
 -- what is onward is less deep, or the point itself

@@ -9,7 +9,7 @@ ghost use Rattle.hd_steep.specs.Links.{AreLinks, KeepRoots, LinksToRoot, IsRootI
 
 use crate::lowest::lowest_round;
 use hd_base::{List, Memory};
-use hd_map::{Grid, Pos, Size, index_of, is_present};
+use hd_map::{Heights, Pos, index_of, is_present, position_after};
 use std::alloc::Global;
 
 /// By index the index of the pit whose dale the point lies in, and none for points that are not
@@ -18,7 +18,7 @@ use std::alloc::Global;
 /// It takes 8 bytes a point, and time in proportion to the points, however long the ways down are.
 /// `Memory` comes where these bytes are refused. Dales are those of ISO 25178-2; that each point has
 /// one steepest way down is this project's own rule.
-pub fn regions<G: Grid>(alloc: Global, grid: &G) -> Result<List<Option<u32>>, Memory>
+pub fn regions<G: Heights>(alloc: Global, grid: &G) -> Result<List<Option<u32>>, Memory>
     ensures { IfOk result (AreRegions (G.map grid.now) Dales) }
 {
     let mut links = first_links(alloc, grid)?;
@@ -27,7 +27,7 @@ pub fn regions<G: Grid>(alloc: Global, grid: &G) -> Result<List<Option<u32>>, Me
 }
 
 // Links each present point to its next, and each pit to itself.
-fn first_links<G: Grid>(alloc: Global, grid: &G) -> Result<Vec<Option<u32>>, Memory>
+fn first_links<G: Heights>(alloc: Global, grid: &G) -> Result<Vec<Option<u32>>, Memory>
     ensures { IfOk result (λ links. AreLinks (G.map grid.now) Dales links.items) }
 {
     let size = grid.size();
@@ -44,7 +44,7 @@ fn first_links<G: Grid>(alloc: Global, grid: &G) -> Result<Vec<Option<u32>>, Mem
 }
 
 // Leads the link of each present point on to its root.
-fn lead_links<G: Grid>(grid: &G, links: &mut [Option<u32>])
+fn lead_links<G: Heights>(grid: &G, links: &mut [Option<u32>])
     requires { AreLinks (G.map grid.now) Dales links.old }
     ensures { AreRegions (G.map grid.now) Dales links.new }
 {
@@ -61,7 +61,7 @@ fn lead_links<G: Grid>(grid: &G, links: &mut [Option<u32>])
 
 // The index of the root of a present point, by walking along the links.
 #[inline]
-fn root_by_links<G: Grid>(grid: &G, links: &[Option<u32>], at: Pos) -> u32
+fn root_by_links<G: Heights>(grid: &G, links: &[Option<u32>], at: Pos) -> u32
     requires present { Present (G.map grid.now) at }
     requires links { AreLinks (G.map grid.now) Dales links.now }
     ensures { IsRootIndex (G.map grid.now) Dales (rank (G.map grid.now) at) result }
@@ -78,7 +78,7 @@ fn root_by_links<G: Grid>(grid: &G, links: &[Option<u32>], at: Pos) -> u32
 
 // Links each point on the way from a present point to its root to that root.
 #[inline]
-fn link_to<G: Grid>(grid: &G, links: &mut [Option<u32>], at: Pos, root: u32)
+fn link_to<G: Heights>(grid: &G, links: &mut [Option<u32>], at: Pos, root: u32)
     requires present { Present (G.map grid.now) at }
     requires links { AreLinks (G.map grid.now) Dales links.old }
     requires root { IsRootIndex (G.map grid.now) Dales (rank (G.map grid.now) at) root }
@@ -91,24 +91,5 @@ fn link_to<G: Grid>(grid: &G, links: &mut [Option<u32>], at: Pos, root: u32)
         let onward = links[here as usize].unwrap_or(root);
         links[here as usize] = Some(root);
         here = onward;
-    }
-}
-
-// The position after another one of the grid, profile by profile. After the last one comes the
-// first of a further profile.
-#[inline]
-fn position_after(size: Size, at: Pos) -> Pos
-    requires limits { IsSize size }
-    requires in_grid { InGrid size at }
-    ensures column { result.x < size.points }
-    ensures place { place_of size result ≡ place_of size at + 1 }
-{
-    if at.x + 1 < size.points {
-        Pos {
-            x: at.x + 1,
-            y: at.y,
-        }
-    } else {
-        Pos { x: 0, y: at.y + 1 }
     }
 }

@@ -6,11 +6,11 @@ ghost use Rattle.hd_map.specs.Neighbour.{Neighbour};
 ghost use Rattle.hd_map.specs.Rank.{rank, below_by};
 ghost use Rattle.hd_steep.specs.Lowest.{InStretch, IsLowestOf};
 
-use hd_map::{Grid, Pos, Rank, height, index_of, rank_of};
+use hd_map::{Heights, Pos, Rank, height, index_of, rank_of};
 
 /// The rank of the lowest of a present point and its neighbours.
 #[inline]
-pub fn lowest_round<G: Grid>(grid: &G, at: Pos) -> Rank
+pub fn lowest_round<G: Heights>(grid: &G, at: Pos) -> Rank
     requires { Present (G.map grid.now) at }
     ensures { IsLowestOf (G.map grid.now) Dales (Neighbour (G.map grid.now) at) (rank (G.map grid.now) at) result }
 {
@@ -28,7 +28,7 @@ pub fn lowest_round<G: Grid>(grid: &G, at: Pos) -> Rank
 
 // The lowest of a rank and of the present points of a profile from one column up to another.
 #[inline]
-fn lowest_between<G: Grid>(grid: &G, y: u32, left: u32, right: u32, first: Rank) -> Rank
+fn lowest_between<G: Heights>(grid: &G, y: u32, left: u32, right: u32, first: Rank) -> Rank
     requires profile { y < (G.map grid.now).size.profiles }
     requires left { left ≤ right }
     requires right { right ≤ (G.map grid.now).size.points }
@@ -43,7 +43,7 @@ fn lowest_between<G: Grid>(grid: &G, y: u32, left: u32, right: u32, first: Rank)
 
 // The lower of a rank and of the point at a position, if one is present there.
 #[inline]
-fn lower_at<G: Grid>(grid: &G, at: Pos, first: Rank) -> Rank
+fn lower_at<G: Heights>(grid: &G, at: Pos, first: Rank) -> Rank
     requires { InGrid (G.map grid.now).size at }
     ensures { IsLowestOf (G.map grid.now) Dales (λ q. q ≡ at) first result }
 {

@@ -6,7 +6,7 @@ ghost use Rattle.hd_map.specs.Rank.{rank};
 ghost use Rattle.hd_map.specs.Region.{IsPit, IsNext, IsRoot};
 
 use crate::lowest::lowest_round;
-use hd_map::{Grid, Pos, index_of, position_of};
+use hd_map::{Heights, Pos, index_of, position_of};
 use std::alloc::Global;
 
 /// The lowest of the neighbours that are below a present point, which is one step down the
@@ -15,7 +15,7 @@ use std::alloc::Global;
 /// Points are compared by height, and at one height by index. Pits and dales are those of
 /// ISO 25178-2; that one single way leads down from each point of a grid is this project's own
 /// rule. It takes no memory.
-pub fn next<G: Grid>(_alloc: Global, grid: &G, at: Pos) -> Option<Pos>
+pub fn next<G: Heights>(_alloc: Global, grid: &G, at: Pos) -> Option<Pos>
     requires { Present (G.map grid.now) at }
     ensures { MatchOption result (IsPit (G.map grid.now) Dales (rank (G.map grid.now) at))
         (λ q. Present (G.map grid.now) q × IsNext (G.map grid.now) Dales (rank (G.map grid.now) at) (rank (G.map grid.now) q)) }
@@ -31,7 +31,7 @@ pub fn next<G: Grid>(_alloc: Global, grid: &G, at: Pos) -> Option<Pos>
 
 /// The pit in which the steepest way down from a present point ends: the point lies in its dale.
 /// It takes no memory.
-pub fn root<G: Grid>(alloc: Global, grid: &G, at: Pos) -> Pos
+pub fn root<G: Heights>(alloc: Global, grid: &G, at: Pos) -> Pos
     requires { Present (G.map grid.now) at }
     ensures present { Present (G.map grid.now) result }
     ensures root { IsRoot (G.map grid.now) Dales (rank (G.map grid.now) at) (rank (G.map grid.now) result) }

@@ -4,7 +4,7 @@ ghost use Rattle.hd_map.specs.Map.{IsSize};
 
 use crate::{next, regions, root};
 use hd_base::{List, Memory};
-use hd_map::{Cell, DataType, Grid, Size, Surface, index_of, is_present, position_of};
+use hd_map::{Cell, DataType, Grid, Heights, Size, Surface, index_of, is_present, position_of};
 use std::alloc::Global;
 
 // A surface with these heights by index. A negative one stands for a point that is not measured.

@@ -6,4 +6,4 @@ use Rattle.hd_engine.proofs.dales.list_dales.Goals as goal
 pub count_points-requires-clause-inside : goal.count_points-requires-clause-inside
 count_points-requires-clause-inside g c =
     subst (λ (xs : List (Option ℕ)). (k n : ℕ) → k < length xs → get_or xs k None ≡ Some n → n < length xs) (sym c.as_slice.ensures)
-    (root_inside (g.G.Grid.map c.args.grid.now) Dales c.in_ok-roots.roots (g.met.G.Grid.whole c.args.grid.now) c.in_ok-roots.ensures)
+    (root_inside (g.G.Heights.map c.args.grid.now) Dales c.in_ok-roots.roots (g.met.G.Heights.whole c.args.grid.now) c.in_ok-roots.ensures)

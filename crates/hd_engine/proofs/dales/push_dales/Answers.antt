@@ -10,7 +10,7 @@ pub lines-preserved : goal.lines-preserved
 lines-preserved g c =
     let roots = c.args.roots.now in
     let k = c.lines.index in
-    let line = region_line Dales (g.G.Grid.map c.args.grid.now) roots in
+    let line = region_line Dales (g.G.Heights.map c.args.grid.now) roots in
     elim c.if-is_root.branch [
       | then-is_root+in_ok-push_dale w ↦
           lines-own line roots k c.lines.text c.if-is_root.text _ c.lines-test.true (sym c.is_root.ensures ∙ w.if-is_root.true)

@@ -7,5 +7,5 @@ use Rattle.hd_engine.proofs.dales.push_dales.Given as goal
 
 abbrev pub invariant-lines : goal.invariant-lines
 invariant-lines g l =
-    let line = region_line Dales (g.G.Grid.map l.grid) l.roots in
+    let line = region_line Dales (g.G.Heights.map l.grid) l.roots in
     l.text ++ flat_map line (pits_from l.index (drop l.index l.roots)) ≡ l.fn.text ++ flat_map line (pits_of l.roots)

@@ -5,7 +5,7 @@ use Rattle.hd_map.proofs.near.points_round.Goals.{then-step-ne4+in-Some, then-st
 
 pub loop-step-preserved : goal.loop-step-preserved
 loop-step-preserved g c =
-    let m = g.G.Grid.map c.args.grid.now in
+    let m = g.G.Heights.map c.args.grid.now in
     elim c.if-step-ne4.branch [
       | then-step-ne4+in-Some w ↦ rw w.found-is (record {
         gathered = rw w.push_reserved.ensures.items (gathered_push m c.args.at w.in-Some.q c.loop-step.step c.loop-step.found.items c.requires w.if-step-ne4.true c.loop-step-test.true
@@ -23,4 +23,4 @@ loop-step-preserved g c =
     ]
 
 pub returns-clause-all : goal.returns-clause-all
-returns-clause-all g c = gathered_all (g.G.Grid.map c.args.grid.now) c.args.at c.loop-step.step c.loop-step.found.items (omega arith) c.loop-step.invariant.gathered
+returns-clause-all g c = gathered_all (g.G.Heights.map c.args.grid.now) c.args.at c.loop-step.step c.loop-step.found.items (omega arith) c.loop-step.invariant.gathered

@@ -9,7 +9,7 @@ use Rattle.hd_steep.proofs.links.first_links.Goals.{then-is_present, else-is_pre
 
 pub loop-index-preserved : goal.loop-index-preserved
 loop-index-preserved g c =
-    let m = g.G.Grid.map c.args.grid.now in
+    let m = g.G.Heights.map c.args.grid.now in
     let at = c.loop-index.at in
     let index = c.loop-index.index in
     let links = c.loop-index.links.items in
@@ -34,5 +34,5 @@ loop-index-preserved g c =
 
 pub returns : goal.returns
 returns g c =
-    begun_all (g.G.Grid.map c.args.grid.now) Dales c.loop-index.index c.loop-index.links.items
+    begun_all (g.G.Heights.map c.args.grid.now) Dales c.loop-index.index c.loop-index.links.items
     (subst (λ (s : Size). cell_count s ≤ c.loop-index.index) c.size-size.ensures c.loop-index-test.false) c.loop-index.invariant.begun

@@ -9,21 +9,21 @@ use Rattle.hd_steep.proofs.links.lead_links.Goals.{then-is_some, else-is_some}
 
 pub root_by_links-root-requires-clause-present : goal.root_by_links-root-requires-clause-present
 root_by_links-root-requires-clause-present g c =
-    let m = g.G.Grid.map c.args.grid.now in
+    let m = g.G.Heights.map c.args.grid.now in
     let before = c.loop-index.invariant in
     let in_grid = in_grid_at m c.size-size.result c.loop-index.at c.loop-index.index c.size-size.ensures before.column before.place c.loop-index-test.true in
     linked_present m Dales c.loop-index.links c.loop-index.at c.loop-index.index in_grid before.place before.led.whole (sym c.if-is_some.ensures)
 
 pub link_to-requires-clause-present : goal.link_to-requires-clause-present
 link_to-requires-clause-present g c =
-    let m = g.G.Grid.map c.args.grid.now in
+    let m = g.G.Heights.map c.args.grid.now in
     let before = c.loop-index.invariant in
     let in_grid = in_grid_at m c.size-size.result c.loop-index.at c.loop-index.index c.size-size.ensures before.column before.place c.loop-index-test.true in
     linked_present m Dales c.loop-index.links c.loop-index.at c.loop-index.index in_grid before.place before.led.whole (sym c.if-is_some.ensures)
 
 pub loop-index-preserved : goal.loop-index-preserved
 loop-index-preserved g c =
-    let m = g.G.Grid.map c.args.grid.now in
+    let m = g.G.Heights.map c.args.grid.now in
     let at = c.loop-index.at in
     let index = c.loop-index.index in
     let links = c.loop-index.links in
@@ -53,5 +53,5 @@ loop-index-preserved g c =
 
 pub returns : goal.returns
 returns g c =
-    led_all (g.G.Grid.map c.args.grid.now) Dales c.loop-index.index c.loop-index.links
+    led_all (g.G.Heights.map c.args.grid.now) Dales c.loop-index.index c.loop-index.links
     (subst (λ (s : Size). cell_count s ≤ c.loop-index.index) c.size-size.ensures c.loop-index-test.false) c.loop-index.invariant.led

@@ -5,7 +5,7 @@ use Rattle.hd_steep.proofs.Tracing.{AreShortened}
 use Rattle.hd_steep.proofs.links.link_to.Given as goal
 
 abbrev pub invariant-walk : goal.invariant-walk
-invariant-walk g l = let m = g.G.Grid.map l.grid in AreShortened m Dales l.fn.links l.links (rank m l.fn.at) l.here l.root
+invariant-walk g l = let m = g.G.Heights.map l.grid in AreShortened m Dales l.fn.links l.links (rank m l.fn.at) l.here l.root
 
 abbrev pub decreases-walk : goal.decreases-walk
-decreases-walk g l = depth_at (g.G.Grid.map l.grid) Dales l.here
+decreases-walk g l = depth_at (g.G.Heights.map l.grid) Dales l.here

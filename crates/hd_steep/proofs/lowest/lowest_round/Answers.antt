@@ -6,7 +6,7 @@ use Rattle.hd_steep.proofs.Round.{round_more, AreColumns}
 use Rattle.hd_steep.proofs.lowest.lowest_round.Goals as goal
 
 pub loop-y-preserved : goal.loop-y-preserved
-loop-y-preserved g c = let m = g.G.Grid.map c.args.grid.now in
+loop-y-preserved g c = let m = g.G.Heights.map c.args.grid.now in
     let width : c.size-size.result.points ≡ m.size.points = ap (λ (s : Size). s.points) c.size-size.ensures in
     let columns : AreColumns m c.args.at c.saturating_sub-left.result c.min-right.result = record {
       near = λ x from to. (omega arith, omega arith);

@@ -5,7 +5,7 @@ use Rattle.hd_steep.proofs.Ways.{walk_step}
 use Rattle.hd_steep.proofs.steep.root.Goals as goal
 
 pub walk-smaller : goal.walk-smaller
-walk-smaller g c = let m = g.G.Grid.map c.args.grid.now in next-falls m Dales (rank m c.walk.here) (rank m c.in-Some.lower) (g.met.G.Grid.whole c.args.grid.now) c.in-Some.ensures.1
+walk-smaller g c = let m = g.G.Heights.map c.args.grid.now in next-falls m Dales (rank m c.walk.here) (rank m c.in-Some.lower) (g.met.G.Heights.whole c.args.grid.now) c.in-Some.ensures.1
 
 pub walk-preserved : goal.walk-preserved
-walk-preserved g c = walk_step (g.G.Grid.map c.args.grid.now) Dales c.args.at c.walk.here c.in-Some.lower c.walk.invariant c.in-Some.ensures.0 c.in-Some.ensures.1
+walk-preserved g c = walk_step (g.G.Heights.map c.args.grid.now) Dales c.args.at c.walk.here c.in-Some.lower c.walk.invariant c.in-Some.ensures.0 c.in-Some.ensures.1

@@ -5,7 +5,7 @@ use Rattle.hd_steep.proofs.Ways.{IsWalk}
 use Rattle.hd_steep.proofs.steep.root.Given as goal
 
 abbrev pub invariant-walk : goal.invariant-walk
-invariant-walk g l = IsWalk (g.G.Grid.map l.grid) Dales l.fn.at l.here
+invariant-walk g l = IsWalk (g.G.Heights.map l.grid) Dales l.fn.at l.here
 
 abbrev pub decreases-walk : goal.decreases-walk
-decreases-walk g l = depth_by Dales (rank (g.G.Grid.map l.grid) l.here)
+decreases-walk g l = depth_by Dales (rank (g.G.Heights.map l.grid) l.here)
