@@ -1,9 +1,10 @@
 -- Bytes that are read or written piece by piece.
-use Rattle.std.proofs.Common.{◌≡◌, ◌<◌, ◌≤◌, ◌+◌, ℕ, List, [], ◌∷◌, ◌++◌, length, take, drop, min, Option, refl, sym, ◌∙◌, ap, subst, arith, length-drop, length-append, length-take-le}
-use Rattle.std.specs.Io.KnownBytes.{Appends}
-use Rattle.std.proofs.KnownBytes.{Appends-trans}
-use Rattle.std.proofs.Math.Seq.{take-add}
+use Rattle.std.proofs.Common.{◌≡◌, ◌<◌, ◌≤◌, ◌+◌, ℕ, List, [], ◌∷◌, ◌++◌, length, take, drop, min, Option, Some, None, refl, sym, ◌∙◌, ap, subst, arith, length-drop, length-append, length-take, length-take-le}
+use Rattle.std.specs.Io.KnownBytes.{Appends, Consumes}
+use Rattle.std.proofs.KnownBytes.{Appends-trans, Consumes-trans}
+use Rattle.std.proofs.Math.Seq.{take-add, drop-append_seam}
 use Rattle.std.proofs.lemmas.List.{drop-drop, take-append-drop, take_at}
+use Rattle.hd_base.specs.Told.{TakesFew}
 
 -- the bytes before the rest are written
 pub record AreWritten (old new : Option (List ℕ)) (bytes rest : List ℕ) : Type 0 where
@@ -43,3 +44,18 @@ read_takes left file into copied rest at count piece is_left is_rest is_copied i
       no_items : (xs : List ℕ) → length xs ≡ 0 → xs ≡ []
       no_items [] h = refl
       no_items (x ∷ xs) h = absurd (omega (arith, h))
+
+-- what is left of a file once these bytes of it are taken
+left_after : (bytes got : List ℕ) (left : Option (List ℕ)) → Consumes (Some bytes) left got → left ≡ Some (drop (length got) bytes)
+left_after bytes got None h = absurd h
+left_after bytes got (Some rest) h = ap Some (sym (rw h (drop-append_seam got rest)))
+
+-- one more piece is taken of a file, within the limit and one byte
+pub few_taken : (bytes got piece : List ℕ) (limit count : ℕ) (file mid left : Option (List ℕ)) → file ≡ Some bytes → Consumes file mid got → Consumes mid left (take count piece)
+    → length got + length piece ≤ limit + 1 → TakesFew bytes limit left
+few_taken bytes got piece limit count file mid left told before more fits =
+    let taken : Consumes (Some bytes) left (got ++ take count piece) = subst (λ (f : Option (List ℕ)). Consumes f left (got ++ take count piece)) told (Consumes-trans file mid left got (take count piece) before more) in (
+      length (got ++ take count piece),
+      omega (arith, length-append got (take count piece), length-take count piece),
+      left_after bytes (got ++ take count piece) left taken,
+    )

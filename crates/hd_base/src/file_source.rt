@@ -2,6 +2,7 @@
 ghost use Rattle.std.specs.Prelude.{◌≡◌, None, true, false, is_some};
 ghost use Rattle.hd_base.specs.FileSource.{FileSourceState};
 
+use crate::faults::Faults;
 use crate::{Failed, Source};
 use std::fs::OpenOptions;
 use std::io::Read;
@@ -13,7 +14,7 @@ use std::rt::Files;
 pub struct FileSource<'a, R: Files> {
     files: &'a R,
     file: Option<R::File>,
-    faults: u64,
+    faults: Faults,
 }
 
 impl<'a, R: Files> Model for FileSource<'a, R> {
@@ -30,7 +31,7 @@ impl<'a, R: Files> FileSource<'a, R> {
         FileSource {
             files,
             file: None,
-            faults: 0,
+            faults: Faults::none(),
         }
     }
 }
@@ -47,26 +48,18 @@ impl<'a, R: Files> Source for FileSource<'a, R> {
     ghost left = { λ _. None };
 
     fn open(&mut self, name: &str) -> Result<(), Failed> {
-        match OpenOptions::new().read(true).open(self.files, name) {
-            Ok(file) => {
-                self.file = Some(file);
-                Ok(())
-            }
-            Err(_) => {
-                self.faults = self.faults.saturating_add(1);
-                Err(Failed)
-            }
-        }
+        let Ok(file) = OpenOptions::new().read(true).open(self.files, name) else {
+            return self.faults.fail();
+        };
+        self.file = Some(file);
+        Ok(())
     }
 
     fn read(&mut self, into: &mut [u8]) -> Result<usize, Failed> {
         match &mut self.file {
             Some(file) => match file.read(into) {
                 Ok(count) => Ok(count),
-                Err(_) => {
-                    self.faults = self.faults.saturating_add(1);
-                    Err(Failed)
-                }
+                Err(_) => self.faults.fail(),
             },
             None => unreachable!(),
         }

@@ -4,6 +4,7 @@
 //! Those in memory tell each byte; files and the standard output tell nothing of their content.
 #![tactic(auto)]
 
+mod faults;
 mod file_source;
 mod list;
 mod mem_sink;

@@ -1,9 +1,8 @@
 // A sink in memory, which fails at the calls that are listed.
-ghost use Rattle.std.specs.Prelude.{◌≡◌, ◌<◌, ◌≤◌, ◌+◌, ◌-◌, ◌↔◌, ◌⊎◌, ◌&&◌, ◌==◌, [], ◌++◌, Some, true, length, take, min, IsErr, IfOk, OnOk, OnErr, vec_len, vec_capacity};
+ghost use Rattle.std.specs.Prelude.{◌≡◌, ◌<◌, ◌≤◌, ◌+◌, ◌↔◌, ◌⊎◌, [], Some, true, length, min, IsErr, IfOk, OnOk, OnErr, vec_len, vec_capacity};
 ghost use Rattle.std.specs.List.{Contains};
 ghost use Rattle.hd_base.specs.Causes.{HasCause};
-ghost use Rattle.hd_base.specs.Calls.{next_number};
-ghost use Rattle.hd_base.specs.MemSink.{SinkState};
+ghost use Rattle.hd_base.specs.MemSink.{SinkState, failed_sink, emptied_sink, longer_sink, flushed_sink};
 
 use crate::schedule::Schedule;
 use crate::{Failed, List, Memory, Sink};
@@ -27,7 +26,15 @@ pub struct MemSink {
 impl Model for MemSink {
     ghost Value = { SinkState };
 
-    ghost view = { λ s. record { bytes = s.bytes.items; room = s.room; is_flushed = s.flushed; piece = s.piece; fails = s.schedule.fails; calls = s.schedule.calls; fault_count = s.schedule.faults } };
+    ghost view = { λ s. record {
+      bytes = s.bytes.items;
+      room = s.room;
+      is_flushed = s.flushed;
+      piece = s.piece;
+      fails = s.schedule.fails;
+      calls = s.schedule.calls;
+      fault_count = s.schedule.faults;
+    } };
 
     ghost invariant = { λ s. (0 < s.piece) × (vec_len s.bytes + s.room ≤ vec_capacity s.bytes) };
 }
@@ -37,7 +44,15 @@ impl MemSink {
     /// numbers are in `fails`. It is open.
     pub fn new(alloc: Global, fails: List<u64>, piece: usize) -> Self
         requires { 0 < piece }
-        ensures { result ≡ record { bytes = []; room = 0; is_flushed = true; piece = piece; fails = fails; calls = 0; fault_count = 0 } }
+        ensures { result ≡ record {
+          bytes = [];
+          room = 0;
+          is_flushed = true;
+          piece = piece;
+          fails = fails;
+          calls = 0;
+          fault_count = 0;
+        } }
     {
         MemSink {
             bytes: Vec::new(alloc),
@@ -81,8 +96,8 @@ impl Sink for MemSink {
     ghost flushed = { λ s. s.is_flushed };
 
     fn open(&mut self, _name: &str) -> Result<(), Failed>
-        ensures ok { OnOk result (self.new ≡ record self.old { bytes = []; room = self.old.room + length self.old.bytes; is_flushed = true; calls = next_number self.old.calls }) }
-        ensures err { OnErr result (self.new ≡ record self.old { calls = next_number self.old.calls; fault_count = self.new.fault_count }) }
+        ensures ok { OnOk result (self.new ≡ emptied_sink self.old) }
+        ensures err { OnErr result (self.new ≡ failed_sink self.old) }
         ensures fails { IsErr result ↔ Contains self.old.fails self.old.calls }
         ensures cause { HasCause self.old.fault_count self.new.fault_count result }
     {
@@ -96,9 +111,10 @@ impl Sink for MemSink {
     fn write(&mut self, piece: &[u8]) -> Result<usize, Failed>
         ensures some { IfOk result (λ n. 0 < length piece.now → 0 < n) }
         ensures count { IfOk result (λ n. n ≡ min (min (length piece.now) self.old.room) self.old.piece) }
-        ensures ok { IfOk result (λ n. self.new ≡ record self.old { bytes = self.old.bytes ++ take n piece.now; room = self.old.room - n; is_flushed = self.old.is_flushed && n == 0; calls = next_number self.old.calls }) }
-        ensures err { OnErr result (self.new ≡ record self.old { calls = next_number self.old.calls; fault_count = self.new.fault_count }) }
-        ensures fails { IsErr result ↔ (Contains self.old.fails self.old.calls ⊎ ((0 < length piece.now) × (self.old.room ≡ 0))) }
+        ensures ok { IfOk result (λ n. self.new ≡ longer_sink self.old n piece.now) }
+        ensures err { OnErr result (self.new ≡ failed_sink self.old) }
+        ensures fails { IsErr result
+            ↔ (Contains self.old.fails self.old.calls ⊎ ((0 < length piece.now) × (self.old.room ≡ 0))) }
         ensures cause { HasCause self.old.fault_count self.new.fault_count result }
     {
         self.schedule.begin()?;
@@ -115,8 +131,8 @@ impl Sink for MemSink {
     }
 
     fn flush(&mut self) -> Result<(), Failed>
-        ensures ok { OnOk result (self.new ≡ record self.old { is_flushed = true; calls = next_number self.old.calls }) }
-        ensures err { OnErr result (self.new ≡ record self.old { calls = next_number self.old.calls; fault_count = self.new.fault_count }) }
+        ensures ok { OnOk result (self.new ≡ flushed_sink self.old) }
+        ensures err { OnErr result (self.new ≡ failed_sink self.old) }
         ensures fails { IsErr result ↔ Contains self.old.fails self.old.calls }
         ensures cause { HasCause self.old.fault_count self.new.fault_count result }
     {

@@ -4,8 +4,7 @@ ghost use Rattle.std.specs.List.{Contains};
 ghost use Rattle.std.specs.Io.{ReadsAtMost};
 ghost use Rattle.std.specs.Io.KnownBytes.{ReadConsumes};
 ghost use Rattle.hd_base.specs.Causes.{HasCause};
-ghost use Rattle.hd_base.specs.Calls.{next_number};
-ghost use Rattle.hd_base.specs.MemSource.{SourceState, file_named, file_at, left_of, unread_of, left-closed};
+ghost use Rattle.hd_base.specs.MemSource.{SourceState, failed_source, source_left_with, file_named, file_at, left_of, unread_of, left-closed};
 
 use crate::schedule::Schedule;
 use crate::{Failed, List, Source};
@@ -21,14 +20,21 @@ pub struct MemSource {
     files: List<(List<u8>, List<u8>)>,
     schedule: Schedule,
     piece: usize,
-    // The place of the open file, and how many of its bytes are read.
+    // The index of the open file, and how many of its bytes are taken.
     reading: Option<(usize, usize)>,
 }
 
 impl Model for MemSource {
     ghost Value = { SourceState };
 
-    ghost view = { λ s. record { contents = s.files; unread = unread_of s.files s.reading; piece = s.piece; fails = s.schedule.fails; calls = s.schedule.calls; fault_count = s.schedule.faults } };
+    ghost view = { λ s. record {
+      contents = s.files;
+      unread = unread_of s.files s.reading;
+      piece = s.piece;
+      fails = s.schedule.fails;
+      calls = s.schedule.calls;
+      fault_count = s.schedule.faults;
+    } };
 
     ghost invariant = { λ s. 0 < s.piece };
 }
@@ -38,7 +44,14 @@ impl MemSource {
     /// fails at the calls whose numbers are in `fails`.
     pub fn new(files: List<(List<u8>, List<u8>)>, fails: List<u64>, piece: usize) -> Self
         requires { 0 < piece }
-        ensures { result ≡ record { contents = files; unread = None; piece = piece; fails = fails; calls = 0; fault_count = 0 } }
+        ensures { result ≡ record {
+          contents = files;
+          unread = None;
+          piece = piece;
+          fails = fails;
+          calls = 0;
+          fault_count = 0;
+        } }
     {
         MemSource {
             files,
@@ -62,16 +75,18 @@ impl Source for MemSource {
 
     fn open(&mut self, name: &str) -> Result<(), Failed>
         ensures opened { OnOk result (IsTrue (is_some self.new.unread)) }
-        ensures ok { OnOk result (self.new ≡ record self.old { unread = file_named self.old.contents name.now; calls = next_number self.old.calls }) }
-        ensures err { OnErr result (self.new ≡ record self.old { calls = next_number self.old.calls; fault_count = self.new.fault_count }) }
-        ensures fails { IsErr result ↔ (Contains self.old.fails self.old.calls ⊎ (file_named self.old.contents name.now ≡ None)) }
+        ensures ok { OnOk result
+            (self.new ≡ source_left_with self.old (file_named self.old.contents name.now)) }
+        ensures err { OnErr result (self.new ≡ failed_source self.old) }
+        ensures fails { IsErr result
+            ↔ (Contains self.old.fails self.old.calls ⊎ (file_named self.old.contents name.now ≡ None)) }
         ensures cause { HasCause self.old.fault_count self.new.fault_count result }
     {
         self.schedule.begin()?;
-        let Some(place) = place_of(self.files.as_slice(), name.as_bytes()) else {
+        let Some(index) = file_index(self.files.as_slice(), name.as_bytes()) else {
             return self.schedule.fail();
         };
-        self.reading = Some((place, 0));
+        self.reading = Some((index, 0));
         Ok(())
     }
 
@@ -80,46 +95,54 @@ impl Source for MemSource {
         ensures open { IsTrue (is_some self.new.unread) }
         ensures bound { ReadsAtMost result into.new }
         ensures bytes { ReadConsumes (Some (left_of self.old)) (Some (left_of self.new)) result into.new }
-        ensures count { IfOk result (λ n. n ≡ min (min (length (left_of self.old)) (length into.old)) self.old.piece) }
-        ensures others { self.new ≡ record self.old { unread = self.new.unread; calls = next_number self.old.calls; fault_count = self.new.fault_count } }
+        ensures count { IfOk result
+            (λ n. n ≡ min (min (length (left_of self.old)) (length into.old)) self.old.piece) }
+        ensures ok { IfOk result
+            (λ n. self.new ≡ source_left_with self.old (Some (drop n (left_of self.old)))) }
+        ensures err { OnErr result (self.new ≡ failed_source self.old) }
         ensures fails { IsErr result ↔ Contains self.old.fails self.old.calls }
         ensures cause { HasCause self.old.fault_count self.new.fault_count result }
     {
-        let Some((place, at)) = self.reading else {
+        let Some((index, taken)) = self.reading else {
             unreachable!();
         };
         self.schedule.begin()?;
-        let rest = rest_of(self.files.as_slice(), place, at);
+        let rest = rest_of(self.files.as_slice(), index, taken);
         let count = rest.len().min(into.len()).min(self.piece);
         into[..count].copy_from_slice(&rest[..count]);
-        self.reading = Some((place, at + count));
+        self.reading = Some((index, taken + count));
         Ok(count)
     }
 
     ghost closed = { left-closed };
 }
 
-// The place of the first file of a name.
-fn place_of(files: &[(List<u8>, List<u8>)], name: &[u8]) -> Option<usize>
-    ensures { MatchOption result (file_named files.now name.now ≡ None) (λ place. file_named files.now name.now ≡ Some (file_at files.now place)) }
+// The index of the first file of a name.
+fn file_index(files: &[(List<u8>, List<u8>)], name: &[u8]) -> Option<usize>
+    ensures { MatchOption result (file_named files.now name.now ≡ None)
+        (λ index. file_named files.now name.now ≡ Some (file_at files.now index)) }
 {
-    'files: for (place, file) in files.iter().enumerate() {
+    'files: for (index, file) in files.iter().enumerate() {
         if file.0.as_slice() == name {
-            return Some(place);
+            return Some(index);
         }
     }
     None
 }
 
-// The bytes of a file from a place on.
-fn rest_of(files: &[(List<u8>, List<u8>)], place: usize, at: usize) -> &[u8]
-    ensures value { result.now ≡ drop at (file_at files.now place) }
-    ensures fits { at + length result.now < 2 ^ 64 }
+// The bytes of a file after those that are taken.
+fn rest_of(files: &[(List<u8>, List<u8>)], index: usize, taken: usize) -> &[u8]
+    ensures value { result.now ≡ drop taken (file_at files.now index) }
+    ensures fits { taken + length result.now < 2 ^ 64 }
 {
-    match files.get(place) {
+    match files.get(index) {
         Some(file) => {
             let bytes = file.1.as_slice();
-            if at <= bytes.len() { &bytes[at..] } else { &[] }
+            if taken <= bytes.len() {
+                &bytes[taken..]
+            } else {
+                &[]
+            }
         }
         None => &[],
     }

@@ -1,9 +1,9 @@
 // Which calls of a source or a sink in memory fail.
-ghost use Rattle.std.specs.Prelude.{◌≡◌, ◌↔◌, IsErr};
+ghost use Rattle.std.specs.Prelude.{◌≡◌, ◌↔◌, IsErr, OnErr};
 ghost use Rattle.std.specs.List.{Contains};
-ghost use Rattle.hd_base.specs.Calls.{next_number};
-ghost use Rattle.hd_base.specs.Causes.{HasCause};
+ghost use Rattle.hd_base.specs.Causes.{HasCause, one_more};
 
+use crate::faults::Faults;
 use crate::{Failed, List};
 
 /// Numbers the calls from 0, fails those that are listed, and counts the faults. Both numbers stay
@@ -12,7 +12,7 @@ use crate::{Failed, List};
 pub(crate) struct Schedule {
     fails: List<u64>,
     calls: u64,
-    faults: u64,
+    faults: Faults,
 }
 
 impl Schedule {
@@ -23,15 +23,16 @@ impl Schedule {
         Schedule {
             fails,
             calls: 0,
-            faults: 0,
+            faults: Faults::none(),
         }
     }
 
     /// Begins the next call. Where its number is listed, it fails.
     pub(crate) fn begin(&mut self) -> Result<(), Failed>
         ensures listed { IsErr result ↔ Contains self.old.fails self.old.calls }
-        ensures number { self.new.calls ≡ next_number self.old.calls }
+        ensures number { self.new.calls ≡ one_more self.old.calls }
         ensures fails { self.new.fails ≡ self.old.fails }
+        ensures fault { OnErr result (self.new.faults ≡ one_more self.old.faults) }
         ensures cause { HasCause self.old.faults self.new.faults result }
     {
         let fails = self.fails.as_slice().contains(&self.calls);
@@ -47,9 +48,9 @@ impl Schedule {
         ensures err { IsErr result }
         ensures calls { self.new.calls ≡ self.old.calls }
         ensures fails { self.new.fails ≡ self.old.fails }
+        ensures fault { self.new.faults ≡ one_more self.old.faults }
         ensures cause { HasCause self.old.faults self.new.faults result }
     {
-        self.faults = self.faults.saturating_add(1);
-        Err(Failed)
+        self.faults.fail()
     }
 }

@@ -1,9 +1,9 @@
 // What the program writes to.
-ghost use Rattle.std.specs.Prelude.{◌≡◌, ◌<◌, ◌≤◌, [], ℕ, List as Items, Bool, false, length, Some, IsTrue, Option, OnOk, OnErr, IfOk, take};
+ghost use Rattle.std.specs.Prelude.{◌≡◌, ◌<◌, [], ℕ, List as Items, Bool, false, length, Some, IsTrue, Option, OnOk, OnErr, IfOk};
 ghost use Rattle.std.specs.Io.{WritesAtMost};
 ghost use Rattle.std.specs.Io.KnownBytes.{WriteAppends, Keeps, Appends};
 ghost use Rattle.hd_base.specs.Causes.{HasCause};
-ghost use Rattle.hd_base.specs.Told.{OnTold};
+ghost use Rattle.hd_base.specs.Told.{OnTold, AppendsStart};
 
 use crate::Failed;
 use thiserror::Error;
@@ -16,7 +16,8 @@ pub struct WriteFault;
 /// A place to write one file at a time to.
 ///
 /// A call that fails answers `Failed` and counts a fault; no other call changes the count, which
-/// starts at 0 and stands still at its last value.
+/// starts at 0 and stands still at its last value. A call may change which names may be opened
+/// next, so one leave serves one open.
 pub trait Sink {
     /// Whether a file is open.
     ghost is_open: { Self → Bool };
@@ -38,9 +39,7 @@ pub trait Sink {
         requires { IsTrue (allows self.old name.now) }
         ensures opened { OnOk result (IsTrue (is_open self.new)) }
         ensures empty { OnOk result (OnTold (written self.old) (written self.new ≡ Some [])) }
-        ensures refused { OnErr result (is_open self.new ≡ is_open self.old) }
-        ensures written { OnErr result (Keeps (written self.old) (written self.new)) }
-        ensures allows { (other : Items ℕ) → allows self.new other ≡ allows self.old other }
+        ensures refused { OnErr result (Keeps (written self.old) (written self.new)) }
         ensures cause { HasCause (faults self.old) (faults self.new) result };
 
     /// Writes the first bytes of a piece, at least one of a piece that has some.
@@ -51,7 +50,6 @@ pub trait Sink {
         ensures some { IfOk result (λ n. 0 < length piece.now → 0 < n) }
         ensures bytes { WriteAppends (written self.old) (written self.new) result piece.now }
         ensures unflushed { OnTold (written self.old) (IfOk result (λ n. 0 < n → flushed self.new ≡ false)) }
-        ensures allows { (other : Items ℕ) → allows self.new other ≡ allows self.old other }
         ensures cause { HasCause (faults self.old) (faults self.new) result };
 
     /// Hands on all bytes that were written.
@@ -60,7 +58,6 @@ pub trait Sink {
         ensures open { IsTrue (is_open self.new) }
         ensures flushed { OnOk result (IsTrue (flushed self.new)) }
         ensures written { Keeps (written self.old) (written self.new) }
-        ensures allows { (other : Items ℕ) → allows self.new other ≡ allows self.old other }
         ensures cause { HasCause (faults self.old) (faults self.new) result };
 }
 
@@ -71,8 +68,7 @@ pub fn write_all<W: Sink>(sink: &mut W, bytes: &[u8]) -> Result<(), WriteFault>
     requires { IsTrue (W.is_open sink.old) }
     ensures open { IsTrue (W.is_open sink.new) }
     ensures all { OnOk result (Appends (W.written sink.old) (W.written sink.new) bytes.now) }
-    ensures part { (n : ℕ) × (n ≤ length bytes.now) × Appends (W.written sink.old) (W.written sink.new) (take n bytes.now) }
-    ensures allows { (other : Items ℕ) → W.allows sink.new other ≡ W.allows sink.old other }
+    ensures part { AppendsStart (W.written sink.old) (W.written sink.new) bytes.now }
     ensures cause { HasCause (W.faults sink.old) (W.faults sink.new) result }
 {
     let mut rest = bytes;

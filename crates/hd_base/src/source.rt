@@ -1,9 +1,9 @@
 // What the program reads from.
-ghost use Rattle.std.specs.Prelude.{◌≡◌, ◌<◌, ◌-◌, ◌^◌, ℕ, List as Items, Bool, false, Option, Some, IsTrue, OnOk, OnErr};
+ghost use Rattle.std.specs.Prelude.{◌≡◌, ◌≢◌, ◌<◌, ◌-◌, ◌^◌, ℕ, List as Items, Bool, false, Option, Some, Err, IsTrue, OnOk, OnErr};
 ghost use Rattle.std.specs.Io.{ReadsAtMost};
-ghost use Rattle.std.specs.Io.KnownBytes.{ReadConsumes, IsAtEnd};
+ghost use Rattle.std.specs.Io.KnownBytes.{ReadConsumes, IsAtEnd, Keeps};
 ghost use Rattle.hd_base.specs.Causes.{HasCause};
-ghost use Rattle.hd_base.specs.Told.{ReadsFile, HasReadCause};
+ghost use Rattle.hd_base.specs.Told.{ReadsFile, StopsInFile, HasReadCause};
 
 use crate::List;
 use std::alloc::Global;
@@ -31,7 +31,8 @@ pub enum ReadError {
 /// A place to read files from, by their names, one at a time.
 ///
 /// A call that fails answers `Failed` and counts a fault; no other call changes the count, which
-/// starts at 0 and stands still at its last value.
+/// starts at 0 and stands still at its last value. An open may change which names may be opened
+/// next, so one leave serves one open.
 pub trait Source {
     /// Whether a file is open.
     ghost is_open: { Self → Bool };
@@ -52,11 +53,9 @@ pub trait Source {
     fn open(&mut self, name: &str) -> Result<(), Failed>
         requires { IsTrue (allows self.old name.now) }
         ensures opened { OnOk result (IsTrue (is_open self.new)) }
-        ensures file { OnOk result ((bytes : Items ℕ) → files self.old name.now ≡ Some bytes → left self.new ≡ Some bytes) }
-        ensures refused { OnErr result (is_open self.new ≡ is_open self.old) }
-        ensures left { OnErr result (left self.new ≡ left self.old) }
-        ensures files { (other : Items ℕ) → files self.new other ≡ files self.old other }
-        ensures allows { (other : Items ℕ) → allows self.new other ≡ allows self.old other }
+        ensures file { OnOk result
+            ((bytes : Items ℕ) → files self.old name.now ≡ Some bytes → left self.new ≡ Some bytes) }
+        ensures refused { OnErr result (Keeps (left self.old) (left self.new)) }
         ensures cause { HasCause (faults self.old) (faults self.new) result };
 
     /// Reads the first of the bytes that are left, at most as many as the slice holds. No byte into
@@ -66,15 +65,13 @@ pub trait Source {
         ensures open { IsTrue (is_open self.new) }
         ensures bound { ReadsAtMost result into.new }
         ensures bytes { ReadConsumes (left self.old) (left self.new) result into.new }
-        ensures files { (other : Items ℕ) → files self.new other ≡ files self.old other }
-        ensures allows { (other : Items ℕ) → allows self.new other ≡ allows self.old other }
         ensures cause { HasCause (faults self.old) (faults self.new) result };
 
     /// Nothing is left before a file is open.
     ghost closed: { (source : Self) → is_open source ≡ false → IsAtEnd (left source) };
 }
 
-/// Reads the file of a name to its end, or to one byte past the limit of bytes.
+/// Opens the file of a name, once, and reads it to its end, or to one byte past the limit of bytes.
 ///
 /// `ReadFault` comes only where the source failed, `TooLong(limit)` exactly where more bytes than
 /// the limit are there, and `Memory` where the bytes are refused their memory.
@@ -87,9 +84,10 @@ pub fn read_all<S: Source>(
     requires limit { limit < 2 ^ 64 - 1 }
     requires allowed { IsTrue (S.allows source.old name.now) }
     ensures file { ReadsFile (S.files source.old name.now) limit result }
+    ensures left { (bytes : Items ℕ) → S.files source.old name.now ≡ Some bytes
+        → StopsInFile bytes limit (S.left source.old) (S.left source.new) result }
+    ensures open { result ≢ Err ReadError.ReadFault → IsTrue (S.is_open source.new) }
     ensures cause { HasReadCause (S.faults source.old) (S.faults source.new) result }
-    ensures files { (other : Items ℕ) → S.files source.new other ≡ S.files source.old other }
-    ensures allows { (other : Items ℕ) → S.allows source.new other ≡ S.allows source.old other }
 {
     if source.open(name).is_err() {
         return Err(ReadError::ReadFault);

@@ -1,19 +1,28 @@
 // A sink over the standard output, which tells nothing of what it got.
-ghost use Rattle.std.specs.Prelude.{◌≡◌, None, true, IsTrue};
+ghost use Rattle.std.specs.Prelude.{◌≡◌, ◌<◌, ◌≤◌, length, None, true, IsOk, IfOk, IsTrue};
+ghost use Rattle.std.specs.Io.{WritesAtMost};
+ghost use Rattle.hd_base.specs.Causes.{HasCause};
 
-use crate::{Failed, Sink};
+use crate::faults::Faults;
+use crate::{Failed, Memory, Sink};
+use std::alloc::Global;
 use std::io;
-use std::io::Write;
+use std::io::{BufWriter, Printer, Write};
 use std::marker::Model;
+
+/// The bytes that are gathered before they go to the system.
+const GATHERED: usize = 65_536;
 
 /// The standard output. It tells nothing of what it got, and counts each fault. Contracts see it
 /// as that count.
 ///
-/// Each write goes to the system at once, so a flush has nothing to do.
+/// Bytes are gathered and go to the system once there are 65,536 of them, or at a flush; the call
+/// that cannot hand them on counts the fault. A write that a signal interrupts is tried again. What
+/// is not handed on when the sink is let go is handed on then, if it can be.
 #[derive(Drop)]
 pub struct StdoutSink<'a, P: Print> {
-    to: &'a P,
-    faults: u64,
+    to: BufWriter<Printer<'a, P>>,
+    faults: Faults,
 }
 
 impl<'a, P: Print> Model for StdoutSink<'a, P> {
@@ -25,12 +34,19 @@ impl<'a, P: Print> Model for StdoutSink<'a, P> {
 }
 
 impl<'a, P: Print> StdoutSink<'a, P> {
-    /// A sink that is open and has not failed.
-    pub fn new(to: &'a P) -> Self
-        ensures open { IsTrue (⟦<StdoutSink<'a, P> as Sink>⟧.is_open result) }
-        ensures no_fault { ⟦<StdoutSink<'a, P> as Sink>⟧.faults result ≡ 0 }
+    /// A sink that is open and has not failed. `Memory` comes where the memory for the bytes that
+    /// are gathered is refused.
+    pub fn new(alloc: Global, to: &'a P) -> Result<Self, Memory>
+        ensures open { IfOk result (λ sink. IsTrue (⟦<StdoutSink<'a, P> as Sink>⟧.is_open sink)) }
+        ensures no_fault { IfOk result (λ sink. ⟦<StdoutSink<'a, P> as Sink>⟧.faults sink ≡ 0) }
     {
-        StdoutSink { to, faults: 0 }
+        match BufWriter::with_capacity(alloc, GATHERED, io::writer(to)) {
+            Ok(to) => Ok(StdoutSink {
+                to,
+                faults: Faults::none(),
+            }),
+            Err(_) => Err(Memory),
+        }
     }
 }
 
@@ -45,27 +61,27 @@ impl<'a, P: Print> Sink for StdoutSink<'a, P> {
 
     ghost flushed = { λ _. true };
 
-    fn open(&mut self, _name: &str) -> Result<(), Failed> {
+    fn open(&mut self, _name: &str) -> Result<(), Failed>
+        ensures accepted { IsOk result }
+        ensures same { self.new ≡ self.old }
+        ensures cause { HasCause self.old self.new result }
+    {
         Ok(())
     }
 
+    // A piece that fits the buffer is never handed on by itself, which nothing would try again.
     fn write(&mut self, piece: &[u8]) -> Result<usize, Failed> {
-        match io::writer(self.to).write(piece) {
+        let part = &piece[..piece.len().min(GATHERED - 1)];
+        match self.to.write(part) {
             Ok(count) if 0 < count || piece.is_empty() => Ok(count),
-            _ => {
-                self.faults = self.faults.saturating_add(1);
-                Err(Failed)
-            }
+            _ => self.faults.fail(),
         }
     }
 
     fn flush(&mut self) -> Result<(), Failed> {
-        match io::writer(self.to).flush() {
-            Ok(()) => Ok(()),
-            Err(_) => {
-                self.faults = self.faults.saturating_add(1);
-                Err(Failed)
-            }
+        match self.to.flush() {
+            Ok(done) => Ok(done),
+            Err(_) => self.faults.fail(),
         }
     }
 }

@@ -109,7 +109,7 @@ fn a_file_of_the_system_is_read(rt: HostRuntime) -> Result<(), Fail> {
 
 #[test]
 fn the_standard_output_takes_all_bytes(rt: HostRuntime) -> Result<(), Fail> {
-    let mut sink = StdoutSink::new(&rt);
+    let mut sink = StdoutSink::new(rt.alloc(), &rt)?;
     write_all(&mut sink, b"written\n".as_slice())?;
     sink.flush()?;
     Ok(())

@@ -1,4 +1,4 @@
-use Rattle.std.proofs.Common.{◌≡◌, ◌≤◌, ◌+◌, ◌-◌, ℕ, List as Items, length, IsTrue}
+use Rattle.std.proofs.Common.{◌≡◌, ◌≤◌, ◌+◌, ◌-◌, length, IsTrue}
 use Rattle.std.specs.Io.KnownBytes.{Consumes}
 use Rattle.hd_base.proofs.source.read_all.Given as goal
 
@@ -8,8 +8,6 @@ invariant-pieces g l = record {
   within : length l.bytes.items ≤ l.limit;
   read : Consumes (g.S.Source.files l.fn.source l.name) (g.S.Source.left l.source) l.bytes.items;
   faults : g.S.Source.faults l.source ≡ g.S.Source.faults l.fn.source;
-  files : (other : Items ℕ) → g.S.Source.files l.source other ≡ g.S.Source.files l.fn.source other;
-  allows : (other : Items ℕ) → g.S.Source.allows l.source other ≡ g.S.Source.allows l.fn.source other;
 }
 
 abbrev pub decreases-pieces : goal.decreases-pieces
