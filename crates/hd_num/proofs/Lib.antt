@@ -1,3 +1,4 @@
+pub mod Decimals
 pub mod LineSteps
 pub mod Numerals
 pub mod Pieces

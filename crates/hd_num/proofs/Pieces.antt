@@ -1,9 +1,10 @@
 -- Where the pieces of a text end.
 use Rattle.std.proofs.Common.{◌≡◌, ℕ, zero, suc, ◌+◌, ◌-◌, ◌<◌, ◌≤◌, ◌||◌, ◌==◌, List, [], ◌∷◌, length, get_or, take, drop, Bool, true, false, not, arith, refl, sym, ◌∙◌, ap, ap₂, length-drop, length-take}
-use Rattle.std.specs.List.{slice_split, onto_first}
+use Rattle.std.specs.List.{position_or_len, slice_split, onto_first}
 use Rattle.std.specs.Prelude.{slice_range}
 use Rattle.std.proofs.lemmas.Bool.{false_from_ne_true, ne_eqb}
 use Rattle.std.proofs.lemmas.List.{drop-drop}
+use Rattle.std.proofs.lemmas.List.Sums.{position_or_len_is}
 use Rattle.std.proofs.lemmas.List.Splits.{slice_split-cons_yes, slice_split-cons_no}
 use Rattle.std.proofs.lemmas.Slice.{between_to_end}
 use Rattle.bstr.specs.Bytes.{is_in}
@@ -31,6 +32,18 @@ AgreeOn given test = (x : ℕ) → given x ≡ test x
 fails : (given test : ℕ → Bool) → AgreeOn given test → (x : ℕ) → (given x ≡ true → ⊥) → test x ≡ false
 fails given test same x refused = sym (same x) ∙ false_from_ne_true (given x) refused
 
+-- a search finds the first place that passes
+pub place_found : (given test : ℕ → Bool) → AgreeOn given test → (text : List ℕ) (place : ℕ) → NoneBefore (Passes given text) 0 (length text) place → Passes given text place
+    → position_or_len test text ≡ place
+place_found given test same text place none here =
+    let high = none.high in
+    position_or_len_is test text place 0 (omega arith) (λ k less. fails given test same (get_or text k 0) (none.before k (omega arith) less)) (λ _. sym (same (get_or text place 0)) ∙ here)
+
+-- a search that finds nothing shows that no place passes
+pub place_nowhere : (given test : ℕ → Bool) → AgreeOn given test → (text : List ℕ) → Nowhere (Passes given text) 0 (length text) → position_or_len test text ≡ length text
+place_nowhere given test same text none =
+    position_or_len_is test text (length text) 0 (omega arith) (λ k less. fails given test same (get_or text k 0) (none k (omega arith) less)) (λ less. absurd (omega arith))
+
 -- a search from a place on finds the end of the piece there
 pub piece_end_found : (given test : ℕ → Bool) → AgreeOn given test → (bytes rest : List ℕ) (from count : ℕ) → rest ≡ drop from bytes → from ≤ length bytes
     → NoneBefore (Passes given rest) 0 (length rest) count → Passes given rest count → IsPieceEnd test bytes from (from + count)
@@ -41,7 +54,9 @@ piece_end_found given test same bytes rest from count is fits none here =
     split_first test rest count high (sym (same (get_or rest count 0)) ∙ here) (λ k less. fails given test same (get_or rest k 0) (none.before k (omega arith) less)) in
     let width : count ≡ from + count - from = omega arith in
     let after : from + suc count ≡ from + count + 1 = omega arith in
+    let place = place_found given test same rest count none here in
     record {
+      place = ap (λ n. from + n) (sym place ∙ ap (position_or_len test) is);
       low = omega arith;
       high = omega arith;
       last = λ at_end. absurd (omega arith);
@@ -53,13 +68,18 @@ piece_end_found given test same bytes rest from count is fits none here =
 -- a search that finds nothing shows that the piece ends with the text
 pub piece_end_none : (given test : ℕ → Bool) → AgreeOn given test → (bytes rest : List ℕ) (from : ℕ) → rest ≡ drop from bytes → from ≤ length bytes
     → Nowhere (Passes given rest) 0 (length rest) → IsPieceEnd test bytes from (length bytes)
-piece_end_none given test same bytes rest from is fits none = record {
-  low = fits;
-  high = omega arith;
-  last = λ _. ap (slice_split test) (sym is) ∙ split_none test rest (λ k less. fails given test same (get_or rest k 0) (none k (omega arith) less))
-      ∙ ap (λ (xs : List ℕ). xs ∷ []) (is ∙ sym (between_to_end bytes from (length bytes) (omega arith)));
-  more = λ less. absurd (omega arith);
-}
+piece_end_none given test same bytes rest from is fits none =
+    let place = place_nowhere given test same rest none in
+    let same_place : position_or_len test (drop from bytes) ≡ length rest = ap (position_or_len test) (sym is) ∙ place in
+    let len : length rest ≡ length bytes - from = ap length is ∙ length-drop from bytes in
+    record {
+      place = omega arith;
+      low = fits;
+      high = omega arith;
+      last = λ _. ap (slice_split test) (sym is) ∙ split_none test rest (λ k less. fails given test same (get_or rest k 0) (none k (omega arith) less))
+          ∙ ap (λ (xs : List ℕ). xs ∷ []) (is ∙ sym (between_to_end bytes from (length bytes) (omega arith)));
+      more = λ less. absurd (omega arith);
+    }
 
 -- the set of the blanks
 pub is_in-blanks : AgreeOn (is_in (32 ∷ 9 ∷ 13 ∷ [])) is_blank

@@ -14,7 +14,7 @@ use Rattle.hd_num.specs.Whole.{count_of, is_numeral, whole_of, whole_of_value, w
 use Rattle.hd_num.specs.declared.whole.Whole.TheVariants.{Is, Outside}
 
 -- digits and their value, as std's lemmas speak of them
-digits : IsNumeralModel (λ ds. list_all is_ascii_digit ds ≡ true) (digits_value 10)
+pub digits : IsNumeralModel (λ ds. list_all is_ascii_digit ds ≡ true) (digits_value 10)
 digits = numerals_by_value _ (search rules)
 
 -- printed digits are a numeral
@@ -40,7 +40,7 @@ without_leading_sign-decimal n small =
     ∙ without_leading_plus_none (decimal n) (first-decimal n 43 small (omega arith))
 
 -- the value of printed digits
-whole_value-decimal : (n : ℕ) → n < 2 ^ 64 → whole_value (decimal n) ≡ Some (pos n)
+pub whole_value-decimal : (n : ℕ) → n < 2 ^ 64 → whole_value (decimal n) ≡ Some (pos n)
 whole_value-decimal n small =
     let minus : starts_with_minus (decimal n) ≡ false = ne_eqb (get_or (decimal n) 0 0) 45 (first-decimal n 45 small (omega arith)) in
     let rest = without_leading_sign-decimal n small in

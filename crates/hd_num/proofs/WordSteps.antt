@@ -1,12 +1,13 @@
 -- The words of a line, one piece after another.
 use Rattle.std.proofs.Common.{◌≡◌, ℕ, ◌+◌, ◌-◌, ◌<◌, ◌≤◌, List, [], ◌∷◌, ◌++◌, length, take, drop, map, true, inl, inr, if◌then◌else◌, arith, sym, ◌∙◌, ap, append_assoc}
-use Rattle.std.specs.List.{slice_split}
+use Rattle.std.specs.List.{AllPairs, slice_split}
 use Rattle.std.specs.Prelude.{All, filter, slice_range}
 use Rattle.std.proofs.lemmas.Bool.{cases_lt}
 use Rattle.std.proofs.lemmas.List.{drop_all, map-append}
-use Rattle.std.proofs.lemmas.List.Elements.{All-push}
+use Rattle.std.proofs.lemmas.List.Elements.{All-get_or, All-push, All-weaker}
+use Rattle.std.proofs.lemmas.List.Quantifiers.{all_pairs_push}
 use Rattle.hd_num.specs.Lines.{IsPieceEnd, is_blank, is_filled, words_of}
-use Rattle.hd_num.specs.Span.{IsPart, text_at}
+use Rattle.hd_num.specs.Span.{IsBefore, IsPart, text_at}
 use Rattle.hd_num.specs.declared.span.Span.{Span}
 use Rattle.hd_num.proofs.Pieces.{is_filled-piece}
 
@@ -36,6 +37,8 @@ words_of-empty line from end none before piece =
 pub record AreWordsBefore (line : List ℕ) (words : List Span) (place : ℕ) : Type 0 where
   pub whole : map (text_at line) words ++ words_of (drop place line) ≡ words_of line
   pub parts : All (IsPart line) words
+  pub apart : AllPairs IsBefore words
+  pub before : All (λ word. word.end < place) words
 
 -- a piece with bytes is one more word
 pub words_more : (line : List ℕ) (words : List Span) (from end : ℕ) → from < end → IsPieceEnd is_blank line from end
@@ -49,6 +52,9 @@ words_more line words from end some piece before =
           ∙ ap (λ (xs : List (List ℕ)). map (text_at line) words ++ xs) (sym (words_of-filled line from end some piece))
           ∙ before.whole;
       parts = All-push (IsPart line) words word before.parts (record { ordered = piece.low; within = piece.high });
+      apart = all_pairs_push IsBefore words word before.apart (λ k d less. All-get_or (λ w. w.end < from) words k d less before.before);
+      before = All-push (λ w. w.end < end + 1) words word
+          (All-weaker (λ w. w.end < from) (λ w. w.end < end + 1) (λ w less. omega (arith, less, some)) words before.before) (omega arith);
     }
 
 -- an empty piece leaves the words as they are
@@ -57,4 +63,8 @@ pub words_same : (line : List ℕ) (words : List Span) (from end : ℕ) → end 
 words_same line words from end none inside piece before = record {
   whole = ap (λ (xs : List (List ℕ)). map (text_at line) words ++ xs) (sym (words_of-empty line from end none inside piece)) ∙ before.whole;
   parts = before.parts;
+  apart = before.apart;
+  before =
+      let low = piece.low in
+      All-weaker (λ w. w.end < from) (λ w. w.end < end + 1) (λ w less. omega (arith, less, low)) words before.before;
 }

@@ -1,5 +1,5 @@
 -- Parts of a text, by where they begin and end.
-use Rattle.std.specs.Prelude.{◌≤◌, ℕ, List, length, slice_range}
+use Rattle.std.specs.Prelude.{◌<◌, ◌≤◌, ℕ, List, length, slice_range}
 use Rattle.hd_num.specs.declared.span.Span.{Span}
 
 -- the bytes of a part
@@ -10,3 +10,7 @@ text_at bytes span = slice_range bytes span.start span.end
 pub record IsPart (bytes : List ℕ) (span : Span) : Type 0 where
   pub ordered : span.start ≤ span.end
   pub within : span.end ≤ length bytes
+
+-- the one part ends before the other begins
+abbrev pub IsBefore : Span → Span → Type 0
+IsBefore first second = first.end < second.start

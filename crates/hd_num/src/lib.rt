@@ -1,6 +1,9 @@
 //! Numbers, lines and words of a text, and the text of numbers.
 #![tactic(auto)]
 
+mod blanks;
+mod decimal;
+mod digits;
 mod lines;
 mod print;
 mod span;
@@ -9,8 +12,11 @@ mod tests;
 mod whole;
 mod words;
 
+pub use blanks::trim;
+pub use decimal::{Decimal, is_decimal, read_decimal};
+pub use digits::leading_digits;
 pub use lines::next_line;
 pub use print::{push_text, push_unsigned, push_whole};
 pub use span::Span;
-pub use whole::{Whole, read_count, read_whole};
+pub use whole::{Whole, is_negative, read_count, read_whole, unsigned_part};
 pub use words::split_words;

@@ -1,8 +1,8 @@
 // The text of numbers.
-ghost use Rattle.std.specs.Prelude.{◌≡◌, ◌<◌, ◌^◌, ◌++◌, OnOk, OnErr, decimal};
+ghost use Rattle.std.specs.Prelude.{◌≡◌, ◌<◌, ◌^◌, ◌++◌, OnOk, OnErr, decimal, pos};
 ghost use Rattle.std.specs.Fmt.{signed_decimal};
 ghost use Rattle.hd_num.specs.Text.{AppendsPrefix};
-ghost use Rattle.hd_num.specs.Whole.{count_of, whole_of};
+ghost use Rattle.hd_num.specs.Whole.{count_of, whole_of, whole_value};
 
 use crate::Whole;
 use hd_base::{List, Memory};
@@ -26,12 +26,13 @@ pub fn push_whole(out: &mut List<u8>, n: i64) -> Result<(), Memory>
     push_text(out, Buffer::new().format(n).as_bytes())
 }
 
-/// Adds a number in plain digits; one below 2^32 reads back as that count. Where memory is
-/// refused, a prefix of its text may stand there.
+/// Adds a number in plain digits, which reads back as that whole number, and below 2^32 as that
+/// count. Where memory is refused, a prefix of its text may stand there.
 pub fn push_unsigned(out: &mut List<u8>, number: u64) -> Result<(), Memory>
     ensures ok { OnOk result (out.new ≡ out.old ++ decimal number) }
     ensures err { OnErr result (AppendsPrefix out.old out.new (decimal number)) }
-    ensures reads_back { number < 2 ^ 32 → count_of (decimal number) ≡ Some number }
+    ensures reads_back { whole_value (decimal number) ≡ Some (pos number) }
+    ensures count { number < 2 ^ 32 → count_of (decimal number) ≡ Some number }
 {
     push_text(out, Buffer::new().format(number).as_bytes())
 }

@@ -1,6 +1,7 @@
 // What no clause says: the outcomes that the rules give for words and texts from outside.
 use crate::{
-    Whole, next_line, push_text, push_unsigned, push_whole, read_count, read_whole, split_words,
+    Whole, leading_digits, next_line, push_text, push_unsigned, push_whole, read_count,
+    read_decimal, read_whole, split_words, trim,
 };
 use hd_base::List;
 use std::test::Fail;
@@ -157,4 +158,76 @@ fn printed_numbers(rt: HostRuntime) -> Result<(), Fail> {
     let text: &[u8] = b"0 7 -7 9223372036854775807 -9223372036854775808 18446744073709551615";
     assert_eq!(rt; out.as_slice(), text);
     Ok(())
+}
+
+#[test]
+fn words_as_decimals(rt: HostRuntime) -> Result<(), Fail> {
+    let cases: [(&[u8], Option<(bool, u128, i32)>); 24] = [
+        (b"1e-6", Some((false, 1, -6))),
+        (b"1.0E-006", Some((false, 10, -7))),
+        (b"-1", Some((true, 1, 0))),
+        (b"+.5", Some((false, 5, -1))),
+        (b"5.", Some((false, 5, 0))),
+        (b"-0.0", Some((true, 0, -1))),
+        (b"00012.50e+3", Some((false, 1250, 1))),
+        (b"7e999", Some((false, 7, 999))),
+        (b"1.2e-999", Some((false, 12, -1000))),
+        (
+            b"99999999999999999999999999999999999999",
+            Some((false, 99_999_999_999_999_999_999_999_999_999_999_999_999, 0)),
+        ),
+        (b"000000000000000000000000000000000000000", None),
+        (b"0.00000000000000000000000000000000000000", None),
+        (b"", None),
+        (b"-", None),
+        (b".", None),
+        (b"e5", None),
+        (b"1e", None),
+        (b"1e+", None),
+        (b"1e1000", None),
+        (b"1e0001", None),
+        (b"1e-+1", None),
+        (b"1.2.3", None),
+        (b"1,5", None),
+        (b"--1", None),
+    ];
+    for (word, value) in &cases {
+        let read = read_decimal(rt.alloc(), word)?;
+        match read {
+            Some(read) => {
+                assert_eq!(rt;
+                    Some((read.negative, read.digits, read.exponent)),
+                    *value,
+                    "at {word:?}"
+                );
+                assert_eq!(rt; read.literal.as_slice(), *word);
+            }
+            None => assert_eq!(rt; None, *value, "at {word:?}"),
+        }
+    }
+    Ok(())
+}
+
+#[test]
+fn trimmed_texts(rt: HostRuntime) {
+    let cases: [(&[u8], &[u8]); 5] = [
+        (b"", b""),
+        (b" \t\r", b""),
+        (b"a b", b"a b"),
+        (b"\t a \r", b"a"),
+        (b"\x0Ba\x00", b"\x0Ba\x00"),
+    ];
+    for (text, inner) in &cases {
+        assert_eq!(rt; trim(text), *inner, "at {text:?}");
+    }
+}
+
+#[test]
+fn digits_at_the_front(rt: HostRuntime) {
+    assert_eq!(rt; leading_digits(b"0120 7"), (4, 120));
+    assert_eq!(rt; leading_digits(b"x1"), (0, 0));
+    assert_eq!(rt;
+        leading_digits(b"1234567890123456789"),
+        (18, 123_456_789_012_345_678)
+    );
 }

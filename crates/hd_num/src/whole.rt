@@ -34,15 +34,15 @@ pub fn read_count(word: &[u8]) -> Option<u32>
     u32::try_from(value).ok()
 }
 
-// Whether a word begins with `-`.
-fn is_negative(word: &[u8]) -> bool
+/// Whether a word begins with `-`.
+pub fn is_negative(word: &[u8]) -> bool
     ensures { result ≡ starts_with_minus word.now }
 {
     matches!(word, [b'-', ..])
 }
 
-// A word without the one sign that it may begin with.
-fn unsigned_part(word: &[u8]) -> &[u8]
+/// A word without the one sign, `+` or `-`, that it may begin with.
+pub fn unsigned_part(word: &[u8]) -> &[u8]
     ensures { result.now ≡ without_leading_sign word.now }
 {
     match word {

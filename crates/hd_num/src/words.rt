@@ -1,18 +1,21 @@
 // The words of a line.
 ghost use Rattle.std.specs.Prelude.{◌≡◌, ◌≤◌, All, IfOk, length, map};
 ghost use Rattle.hd_num.specs.Lines.{IsPieceEnd, is_blank, words_of};
-ghost use Rattle.hd_num.specs.Span.{IsPart, text_at};
+ghost use Rattle.hd_num.specs.Span.{IsBefore, IsPart, text_at};
+ghost use Rattle.std.specs.List.{AllPairs};
 
 use crate::Span;
 use bstr::ByteSlice;
 use hd_base::{List, Memory};
 use std::alloc::Global;
 
-/// The words of a line in order: its longest runs of bytes that are not blanks. A blank is a
-/// space, a tab or a carriage return. `Memory` comes where the list is refused its memory.
+/// The words of a line in order, each at its place: the longest runs of bytes that are not blanks.
+/// A blank is a space, a tab or a carriage return. `Memory` comes where the list is refused its
+/// memory.
 pub fn split_words(alloc: Global, line: &[u8]) -> Result<List<Span>, Memory>
     ensures words { IfOk result (λ words. map (text_at line.now) words ≡ words_of line.now) }
     ensures parts { IfOk result (λ words. All (IsPart line.now) words) }
+    ensures apart { IfOk result (λ words. AllPairs IsBefore words) }
 {
     let mut words = List::new(alloc);
     let mut start = 0;
