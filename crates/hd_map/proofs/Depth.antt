@@ -30,10 +30,10 @@ depth_by Dales a = raised a.height * 4194304 + a.index
 depth_by Hills a = sunk a.height * 4194304 + (4194303 - a.index)
 
 -- a rank of a map of any size and data type
-record InLimits (a : Rank) : Type 0 where
-  low : negsuc 2147483647 ≤ℤ a.height
-  high : a.height ≤ℤ pos 4294967295
-  index : a.index < 4194304
+pub record InLimits (a : Rank) : Type 0 where
+  pub low : negsuc 2147483647 ≤ℤ a.height
+  pub high : a.height ≤ℤ pos 4294967295
+  pub index : a.index < 4194304
 
 -- of two heights the greater is raised higher
 raised_less : (x y : ℤ) → negsuc 2147483647 ≤ℤ x → x <ℤ y → raised x < raised y
@@ -81,7 +81,7 @@ cell_limits t (Height h) of = let limits = type_limits t in let within = of h re
 cell_limits t Bad of = (omega (arith, ints), omega (arith, ints))
 
 -- the rank of a point is within the limits
-point_limits : (m : Map) (a : Rank) → IsMap m → IsPoint m a → InLimits a
+pub point_limits : (m : Map) (a : Rank) → IsMap m → IsPoint m a → InLimits a
 point_limits m a whole point =
     let inside = place_inside m.size point.at point.present.in_grid in
     let cell = cell_limits m.data_type (cell_at m point.at) (whole.heights (place_of m.size point.at) (rw whole.cells inside)) in

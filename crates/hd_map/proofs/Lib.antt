@@ -4,3 +4,6 @@ pub mod Points
 pub mod Depth
 pub mod Nexts
 pub mod Regions
+pub mod Levels
+pub mod Saddles
+pub mod Trees

@@ -5,5 +5,8 @@ pub mod Rank
 pub mod SideLaws
 pub mod Path
 pub mod Region
+pub mod Saddle
+pub mod ChangeTree
+pub mod Passes
 pub mod Sets
 pub mod Surface

@@ -3,6 +3,7 @@
 #![tactic(auto)]
 
 mod grid;
+mod laws;
 mod near;
 mod range;
 mod side;
@@ -13,6 +14,10 @@ mod types;
 
 pub use grid::{
     Grid, Heights, contains, height, index_of, is_present, position_after, position_of, rank_of,
+};
+pub use laws::{
+    change_tree_is_determined, saddle_is_determined, saddle_is_not_above_the_higher_of_two,
+    saddle_is_the_same_both_ways,
 };
 pub use near::neighbours;
 pub use range::{greatest_of, is_cell_of, least_of};
