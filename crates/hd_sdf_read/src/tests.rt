@@ -1,6 +1,6 @@
 // What is plain and what is not, by the example of a plain file and small changes of it.
 use crate::{PlainError, read_plain};
-use hd_map::{Cell, DataType, Grid, Pos, Size};
+use hd_map::{Cell, DataType, Grid, Heights, Pos, Size};
 use std::alloc::{AllocError, Global};
 
 const EXAMPLE: &[u8] =
