@@ -1,4 +1,14 @@
-pub mod Round
+pub mod Lower
+pub mod Lows
+pub mod Rows
+pub mod Looking
 pub mod Ways
-pub mod Tracing
+pub mod Round
+pub mod Linking
+pub mod Following
+pub mod Labels
+pub mod Joining
+pub mod Adding
+pub mod Passing
+pub mod Labelled
 pub mod Unmeasured

@@ -1,2 +1,5 @@
 pub mod Lowest
+pub mod Rows
 pub mod Links
+pub mod Borders
+pub mod Meetings

@@ -1,15 +1,14 @@
 -- Links by index, along which each point leads to its root.
-use Rattle.std.specs.Prelude.{◌≡◌, ◌↔◌, ℕ, true, List, length, slice_index_or, Option, Some, None}
-use Rattle.hd_map.specs.declared.types.Pos.{Pos}
+use Rattle.std.specs.Prelude.{◌≡◌, ◌↔◌, ◌<◌, ◌+◌, ℕ, true, List, length, slice_index, Option, MatchOption}
 use Rattle.hd_map.specs.declared.types.Rank.{Rank}
 use Rattle.hd_map.specs.declared.types.SideName.{SideName}
-use Rattle.hd_map.specs.Map.{Map, Present, InGrid, place_of, cell_count}
+use Rattle.hd_map.specs.Map.{Map, cell_count}
 use Rattle.hd_map.specs.Rank.{below_by, IsPoint}
 use Rattle.hd_map.specs.Region.{IsPit, IsRoot}
 
--- the link at an index
-abbrev pub link_at : List (Option ℕ) → ℕ → Option ℕ
-link_at links k = slice_index_or links k None
+-- stands where there is no link; it is above each index
+abbrev pub no_link : ℕ
+no_link = 4294967295
 
 -- q lies on the way from p to its root, and is p itself exactly if p is a pit
 pub record IsOnward (m : Map) (side : SideName) (p q : Rank) : Type 0 where
@@ -18,30 +17,39 @@ pub record IsOnward (m : Map) (side : SideName) (p q : Rank) : Type 0 where
   pub below : (q ≡ p → ⊥) → below_by side q p ≡ true
   pub stays : q ≡ p ↔ IsPit m side p
 
--- the link of a point leads onward
-pub record LinksOnward (m : Map) (side : SideName) (links : List (Option ℕ)) (p : Rank) : Type 0 where
+-- k is the index of a point that is onward from p
+pub record LeadsOnward (m : Map) (side : SideName) (p : Rank) (k : ℕ) : Type 0 where
   pub to : Rank
   pub onward : IsOnward m side p to
-  pub link_is : link_at links p.index ≡ Some to.index
+  pub index_is : k ≡ to.index
 
--- k is the index of the root of p
-pub record IsRootIndex (m : Map) (side : SideName) (p : Rank) (k : ℕ) : Type 0 where
-  pub root : Rank
-  pub is_root : IsRoot m side p root
-  pub index_is : k ≡ root.index
+-- no point has this index
+abbrev pub NoPointAt : Map → ℕ → Type 0
+NoPointAt m k = (p : Rank) → IsPoint m p → p.index ≡ k → ⊥
 
--- the link of a point leads to its root
-pub record LinksToRoot (m : Map) (side : SideName) (links : List (Option ℕ)) (p : Rank) : Type 0 where
-  pub index : ℕ
-  pub root : IsRootIndex m side p index
-  pub link_is : link_at links p.index ≡ Some index
+-- the link of the point with this index leads onward; where no point has it, there is no link
+pub record IsLinkOf (m : Map) (side : SideName) (k link : ℕ) : Type 0 where
+  pub point : (p : Rank) → IsPoint m p → p.index ≡ k → LeadsOnward m side p link
+  pub none : NoPointAt m k → link ≡ no_link
 
--- each present point has a link that leads onward, and the others have none
-pub record AreLinks (m : Map) (side : SideName) (links : List (Option ℕ)) : Type 0 where
+-- the links of the indexes from a first one on
+abbrev pub AreLinksFrom : Map → SideName → ℕ → List ℕ → Type 0
+AreLinksFrom m side first links = (k : ℕ) → k < length links → IsLinkOf m side (first + k) (slice_index links k)
+
+-- the links of all indexes of the map
+pub record AreLinks (m : Map) (side : SideName) (links : List ℕ) : Type 0 where
   pub whole : length links ≡ cell_count m.size
-  pub present : (p : Rank) → IsPoint m p → LinksOnward m side links p
-  pub absent : (p : Pos) → InGrid m.size p → (Present m p → ⊥) → link_at links (place_of m.size p) ≡ None
+  pub each : (k : ℕ) → k < length links → IsLinkOf m side k (slice_index links k)
 
--- the points whose links lead to their roots still have such links
-abbrev pub KeepRoots : Map → SideName → List (Option ℕ) → List (Option ℕ) → Type 0
-KeepRoots m side old new = (p : Rank) → IsPoint m p → LinksToRoot m side old p → LinksToRoot m side new p
+-- k is the index of a point, and root that of its root
+pub record IsRootAt (m : Map) (side : SideName) (k root : ℕ) : Type 0 where
+  pub at : Rank
+  pub point : IsPoint m at
+  pub index_is : k ≡ at.index
+  pub to : Rank
+  pub is_root : IsRoot m side at to
+  pub root_is : root ≡ to.index
+
+-- the label of an index: that of the root of the point that has it, and none where no point has it
+abbrev pub IsLabelOf : Map → SideName → ℕ → Option ℕ → Type 0
+IsLabelOf m side k label = MatchOption label (NoPointAt m k) (λ root. IsRootAt m side k root)

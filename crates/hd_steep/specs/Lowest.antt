@@ -1,27 +1,51 @@
--- The lowest of a rank and of the ranks of some present points.
-use Rattle.std.specs.Prelude.{◌≡◌, ◌⊎◌, ◌<◌, ◌≤◌, ℕ, true}
+-- The lowest of the points at some positions of a map. Places and profiles are counted from 1, so that those with the
+-- number 0 are empty.
+use Rattle.std.specs.Prelude.{◌≡◌, ◌⊎◌, ◌+◌, ℕ, pos, negsuc, Bool, if◌then◌else◌}
 use Rattle.hd_map.specs.declared.types.Pos.{Pos}
 use Rattle.hd_map.specs.declared.types.Rank.{Rank}
 use Rattle.hd_map.specs.declared.types.SideName.{SideName}
+use Rattle.hd_map.specs.declared.types.SideName.TheVariants.{Dales, Hills}
 use Rattle.hd_map.specs.Map.{Map, Present}
+use Rattle.hd_map.specs.Neighbour.{IsNear}
 use Rattle.hd_map.specs.Order.{IsNotAbove}
 use Rattle.hd_map.specs.Rank.{rank, below_by}
 
--- the position lies in this profile, between two columns
-pub record InStretch (y left right : ℕ) (q : Pos) : Type 0 where
-  pub profile : q.y ≡ y
-  pub from : left ≤ q.x
-  pub to : q.x < right
+-- stands where no point is present; it is above each point
+abbrev pub missing : SideName → Rank
+missing Dales = record { height = pos 9223372036854775807; index = 4294967295 }
+missing Hills = record { height = negsuc 9223372036854775807; index = 4294967295 }
 
--- the rank of one of the chosen points, below another rank
-pub record IsChosenBelow (m : Map) (side : SideName) (Chosen : Pos → Type 0) (first low : Rank) : Type 0 where
+-- whether a rank is below another one of a lesser index
+abbrev pub later_below : SideName → Rank → Rank → Bool
+later_below side later earlier = below_by side (record { height = later.height; index = 1 }) (record { height = earlier.height; index = 0 })
+
+-- the lower of two ranks, of which the second has the greater index
+abbrev pub lower_of : SideName → Rank → Rank → Rank
+lower_of side a b = if later_below side b a then b else a
+
+-- the rank of the point at a chosen position
+pub record IsChosen (m : Map) (Chosen : Pos → Type 0) (low : Rank) : Type 0 where
   pub at : Pos
   pub chosen : Chosen at
   pub present : Present m at
-  pub rank_is : low ≡ rank m at
-  pub below : below_by side low first ≡ true
+  pub low_is : low ≡ rank m at
 
--- low is the first rank or that of a chosen point below it, and no chosen point is below low
-pub record IsLowestOf (m : Map) (side : SideName) (Chosen : Pos → Type 0) (first low : Rank) : Type 0 where
-  pub origin : (low ≡ first) ⊎ IsChosenBelow m side Chosen first low
+-- low is the rank of a chosen point and none of them is below it; where none is present, low is missing
+pub record IsLow (m : Map) (side : SideName) (Chosen : Pos → Type 0) (low : Rank) : Type 0 where
+  pub origin : (low ≡ missing side) ⊎ IsChosen m Chosen low
   pub least : (q : Pos) → Chosen q → Present m q → IsNotAbove (below_by side) low (rank m q)
+
+-- the position of this profile at this place
+pub record IsAtPlace (y k : ℕ) (q : Pos) : Type 0 where
+  pub profile : q.y + 1 ≡ y
+  pub place : q.x + 1 ≡ k
+
+-- the position lies in this profile, and its column is near another one
+pub record InSpan (y x : ℕ) (q : Pos) : Type 0 where
+  pub profile : q.y + 1 ≡ y
+  pub column : IsNear x q.x
+
+-- q is p, or one of the positions round it
+pub record IsRound (p q : Pos) : Type 0 where
+  pub column : IsNear p.x q.x
+  pub profile : IsNear p.y q.y

@@ -1,15 +1,20 @@
-//! The steepest way down from each point of a map, to the pit whose dale it lies in.
+//! The steepest way from each point of a map to the pit whose region it lies in, on either side, and
+//! the passes between these regions.
 #![tactic(auto)]
 
+mod borders;
 mod laws;
+mod leading;
 mod links;
 mod lowest;
+mod meetings;
+mod profile;
 mod steep;
 #[cfg(test)]
 mod tests;
 
+pub use borders::passes;
 pub use laws::{
     next_is_determined, pit_is_its_own_root, regions_are_determined, root_is_determined,
 };
-pub use links::regions;
-pub use steep::{next, root};
+pub use steep::{next, regions, root};

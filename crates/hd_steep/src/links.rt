@@ -1,95 +1,86 @@
-// The regions of all points. Each present point is first linked to its next, and a pit to itself,
-// by index; then each link is led on to the root, in place.
-ghost use Rattle.std.specs.Prelude.{◌≡◌, ◌<◌, ◌+◌, ◌*◌, ℕ, IfOk, length, None};
-ghost use Rattle.hd_map.specs.declared.types.SideName.TheVariants.{Dales};
-ghost use Rattle.hd_map.specs.Map.{IsSize, InGrid, Present, place_of, cell_count};
-ghost use Rattle.hd_map.specs.Rank.{rank};
-ghost use Rattle.hd_map.specs.Region.{IsRoot, AreRegions};
-ghost use Rattle.hd_steep.specs.Links.{AreLinks, KeepRoots, LinksToRoot, IsRootIndex};
+// The first link of each point, to its next, and of a pit to itself. Profiles are looked at by
+// threes, so that each height is read once.
+ghost use Rattle.std.specs.Prelude.{◌≡◌, ◌<◌, ◌≤◌, ◌+◌, ◌*◌, IfOk, length};
+ghost use Rattle.hd_steep.specs.Rows.{IsRowOf, AreLowsOf, AreLinked};
+ghost use Rattle.hd_steep.specs.Links.{no_link, AreLinksFrom, AreLinks};
 
-use crate::lowest::lowest_round;
-use hd_base::{List, Memory};
-use hd_map::{Heights, Pos, index_of, is_present, position_after};
+use crate::lowest::{lower, missing_rank};
+use crate::profile::Profile;
+use hd_base::Memory;
+use hd_map::{Heights, Rank, Side};
 use std::alloc::Global;
+use std::mem::swap;
 
-/// By index the index of the pit whose dale the point lies in, and none for points that are not
-/// present.
+/// Stands where there is no link, since no point is present. It is above each index.
+pub const NO_LINK: u32 = u32::MAX;
+
+/// By index the link of each present point to the lowest of itself and its neighbours, and
+/// `NO_LINK` for the others.
 ///
-/// It takes 8 bytes a point, and time in proportion to the points, however long the ways down are.
-/// `Memory` comes where these bytes are refused. Dales are those of ISO 25178-2; that each point has
-/// one steepest way down is this project's own rule.
-pub fn regions<G: Heights>(alloc: Global, grid: &G) -> Result<List<Option<u32>>, Memory>
-    ensures { IfOk result (AreRegions (G.map grid.now) Dales) }
-{
-    let mut links = first_links(alloc, grid)?;
-    lead_links(grid, &mut links);
-    Ok(List::from_vec(links))
-}
-
-// Links each present point to its next, and each pit to itself.
-fn first_links<G: Heights>(alloc: Global, grid: &G) -> Result<Vec<Option<u32>>, Memory>
-    ensures { IfOk result (λ links. AreLinks (G.map grid.now) Dales links.items) }
+/// It takes 4 bytes a point, and 100 a column. `Memory` comes where these are refused.
+pub fn first_links<S: Side, G: Heights>(alloc: Global, grid: &G) -> Result<Vec<u32>, Memory>
+    ensures { IfOk result (λ links. AreLinks (G.map grid.now) S.NAME links.items) }
 {
     let size = grid.size();
-    let count = size.profiles * size.points;
-    let mut links = vec![in alloc; None; count as usize]?;
-    let mut at = Pos { x: 0, y: 0 };
-    for index in 0..count {
-        if is_present(grid, at) {
-            links[index as usize] = Some(lowest_round(grid, at).index);
-        }
-        at = position_after(size, at);
+    let width = size.points as usize;
+    let mut links = Vec::with_capacity(alloc, width * size.profiles as usize)?;
+    let mut row = vec![in alloc; NO_LINK; width]?;
+    let mut above = Profile::empty::<S>(alloc, size.points)?;
+    let mut level = Profile::empty::<S>(alloc, size.points)?;
+    let mut below = Profile::empty::<S>(alloc, size.points)?;
+    level.take::<S, G>(grid, 0);
+    'profiles: for y in 0..size.profiles {
+        below.take::<S, G>(grid, y + 1);
+        link_profile::<S, G>(grid, y, &above, &level, &below, &mut row);
+        links.extend_from_slice(&row)?;
+        swap(&mut above, &mut level);
+        swap(&mut level, &mut below);
     }
     Ok(links)
 }
 
-// Leads the link of each present point on to its root.
-fn lead_links<G: Heights>(grid: &G, links: &mut [Option<u32>])
-    requires { AreLinks (G.map grid.now) Dales links.old }
-    ensures { AreRegions (G.map grid.now) Dales links.new }
+// The links of a profile, from the one before, itself and the one after.
+fn link_profile<S: Side, G: Heights>(
+    _grid: &G,
+    _y: u32,
+    above: &Profile,
+    level: &Profile,
+    below: &Profile,
+    links: &mut [u32],
+)
+    requires profile { _y < (G.map _grid.now).size.profiles }
+    requires above { AreLowsOf (G.map _grid.now) S.NAME _y above.now.lows.items }
+    requires ranks { IsRowOf (G.map _grid.now) S.NAME (_y + 1) level.now.ranks.items }
+    requires level { AreLowsOf (G.map _grid.now) S.NAME (_y + 1) level.now.lows.items }
+    requires below { AreLowsOf (G.map _grid.now) S.NAME (_y + 2) below.now.lows.items }
+    requires links { length links.old ≡ (G.map _grid.now).size.points }
+    ensures { AreLinksFrom (G.map _grid.now) S.NAME (_y * (G.map _grid.now).size.points) links.new }
 {
-    let size = grid.size();
-    let mut at = Pos { x: 0, y: 0 };
-    for index in 0..size.profiles * size.points {
-        if links[index as usize].is_some() {
-            let root = root_by_links(grid, links, at);
-            link_to(grid, links, at, root);
-        }
-        at = position_after(size, at);
-    }
+    link_row::<S>(&level.ranks, &above.lows, &level.lows, &below.lows, links);
 }
 
-// The index of the root of a present point, by walking along the links.
-#[inline]
-fn root_by_links<G: Heights>(grid: &G, links: &[Option<u32>], at: Pos) -> u32
-    requires present { Present (G.map grid.now) at }
-    requires links { AreLinks (G.map grid.now) Dales links.now }
-    ensures { IsRootIndex (G.map grid.now) Dales (rank (G.map grid.now) at) result }
+// The link at each place of a row, to the lowest of three ranks one above the other. A place where
+// no point is present has no link.
+fn link_row<S: Side>(
+    row: &[Rank],
+    above: &[Rank],
+    level: &[Rank],
+    below: &[Rank],
+    links: &mut [u32],
+)
+    requires row { length row.now ≡ length links.old + 2 }
+    requires above { length above.now ≡ length links.old }
+    requires level { length level.now ≡ length links.old }
+    requires below { length below.now ≡ length links.old }
+    ensures { AreLinked S.NAME row.now above.now level.now below.now links.new }
 {
-    let mut here = index_of(grid.size(), at);
-    'walk: loop {
-        let onward = links[here as usize].unwrap_or(here);
-        if onward == here {
-            return here;
-        }
-        here = onward;
-    }
-}
-
-// Links each point on the way from a present point to its root to that root.
-#[inline]
-fn link_to<G: Heights>(grid: &G, links: &mut [Option<u32>], at: Pos, root: u32)
-    requires present { Present (G.map grid.now) at }
-    requires links { AreLinks (G.map grid.now) Dales links.old }
-    requires root { IsRootIndex (G.map grid.now) Dales (rank (G.map grid.now) at) root }
-    ensures links { AreLinks (G.map grid.now) Dales links.new }
-    ensures kept { KeepRoots (G.map grid.now) Dales links.old links.new }
-    ensures linked { LinksToRoot (G.map grid.now) Dales links.new (rank (G.map grid.now) at) }
-{
-    let mut here = index_of(grid.size(), at);
-    'walk: while here != root {
-        let onward = links[here as usize].unwrap_or(root);
-        links[here as usize] = Some(root);
-        here = onward;
+    let none = missing_rank::<S>();
+    for x in 0..links.len() {
+        let lowest = lower::<S>(lower::<S>(above[x], level[x]), below[x]);
+        links[x] = if row[x + 1].height == none.height {
+            NO_LINK
+        } else {
+            lowest.index
+        };
     }
 }

@@ -1,64 +1,86 @@
-// The lowest of a point and its neighbours.
-ghost use Rattle.std.specs.Prelude.{◌≡◌, ◌<◌, ◌≤◌};
-ghost use Rattle.hd_map.specs.declared.types.SideName.TheVariants.{Dales};
+// The lowest of the points at some positions, which are looked at in the order of their indexes.
+ghost use Rattle.std.specs.Prelude.{◌≡◌, ◌<◌, ◌+◌};
 ghost use Rattle.hd_map.specs.Map.{InGrid, Present};
-ghost use Rattle.hd_map.specs.Neighbour.{Neighbour};
-ghost use Rattle.hd_map.specs.Rank.{rank, below_by};
-ghost use Rattle.hd_steep.specs.Lowest.{InStretch, IsLowestOf};
+ghost use Rattle.hd_steep.specs.Lowest.{missing, lower_of, IsLow, IsAtPlace, InSpan, IsRound};
 
-use hd_map::{Heights, Pos, Rank, height, index_of, rank_of};
+use hd_map::{Heights, Pos, Rank, Side, SideName, index_of};
 
-/// The rank of the lowest of a present point and its neighbours.
+/// Stands where no point is present. Each point is below it.
 #[inline]
-pub fn lowest_round<G: Heights>(grid: &G, at: Pos) -> Rank
-    requires { Present (G.map grid.now) at }
-    ensures { IsLowestOf (G.map grid.now) Dales (Neighbour (G.map grid.now) at) (rank (G.map grid.now) at) result }
+pub fn missing_rank<S: Side>() -> Rank
+    ensures { result ≡ missing S.NAME }
 {
-    let size = grid.size();
-    let left = at.x.saturating_sub(1);
-    let right = size.points.min(at.x + 2);
-    let above = at.y.saturating_sub(1);
-    let below = size.profiles.min(at.y + 2);
-    let mut lowest = rank_of(grid, at);
-    for y in above..below {
-        lowest = lowest_between(grid, y, left, right, lowest);
-    }
-    lowest
-}
-
-// The lowest of a rank and of the present points of a profile from one column up to another.
-#[inline]
-fn lowest_between<G: Heights>(grid: &G, y: u32, left: u32, right: u32, first: Rank) -> Rank
-    requires profile { y < (G.map grid.now).size.profiles }
-    requires left { left ≤ right }
-    requires right { right ≤ (G.map grid.now).size.points }
-    ensures { IsLowestOf (G.map grid.now) Dales (InStretch y left right) first result }
-{
-    let mut lowest = first;
-    for x in left..right {
-        lowest = lower_at(grid, Pos { x, y }, lowest);
-    }
-    lowest
-}
-
-// The lower of a rank and of the point at a position, if one is present there.
-#[inline]
-fn lower_at<G: Heights>(grid: &G, at: Pos, first: Rank) -> Rank
-    requires { InGrid (G.map grid.now).size at }
-    ensures { IsLowestOf (G.map grid.now) Dales (λ q. q ≡ at) first result }
-{
-    let Some(height) = height(grid, at) else {
-        return first;
+    let height = match S::NAME {
+        SideName::Dales => i64::MAX,
+        SideName::Hills => i64::MIN,
     };
-    let index = index_of(grid.size(), at);
-    let rank = Rank { height, index };
-    if is_below(rank, first) { rank } else { first }
+    Rank {
+        height,
+        index: u32::MAX,
+    }
 }
 
-// Whether a rank is below another.
+/// The rank of the point at a position, if one is present there.
 #[inline]
-fn is_below(a: Rank, b: Rank) -> bool
-    ensures { result ≡ below_by Dales a b }
+pub fn rank_at<S: Side, G: Heights>(grid: &G, at: Pos) -> Rank
+    requires { InGrid (G.map grid.now).size at }
+    ensures { IsLow (G.map grid.now) S.NAME (IsAtPlace (at.y + 1) (at.x + 1)) result }
 {
-    a.height < b.height || (a.height == b.height && a.index < b.index)
+    match grid.height(at) {
+        Some(height) => Rank {
+            height,
+            index: index_of(grid.size(), at),
+        },
+        None => missing_rank::<S>(),
+    }
+}
+
+/// The lower of two ranks, of which the second has the greater index. Their heights alone are
+/// compared.
+#[inline]
+pub fn lower<S: Side>(first: Rank, second: Rank) -> Rank
+    ensures { result ≡ lower_of S.NAME first second }
+{
+    let earlier = Rank {
+        height: first.height,
+        index: 0,
+    };
+    let later = Rank {
+        height: second.height,
+        index: 1,
+    };
+    if S::below(later, earlier) {
+        second
+    } else {
+        first
+    }
+}
+
+/// The lowest of a present point and its neighbours.
+pub fn lowest_round<S: Side, G: Heights>(grid: &G, at: Pos) -> Rank
+    requires { Present (G.map grid.now) at }
+    ensures { IsLow (G.map grid.now) S.NAME (IsRound at) result }
+{
+    let above = at.y.saturating_sub(1);
+    let below = grid.size().profiles.min(at.y + 2);
+    let mut lowest = missing_rank::<S>();
+    for y in above..below {
+        lowest = lower::<S>(lowest, lowest_beside::<S, G>(grid, at.x, y));
+    }
+    lowest
+}
+
+// The lowest of the points of a profile whose columns differ from one by at most one.
+fn lowest_beside<S: Side, G: Heights>(grid: &G, column: u32, y: u32) -> Rank
+    requires column { column < (G.map grid.now).size.points }
+    requires profile { y < (G.map grid.now).size.profiles }
+    ensures { IsLow (G.map grid.now) S.NAME (InSpan (y + 1) column) result }
+{
+    let left = column.saturating_sub(1);
+    let right = grid.size().points.min(column + 2);
+    let mut lowest = missing_rank::<S>();
+    for x in left..right {
+        lowest = lower::<S>(lowest, rank_at::<S, G>(grid, Pos { x, y }));
+    }
+    lowest
 }

@@ -2,10 +2,14 @@
 ghost use Rattle.std.specs.Prelude.{◌≤◌};
 ghost use Rattle.hd_map.specs.Map.{IsSize};
 
-use crate::{next, regions, root};
+use crate::{next, passes, regions, root};
 use hd_base::{List, Memory};
-use hd_map::{Cell, DataType, Grid, Heights, Size, Surface, index_of, is_present, position_of};
+use hd_map::{
+    Cell, DataType, Down, Grid, Heights, Pass, Rank, Side, Size, Surface, Up, index_of, is_present,
+    position_of,
+};
 use std::alloc::Global;
+use std::process::Abort;
 
 // A surface with these heights by index. A negative one stands for a point that is not measured.
 #[tactic(auto, using(crate::proofs::Unmeasured::unmeasured_cells))]
@@ -26,16 +30,16 @@ fn surface_of(alloc: Global, size: Size, heights: &[i64]) -> Result<Surface, Mem
 }
 
 // Whether each label is the root as it is found from the point alone, and that of its next.
-fn agree(alloc: Global, surface: &Surface, labels: &[Option<u32>]) -> bool {
+fn agree<S: Side>(alloc: Global, surface: &Surface, labels: &[Option<u32>]) -> bool {
     let size = surface.size();
     for index in 0..size.profiles * size.points {
         let at = position_of(size, index);
         let mut alone = None;
         if is_present(surface, at) {
-            let pit = root(alloc, surface, at);
+            let pit = root::<S, _>(alloc, surface, at);
             alone = Some(index_of(size, pit));
-            let onward = match next(alloc, surface, at) {
-                Some(lower) => root(alloc, surface, lower),
+            let onward = match next::<S, _>(alloc, surface, at) {
+                Some(lower) => root::<S, _>(alloc, surface, lower),
                 None => at,
             };
             if onward != pit {
@@ -49,39 +53,52 @@ fn agree(alloc: Global, surface: &Surface, labels: &[Option<u32>]) -> bool {
     true
 }
 
+// Stands for no label.
+const NONE: u32 = 99;
+
+// Compares the labels of one side with roots that are known.
+fn expect_roots<S: Side>(rt: &impl Abort, alloc: Global, surface: &Surface, roots: &[u32]) {
+    let labels = regions::<S, _>(alloc, surface).expect(rt, "memory");
+    for (index, &root) in roots.iter().enumerate() {
+        let want = if root == NONE { None } else { Some(root) };
+        assert_eq!(rt; labels.as_slice().get(index), Some(&want), "at {index}");
+    }
+    assert_eq!(rt; labels.as_slice().len(), roots.len());
+    assert!(rt; agree::<S>(alloc, surface, labels.as_slice()));
+}
+
 #[test]
 fn small_surfaces(rt: HostRuntime) {
     let alloc = rt.alloc();
-    let (p, n) = (-1, 99);
+    let (p, n) = (-1, NONE);
     let corridor = [
         20, 19, 18, 17, 16, -1, -1, -1, -1, 15, 10, 11, 12, 13, 14, 9, -1, -1, -1, -1, 8, 7, 6, 5,
         4,
     ];
-    let passed = [
+    let down = [
         24, 24, 24, 24, 24, n, n, n, n, 24, 24, 24, 24, 24, 24, 24, n, n, n, n, 24, 24, 24, 24, 24,
     ];
-    let cases: [(u32, u32, &[i64], &[u32]); 5] = [
-        (3, 1, &[0, 5, 1], &[0, 0, 2]),
-        (3, 3, &[4; 9], &[0; 9]),
+    let up = [
+        0, 0, 0, 0, 0, n, n, n, n, 0, 0, 0, 0, 0, 0, 0, n, n, n, n, 0, 0, 0, 0, 0,
+    ];
+    let cases: [(u32, u32, &[i64], &[u32], &[u32]); 5] = [
+        (3, 1, &[0, 5, 1], &[0, 0, 2], &[1; 3]),
+        (3, 3, &[4; 9], &[0; 9], &[8; 9]),
         (
             5,
             2,
             &[7, p, 7, p, 7, 7, 7, 7, 7, 7],
             &[0, n, 2, n, 4, 0, 0, 2, 2, 4],
+            &[9, n, 9, n, 9, 9, 9, 9, 9, 9],
         ),
-        (2, 1, &[p, p], &[n, n]),
-        (5, 5, &corridor, &passed),
+        (2, 1, &[p, p], &[n, n], &[n, n]),
+        (5, 5, &corridor, &down, &up),
     ];
-    for (points, profiles, heights, roots) in cases {
+    for (points, profiles, heights, pits, peaks) in cases {
         assert!(rt; 1 <= points && points <= 5 && 1 <= profiles && profiles <= 5);
         let surface = surface_of(alloc, Size { points, profiles }, heights).expect(&rt, "memory");
-        let labels = regions(alloc, &surface).expect(&rt, "memory");
-        for (index, &root) in roots.iter().enumerate() {
-            let want = if root == n { None } else { Some(root) };
-            assert_eq!(rt; labels.as_slice().get(index), Some(&want), "at {index}");
-        }
-        assert_eq!(rt; labels.as_slice().len(), roots.len());
-        assert!(rt; agree(alloc, &surface, labels.as_slice()));
+        expect_roots::<Down>(&rt, alloc, &surface, pits);
+        expect_roots::<Up>(&rt, alloc, &surface, peaks);
     }
 }
 
@@ -99,9 +116,55 @@ fn one_slope(rt: HostRuntime) {
         }
     }
     let surface = surface_of(alloc, size, &heights).expect(&rt, "memory");
-    let labels = regions(alloc, &surface).expect(&rt, "memory");
+    expect_slope::<Down>(&rt, alloc, &surface, 0);
+    expect_slope::<Up>(&rt, alloc, &surface, 4095);
+}
+
+// Expects one region of 4096 points.
+fn expect_slope<S: Side>(rt: &impl Abort, alloc: Global, surface: &Surface, pit: u32) {
+    let labels = regions::<S, _>(alloc, surface).expect(rt, "memory");
     assert_eq!(rt; labels.as_slice().len(), 4096);
     for label in labels.as_slice() {
-        assert_eq!(rt; *label, Some(0));
+        assert_eq!(rt; *label, Some(pit));
     }
+}
+
+// Compares the passes of one side with those that are known.
+fn expect_passes<S: Side>(rt: &impl Abort, alloc: Global, surface: &Surface, want: &[Pass]) {
+    let labels = regions::<S, _>(alloc, surface).expect(rt, "memory");
+    let found = passes::<S, _>(alloc, surface, &labels).expect(rt, "memory");
+    assert_eq!(rt; found.as_slice(), want);
+}
+
+fn point(height: i64, index: u32) -> Rank {
+    Rank { height, index }
+}
+
+#[test]
+fn passes_of_a_profile(rt: HostRuntime) {
+    let alloc = rt.alloc();
+    let size = Size {
+        points: 5,
+        profiles: 1,
+    };
+    let surface = surface_of(alloc, size, &[0, 3, 1, 4, 2]).expect(&rt, "memory");
+    let down = [
+        Pass {
+            a: point(0, 0),
+            b: point(1, 2),
+            at: point(3, 1),
+        },
+        Pass {
+            a: point(1, 2),
+            b: point(2, 4),
+            at: point(4, 3),
+        },
+    ];
+    let up = [Pass {
+        a: point(4, 3),
+        b: point(3, 1),
+        at: point(1, 2),
+    }];
+    expect_passes::<Down>(&rt, alloc, &surface, down.as_slice());
+    expect_passes::<Up>(&rt, alloc, &surface, up.as_slice());
 }

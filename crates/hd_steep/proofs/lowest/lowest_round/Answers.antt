@@ -1,16 +1,13 @@
-use Rattle.std.proofs.Common.{◌≡◌, ap, arith}
-use Rattle.hd_map.specs.declared.types.Size.{Size}
-use Rattle.hd_map.specs.declared.types.SideName.TheVariants.{Dales}
-use Rattle.hd_map.specs.Rank.{rank}
-use Rattle.hd_steep.proofs.Round.{round_more, AreColumns}
+use Rattle.std.proofs.Common.{◌+◌, sym, subst, arith}
+use Rattle.hd_map.specs.declared.types.Rank.{Rank}
+use Rattle.hd_steep.specs.Lowest.{IsLow}
+use Rattle.hd_steep.proofs.Looking.{IsRoundTo, round_more}
 use Rattle.hd_steep.proofs.lowest.lowest_round.Goals as goal
 
 pub loop-y-preserved : goal.loop-y-preserved
-loop-y-preserved g c = let m = g.G.Heights.map c.args.grid.now in
-    let width : c.size-size.result.points ≡ m.size.points = ap (λ (s : Size). s.points) c.size-size.ensures in
-    let columns : AreColumns m c.args.at c.saturating_sub-left.result c.min-right.result = record {
-      near = λ x from to. (omega arith, omega arith);
-      all = λ q here near. (omega arith, omega arith);
-    } in
-    round_more m Dales c.args.at c.loop-y.y c.saturating_sub-left.result c.min-right.result (rank m c.args.at) c.loop-y.lowest c.lowest_between-lowest.result (omega arith, omega arith) columns
-    c.loop-y.invariant c.lowest_between-lowest.ensures
+loop-y-preserved g c =
+    let m = g.G.Heights.map c.args.grid.now in
+    let side = g.S.Side.NAME in
+    let y = c.loop-y.y in
+    subst (λ (r : Rank). IsLow m side (IsRoundTo c.args.at (y + 1)) r) (sym c.lower-lowest.ensures)
+    (round_more m side (g.met.G.Heights.whole c.args.grid.now) c.args.at y c.loop-y.lowest c.lowest_beside.result (omega arith, omega arith) c.loop-y.invariant c.lowest_beside.ensures)

@@ -1,0 +1,70 @@
+-- Labels as they are listed by index.
+use Rattle.std.proofs.Common.{◌≡◌, ◌<◌, ◌+◌, ℕ, List, [], ◌∷◌, ◌++◌, length, get_or, Option, Some, None, inl, inr, ap, ◌∙◌, sym, subst, refl, arith}
+use Rattle.std.proofs.lemmas.List.{get_or_append_left, get_or_push, length_push}
+use Rattle.std.proofs.lemmas.Bool.{cases_eq}
+use Rattle.std.specs.Prelude.{unwrap_or, MatchOption}
+use Rattle.std.proofs.lemmas.Option.{slice_get-get_or, unwrap_or-slice_get}
+use Rattle.hd_map.specs.declared.types.Pos.{Pos}
+use Rattle.hd_map.specs.declared.types.Rank.{Rank}
+use Rattle.hd_map.specs.declared.types.SideName.{SideName}
+use Rattle.hd_map.specs.Map.{Map, InGrid, Present, place_of, cell_count}
+use Rattle.hd_map.specs.Rank.{rank, IsPoint}
+use Rattle.hd_map.specs.Region.{IsRoot, AreRegions}
+use Rattle.hd_map.proofs.Points.{place_inside, same_index, point_at, present_or_not}
+use Rattle.hd_steep.specs.Meetings.{LiesIn}
+use Rattle.hd_steep.specs.Links.{NoPointAt, IsLabelOf}
+use Rattle.hd_steep.proofs.Following.{no_point_at}
+
+module _ (m : Map) (side : SideName) where
+  -- the labels of the first indexes
+  abbrev pub AreLabels : List (Option ℕ) → Type 0
+  AreLabels labels = (k : ℕ) → k < length labels → IsLabelOf m side k (get_or labels k None)
+
+  -- one label more
+  pub labels_more : (labels : List (Option ℕ)) (label : Option ℕ) → AreLabels labels → IsLabelOf m side (length labels) label → AreLabels (labels ++ label ∷ [])
+  labels_more labels label are is = λ k within. elim (cases_eq k (length labels)) [
+    | inl e ↦
+        let here : get_or (labels ++ label ∷ []) k None ≡ label = get_or_push labels label None k (sym e) in
+        rw here (subst (λ i. IsLabelOf m side i label) (sym e) is)
+    | inr other ↦
+        let long : length (labels ++ label ∷ []) ≡ length labels + 1 = length_push labels label in
+        let less : k < length labels = omega (arith, other, within, long) in
+        rw (get_or_append_left labels (label ∷ []) None k less) (are k less)
+  ]
+
+  -- where a point is present, its label is that of its root
+  label_present : (label : Option ℕ) (p : Rank) → IsPoint m p → IsLabelOf m side p.index label → (r : Rank) × IsRoot m side p r × (label ≡ Some r.index)
+  label_present None p point is = absurd (is p point refl)
+  label_present (Some root) p point is =
+      (is.to, subst (λ (q : Rank). IsRoot m side q is.to) (same_index m is.at p is.point point (sym is.index_is)) is.is_root, ap Some is.root_is)
+
+  -- where none is present, there is none
+  label_absent : (label : Option ℕ) (k : ℕ) → NoPointAt m k → IsLabelOf m side k label → label ≡ None
+  label_absent None k none is = refl
+  label_absent (Some root) k none is = absurd (none is.at is.point (sym is.index_is))
+
+  -- all labels
+  pub labels_all : (labels : List (Option ℕ)) → length labels ≡ cell_count m.size → AreLabels labels → AreRegions m side labels
+  labels_all labels long are = record {
+    whole = long;
+    present = λ p here.
+        let there : place_of m.size p < length labels = rw long (place_inside m.size p here.in_grid) in
+        let found = label_present (get_or labels (place_of m.size p) None) (rank m p) (point_at m p here) (are (place_of m.size p) there) in
+        (found.0, found.1, slice_get-get_or labels (place_of m.size p) None there ∙ ap Some found.2);
+    absent = λ p in_grid not.
+        let there : place_of m.size p < length labels = rw long (place_inside m.size p in_grid) in
+        slice_get-get_or labels (place_of m.size p) None there ∙ ap Some (label_absent (get_or labels (place_of m.size p) None) (place_of m.size p) (no_point_at m p (place_of m.size p) in_grid not refl) (are (place_of m.size p) there));
+  }
+
+  -- the label at a position
+  pub label_of_position : (labels : List (Option ℕ)) (at : Pos) (k : ℕ) → AreRegions m side labels → InGrid m.size at → k ≡ place_of m.size at
+      → MatchOption (get_or labels k None) (Present m at → ⊥) (λ n. Present m at × LiesIn m side at n)
+  label_of_position labels at k are in_grid e = elim (present_or_not m at in_grid) [
+    | inl here ↦
+        let found = are.present at here in
+        let is : get_or labels k None ≡ Some found.0.index = ap (λ i. get_or labels i None) e ∙ sym (unwrap_or-slice_get labels (place_of m.size at) None) ∙ ap (λ (o : Option (Option ℕ)). unwrap_or o None) found.2 in
+        rw is (here, record { root = found.0; is_root = found.1; index_is = refl })
+    | inr not ↦
+        let is : get_or labels k None ≡ None = ap (λ i. get_or labels i None) e ∙ sym (unwrap_or-slice_get labels (place_of m.size at) None) ∙ ap (λ (o : Option (Option ℕ)). unwrap_or o None) (are.absent at in_grid not) in
+        rw is not
+  ]

@@ -1,0 +1,8 @@
+use Rattle.std.proofs.Common.{◌≡◌, ◌<◌, ◌+◌, ℕ}
+use Rattle.hd_steep.specs.Lowest.{lower_of}
+use Rattle.hd_steep.specs.Rows.{rank_in}
+use Rattle.hd_steep.proofs.profile.lowest_of_three.Given as goal
+
+abbrev pub invariant-loop-x : goal.invariant-loop-x
+invariant-loop-x g l = let side = g.S.Side.NAME in
+    (k : ℕ) → k < l.x → rank_in l.lows k ≡ lower_of side (lower_of side (rank_in l.row k) (rank_in l.row (k + 1))) (rank_in l.row (k + 2))

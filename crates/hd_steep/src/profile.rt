@@ -1,0 +1,87 @@
+// A profile of a map as a row of ranks, and the lowest of each three in it.
+ghost use Rattle.std.specs.Prelude.{◌≡◌, ◌<◌, ◌≤◌, ◌+◌, IfOk, length, replicate};
+ghost use Rattle.hd_steep.specs.Lowest.{missing};
+ghost use Rattle.hd_steep.specs.Rows.{IsFramed, IsFilled, IsRowOf, AreLowestOfThree, AreLowsOf};
+
+use crate::lowest::{lower, missing_rank, rank_at};
+use hd_base::Memory;
+use hd_map::{Heights, Pos, Rank, Side};
+use std::alloc::Global;
+
+/// The ranks of a profile with an empty place on each side, and by column the lowest of each three
+/// side by side.
+#[derive(Drop)]
+pub struct Profile {
+    pub ranks: Vec<Rank>,
+    pub lows: Vec<Rank>,
+}
+
+impl Profile {
+    /// A profile of this many columns in which no point is present. `Memory` comes where its 32
+    /// bytes a column are refused.
+    pub fn empty<S: Side>(alloc: Global, points: u32) -> Result<Profile, Memory>
+        requires { points ≤ 65535 }
+        ensures ranks { IfOk result (λ p. p.ranks.items ≡ replicate (points + 2) (missing S.NAME)) }
+        ensures lows { IfOk result (λ p. p.lows.items ≡ replicate points (missing S.NAME)) }
+    {
+        let width = points as usize;
+        let ranks = vec![in alloc; missing_rank::<S>(); width + 2]?;
+        let lows = vec![in alloc; missing_rank::<S>(); width]?;
+        Ok(Profile { ranks, lows })
+    }
+
+    /// Takes the points of a profile of the grid. Past the last one none is present.
+    pub fn take<S: Side, G: Heights>(&mut self, grid: &G, y: u32)
+        requires profile { y ≤ (G.map grid.now).size.profiles }
+        requires framed { IsFramed S.NAME (G.map grid.now).size.points self.old.ranks.items }
+        requires sized { length self.old.lows.items ≡ (G.map grid.now).size.points }
+        ensures ranks { IsRowOf (G.map grid.now) S.NAME (y + 1) self.new.ranks.items }
+        ensures lows { AreLowsOf (G.map grid.now) S.NAME (y + 1) self.new.lows.items }
+    {
+        fill_row::<S, G>(grid, y, &mut self.ranks);
+        lowest_of_three::<S>(&self.ranks, &mut self.lows);
+    }
+}
+
+// Writes the ranks of a profile into a row; past the last profile no point is present.
+fn fill_row<S: Side, G: Heights>(grid: &G, y: u32, row: &mut [Rank])
+    requires profile { y ≤ (G.map grid.now).size.profiles }
+    requires framed { IsFramed S.NAME (G.map grid.now).size.points row.old }
+    ensures { IsRowOf (G.map grid.now) S.NAME (y + 1) row.new }
+{
+    if y < grid.size().profiles {
+        fill_ranks::<S, G>(grid, y, row);
+    } else {
+        fill_empty::<S>(row);
+    }
+}
+
+// Writes the ranks of a profile of the grid into a row.
+fn fill_ranks<S: Side, G: Heights>(grid: &G, y: u32, row: &mut [Rank])
+    requires profile { y < (G.map grid.now).size.profiles }
+    requires framed { IsFramed S.NAME (G.map grid.now).size.points row.old }
+    ensures { IsRowOf (G.map grid.now) S.NAME (y + 1) row.new }
+{
+    for x in 0..grid.size().points {
+        row[x as usize + 1] = rank_at::<S, G>(grid, Pos { x, y });
+    }
+}
+
+// Makes a row one in which no point is present.
+fn fill_empty<S: Side>(row: &mut [Rank])
+    ensures { IsFilled (missing S.NAME) row.new }
+{
+    for place in row.iter_mut() {
+        *place = missing_rank::<S>();
+    }
+}
+
+// Of each three ranks side by side the lowest.
+fn lowest_of_three<S: Side>(row: &[Rank], lows: &mut [Rank])
+    requires { length row.now ≡ length lows.old + 2 }
+    ensures { AreLowestOfThree S.NAME row.now lows.new }
+{
+    for x in 0..lows.len() {
+        lows[x] = lower::<S>(lower::<S>(row[x], row[x + 1]), row[x + 2]);
+    }
+}
