@@ -1,0 +1,44 @@
+-- What adding a part does to the joins.
+use Rattle.std.proofs.Common.{◌≡◌, Bool, true, false, List, [], ◌∷◌, ◌++◌, cond, refl, sym, ◌∙◌, ap}
+use Rattle.hd_map.specs.declared.types.Rank.{Rank}
+use Rattle.hd_graph.specs.declared.parts.Part.{Part}
+use Rattle.hd_graph.specs.declared.trees.Join.{Join}
+use Rattle.hd_map.specs.ChangeTree.{Joining}
+use Rattle.hd_graph.specs.Parts.{join_of, grown, with_part}
+use Rattle.hd_graph.specs.Tells.{joins_of}
+
+pub joins_of-push : (xs : List Join) (x : Join) → joins_of (xs ++ x ∷ []) ≡ joins_of xs ++ record { saddle = x.saddle; parts = x.parts } ∷ []
+joins_of-push [] x = refl
+joins_of-push (y ∷ ys) x = ap (λ zs. record { saddle = y.saddle; parts = y.parts } ∷ zs) (joins_of-push ys x)
+
+module _ (below : Rank → Rank → Bool) (e : Part) where
+  with_part-last : (front : List Joining) (x : Joining) → with_part below e (front ++ x ∷ []) ≡ front ++ cond (below x.saddle e.saddle) (x ∷ join_of e ∷ []) (grown x e ∷ [])
+  with_part-last [] x = refl
+  with_part-last (y ∷ []) x = refl
+  with_part-last (y ∷ z ∷ zs) x = ap (λ ys. y ∷ ys) (with_part-last (z ∷ zs) x)
+
+  pub with_part-grows : (front : List Joining) (x : Joining) → below x.saddle e.saddle ≡ false → with_part below e (front ++ x ∷ []) ≡ front ++ grown x e ∷ []
+  with_part-grows front x h = with_part-last front x ∙ rw h refl
+
+  push_twice : {X : Type 0} (xs : List X) (x y : X) → xs ++ x ∷ y ∷ [] ≡ (xs ++ x ∷ []) ++ y ∷ []
+  push_twice [] x y = refl
+  push_twice (z ∷ zs) x y = ap (λ ys. z ∷ ys) (push_twice zs x y)
+
+  pub with_part-adds : (front : List Joining) (x : Joining) → below x.saddle e.saddle ≡ true → with_part below e (front ++ x ∷ []) ≡ (front ++ x ∷ []) ++ join_of e ∷ []
+  with_part-adds front x h = with_part-last front x ∙ rw h (push_twice front x (join_of e))
+
+  pub part-grows : (old rest new : List Join) (last grew : Join) → old ≡ rest ++ last ∷ [] → new ≡ rest ++ grew ∷ [] → grew.saddle ≡ last.saddle → grew.parts ≡ last.parts ++ e.low ∷ [] →
+      below last.saddle e.saddle ≡ false → joins_of new ≡ with_part below e (joins_of old)
+  part-grows old rest new last grew was is same grows h =
+      ap joins_of is ∙ joins_of-push rest grew
+      ∙ ap (λ s. joins_of rest ++ record { saddle = s; parts = grew.parts } ∷ []) same
+      ∙ ap (λ ps. joins_of rest ++ record { saddle = last.saddle; parts = ps } ∷ []) grows
+      ∙ sym (with_part-grows (joins_of rest) (record { saddle = last.saddle; parts = last.parts }) h)
+      ∙ ap (λ js. with_part below e js) (sym (joins_of-push rest last)) ∙ ap (λ js. with_part below e (joins_of js)) (sym was)
+
+  pub part-adds : (old rest back new : List Join) (last : Join) → old ≡ rest ++ last ∷ [] → back ≡ rest ++ last ∷ [] → joins_of new ≡ joins_of back ++ join_of e ∷ [] →
+      below last.saddle e.saddle ≡ true → joins_of new ≡ with_part below e (joins_of old)
+  part-adds old rest back new last was is adds h =
+      adds ∙ ap (λ js. joins_of js ++ join_of e ∷ []) is ∙ ap (λ js. js ++ join_of e ∷ []) (joins_of-push rest last)
+      ∙ sym (with_part-adds (joins_of rest) (record { saddle = last.saddle; parts = last.parts }) h)
+      ∙ ap (λ js. with_part below e js) (sym (joins_of-push rest last)) ∙ ap (λ js. with_part below e (joins_of js)) (sym was)

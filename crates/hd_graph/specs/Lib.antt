@@ -1,0 +1,9 @@
+pub mod Graph
+pub mod Walks
+pub mod Line
+pub mod Tells
+pub mod Basins
+pub mod Lower
+pub mod Flood
+pub mod Parts
+pub mod Literal

@@ -1,0 +1,105 @@
+-- The lowest lows on the two sides of the rises of a line, which name the classes that a saddle joins.
+use Rattle.std.specs.Prelude.{◌≡◌, ◌⊎◌, ◌↔◌, ◌&&◌, ◌||◌, ℕ, Bool, true, false, not, if◌then◌else◌, List, [], ◌∷◌, ◌++◌, map, reverse, take, slice_get, Option, Some, None, Contains, AllPairs}
+use Rattle.hd_map.specs.declared.types.Rank.{Rank}
+use Rattle.hd_map.specs.ChangeTree.{Joining}
+use Rattle.hd_graph.specs.declared.line.Stop.{Stop}
+use Rattle.hd_graph.specs.declared.parts.Part.{Part}
+use Rattle.hd_graph.specs.Line.{higher_rise}
+
+-- the lower of two lows, and the one that is there where the other is none
+abbrev pub lower : (Rank → Rank → Bool) → Option Rank → Option Rank → Option Rank
+lower below (Some x) (Some y) = if below y x then Some y else Some x
+lower below (Some x) None = Some x
+lower below None b = b
+
+-- the rise of the first stop
+abbrev pub first_rise : List Stop → Option Rank
+first_rise [] = None
+first_rise (x ∷ xs) = x.rise
+
+-- the stops, each with the rise on its other side
+abbrev pub turned : List Stop → List Stop
+turned [] = []
+turned (x ∷ xs) = record { low = x.low; pit = x.pit; rise = first_rise xs } ∷ turned xs
+
+-- the line from its other end
+abbrev pub turned_round : List Stop → List Stop
+turned_round line = reverse (turned line)
+
+-- the lows of the stops
+abbrev pub lows_of : List Stop → List Rank
+lows_of line = map {A = Stop} {B = Rank} (λ x. x.low) line
+
+-- the rise is there and below s
+abbrev pub rise_below : (Rank → Rank → Bool) → Option Rank → Rank → Bool
+rise_below below None s = false
+rise_below below (Some g) s = below g s
+
+-- the lowest low from here on, as far as the rises are below s; none where there is no stop
+abbrev pub lowest_to : (Rank → Rank → Bool) → Rank → List Stop → Option Rank
+lowest_to below s [] = None
+lowest_to below s (x ∷ xs) = if rise_below below x.rise s then lower below (Some x.low) (lowest_to below s xs) else Some x.low
+
+-- seen over any rise, the two lists of stops have the same lowest low
+abbrev pub LookAlike : (Rank → Rank → Bool) → List Stop → List Stop → Type 0
+LookAlike below xs ys = (s : Rank) → lowest_to below s xs ≡ lowest_to below s ys
+
+-- the part behind a rise, where there is one
+abbrev pub part_of : Rank → Option Rank → List Part
+part_of s None = []
+part_of s (Some p) = record { saddle = s; low = p } ∷ []
+
+abbrev pub part_behind : (Rank → Rank → Bool) → Option Rank → List Stop → List Part
+part_behind below None xs = []
+part_behind below (Some s) xs = part_of s (lowest_to below s xs)
+
+-- e is the part to the left of a rise of the line
+pub record IsLeftPart (below : Rank → Rank → Bool) (line : List Stop) (e : Part) : Type 0 where
+  pub place : ℕ
+  pub stop : Stop
+  pub at : slice_get line place ≡ Some stop
+  pub rise_is : stop.rise ≡ Some e.saddle
+  pub low_is : lowest_to below e.saddle (reverse (take place line)) ≡ Some e.low
+
+-- a part beside a rise, on either side
+abbrev pub IsSidePart : (Rank → Rank → Bool) → List Stop → Part → Type 0
+IsSidePart below line e = IsLeftPart below line e ⊎ IsLeftPart below (turned_round line) e
+
+-- whether a comes before b: by saddle, and then by low
+abbrev pub comes_before : (Rank → Rank → Bool) → Part → Part → Bool
+comes_before below a b = below a.saddle b.saddle || (not (below b.saddle a.saddle) && below a.low b.low)
+
+-- the join of one part
+abbrev pub join_of : Part → Joining
+join_of e = record { saddle = e.saddle; parts = e.low ∷ [] }
+
+-- the join with one part more
+abbrev pub grown : Joining → Part → Joining
+grown x e = record { saddle = x.saddle; parts = x.parts ++ e.low ∷ [] }
+
+-- the part goes to the last join, where that is not below its saddle, and else becomes a join of its own
+abbrev pub with_part : (Rank → Rank → Bool) → Part → List Joining → List Joining
+with_part below e [] = join_of e ∷ []
+with_part below e (x ∷ []) = if below x.saddle e.saddle then (x ∷ join_of e ∷ []) else (grown x e ∷ [])
+with_part below e (x ∷ y ∷ ys) = x ∷ with_part below e (y ∷ ys)
+
+-- the rise over what was passed since the last pit, if anything was
+abbrev pub over : (Rank → Rank → Bool) → Option (Option Rank) → Option Rank → Option Rank
+over below None rise = rise
+over below (Some passed) rise = higher_rise below passed rise
+
+-- the pits alone, each with the highest rise since the pit before it
+abbrev pub only_pits : (Rank → Rank → Bool) → Option (Option Rank) → List Stop → List Stop
+only_pits below passed [] = []
+only_pits below passed (x ∷ xs) = if x.pit then (record { low = x.low; pit = x.pit; rise = over below passed x.rise } ∷ only_pits below None xs) else only_pits below (Some (over below passed x.rise)) xs
+
+-- the part is in one of the joins
+abbrev pub IsListed : List Joining → Part → Type 0
+IsListed joins e = (x : Joining) × Contains joins x × (x.saddle ≡ e.saddle) × Contains x.parts e.low
+
+-- the joins have exactly these parts, in order
+pub record AreGrouped (below : Rank → Rank → Bool) (es : List Part) (joins : List Joining) : Type 0 where
+  pub listed : (e : Part) → Contains es e ↔ IsListed joins e
+  pub filled : (x : Joining) → Contains joins x → (r : Rank) × Contains x.parts r
+  pub in_order : AllPairs (λ a b. below a.saddle b.saddle ≡ true) joins
+  pub parts_in_order : (x : Joining) → Contains joins x → AllPairs (λ a b. below a b ≡ true) x.parts

@@ -1,0 +1,179 @@
+// The order in which rising water reaches the lows.
+ghost use Rattle.std.specs.Prelude.{◌≡◌, ◌≢◌, ◌<◌, ◌+◌, ℕ, IfOk, OnOk, Some, None, MatchOption, ⊤, [], ◌∷◌, ◌++◌, true, false, length, slice_get, slice_set};
+ghost use Rattle.std.specs.BinaryHeap.{heap_items, heap_len};
+ghost use Rattle.hd_map.specs.declared.types.Rank.{Rank};
+ghost use Rattle.hd_map.specs.Rank.{below_by};
+ghost use Rattle.hd_graph.specs.declared.line.Stop.{Stop};
+ghost use Rattle.hd_graph.specs.Flood.{AreChained, IsLowestFirst, Holds, HoldsLows, Spreads, Takes, IsFlooded, ArePrim, IsVisited, IsStopOf};
+ghost use Rattle.hd_graph.specs.Line.{IsFloodLine};
+
+use crate::candidate::Candidate;
+use crate::graph::{Graph, Low};
+use crate::line::{FloodLine, Stop};
+use crate::ways::{Ways, ways_between};
+use hd_base::{List, Memory};
+use hd_map::{Rank, Side};
+use std::alloc::Global;
+use std::collections::BinaryHeap;
+use std::marker::PhantomData;
+
+/// A low that the water has reached.
+#[derive(Clone, Copy)]
+pub struct Visit {
+    /// The number of the low.
+    pub low: usize,
+    /// The pass over which it was reached, and none where the water rose in the low itself.
+    pub rise: Option<Rank>,
+}
+
+/// The flood line of a graph, a Prim order: each low once, each rise the lowest pass to a stop before,
+/// and no rise at the first stop of each connected part. For each two stops the highest rise of the
+/// places between, as `FloodLine::between` gives it, is the least highest pass of all walks between the
+/// two lows, and none exactly where there is no walk.
+pub fn flood<S: Side>(alloc: Global, graph: &Graph<S>) -> Result<FloodLine<S>, Memory>
+    ensures { IfOk result (IsFloodLine (below_by S.NAME) graph.now.lows graph.now.passes) }
+{
+    let lows = graph.lows();
+    let ways = ways_between(alloc, lows, graph.passes())?;
+    let visits = visit_all::<S>(alloc, &ways)?;
+    let stops = stops_of(alloc, lows, &visits)?;
+    Ok(FloodLine::new(stops))
+}
+
+// Visits all lows, each once.
+fn visit_all<S: Side>(alloc: Global, ways: &Ways) -> Result<Vec<Visit>, Memory>
+    requires { AreChained ways.now }
+    ensures prim { IfOk result (λ visits. ArePrim (below_by S.NAME) ways.now.all.items visits.items) }
+    ensures all { IfOk result (λ visits. (v : ℕ) → v < length ways.now.last.items → IsVisited visits.items v) }
+    ensures only { IfOk result (λ visits. (k : ℕ) (x : _) → slice_get visits.items k ≡ Some x
+        → x.low < length ways.now.last.items) }
+{
+    let count = ways.last.len();
+    let mut done = vec![in alloc; false; count]?;
+    let mut visits = Vec::with_capacity(alloc, count)?;
+    let mut heap: BinaryHeap<Candidate<S>> = BinaryHeap::new(alloc);
+    for start in 0..count {
+        visit_part(ways, start, &mut done, &mut visits, &mut heap)?;
+    }
+    Ok(visits)
+}
+
+// Visits all lows that can be reached from one, where that one is not done.
+fn visit_part<S: Side>(
+    ways: &Ways,
+    start: usize,
+    done: &mut [bool],
+    visits: &mut Vec<Visit>,
+    heap: &mut BinaryHeap<Candidate<S>>,
+) -> Result<(), Memory>
+    requires chained { AreChained ways.now }
+    requires flooded { IsFlooded (below_by S.NAME) ways.now.all.items (length ways.now.last.items)
+        done.old visits.old.items (heap_items heap.old) }
+    requires start { start < length ways.now.last.items }
+    requires empty { heap_len heap.old ≡ 0 }
+    requires heap { IsLowestFirst (below_by S.NAME) (heap_items heap.old) }
+    ensures flooded { OnOk result (IsFlooded (below_by S.NAME) ways.now.all.items (length ways.now.last.items)
+        done.new visits.new.items (heap_items heap.new)) }
+    ensures done { OnOk result (slice_get done.new start ≡ Some true) }
+    ensures kept { OnOk result ((v : ℕ) → slice_get done.old v ≡ Some true → slice_get done.new v ≡ Some true) }
+    ensures empty { OnOk result (heap_len heap.new ≡ 0) }
+    ensures heap { OnOk result (IsLowestFirst (below_by S.NAME) (heap_items heap.new)) }
+{
+    if done[start] {
+        return Ok(());
+    }
+    make_visit(ways, start, None, done, visits, heap)?;
+    while let Some(next) = take_lowest(heap, done) {
+        make_visit(ways, next.to, Some(next.at), done, visits, heap)?;
+    }
+    Ok(())
+}
+
+// Visits a low, and puts its ways into the heap.
+fn make_visit<S: Side>(
+    ways: &Ways,
+    low: usize,
+    rise: Option<Rank>,
+    done: &mut [bool],
+    visits: &mut Vec<Visit>,
+    heap: &mut BinaryHeap<Candidate<S>>,
+) -> Result<(), Memory>
+    requires chained { AreChained ways.now }
+    requires within { low < length ways.now.last.items }
+    requires long { length done.old ≡ length ways.now.last.items }
+    requires heap { IsLowestFirst (below_by S.NAME) (heap_items heap.old) }
+    ensures done { OnOk result (done.new ≡ slice_set done.old low true) }
+    ensures visits { OnOk result (visits.new.items ≡ visits.old.items ++ (record { low = low; rise = rise }) ∷ []) }
+    ensures spreads { OnOk result (Spreads ways.now.all.items low done.new (heap_items heap.old) (heap_items heap.new)) }
+    ensures heap { OnOk result (IsLowestFirst (below_by S.NAME) (heap_items heap.new)) }
+{
+    visits.push(Visit { low, rise })?;
+    done[low] = true;
+    spread(ways, low, done, heap)
+}
+
+// Puts the ways of a low into the heap, but for those to lows that are done.
+fn spread<S: Side>(
+    ways: &Ways,
+    low: usize,
+    done: &[bool],
+    heap: &mut BinaryHeap<Candidate<S>>,
+) -> Result<(), Memory>
+    requires chained { AreChained ways.now }
+    requires within { low < length ways.now.last.items }
+    requires long { length done.now ≡ length ways.now.last.items }
+    requires heap { IsLowestFirst (below_by S.NAME) (heap_items heap.old) }
+    ensures spreads { OnOk result (Spreads ways.now.all.items low done.now (heap_items heap.old) (heap_items heap.new)) }
+    ensures heap { OnOk result (IsLowestFirst (below_by S.NAME) (heap_items heap.new)) }
+{
+    let mut last = ways.last[low];
+    while let Some(number) = last {
+        let way = ways.all[number];
+        if !done[way.to] {
+            heap.push(Candidate {
+                at: way.at,
+                to: way.to,
+                side: PhantomData,
+            })?;
+        }
+        last = way.before;
+    }
+    Ok(())
+}
+
+// Takes out the lowest candidate that is not done, and those that are done before it.
+fn take_lowest<S: Side>(heap: &mut BinaryHeap<Candidate<S>>, done: &[bool]) -> Option<Candidate<S>>
+    requires within { HoldsLows (heap_items heap.old) (length done.now) }
+    requires heap { IsLowestFirst (below_by S.NAME) (heap_items heap.old) }
+    ensures takes { MatchOption result ((to : ℕ) (at : Rank) → Holds (heap_items heap.old) to at
+        → slice_get done.now to ≡ Some true)
+        (λ c. Takes (below_by S.NAME) done.now (heap_items heap.old) c (heap_items heap.new)) }
+    ensures empty { MatchOption result (heap_len heap.new ≡ 0) (λ c. ⊤) }
+    ensures heap { IsLowestFirst (below_by S.NAME) (heap_items heap.new) }
+{
+    while let Some(candidate) = heap.pop() {
+        if !done[candidate.to] {
+            return Some(candidate);
+        }
+    }
+    None
+}
+
+// The visited lows as stops.
+fn stops_of(alloc: Global, lows: &[Low], visits: &[Visit]) -> Result<List<Stop>, Memory>
+    requires { (k : ℕ) (x : _) → slice_get visits.now k ≡ Some x → x.low < length lows.now }
+    ensures long { IfOk result (λ stops. length stops ≡ length visits.now) }
+    ensures each { IfOk result (λ stops. (k : ℕ) (v : _) → slice_get visits.now k ≡ Some v
+        → (s : Stop) × (slice_get stops k ≡ Some s) × IsStopOf lows.now v s) }
+{
+    let mut stops = List::with_capacity(alloc, visits.len())?;
+    for visit in visits {
+        let low = lows[visit.low];
+        stops.push(Stop {
+            low: low.rank,
+            pit: low.pit,
+            rise: visit.rise,
+        })?;
+    }
+    Ok(stops)
+}

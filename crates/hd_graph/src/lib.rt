@@ -1,0 +1,23 @@
+//! The least highest pass between two lows of a graph, over all walks, and the change tree of those
+//! lows that are pits.
+#![tactic(auto)]
+
+mod candidate;
+mod flooding;
+mod graph;
+mod laws;
+mod line;
+mod parts;
+#[cfg(test)]
+mod tests;
+mod trees;
+mod ways;
+
+pub use flooding::flood;
+pub use graph::{Graph, Low};
+pub use laws::{
+    flood_line_tells_the_saddles, least_highest_pass_is_the_saddle, passes_of_basins_are_a_graph,
+    regions_are_basins,
+};
+pub use line::{FloodLine, Stop};
+pub use trees::{ChangeTree, Join, tree};
