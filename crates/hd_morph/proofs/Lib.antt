@@ -1,0 +1,12 @@
+pub mod GreatestLemmas
+pub mod PlainLemmas
+pub mod Windows
+pub mod Rectangles
+pub mod Settling
+pub mod Flats
+pub mod Turning
+pub mod Adjunction
+pub mod Determined
+pub mod Stable
+pub mod Raising
+pub mod Listing

@@ -1,0 +1,52 @@
+-- A filter on the map with its own cells.
+use Rattle.std.proofs.Common.{◌≡◌, ℤ, List, Bool, true, false, Some, None, inl, inr, refl, ap, sym, ◌∙◌}
+use Rattle.hd_map.specs.declared.types.Cell.{Cell}
+use Rattle.hd_map.specs.declared.types.Cell.TheVariants.{Height, Bad}
+use Rattle.hd_map.specs.Map.{Map, cell_at, mask_at, shown_height}
+use Rattle.hd_morph.specs.Element.{ElementTable}
+use Rattle.hd_morph.specs.Filter.{Relief, Filter, Opening, Closing, IsFiltered, relief_of}
+use Rattle.hd_morph.specs.Compare.{HaveSamePoints, AreSame}
+use Rattle.hd_morph.specs.Answer.{AreCellsWith, AreFilteredCells, IsStable, with_cells}
+use Rattle.hd_morph.proofs.Adjunction.{origin_of, opening_points, closing_points, opening_of_itself, closing_of_itself}
+use Rattle.hd_morph.proofs.Determined.{filtered_of_same}
+use Rattle.hd_morph.proofs.PlainLemmas.{some_or_none}
+
+-- a shown height is not masked
+shown_mask : (c : Cell) (masked : Bool) (z : ℤ) → shown_height c masked ≡ Some z → masked ≡ false
+shown_mask (Height h) false z e = refl
+shown_mask (Height h) true z e = let e' : None ≡ Some z = e in cc
+shown_mask Bad masked z e = let e' : None ≡ Some z = e in cc
+
+-- the heights of the map with its cells filtered are the filtered ones
+new_relief : (m : Map) (g : Relief) (cells : List Cell) → HaveSamePoints m.size (relief_of m) g → AreCellsWith m g cells → AreSame m.size g (relief_of (with_cells m cells))
+new_relief m g cells same are p inside = elim (some_or_none (g p)) [
+  | inl z ↦
+      let was = same.back p inside z.0 z.1 in
+      let clear : mask_at m p ≡ false = shown_mask (cell_at m p) (mask_at m p) was.0 was.1 in
+      let cell : cell_at (with_cells m cells) p ≡ Height z.0 = are.present p inside z.0 z.1 in
+      let there : shown_height (cell_at (with_cells m cells) p) (mask_at m p) ≡ Some z.0 = rw (cell, clear) in
+      z.1 ∙ sym there
+  | inr none ↦
+      let cell : cell_at (with_cells m cells) p ≡ cell_at m p = are.absent p inside none in
+      let gone : relief_of m p ≡ None = (elim (some_or_none (relief_of m p)) [
+        | inl z ↦ let there = same.there p inside z.0 z.1 in let e : None ≡ Some there.0 = sym none ∙ there.1 in cc
+        | inr gone ↦ gone
+      ]) in
+      none ∙ sym gone ∙ sym (ap (λ c. shown_height c (mask_at m p)) cell)
+]
+
+-- a filter that keeps the points, and is one of its own result, is stable
+stable_of : (filter : Filter) (m : Map) (e : ElementTable) (cells : List Cell) → ((f g : Relief) → IsFiltered filter m.size e f g → HaveSamePoints m.size f g)
+    → ((f g : Relief) → IsFiltered filter m.size e f g → IsFiltered filter m.size e g g) → AreFilteredCells filter m e cells → AreFilteredCells filter (with_cells m cells) e cells
+stable_of filter m e cells points itself once = record {
+  heights = once.heights;
+  filtered = filtered_of_same filter m.size e once.heights (relief_of (with_cells m cells)) once.heights
+      (new_relief m once.heights cells (points (relief_of m) once.heights once.filtered) once.are_cells) (itself (relief_of m) once.heights once.filtered);
+  are_cells = record { whole = once.are_cells.whole; present = once.are_cells.present; absent = λ p inside none. refl; of_type = once.are_cells.of_type };
+}
+
+pub opening_stable : IsStable Opening
+opening_stable m e cells is once = stable_of Opening m e cells (λ f g was. opening_points m.size e f g (origin_of e is) was) (λ f g was. opening_of_itself m.size e f g (origin_of e is) was) once
+
+pub closing_stable : IsStable Closing
+closing_stable m e cells is once = stable_of Closing m e cells (λ f g was. closing_points m.size e f g (origin_of e is) was) (λ f g was. closing_of_itself m.size e f g (origin_of e is) was) once

@@ -1,0 +1,31 @@
+use Rattle.std.proofs.Common.{◌≡◌, ◌<◌, ◌≤◌, ◌+◌, length, refl, subst, arith, rules, SFits, w64}
+use Rattle.std.proofs.lemmas.Int.{to_z-of_z}
+use Rattle.hd_map.specs.declared.types.Size.{Size}
+use Rattle.hd_map.specs.Map.{place_of, cell_count}
+use Rattle.hd_morph.proofs.Listing.{at_inside, heights_none, heights_more, heights_all}
+use Rattle.hd_morph.proofs.cells.heights_of.Goals as goal
+
+pub loop-index-init : goal.loop-index-init
+loop-index-init g c =
+    let m = g.G.Heights.map c.args.grid.now in
+    heights_none m _ c.in_ok-heights.heights.items refl refl (g.met.G.Heights.whole c.args.grid.now).size.some_points
+    (subst (λ (s : Size). length c.in_ok-heights.heights.items ≡ cell_count s) c.size-size.ensures (omega (arith, c.in_ok-heights.heights.ok.0, c.in_ok-heights.ensures.len)))
+
+pub loop-index-preserved : goal.loop-index-preserved
+loop-index-preserved g c =
+    let m = g.G.Heights.map c.args.grid.now in
+    let at = c.loop-index.at in
+    let next = c.position_after-at.result in
+    let before = c.loop-index.invariant in
+    let after = c.position_after-at.ensures in
+    let fits : SFits w64 c.plain_height.result = search rules in
+    let inside = at_inside m c.size-size.result c.loop-index.index at c.size-size.ensures before.column before.place c.loop-index-test.true in
+    let column : next.x < m.size.points = subst (λ (s : Size). next.x < s.points) c.size-size.ensures after.column in
+    let place : place_of m.size next ≡ place_of m.size at + 1 = subst (λ (s : Size). place_of s next ≡ place_of s at + 1) c.size-size.ensures after.place in
+    rw (to_z-of_z w64 c.plain_height.result fits) (heights_more m c.loop-index.index at next c.loop-index.heights.items c.plain_height.result inside c.plain_height.ensures column place before)
+
+pub returns : goal.returns
+returns g c =
+    let m = g.G.Heights.map c.args.grid.now in
+    heights_all m c.loop-index.index c.loop-index.at c.loop-index.heights.items (g.met.G.Heights.whole c.args.grid.now).size.some_points
+    (subst (λ (s : Size). cell_count s ≤ c.loop-index.index) c.size-size.ensures c.loop-index-test.false) c.loop-index.invariant

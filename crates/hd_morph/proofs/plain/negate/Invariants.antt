@@ -1,0 +1,5 @@
+use Rattle.hd_morph.proofs.PlainLemmas.{NegatedBefore}
+use Rattle.hd_morph.proofs.plain.negate.Given as goal
+
+abbrev pub invariant-loop-place : goal.invariant-loop-place
+invariant-loop-place l = NegatedBefore l.fn.values l.place l.values

@@ -1,0 +1,5 @@
+use Rattle.hd_morph.proofs.PlainLemmas.{SettledBefore}
+use Rattle.hd_morph.proofs.plain.settle.Given as goal
+
+abbrev pub invariant-loop-place : goal.invariant-loop-place
+invariant-loop-place l = SettledBefore l.heights l.fn.tops l.number l.place l.tops

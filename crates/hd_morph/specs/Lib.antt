@@ -1,0 +1,11 @@
+pub mod Element
+pub mod Greatest
+pub mod Filter
+pub mod Answer
+pub mod Compare
+pub mod Plain
+pub mod Window
+pub mod Round
+pub mod Raised
+pub mod Turned
+pub mod Listed

@@ -1,0 +1,23 @@
+-- Heights turned upside down, and elements turned about their centres.
+use Rattle.std.specs.Prelude.{◌≡◌, ℕ, ℤ, neg_ℤ, List, [], length, reverse, Option, Some, None}
+use Rattle.hd_morph.specs.Element.{ElementTable}
+use Rattle.hd_morph.specs.Plain.{missing, shown, plain_at}
+
+-- the negative of a value
+abbrev pub minus : Option ℤ → Option ℤ
+minus (Some z) = Some (neg_ℤ z)
+minus None = None
+
+-- what a number becomes: its negative, or `missing` where it stands for none
+pub record IsNegated (old new : ℤ) : Type 0 where
+  pub value : shown new ≡ minus (shown old)
+  pub absent : shown old ≡ None → new ≡ missing
+
+-- each number is negated
+pub record AreNegated (old new : List ℤ) : Type 0 where
+  pub whole : length new ≡ length old
+  pub each : (k : ℕ) → IsNegated (plain_at old k) (plain_at new k)
+
+-- the element with each number on the other side of its centre, and without a name
+abbrev pub turned_table : ElementTable → ElementTable
+turned_table e = record { name = []; width = e.width; height = e.height; table = reverse e.table }

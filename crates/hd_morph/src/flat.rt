@@ -1,0 +1,57 @@
+// Dilations by elements that have one and the same number everywhere.
+ghost use Rattle.std.specs.Prelude.{◌≡◌, ◌<◌, ◌≤ℤ◌, ◌^◌, IfOk, pos, neg_ℤ, length};
+ghost use Rattle.hd_map.specs.Map.{IsSize};
+ghost use Rattle.hd_morph.specs.Plain.{ArePlain};
+ghost use Rattle.hd_morph.specs.Raised.{AreFlatlyDilated};
+
+use crate::plain::settle;
+use crate::round::spread_round;
+use hd_base::Memory;
+use hd_map::Size;
+use std::alloc::Global;
+
+/// The dilation by each element of `2 * across + 1` columns and `2 * down + 1` rows that has this
+/// number everywhere. It takes the memory of one more list.
+pub fn dilate_flat(
+    alloc: Global,
+    heights: &[i64],
+    size: Size,
+    across: usize,
+    down: usize,
+    number: i64,
+) -> Result<Vec<i64>, Memory>
+    requires size { IsSize size }
+    requires heights { ArePlain size 8589934590 heights.now }
+    requires across { across < 2 ^ 31 }
+    requires down { down < 2 ^ 31 }
+    requires least { neg_ℤ (pos 4294967295) ≤ℤ number }
+    requires greatest { number ≤ℤ pos 4294967295 }
+    ensures { IfOk result (λ d. AreFlatlyDilated size across down number heights.now d.items) }
+{
+    let mut tops = Vec::new(alloc);
+    tops.extend_from_slice(heights)?;
+    raise_flat(&mut tops, heights, size, across, down, number);
+    Ok(tops)
+}
+
+// The tops are the heights at the call, and the dilation at the return.
+fn raise_flat(
+    tops: &mut [i64],
+    heights: &[i64],
+    size: Size,
+    across: usize,
+    down: usize,
+    number: i64,
+)
+    requires size { IsSize size }
+    requires heights { ArePlain size 8589934590 heights.now }
+    requires same { tops.old ≡ heights.now }
+    requires across { across < 2 ^ 31 }
+    requires down { down < 2 ^ 31 }
+    requires least { neg_ℤ (pos 4294967295) ≤ℤ number }
+    requires greatest { number ≤ℤ pos 4294967295 }
+    ensures { AreFlatlyDilated size across down number heights.now tops.new }
+{
+    spread_round(tops, size, across, down);
+    settle(tops, heights, number);
+}

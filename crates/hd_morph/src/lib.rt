@@ -1,0 +1,28 @@
+//! Dilation, erosion, opening and closing of a measured surface by an element, with the laws that
+//! their definitions keep.
+//!
+//! Heights are worked on as plain numbers by index, so that each pass is over whole rows without a
+//! test for missing points. An element that has one and the same number everywhere takes a time
+//! that hardly grows with its size.
+#![tactic(auto)]
+
+mod cells;
+mod element;
+mod errors;
+mod filter;
+mod flat;
+mod laws;
+mod offsets;
+mod plain;
+mod round;
+#[cfg(test)]
+mod tests;
+mod window;
+
+pub use cells::{close, dilate, erode, open};
+pub use element::Element;
+pub use errors::{ElementError, MorphError};
+pub use laws::{
+    accepted_cells_make_a_map, dilation_and_erosion_are_adjoint, filter_is_determined,
+    filtered_again_is_the_same,
+};

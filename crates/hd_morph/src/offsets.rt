@@ -1,0 +1,181 @@
+// Dilations by any element, offset by offset, each over whole rows.
+ghost use Rattle.std.specs.Prelude.{◌≡◌, ◌<◌, ◌≤◌, ◌+◌, ◌/◌, ◌≤ℤ◌, IfOk, IfSome, IfNone, ℕ, pos, neg_ℤ, length};
+ghost use Rattle.hd_map.specs.Map.{IsSize};
+ghost use Rattle.hd_morph.specs.Element.{IsElement, number_at};
+ghost use Rattle.hd_morph.specs.Filter.{Dilation};
+ghost use Rattle.hd_morph.specs.Plain.{ArePlain, IsPlain, IsPlainNumber, relief, shown, IsWithin};
+ghost use Rattle.hd_morph.specs.Raised.{ArePlainlyFiltered, AreRaisedTo, AreRaisedAcross, IsRowRaisedOnce, AreBlank, IsBlankRow, IsRowRaised, AreRaised, plus};
+
+use crate::Element;
+use crate::plain::{MISSING, larger_of, settle};
+use hd_base::Memory;
+use hd_map::{Pos, Size};
+use std::alloc::Global;
+
+/// The dilation of heights by an element. It takes the memory of one more list, and time in
+/// proportion to the places times the numbers of the element.
+pub fn dilate_by_offsets(
+    alloc: Global,
+    heights: &[i64],
+    size: Size,
+    element: &Element,
+) -> Result<Vec<i64>, Memory>
+    requires size { IsSize size }
+    requires heights { ArePlain size 8589934590 heights.now }
+    requires element { IsElement element.now }
+    ensures { IfOk result (λ d. ArePlainlyFiltered Dilation size element.now heights.now d.items) }
+{
+    let mut tops = vec![in alloc; MISSING; heights.len()]?;
+    raise_and_settle(&mut tops, heights, size, element);
+    Ok(tops)
+}
+
+// No top stands for a height at the call, and at the return they are the dilation.
+fn raise_and_settle(tops: &mut [i64], heights: &[i64], size: Size, element: &Element)
+    requires size { IsSize size }
+    requires heights { ArePlain size 8589934590 heights.now }
+    requires element { IsElement element.now }
+    requires blank { AreBlank size tops.old }
+    ensures { ArePlainlyFiltered Dilation size element.now heights.now tops.new }
+{
+    raise_rows(tops, heights, size, element);
+    settle(tops, heights, 0);
+}
+
+// Puts at each position the greatest of the raised heights.
+fn raise_rows(tops: &mut [i64], heights: &[i64], size: Size, element: &Element)
+    requires size { IsSize size }
+    requires heights { ArePlain size 8589934590 heights.now }
+    requires blank { AreBlank size tops.old }
+    ensures { AreRaised size element.now (relief size heights.now) tops.new }
+{
+    let points = size.points as usize;
+    for y in 0..size.profiles {
+        let start = y as usize * points;
+        raise_row(&mut tops[start..start + points], heights, size, element, y);
+    }
+}
+
+// Puts at each position of a row the greatest of the raised heights.
+fn raise_row(tops: &mut [i64], heights: &[i64], size: Size, element: &Element, y: u32)
+    requires size { IsSize size }
+    requires heights { ArePlain size 8589934590 heights.now }
+    requires row { y < size.profiles }
+    requires blank { IsBlankRow size tops.old }
+    ensures { IsRowRaised size element.now (relief size heights.now) y tops.new }
+{
+    let table = element.table();
+    let width = element.width();
+    for index in 0..table.len() as u32 {
+        let offset = Pos {
+            x: index % width,
+            y: index / width,
+        };
+        raise_by(tops, heights, size, element, y, offset);
+    }
+}
+
+// Raises the tops of a row by the heights that come from one offset of the element.
+fn raise_by(tops: &mut [i64], heights: &[i64], size: Size, element: &Element, y: u32, offset: Pos)
+    requires size { IsSize size }
+    requires heights { ArePlain size 8589934590 heights.now }
+    requires row { y < size.profiles }
+    requires whole { length tops.old ≡ size.points }
+    requires column { offset.x < element.now.width }
+    requires table_row { offset.y < element.now.height }
+    ensures { IsRowRaisedOnce size element.now (relief size heights.now) y offset tops.old tops.new }
+{
+    let Some(number) = number_of(element, offset) else {
+        return;
+    };
+    let Some(from) = row_before(size, element, y, offset.y) else {
+        return;
+    };
+    let points = size.points as usize;
+    let start = from as usize * points;
+    let reach = (element.width() / 2) as usize;
+    raise_from_row(
+        tops,
+        &heights[start..start + points],
+        reach,
+        offset.x as usize,
+        number,
+    );
+}
+
+// Raises the tops of a row by a row of heights that an offset leads from: those of this column of
+// the element, which has `reach` columns on either side of its centre.
+fn raise_from_row(tops: &mut [i64], heights: &[i64], reach: usize, column: usize, number: i64)
+    requires whole { length heights.now ≡ length tops.old }
+    requires heights { IsPlain 8589934590 heights.now }
+    requires least { neg_ℤ (pos 4294967295) ≤ℤ number }
+    requires greatest { number ≤ℤ pos 4294967295 }
+    ensures { AreRaisedAcross heights.now reach column number tops.old tops.new }
+{
+    let ahead = reach.saturating_sub(column);
+    let behind = column.saturating_sub(reach);
+    if ahead + behind >= heights.len() {
+        return;
+    }
+    let count = heights.len() - ahead - behind;
+    raise_stretch(tops, behind, heights, ahead, count, number);
+}
+
+// Raises a stretch of the tops by a stretch of the heights.
+fn raise_stretch(
+    tops: &mut [i64],
+    to: usize,
+    heights: &[i64],
+    from: usize,
+    count: usize,
+    number: i64,
+)
+    requires to { to + count ≤ length tops.old }
+    requires from { from + count ≤ length heights.now }
+    requires heights { IsPlain 8589934590 heights.now }
+    requires least { neg_ℤ (pos 4294967295) ≤ℤ number }
+    requires greatest { number ≤ℤ pos 4294967295 }
+    ensures { AreRaisedTo heights.now from count number to tops.old tops.new }
+{
+    for step in 0..count {
+        let raised = raised_by(heights[from + step], number);
+        tops[to + step] = larger_of(tops[to + step], raised);
+    }
+}
+
+// A height plus a number, and a number far below every height where there is none.
+#[inline]
+fn raised_by(height: i64, number: i64) -> i64
+    requires plain { IsPlainNumber 8589934590 height }
+    requires least { neg_ℤ (pos 4294967295) ≤ℤ number }
+    requires greatest { number ≤ℤ pos 4294967295 }
+    ensures { shown result ≡ plus number (shown height) }
+{
+    height + number
+}
+
+// The number of the element at an offset.
+fn number_of(element: &Element, offset: Pos) -> Option<i64>
+    requires column { offset.x < element.now.width }
+    requires row { offset.y < element.now.height }
+    ensures number { result ≡ number_at element.now offset }
+    ensures within { IsWithin 4294967295 result }
+{
+    element.table()[(offset.y * element.width() + offset.x) as usize]
+}
+
+// The row from which a row of the element leads to another one of the grid.
+fn row_before(size: Size, element: &Element, y: u32, row: u32) -> Option<u32>
+    requires size { IsSize size }
+    requires row { y < size.profiles }
+    requires table_row { row < element.now.height }
+    ensures some { IfSome result (λ from. (from < size.profiles) × (from + row ≡ y + element.now.height / 2)) }
+    ensures none { IfNone result ((from : ℕ) → from < size.profiles
+        → from + row ≡ y + element.now.height / 2 → ⊥) }
+{
+    let down = y + element.height() / 2;
+    if down < row || down - row >= size.profiles {
+        return None;
+    }
+    Some(down - row)
+}
