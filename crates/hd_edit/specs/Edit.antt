@@ -1,14 +1,81 @@
 -- The map after an edit, or its first refusal.
-use Rattle.std.specs.Prelude.{Result, Ok, Err, if◌then◌else◌}
+use Rattle.std.specs.Prelude.{◌&&◌, not, Bool, true, false, ℤ, ◌+ℤ◌, nat_le, List, map, position, Option, Some, None, Result, Ok, Err, if◌then◌else◌}
+use Rattle.std.specs.List.{range_with_len}
+use Rattle.std.specs.Option.{option_map}
+use Rattle.hd_map.specs.declared.types.Pos.{Pos}
+use Rattle.hd_map.specs.declared.types.Size.{Size}
+use Rattle.hd_map.specs.declared.types.DataType.{DataType}
+use Rattle.hd_map.specs.declared.types.Cell.{Cell}
 use Rattle.hd_map.specs.declared.types.Cell.TheVariants.{Height, Bad}
-use Rattle.hd_map.specs.Map.{Map, in_grid, in_range}
+use Rattle.hd_map.specs.Map.{Map, cell_at, mask_at, cell_count, position_at, in_grid, in_range}
 use Rattle.hd_map.specs.Sets.{with_cell}
 use Rattle.hd_edit.specs.declared.edit.Edit.{Edit}
 use Rattle.hd_edit.specs.declared.edit.Edit.TheVariants as edit
 use Rattle.hd_edit.specs.declared.edit.EditError.{EditError}
-use Rattle.hd_edit.specs.declared.edit.EditError.TheVariants.{Outside, HeightRange}
+use Rattle.hd_edit.specs.declared.edit.EditError.TheVariants.{Outside, HeightRange, EmptyRect}
 
--- a set makes the cell this height, and a bad makes it unmeasured; the mask stays
+-- whether a cell is a height of the data type, or none
+abbrev pub cell_in_range : DataType → Cell → Bool
+cell_in_range type (Height z) = in_range type z
+cell_in_range type Bad = true
+
+-- whether a position lies in the rectangle of two corners
+abbrev pub in_rectangle : Pos → Pos → Pos → Bool
+in_rectangle from to at = (nat_le from.x at.x && nat_le at.x to.x) && (nat_le from.y at.y && nat_le at.y to.y)
+
+-- by index what stands at each position of a grid
+abbrev pub by_index : {X : Type 0} → Size → (Pos → X) → List X
+by_index size f = map (λ k. f (position_at size k)) (range_with_len 0 (cell_count size))
+
+-- the cell of a present point, this much higher; every other cell stays
+abbrev pub raised : ℤ → Cell → Bool → Cell
+raised delta (Height z) false = Height (z +ℤ delta)
+raised delta (Height z) true = Height z
+raised delta Bad masked = Bad
+
+-- the cells once the present points of a rectangle are this much higher
+abbrev pub raised_cells : Map → Pos → Pos → ℤ → List Cell
+raised_cells m from to delta =
+    by_index m.size (λ p. if in_rectangle from to p then raised delta (cell_at m p) (mask_at m p) else cell_at m p)
+
+-- the masks once all points of a rectangle have this one
+abbrev pub masks_with : Map → Pos → Pos → Bool → List Bool
+masks_with m from to masked = by_index m.size (λ p. if in_rectangle from to p then masked else mask_at m p)
+
+-- why two corners are refused: the first is not in the grid; else the second is not; else the
+-- second has a lesser column or profile than the first
+abbrev pub rectangle_refusal : Size → Pos → Pos → Option EditError
+rectangle_refusal size from to =
+    if in_grid size from then
+    (if in_grid size to then
+    (if nat_le from.x to.x && nat_le from.y to.y then None else Some EmptyRect)
+    else Some (Outside to))
+    else Some (Outside from)
+
+-- why new cells of a map are refused: the first by index is not of the data type
+abbrev pub height_refusal : Map → List Cell → Option EditError
+height_refusal m cells =
+    option_map (λ k. HeightRange (position_at m.size k)) (position (λ c. not (cell_in_range m.data_type c)) cells)
+
+-- the outcome where there is no refusal
+abbrev pub unless : Option EditError → Result Map EditError → Result Map EditError
+unless None outcome = outcome
+unless (Some refusal) outcome = Err refusal
+
+-- the map with all its cells set
+abbrev pub with_cells : Map → List Cell → Result Map EditError
+with_cells m cells = unless (height_refusal m cells) (Ok (record m { cells = cells }))
+
+-- the map that an edit makes of a map, or why it is refused
 abbrev pub edited : Map → Edit → Result Map EditError
-edited m (edit.Set at z) = if in_grid m.size at then (if in_range m.data_type z then Ok (with_cell m at (Height z)) else Err (HeightRange at)) else Err (Outside at)
+edited m (edit.Set at z) =
+    if in_grid m.size at then
+    (if in_range m.data_type z then Ok (with_cell m at (Height z)) else Err (HeightRange at))
+    else Err (Outside at)
 edited m (edit.Bad at) = if in_grid m.size at then Ok (with_cell m at Bad) else Err (Outside at)
+edited m (edit.Add from to delta) =
+    unless (rectangle_refusal m.size from to) (with_cells m (raised_cells m from to delta))
+edited m (edit.Mask from to) =
+    unless (rectangle_refusal m.size from to) (Ok (record m { masks = masks_with m from to true }))
+edited m (edit.Unmask from to) =
+    unless (rectangle_refusal m.size from to) (Ok (record m { masks = masks_with m from to false }))

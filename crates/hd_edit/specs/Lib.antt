@@ -1,3 +1,5 @@
 pub mod Edit
-pub mod State
 pub mod Board
+pub mod Stroke
+pub mod Change
+pub mod Log

@@ -1,38 +1,57 @@
 // A board: a grid that edits work on.
-ghost use Rattle.std.specs.Prelude.{◌≡◌, ◌<◌, ◌≤◌, ◌+◌, ◌^◌, [], IfOk, OnErr};
+ghost use Rattle.std.specs.Prelude.{◌≡◌, ◌≢◌, ◌<◌, ◌≤◌, ◌+◌, ◌-◌, ◌^◌, ◌∷◌, ◌++◌, [], IfOk, OnErr, length, is_ok, if◌then◌else◌};
+ghost use Rattle.hd_map.specs.Map.{cell_count};
 ghost use Rattle.hd_edit.specs.Edit.{edited};
-ghost use Rattle.hd_edit.specs.Board.{BoardState, Applies};
+ghost use Rattle.hd_edit.specs.Board.{BoardState, Applies, kept_after, Undoes, RisesUpTo};
 
-use crate::{Edit, EditError};
-use hd_base::Memory;
-use hd_map::{Cell, Grid, MapError};
+use crate::change::{Change, put_back};
+use crate::make::make;
+use crate::{Edit, EditError, LogEnds};
+use circular_buffer::HeapCircularBuffer;
+use hd_base::{List, Memory};
+use hd_map::Grid;
 use std::alloc::Global;
 use std::marker::Model;
 
-/// A grid with the maps that it had before, and the elements of the filters. No earlier map and no
-/// element is kept yet.
+/// How many edits can be undone.
+const LOG_PLACES: usize = 32;
+
+/// A grid with the log of its last 32 edits. Contracts see the log as the maps before these edits.
+/// No element of the filters is kept yet.
 #[derive(Drop)]
 pub struct Board<G: Grid> {
+    alloc: Global,
     grid: G,
+    log: HeapCircularBuffer<List<Change>>,
 }
 
 impl<G: Grid> Model for Board<G> {
     ghost use Rattle.std.specs.Prelude.{[]};
     ghost use Rattle.hd_edit.specs.Board.{BoardState};
+    ghost use Rattle.hd_edit.specs.Log.{earlier_maps, IsLog};
 
     ghost Value = { BoardState G };
 
-    ghost view = { λ board. record { grid = board.grid; earlier = []; elements = [] } };
+    ghost view = { λ board. record {
+      grid = board.grid;
+      earlier = earlier_maps board.log.items (G.map board.grid);
+      elements = [];
+    } };
+
+    ghost invariant = { λ board. IsLog (G.map board.grid) board.log };
 }
 
 impl<G: Grid> Board<G> {
     /// A board of this grid, with no earlier map and no element.
     ///
-    /// `Memory` comes where the board is refused its memory.
-    pub fn new(_alloc: Global, grid: G) -> Result<Board<G>, Memory>
+    /// `Memory` comes where the log is refused its memory.
+    pub fn new(alloc: Global, grid: G) -> Result<Board<G>, Memory>
+    where
+        G: Drop,
         ensures { IfOk result (λ board. board ≡ record { grid = grid; earlier = []; elements = [] }) }
     {
-        Ok(Board { grid })
+        let log = HeapCircularBuffer::with_capacity(alloc, LOG_PLACES)?;
+        Ok(Board { alloc, grid, log })
     }
 
     /// The grid with the present map.
@@ -42,36 +61,71 @@ impl<G: Grid> Board<G> {
         &self.grid
     }
 
-    /// Makes an edit. Refused, it changes neither the map, nor the earlier maps, nor the elements.
+    /// How many earlier maps are kept: one for each of the last 32 accepted edits that were not
+    /// undone.
+    pub fn kept(&self) -> u32
+        ensures kept { result ≡ length self.now.earlier }
+        ensures places { result ≤ 32 }
+    {
+        self.log.len() as u32
+    }
+
+    /// Makes an edit. Accepted, the map before it is kept, also where it changes nothing, and the
+    /// oldest of 33 is dropped. Refused, it changes nothing.
     ///
-    /// `Memory` comes where the edit is refused its memory, before any other refusal. `Outside`
-    /// comes exactly where the position is not in the grid, else `HeightRange` exactly where the
-    /// height is not in the range of the data type.
+    /// `Memory` comes where the edit is refused its memory, before anything is changed. `Outside`
+    /// comes exactly where a position is not in the grid, and names the first; else `EmptyRect`
+    /// exactly where the second corner has a lesser column or profile than the first; else
+    /// `HeightRange` exactly where a new height is not in the range of the data type, and names the
+    /// first such position by index.
     pub fn apply(&mut self, edit: &Edit) -> Result<(), EditError>
         requires { G.changes self.old.grid < 2 ^ 62 }
-        ensures edit { Applies (edited (G.map self.old.grid) edit.now) result (G.map self.old.grid) (G.map self.new.grid) }
+        ensures edit { let m = G.map self.old.grid in Applies (edited m edit.now) result m (G.map self.new.grid) }
+        ensures earlier { let earlier = self.old.earlier in
+            self.new.earlier ≡ (if is_ok result then kept_after earlier (G.map self.old.grid) else earlier) }
         ensures elements { self.new.elements ≡ self.old.elements }
-        ensures earlier { OnErr result (self.new.earlier ≡ self.old.earlier) }
+        ensures refused { OnErr result (self.new ≡ self.old) }
         ensures origin { G.comes_from self.old.grid self.new.grid }
-        ensures count { (G.changes self.old.grid ≤ G.changes self.new.grid) × (G.changes self.new.grid ≤ G.changes self.old.grid + 2 ^ 27) }
+        ensures count { RisesUpTo (2 ^ 27) (G.changes self.old.grid) (G.changes self.new.grid) }
     {
-        match *edit {
-            Edit::Set { at, z } => self.grid.set_cell(at, Cell::Height(z))?,
-            Edit::Bad { at } => self.grid.set_cell(at, Cell::Bad)?,
+        let changes = make(self.alloc, &mut self.grid, edit)?;
+        self.log.push_back(changes);
+        Ok(())
+    }
+
+    /// Goes back over this many kept edits, which are then gone. It takes no memory.
+    ///
+    /// `LogEnds` comes exactly where fewer are kept; then nothing is changed.
+    pub fn undo(&mut self, n: u64) -> Result<(), LogEnds>
+        requires { G.changes self.old.grid < 2 ^ 62 }
+        ensures undo { let old = self.old in let new = self.new in
+            Undoes n result old.earlier (G.map old.grid) new.earlier (G.map new.grid) }
+        ensures elements { self.new.elements ≡ self.old.elements }
+        ensures refused { OnErr result (self.new ≡ self.old) }
+        ensures origin { G.comes_from self.old.grid self.new.grid }
+        ensures count { RisesUpTo (2 ^ 27) (G.changes self.old.grid) (G.changes self.new.grid) }
+    {
+        let kept = self.kept();
+        if n > u64::from(kept) {
+            return Err(LogEnds { kept });
+        }
+        for _step in 0..n {
+            self.undo_last();
         }
         Ok(())
     }
-}
 
-impl From<MapError> for EditError {
-    ghost use Rattle.hd_edit.specs.Board.{refusal_of};
-
-    ghost from_gives = { λ error refusal. refusal ≡ refusal_of error };
-
-    fn from(error: MapError) -> Self {
-        match error {
-            MapError::Outside(at) => EditError::Outside(at),
-            MapError::HeightRange(at) => EditError::HeightRange(at),
+    // Goes back over the last kept edit.
+    fn undo_last(&mut self)
+        requires kept { self.old.earlier ≢ [] }
+        requires count { G.changes self.old.grid < 2 ^ 63 - 2 ^ 22 }
+        ensures earlier { self.old.earlier ≡ self.new.earlier ++ G.map self.new.grid ∷ [] }
+        ensures elements { self.new.elements ≡ self.old.elements }
+        ensures origin { G.comes_from self.old.grid self.new.grid }
+        ensures count { RisesUpTo (2 ^ 22) (G.changes self.old.grid) (G.changes self.new.grid) }
+    {
+        if let Some(changes) = self.log.pop_back() {
+            put_back(&mut self.grid, changes);
         }
     }
 }

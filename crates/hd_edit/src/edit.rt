@@ -2,13 +2,20 @@
 use hd_map::Pos;
 use thiserror::Error;
 
-/// An edit of the map.
+/// An edit of the map. A rectangle is given by two of its corners: the first has the least column
+/// and profile, and the second the greatest.
 #[derive(Clone, Copy, Debug, PartialEq, Eq)]
 pub enum Edit {
     /// The cell becomes this height in steps; the mask stays.
     Set { at: Pos, z: i64 },
     /// The cell becomes unmeasured; the mask stays.
     Bad { at: Pos },
+    /// This many steps are added to the height of each present point of the rectangle.
+    Add { from: Pos, to: Pos, delta: i64 },
+    /// All points of the rectangle are masked; the cells stay.
+    Mask { from: Pos, to: Pos },
+    /// No point of the rectangle is masked; the cells stay.
+    Unmask { from: Pos, to: Pos },
 }
 
 /// Why an edit was refused, in the order in which the causes are tried. Want of memory may come
@@ -18,10 +25,21 @@ pub enum EditError {
     /// Want of memory.
     #[error("out of memory")]
     Memory,
-    /// The position is not in the grid.
+    /// The position is not in the grid; of a rectangle the first such corner.
     #[error("a position is outside")]
     Outside(Pos),
+    /// The second corner has a lesser column or profile than the first.
+    #[error("the rectangle is empty")]
+    EmptyRect,
     /// The height is not in the range of the data type; the first such position by index.
     #[error("a height is out of range")]
     HeightRange(Pos),
+}
+
+/// Fewer edits are kept than were to be undone.
+#[derive(Clone, Copy, Debug, PartialEq, Eq, Error)]
+#[error("the log ends")]
+pub struct LogEnds {
+    /// How many edits are kept.
+    pub kept: u32,
 }

@@ -2,9 +2,15 @@
 #![tactic(auto)]
 
 mod board;
+mod change;
 mod edit;
+mod laws;
+mod make;
+mod paint;
+mod stroke;
 #[cfg(test)]
 mod tests;
 
 pub use board::Board;
-pub use edit::{Edit, EditError};
+pub use edit::{Edit, EditError, LogEnds};
+pub use laws::{edits_keep_maps, logs_keep_maps, undos_go_back, undos_keep_maps};

@@ -5,9 +5,11 @@ ghost use Rattle.std.proofs.lemmas.Grind.{common_steps};
 ghost use Rattle.hd_map.specs.declared.types.DataType.TheVariants.{I8};
 ghost use Rattle.hd_map.specs.Map.{IsCellOf};
 
-use crate::{Board, Edit, EditError};
+use crate::{Board, Edit, EditError, LogEnds};
 use hd_base::List;
-use hd_map::{Cell, DataType, Grid, MapError, Pos, Size, Surface, contains, is_cell_of};
+use hd_map::{
+    Cell, DataType, Grid, Heights, MapError, Pos, Size, Surface, contains, height, is_cell_of,
+};
 use std::alloc::Global;
 use std::test::Fail;
 
@@ -20,18 +22,10 @@ struct Dot {
     ghost in_range: { IsCellOf I8 cell },
 }
 
-impl Grid for Dot {
+impl Heights for Dot {
     ghost map = { λ dot. record { size = record { points = 1; profiles = 1 }; data_type = I8; cells = dot.cell ∷ []; masks = dot.masked ∷ [] } };
 
-    ghost comes_from = { λ before now. before.changes ≤ now.changes };
-
-    ghost changes = { λ dot. dot.changes };
-
     ghost whole = { λ dot. Prim.search (rules, common_steps) };
-
-    ghost itself = { λ dot. Prim.search rules };
-
-    ghost onward = { λ a b c first second. Prim.search rules };
 
     fn size(&self) -> Size {
         Size {
@@ -39,6 +33,23 @@ impl Grid for Dot {
             profiles: 1,
         }
     }
+
+    fn height(&self, _at: Pos) -> Option<i64> {
+        match self.cell {
+            Cell::Height(height) if !self.masked => Some(height),
+            _ => None,
+        }
+    }
+}
+
+impl Grid for Dot {
+    ghost comes_from = { λ before now. before.changes ≤ now.changes };
+
+    ghost changes = { λ dot. dot.changes };
+
+    ghost itself = { λ dot. Prim.search rules };
+
+    ghost onward = { λ a b c first second. Prim.search rules };
 
     fn data_type(&self) -> DataType {
         DataType::I8
@@ -78,129 +89,202 @@ impl Grid for Dot {
     }
 }
 
-// A surface of 3 by 2 points, none of them measured, the last one masked.
-fn blank(alloc: Global) -> Result<Surface, Fail> {
-    let size = Size {
-        points: 3,
-        profiles: 2,
-    };
-    let cells = List::from_vec(vec![in alloc; Cell::Bad; 6]?);
-    let mut surface = Surface::new(alloc, size, DataType::U8, cells)
+const SIZE: Size = Size {
+    points: 3,
+    profiles: 2,
+};
+
+// A board of 3 by 2 points of heights 1 2 3 over 4 5 250.
+fn six(alloc: Global) -> Result<Board<Surface>, Fail> {
+    let cells = vec![in alloc;
+        Cell::Height(1),
+        Cell::Height(2),
+        Cell::Height(3),
+        Cell::Height(4),
+        Cell::Height(5),
+        Cell::Height(250),
+    ]?;
+    let surface = Surface::new(alloc, SIZE, DataType::U8, List::from_vec(cells))
         .ok()
         .ok_or("no memory")?;
-    surface
-        .set_mask(Pos { x: 2, y: 1 }, true)
-        .ok()
-        .ok_or("refused")?;
-    Ok(surface)
+    Ok(Board::new(alloc, surface).ok().ok_or("no memory")?)
 }
 
-// The cell and the mask at a position, where it is in the grid.
-fn point<G: Grid>(grid: &G, at: Pos) -> Option<(Cell, bool)> {
+// The height of a present point.
+fn shown<G: Grid>(grid: &G, x: u32, y: u32) -> Option<i64> {
+    let at = Pos { x, y };
     if !contains(grid.size(), at) {
         return None;
     }
-    Some((grid.cell(at), grid.masked(at)))
+    height(grid, at)
 }
 
+// The heights of the two profiles.
+fn profiles(board: &Board<Surface>) -> [Option<i64>; 6] {
+    let grid = board.grid();
+    [
+        shown(grid, 0, 0),
+        shown(grid, 1, 0),
+        shown(grid, 2, 0),
+        shown(grid, 0, 1),
+        shown(grid, 1, 1),
+        shown(grid, 2, 1),
+    ]
+}
+
+const FIRST: Pos = Pos { x: 0, y: 0 };
+
+const LAST: Pos = Pos { x: 2, y: 1 };
+
 #[test]
-fn edits_of_a_surface(rt: HostRuntime) -> Result<(), Fail> {
-    let mut board = Board::new(rt.alloc(), blank(rt.alloc())?)
-        .ok()
-        .ok_or("no memory")?;
-    let first = Pos { x: 0, y: 0 };
-    let last = Pos { x: 2, y: 1 };
+fn a_cell_is_set_or_taken_away(rt: HostRuntime) -> Result<(), Fail> {
+    let mut board = six(rt.alloc())?;
     let right = Pos { x: 3, y: 0 };
     let below = Pos { x: 0, y: 2 };
-    let cases: [(Pos, Edit, Result<(), EditError>, Option<(Cell, bool)>); 10] = [
+    assert_eq!(rt; board.apply(&Edit::Set { at: FIRST, z: 255 }), Ok(()));
+    assert_eq!(rt; board.apply(&Edit::Bad { at: LAST }), Ok(()));
+    let all = [Some(255), Some(2), Some(3), Some(4), Some(5), None];
+    let refused = [
         (
-            first,
-            Edit::Set { at: first, z: 0 },
-            Ok(()),
-            Some((Cell::Height(0), false)),
+            Edit::Set { at: FIRST, z: 256 },
+            EditError::HeightRange(FIRST),
         ),
         (
-            first,
-            Edit::Set { at: first, z: 255 },
-            Ok(()),
-            Some((Cell::Height(255), false)),
+            Edit::Set { at: FIRST, z: -1 },
+            EditError::HeightRange(FIRST),
         ),
-        (
-            first,
-            Edit::Set { at: first, z: 256 },
-            Err(EditError::HeightRange(first)),
-            Some((Cell::Height(255), false)),
-        ),
-        (
-            first,
-            Edit::Set { at: first, z: -1 },
-            Err(EditError::HeightRange(first)),
-            Some((Cell::Height(255), false)),
-        ),
-        (
-            first,
-            Edit::Bad { at: first },
-            Ok(()),
-            Some((Cell::Bad, false)),
-        ),
-        (
-            last,
-            Edit::Set { at: last, z: 7 },
-            Ok(()),
-            Some((Cell::Height(7), true)),
-        ),
-        (
-            last,
-            Edit::Bad { at: last },
-            Ok(()),
-            Some((Cell::Bad, true)),
-        ),
-        (
-            right,
-            Edit::Set { at: right, z: 256 },
-            Err(EditError::Outside(right)),
-            None,
-        ),
-        (
-            below,
-            Edit::Bad { at: below },
-            Err(EditError::Outside(below)),
-            None,
-        ),
-        (
-            first,
-            Edit::Set { at: below, z: 1 },
-            Err(EditError::Outside(below)),
-            Some((Cell::Bad, false)),
-        ),
+        (Edit::Set { at: right, z: 256 }, EditError::Outside(right)),
+        (Edit::Bad { at: below }, EditError::Outside(below)),
     ];
-    for (at, edit, outcome, then) in &cases {
-        assert_eq!(rt; board.apply(edit), *outcome, "at {edit:?}");
-        assert_eq!(rt; point(board.grid(), *at), *then, "at {edit:?}");
+    for (edit, error) in &refused {
+        assert_eq!(rt; board.apply(edit), Err(*error), "at {edit:?}");
+        assert_eq!(rt; profiles(&board), all, "after {edit:?}");
     }
+    assert_eq!(rt; board.kept(), 2);
     Ok(())
 }
 
 #[test]
-fn edits_of_one_point(rt: HostRuntime) -> Result<(), Fail> {
+fn a_rectangle_is_refused_by_its_corners(rt: HostRuntime) -> Result<(), Fail> {
+    let mut board = six(rt.alloc())?;
+    let right = Pos { x: 3, y: 0 };
+    let below = Pos { x: 0, y: 2 };
+    let cases = [
+        (right, below, EditError::Outside(right)),
+        (FIRST, below, EditError::Outside(below)),
+        (LAST, right, EditError::Outside(right)),
+        (LAST, FIRST, EditError::EmptyRect),
+        (Pos { x: 1, y: 0 }, Pos { x: 0, y: 1 }, EditError::EmptyRect),
+        (Pos { x: 0, y: 1 }, Pos { x: 1, y: 0 }, EditError::EmptyRect),
+    ];
+    for (from, to, error) in cases {
+        let delta = 1000;
+        assert_eq!(rt; board.apply(&Edit::Add { from, to, delta }), Err(error));
+        assert_eq!(rt; board.apply(&Edit::Mask { from, to }), Err(error));
+        assert_eq!(rt; board.apply(&Edit::Unmask { from, to }), Err(error));
+    }
+    assert_eq!(rt; board.kept(), 0);
+    Ok(())
+}
+
+#[test]
+fn a_sum_out_of_range_leaves_all_heights(rt: HostRuntime) -> Result<(), Fail> {
+    let mut board = six(rt.alloc())?;
+    let before = [Some(1), Some(2), Some(3), Some(4), Some(5), Some(250)];
+    let cases = [(6, LAST), (-2, FIRST), (i64::MAX, FIRST), (i64::MIN, FIRST)];
+    for (delta, at) in cases {
+        let edit = Edit::Add {
+            from: FIRST,
+            to: LAST,
+            delta,
+        };
+        assert_eq!(rt; board.apply(&edit), Err(EditError::HeightRange(at)));
+        assert_eq!(rt; profiles(&board), before);
+    }
+    let edit = Edit::Add {
+        from: Pos { x: 1, y: 0 },
+        to: LAST,
+        delta: 5,
+    };
+    assert_eq!(rt; board.apply(&edit), Ok(()));
+    let after = [Some(1), Some(7), Some(8), Some(4), Some(10), Some(255)];
+    assert_eq!(rt; profiles(&board), after);
+    assert_eq!(rt; board.undo(2), Err(LogEnds { kept: 1 }));
+    assert_eq!(rt; profiles(&board), after);
+    assert_eq!(rt; board.undo(0), Ok(()));
+    assert_eq!(rt; board.undo(1), Ok(()));
+    assert_eq!(rt; profiles(&board), before);
+    Ok(())
+}
+
+#[test]
+fn masks_lie_over_the_cells(rt: HostRuntime) -> Result<(), Fail> {
+    let mut board = six(rt.alloc())?;
+    let to = Pos { x: 1, y: 0 };
+    let edits = [
+        Edit::Mask { from: FIRST, to },
+        Edit::Set { at: FIRST, z: 9 },
+        Edit::Add {
+            from: FIRST,
+            to: LAST,
+            delta: -3,
+        },
+        Edit::Unmask {
+            from: FIRST,
+            to: FIRST,
+        },
+        Edit::Mask { from: to, to },
+    ];
+    for edit in &edits {
+        assert_eq!(rt; board.apply(edit), Ok(()), "at {edit:?}");
+    }
+    let after = [Some(9), None, Some(0), Some(1), Some(2), Some(247)];
+    assert_eq!(rt; profiles(&board), after);
+    assert_eq!(rt; board.kept(), 5);
+    assert_eq!(rt; board.undo(4), Ok(()));
+    let masked = [None, None, Some(3), Some(4), Some(5), Some(250)];
+    assert_eq!(rt; profiles(&board), masked);
+    assert_eq!(rt; board.undo(1), Ok(()));
+    let before = [Some(1), Some(2), Some(3), Some(4), Some(5), Some(250)];
+    assert_eq!(rt; profiles(&board), before);
+    Ok(())
+}
+
+#[test]
+fn the_last_32_edits_are_undone(rt: HostRuntime) -> Result<(), Fail> {
+    let mut board = six(rt.alloc())?;
+    for z in 1..=40 {
+        assert_eq!(rt; board.apply(&Edit::Set { at: FIRST, z }), Ok(()));
+    }
+    assert_eq!(rt; board.undo(33), Err(LogEnds { kept: 32 }));
+    assert_eq!(rt; board.undo(32), Ok(()));
+    assert_eq!(rt; shown(board.grid(), 0, 0), Some(8));
+    assert_eq!(rt; board.kept(), 0);
+    assert_eq!(rt; board.undo(1), Err(LogEnds { kept: 0 }));
+    Ok(())
+}
+
+#[test]
+fn a_grid_counts_its_changes(rt: HostRuntime) -> Result<(), Fail> {
     let dot = Dot {
         cell: Cell::Bad,
         masked: true,
         changes: 0,
     };
     let mut board = Board::new(rt.alloc(), dot).ok().ok_or("no memory")?;
-    let at = Pos { x: 0, y: 0 };
+    let (from, to) = (FIRST, FIRST);
     let outside = Pos { x: 0, y: 1 };
-    assert_eq!(rt; board.apply(&Edit::Set { at, z: -128 }), Ok(()));
-    assert_eq!(rt; point(board.grid(), at), Some((Cell::Height(-128), true)));
-    assert_eq!(rt;
-        board.apply(&Edit::Set { at, z: 128 }),
-        Err(EditError::HeightRange(at))
-    );
+    assert_eq!(rt; board.apply(&Edit::Set { at: FIRST, z: -128 }), Ok(()));
     assert_eq!(rt;
         board.apply(&Edit::Bad { at: outside }),
         Err(EditError::Outside(outside))
     );
-    assert_eq!(rt; board.grid().changes, 1);
+    assert_eq!(rt; board.apply(&Edit::Mask { from, to }), Ok(()));
+    assert_eq!(rt; board.apply(&Edit::Unmask { from, to }), Ok(()));
+    assert_eq!(rt; board.grid().changes, 2);
+    assert_eq!(rt; shown(board.grid(), 0, 0), Some(-128));
+    assert_eq!(rt; board.undo(3), Ok(()));
+    assert_eq!(rt; board.grid().changes, 4);
+    assert_eq!(rt; shown(board.grid(), 0, 0), None);
     Ok(())
 }

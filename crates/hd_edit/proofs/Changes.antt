@@ -1,0 +1,82 @@
+-- The map before changes.
+use Rattle.std.proofs.Common.{◌≡◌, ℕ, Bool, false, List, [], ◌∷◌, ◌++◌, set, All, refl, sym, ap, subst, ◌∙◌}
+use Rattle.std.proofs.lemmas.List.{set-set, set-get_or}
+use Rattle.hd_map.specs.declared.types.Pos.{Pos}
+use Rattle.hd_map.specs.declared.types.Size.{Size}
+use Rattle.hd_map.specs.declared.types.Cell.{Cell}
+use Rattle.hd_map.specs.declared.types.Cell.TheVariants.{Height, Bad}
+use Rattle.hd_map.specs.declared.types.DataType.{DataType}
+use Rattle.hd_map.specs.Map.{Map, IsMap, InGrid, IsCellOf, cell_at, mask_at, place_of}
+use Rattle.hd_map.proofs.Points.{place_inside}
+use Rattle.hd_map.specs.Sets.{with_cell, with_mask}
+use Rattle.hd_edit.specs.declared.change.Change.{Change}
+use Rattle.hd_edit.specs.declared.change.Was.{Was}
+use Rattle.hd_edit.specs.declared.change.Was.TheVariants as was
+use Rattle.hd_edit.specs.Change.{was_cell, with_was, before_changes, IsWasOf, IsChange}
+
+-- the last change is undone first
+pub before-push : (cs : List Change) (c : Change) (m : Map) → before_changes (cs ++ c ∷ []) m ≡ before_changes cs (with_was c.was c.index m)
+before-push [] c m = refl
+before-push (e ∷ cs) c m = ap (with_was e.was e.index) (before-push cs c m)
+
+-- a cell put back
+with_was-cell : (cell : Cell) (k : ℕ) (m : Map) → with_was (was_cell cell) k m ≡ record m { cells = set m.cells k cell }
+with_was-cell (Height z) k m = refl
+with_was-cell Bad k m = refl
+
+-- a cell that was set and put back
+cell_back : (m : Map) (at : Pos) (new : Cell) → with_was (was_cell (cell_at m at)) (place_of m.size at) (with_cell m at new) ≡ m
+cell_back m at new =
+    let k = place_of m.size at in
+    with_was-cell (cell_at m at) k (with_cell m at new) ∙ ap (λ (cells : List Cell). record m { cells = cells }) (set-set m.cells k new (cell_at m at) ∙ set-get_or m.cells k Bad)
+
+-- a mask that was set and put back
+mask_back : (m : Map) (at : Pos) (new : Bool) → with_was (was.Mask (mask_at m at)) (place_of m.size at) (with_mask m at new) ≡ m
+mask_back m at new =
+    let k = place_of m.size at in
+    ap (λ (masks : List Bool). record m { masks = masks }) (set-set m.masks k new (mask_at m at) ∙ set-get_or m.masks k false)
+
+-- a noted change of a cell leaves the map before all changes
+pub before-cell : (m m' : Map) (notes notes' : List Change) (at : Pos) (index : ℕ) (cell new : Cell) (w : Was)
+    → notes' ≡ notes ++ (record { index = index; was = w }) ∷ [] → index ≡ place_of m.size at → w ≡ was_cell cell → cell ≡ cell_at m at → m' ≡ with_cell m at new
+    → before_changes notes' m' ≡ before_changes notes m
+before-cell m m' notes notes' at index cell new w pushed place is here set =
+    ap (λ ns. before_changes ns m') pushed ∙ before-push notes (record { index = index; was = w }) m'
+    ∙ ap (before_changes notes) (ap (λ i. with_was w i m') place ∙ ap (λ v. with_was v (place_of m.size at) m') (is ∙ ap was_cell here) ∙ ap (with_was (was_cell (cell_at m at)) (place_of m.size at)) set ∙ cell_back m at new)
+
+-- a noted change of a mask leaves the map before all changes
+pub before-mask : (m m' : Map) (notes notes' : List Change) (at : Pos) (index : ℕ) (masked new : Bool)
+    → notes' ≡ notes ++ (record { index = index; was = was.Mask masked }) ∷ [] → index ≡ place_of m.size at → masked ≡ mask_at m at → m' ≡ with_mask m at new
+    → before_changes notes' m' ≡ before_changes notes m
+before-mask m m' notes notes' at index masked new pushed place here set =
+    ap (λ ns. before_changes ns m') pushed ∙ before-push notes (record { index = index; was = was.Mask masked }) m'
+    ∙ ap (before_changes notes) (ap (λ i. with_was (was.Mask masked) i m') place ∙ ap (λ v. with_was (was.Mask v) (place_of m.size at) m') here ∙ ap (with_was (was.Mask (mask_at m at)) (place_of m.size at)) set ∙ mask_back m at new)
+
+-- what a cell of the data type was
+pub was_cell-of : (t : DataType) (cell : Cell) → IsCellOf t cell → IsWasOf t (was_cell cell)
+was_cell-of t (Height z) is = is
+was_cell-of t Bad is = tt
+
+-- a cell of a map is of the data type
+pub cell_of : (m : Map) → IsMap m → (p : Pos) → InGrid m.size p → IsCellOf m.data_type (cell_at m p)
+cell_of m whole p inside = whole.heights (place_of m.size p) (rw whole.cells (place_inside m.size p inside))
+
+-- the size and the type stay
+same_kind : (m : Map) (w : Was) (k : ℕ) (cs : List Change) → All (IsChange m) cs → All (IsChange (with_was w k m)) cs
+same_kind m (was.Height z) k cs are = are
+same_kind m was.Bad k cs are = are
+same_kind m (was.Mask masked) k cs are = are
+
+-- what is left to be put back is still to be put back
+pub still_changes : (m m' : Map) (w : Was) (k : ℕ) (cs : List Change) → m' ≡ with_was w k m → All (IsChange m) cs → All (IsChange m') cs
+still_changes m m' w k cs is are = subst (λ (n : Map). All (IsChange n) cs) (sym is) (same_kind m w k cs are)
+
+-- the map before changes has the size and the type of the map after them
+kind_of_was : (P : Size → DataType → Type 0) (w : Was) (k : ℕ) (m : Map) → P m.size m.data_type → P (with_was w k m).size (with_was w k m).data_type
+kind_of_was P (was.Height z) k m p = p
+kind_of_was P was.Bad k m p = p
+kind_of_was P (was.Mask masked) k m p = p
+
+pub kind_stays : (P : Size → DataType → Type 0) (cs : List Change) (m : Map) → P m.size m.data_type → P (before_changes cs m).size (before_changes cs m).data_type
+kind_stays P [] m p = p
+kind_stays P (c ∷ cs) m p = kind_of_was P c.was c.index (before_changes cs m) (kind_stays P cs m p)

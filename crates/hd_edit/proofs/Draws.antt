@@ -1,0 +1,88 @@
+-- A rectangle that is stroked point by point, with notes of what was changed.
+use Rattle.std.proofs.Common.{◌≡◌, ◌<◌, ◌≤◌, ◌+◌, ℕ, Bool, List, All, sym, ap, subst, ◌∙◌, arith}
+use Rattle.std.specs.Prelude.{if◌then◌else◌}
+use Rattle.hd_map.specs.declared.types.Pos.{Pos}
+use Rattle.hd_map.specs.declared.types.Cell.{Cell}
+use Rattle.hd_map.specs.Map.{Map, IsMap, IsCellOf, InGrid, cell_at, mask_at, cell_count, place_of}
+use Rattle.hd_map.proofs.Points.{place_inside}
+use Rattle.hd_edit.specs.declared.stroke.Stroke.{Stroke}
+use Rattle.hd_edit.specs.declared.change.Change.{Change}
+use Rattle.hd_edit.specs.Change.{IsChange, before_changes}
+use Rattle.hd_edit.specs.Stroke.{IsRectangle, IsStrokeOf, cell_after, stroked, touched, changes, changes_at, count_below, next_in}
+use Rattle.hd_edit.proofs.Rectangles.{StandsAt, stands_in, stands_inside, next_later, none_between, none_before, none_past}
+use Rattle.hd_edit.proofs.Strokes.{partly, partly-none, partly-skip, partly-all, partly-cell, partly-mask, partly-touched, new_cell-in, count-more, count-skip, count-grows, count-few}
+use Rattle.hd_edit.proofs.Walks.{changes_here, none_changes, count_all}
+
+module _ (m : Map) (from to : Pos) (s : Stroke) where
+  -- the points before an index are stroked, and each change is noted
+  pub record Drawn (n : ℕ) (now : Map) (notes : List Change) (len : ℕ) : Type 0 where
+    pub map : now ≡ partly m from to s n
+    pub before : before_changes notes now ≡ m
+    pub notes_are : All (IsChange m) notes
+    pub len_is : len ≡ count_below (changes_at m from to s) n
+
+  module _ (whole : IsMap m) (is : IsRectangle m.size from to) where
+    -- at first nothing is
+    pub drawn_first : (notes : List Change) → before_changes notes m ≡ m → All (IsChange m) notes → Drawn (place_of m.size from) m notes 0
+    drawn_first notes none are = record {
+      map = sym (partly-none m from to s whole) ∙ partly-skip m from to s 0 (place_of m.size from) (omega arith) (λ k after before. none_before m.size from to is k before);
+      before = none;
+      notes_are = are;
+      len_is = count-skip (changes_at m from to s) 0 (place_of m.size from) (omega arith) (λ k after before. none_changes m from to s k (none_before m.size from to is k before));
+    }
+
+    module _ (at : Pos) (stands : StandsAt from to at) (here : at.y ≤ to.y) (now : Map) (notes : List Change) (len : ℕ) (so : Drawn (place_of m.size at) now notes len) where
+      -- the point that comes next is as it was
+      pub drawn_cell : cell_at now at ≡ cell_at m at
+      drawn_cell = ap (λ (n : Map). cell_at n at) so.map ∙ partly-cell m from to s at (stands_inside m.size from to at is stands here)
+
+      pub drawn_mask : mask_at now at ≡ mask_at m at
+      drawn_mask = ap (λ (n : Map). mask_at n at) so.map ∙ partly-mask m from to s at (stands_inside m.size from to at is stands here)
+
+      pub drawn_inside : InGrid now.size at
+      drawn_inside = subst (λ (n : Map). InGrid n.size at) (sym so.map) (stands_inside m.size from to at is stands here)
+
+      -- what it becomes is of the type
+      pub drawn_fits : IsStrokeOf m from to s → IsCellOf now.data_type (cell_after s (cell_at now at) (mask_at now at))
+      drawn_fits fits =
+          let inside = stands_inside m.size from to at is stands here in
+          let new = subst (λ (c : Cell). IsCellOf m.data_type c) (new_cell-in m from to s at (stands_in m.size from to at is stands here)) (fits at inside) in
+          let same : cell_after s (cell_at now at) (mask_at now at) ≡ cell_after s (cell_at m at) (mask_at m at) = ap (λ (c : Cell). cell_after s c (mask_at now at)) drawn_cell ∙ ap (cell_after s (cell_at m at)) drawn_mask in
+          subst (λ (n : Map). IsCellOf n.data_type (cell_after s (cell_at now at) (mask_at now at))) (sym so.map) (subst (λ (c : Cell). IsCellOf m.data_type c) (sym same) new)
+
+      -- and there is room to note it
+      pub drawn_len : len + (if changes s (cell_at now at) (mask_at now at) then 1 else 0) ≡ count_below (changes_at m from to s) (place_of m.size at + 1)
+      drawn_len =
+          let same : changes s (cell_at now at) (mask_at now at) ≡ changes_at m from to s (place_of m.size at) = ap (λ (c : Cell). changes s c (mask_at now at)) drawn_cell ∙ ap (changes s (cell_at m at)) drawn_mask ∙ sym (changes_here m from to s whole is at stands here) in
+          ap (λ (b : Bool). len + (if b then 1 else 0)) same ∙ ap (λ (l : ℕ). l + (if changes_at m from to s (place_of m.size at) then 1 else 0)) so.len_is ∙ sym (count-more (changes_at m from to s) (place_of m.size at))
+
+      pub drawn_room : len + (if changes s (cell_at now at) (mask_at now at) then 1 else 0) ≤ count_below (changes_at m from to s) (cell_count m.size)
+      drawn_room =
+          let inside = place_inside m.size at (stands_inside m.size from to at is stands here) in
+          rw drawn_len (count-grows (changes_at m from to s) (place_of m.size at + 1) (cell_count m.size) (omega (arith, inside)))
+
+      pub drawn_notes : All (IsChange now) notes
+      drawn_notes = subst (λ (n : Map). All (IsChange n) notes) (sym so.map) so.notes_are
+
+      -- one point further
+      pub drawn_next : (now' : Map) (notes' : List Change) (len' : ℕ) → now' ≡ touched s at now → before_changes notes' now' ≡ before_changes notes now → All (IsChange now) notes'
+          → len' ≡ len + (if changes s (cell_at now at) (mask_at now at) then 1 else 0) → Drawn (place_of m.size (next_in from to at)) now' notes' len'
+      drawn_next now' notes' len' touches same are more =
+          let n = place_of m.size at in
+          let later = next_later m.size from to at is stands here in
+          let none = none_between m.size from to at is stands here in
+          record {
+            map = touches ∙ ap (touched s at) so.map ∙ partly-touched m from to s at (stands_inside m.size from to at is stands here) (stands_in m.size from to at is stands here) ∙ partly-skip m from to s (n + 1) (place_of m.size (next_in from to at)) later none;
+            before = same ∙ so.before;
+            notes_are = subst (λ (n : Map). All (IsChange n) notes') so.map are;
+            len_is = more ∙ drawn_len ∙ count-skip (changes_at m from to s) (n + 1) (place_of m.size (next_in from to at)) later (λ k after before. none_changes m from to s k (none k after before));
+          }
+
+    -- past the last profile all is stroked
+    pub drawn_last : (at : Pos) (now : Map) (notes : List Change) (len : ℕ) → to.y < at.y → Drawn (place_of m.size at) now notes len → now ≡ stroked m from to s
+    drawn_last at now notes len past so =
+        let n = place_of m.size at in
+        so.map ∙ partly-skip m from to s n (n + cell_count m.size) (omega arith) (λ k after before. none_past m.size from to is at past k after) ∙ partly-all m from to s (n + cell_count m.size) (omega arith)
+
+    pub drawn_few : (at : Pos) (now : Map) (notes : List Change) (len : ℕ) → to.y < at.y → Drawn (place_of m.size at) now notes len → len ≤ cell_count m.size
+    drawn_few at now notes len past so = rw (so.len_is, count_all m from to s whole is at past) (count-few (changes_at m from to s) (cell_count m.size))

@@ -1,0 +1,97 @@
+-- The maps that a log stands for.
+use Rattle.std.proofs.Common.{◌≡◌, ◌+◌, ◌-◌, ℕ, zero, suc, List, [], ◌∷◌, ◌++◌, length, take, drop, get_or, All, Option, Some, None, refl, sym, ap, subst, ◌∙◌, arith}
+use Rattle.std.proofs.Math.ListN.{length-take}
+use Rattle.std.proofs.lemmas.List.Elements.{All-take}
+use Rattle.std.proofs.lemmas.List.{take_more, take-take, take-append-le, take_at, take_all, get_or-take, get_or_at, length_push}
+use Rattle.std.proofs.lemmas.Option.{get_or_from_slice_get, slice_get-get_or, slice_get_within}
+use Rattle.circular_buffer.specs.Buffer.{Buffer, buffer, keep_last, last_item}
+use Rattle.hd_map.specs.Map.{Map}
+use Rattle.hd_edit.specs.declared.change.Change.{Change}
+use Rattle.hd_edit.specs.Change.{before_changes, AreChanges}
+use Rattle.hd_edit.specs.Board.{log_places, kept_after}
+use Rattle.hd_edit.specs.Log.{first_map, earlier_maps, IsLog, IsLogIn}
+use Rattle.hd_edit.proofs.Changes.{kind_stays}
+
+-- one map for each entry
+pub length-earlier : (es : List (List Change)) (m : Map) → length (earlier_maps es m) ≡ length es
+length-earlier [] m = refl
+length-earlier (e ∷ es) m = ap suc (length-earlier es m)
+
+-- the first of maps with one more
+first_push : (xs : List Map) (x m : Map) → first_map (xs ++ x ∷ []) m ≡ first_map xs x
+first_push [] x m = refl
+first_push (y ∷ xs) x m = refl
+
+-- the last entry gives the last map, from which the others are told
+pub earlier-push : (es : List (List Change)) (e : List Change) (m : Map) → earlier_maps (es ++ e ∷ []) m ≡ earlier_maps es (before_changes e m) ++ before_changes e m ∷ []
+earlier-push [] e m = refl
+earlier-push (x ∷ es) e m = rw (earlier-push es e m, first_push (earlier_maps es (before_changes e m)) (before_changes e m) m)
+
+-- without the first entries the first maps are gone
+earlier-drop : (k : ℕ) (es : List (List Change)) (m : Map) → earlier_maps (drop k es) m ≡ drop k (earlier_maps es m)
+earlier-drop zero es m = refl
+earlier-drop (suc k) [] m = refl
+earlier-drop (suc k) (e ∷ es) m = earlier-drop k es m
+
+-- an entry more, of which the last 32 are kept
+pub earlier-kept : (es es' : List (List Change)) (e : List Change) (capacity : ℕ) (m m' : Map) → es' ≡ keep_last capacity (es ++ e ∷ []) → capacity ≡ log_places → before_changes e m' ≡ m
+    → earlier_maps es' m' ≡ kept_after (earlier_maps es m) m
+earlier-kept es es' e capacity m m' kept places before =
+    let maps = earlier_maps es m ++ m ∷ [] in
+    let told : earlier_maps (es ++ e ∷ []) m' ≡ maps = earlier-push es e m' ∙ ap (λ (b : Map). earlier_maps es b ++ b ∷ []) before in
+    let lengths : length (es ++ e ∷ []) ≡ length maps = length_push es e ∙ sym (length_push (earlier_maps es m) m ∙ ap (λ (n : ℕ). n + 1) (length-earlier es m)) in
+    ap (λ (xs : List (List Change)). earlier_maps xs m') (kept ∙ ap (λ (n : ℕ). keep_last n (es ++ e ∷ [])) places)
+    ∙ earlier-drop (length (es ++ e ∷ []) - log_places) (es ++ e ∷ []) m'
+    ∙ ap (λ (n : ℕ). drop (n - log_places) (earlier_maps (es ++ e ∷ []) m')) lengths
+    ∙ ap (λ (xs : List Map). drop (length maps - log_places) xs) told
+
+-- a list and its last item
+pub last_split : {X : Type 0} (xs : List X) (x : X) → Some x ≡ last_item xs → xs ≡ take (length xs - 1) xs ++ x ∷ []
+last_split {X = X} xs x last =
+    let within = slice_get_within xs (length xs - 1) x (sym last) in
+    sym (take_all (length xs - 1 + 1) xs (omega arith)) ∙ take_more xs (length xs - 1) x within ∙ ap (λ (y : X). take (length xs - 1) xs ++ y ∷ []) (get_or_from_slice_get xs (length xs - 1) x x (sym last))
+
+some_or_none : {X : Type 0} (x : X) → ◌≡◌ {A = Option X} (Some x) None → ⊥
+some_or_none x e = cc
+
+-- a list without a last item is empty
+pub no_last : {X : Type 0} (xs : List X) → None ≡ last_item xs → xs ≡ []
+no_last [] last = refl
+no_last (x ∷ xs) last = let e = slice_get-get_or (x ∷ xs) (length (x ∷ xs) - 1) x (omega arith) in absurd (some_or_none (get_or (x ∷ xs) (length (x ∷ xs) - 1) x) (sym e ∙ sym last))
+
+-- the last item is one of the items
+pub last_of : {X : Type 0} (P : X → Type 0) (xs : List X) (x : X) → Some x ≡ last_item xs → All P xs → P x
+last_of P xs x last are = subst P (get_or_from_slice_get xs (length xs - 1) x x (sym last)) (are (length xs - 1) x (slice_get_within xs (length xs - 1) x (sym last)))
+
+-- without its last entry the log gives the maps before the one that the entry is undone to
+pub earlier-undone : (es es' : List (List Change)) (e : List Change) (m m' : Map) → Some e ≡ last_item es → es' ≡ take (length es - 1) es → m' ≡ before_changes e m → earlier_maps es m ≡ earlier_maps es' m' ++ m' ∷ []
+earlier-undone es es' e m m' last left is =
+    ap (λ (xs : List (List Change)). earlier_maps xs m) (last_split es e last ∙ ap (λ (xs : List (List Change)). xs ++ e ∷ []) (sym left)) ∙ earlier-push es' e m ∙ ap (λ (b : Map). earlier_maps es' b ++ b ∷ []) (sym is)
+
+-- and it is a log of that map
+pub log-undone : (log log' : Buffer (List Change)) (e : List Change) (m m' : Map) → IsLog m log → log' ≡ buffer (take (length log.items - 1) log.items) log.capacity → m' ≡ before_changes e m → IsLog m' log'
+log-undone log log' e m m' is left before = rw (left, before) (kind_stays (λ size type. IsLogIn size type (buffer (take (length log.items - 1) log.items) log.capacity)) e m (record {
+  places = is.places;
+  few = omega (arith, is.few, length-take {A = List Change});
+  each = All-take (AreChanges m) (length log.items - 1) log.items is.each;
+}))
+
+module _ {X : Type 0} where
+  -- the items before the last n, and the one that follows them
+  pub back_start : (xs : List X) (x : X) → xs ++ x ∷ [] ≡ take (length xs + 1 - 0) (xs ++ x ∷ [])
+  back_start xs x = sym (take_all (length xs + 1 - 0) (xs ++ x ∷ []) (omega (arith, length_push xs x)))
+
+  pub back_more : (all xs xs' : List X) (x x' : X) (n i : ℕ) → xs ++ x ∷ [] ≡ take (n + 1 - i) all → length xs + i ≡ n → xs ≡ xs' ++ x' ∷ [] → xs' ++ x' ∷ [] ≡ take (n + 1 - (i + 1)) all
+  back_more all xs xs' x x' n i so len split =
+      let e : n + 1 - (i + 1) ≡ length xs = omega (arith, len) in
+      sym split ∙ sym (take_at xs (x ∷ []) (length xs) refl) ∙ ap (take (length xs)) so ∙ take-take (length xs) (n + 1 - i) all (omega (arith, len)) ∙ ap (λ (k : ℕ). take k all) (sym e)
+
+  pub back_item : (xs ys : List X) (x y : X) (i : ℕ) → ys ++ y ∷ [] ≡ take (length xs + 1 - i) (xs ++ x ∷ []) → length ys + i ≡ length xs → y ≡ get_or (xs ++ x ∷ []) (length xs - i) x
+  back_item xs ys x y i so len =
+      let e : length xs - i ≡ length ys = omega (arith, len) in
+      sym (get_or_at ys y [] x (length xs - i) (sym e)) ∙ ap (λ (zs : List X). get_or zs (length xs - i) x) so ∙ get_or-take (length xs + 1 - i) (xs ++ x ∷ []) (length xs - i) x (omega (arith, len))
+
+  pub back_rest : (xs ys : List X) (x y : X) (i : ℕ) → ys ++ y ∷ [] ≡ take (length xs + 1 - i) (xs ++ x ∷ []) → length ys + i ≡ length xs → ys ≡ take (length xs - i) xs
+  back_rest xs ys x y i so len =
+      let e : length xs - i ≡ length ys = omega (arith, len) in
+      sym (take_at ys (y ∷ []) (length xs - i) (sym e)) ∙ ap (take (length xs - i)) so ∙ take-take (length xs - i) (length xs + 1 - i) (xs ++ x ∷ []) (omega (arith, len)) ∙ take-append-le (length xs - i) xs (x ∷ []) (omega (arith, len))

@@ -1,0 +1,73 @@
+use Rattle.std.proofs.Common.{◌≡◌, ◌≤◌, ℕ, ap, ◌∙◌, refl, arith, List, [], length, vec_len}
+use Rattle.std.proofs.lemmas.List.Elements.{All-nil}
+use Rattle.hd_map.specs.Map.{place_of, cell_count}
+use Rattle.hd_edit.specs.Change.{IsChange}
+use Rattle.hd_edit.specs.Stroke.{next_in}
+use Rattle.hd_edit.proofs.Rectangles.{stands_first, stands_next, next_later, stands_low}
+use Rattle.hd_edit.proofs.Draws.{drawn_first, drawn_next, drawn_fits, drawn_room, drawn_last, drawn_few}
+use Rattle.hd_edit.proofs.paint.stroke_points.Goals as goal
+
+pub loop-at-init : goal.loop-at-init
+loop-at-init g c = let m = g.G.Heights.map c.args.grid.now in record {
+  stands = stands_first m.size c.args.from c.args.to c.requires.rectangle;
+  drawn = rw (c.in_ok-notes.ensures.items, c.in_ok-notes.ensures.len) (drawn_first m c.args.from c.args.to c.args.stroke (g.met.G.Heights.whole c.args.grid.now) c.requires.rectangle [] refl (All-nil (IsChange m)));
+  capacity = c.in_ok-notes.ensures.exact;
+  origin = g.met.G.Grid.itself c.args.grid.now;
+  rises = omega arith;
+  few = omega arith;
+}
+
+pub touch_point-requires-clause-in_range : goal.touch_point-requires-clause-in_range
+touch_point-requires-clause-in_range g c =
+    let m = g.G.Heights.map c.args.grid.now in
+    drawn_fits m c.args.from c.args.to c.args.stroke (g.met.G.Heights.whole c.args.grid.now) c.requires.rectangle c.loop-at.at c.loop-at.invariant.stands c.loop-at-test.true (g.G.Heights.map c.loop-at.grid) c.loop-at.notes.items (vec_len c.loop-at.notes) c.loop-at.invariant.drawn c.requires.in_range
+
+pub touch_point-requires-clause-room : goal.touch_point-requires-clause-room
+touch_point-requires-clause-room g c =
+    let m = g.G.Heights.map c.args.grid.now in
+    rw (c.loop-at.invariant.capacity, c.requires.room) (drawn_room m c.args.from c.args.to c.args.stroke (g.met.G.Heights.whole c.args.grid.now) c.requires.rectangle c.loop-at.at c.loop-at.invariant.stands c.loop-at-test.true (g.G.Heights.map c.loop-at.grid) c.loop-at.notes.items (vec_len c.loop-at.notes) c.loop-at.invariant.drawn)
+
+pub loop-at-smaller : goal.loop-at-smaller
+loop-at-smaller g c =
+    let m = g.G.Heights.map c.args.grid.now in
+    let later = next_later m.size c.args.from c.args.to c.loop-at.at c.requires.rectangle c.loop-at.invariant.stands c.loop-at-test.true in
+    let stays = stands_low m.size c.args.from c.args.to c.loop-at.at c.requires.rectangle c.loop-at.invariant.stands in
+    let next : place_of m.size c.step-at.result ≡ place_of m.size (next_in c.args.from c.args.to c.loop-at.at) = ap (place_of m.size) c.step-at.ensures in
+    omega (arith, later, stays, next)
+
+pub loop-at-preserved : goal.loop-at-preserved
+loop-at-preserved g c =
+    let m = g.G.Heights.map c.args.grid.now in
+    record {
+      stands = rw c.step-at.ensures (stands_next m.size c.args.from c.args.to c.loop-at.at c.requires.rectangle c.loop-at.invariant.stands c.loop-at-test.true);
+      drawn = rw c.step-at.ensures (drawn_next m c.args.from c.args.to c.args.stroke (g.met.G.Heights.whole c.args.grid.now) c.requires.rectangle c.loop-at.at c.loop-at.invariant.stands c.loop-at-test.true
+          (g.G.Heights.map c.loop-at.grid) c.loop-at.notes.items (vec_len c.loop-at.notes) c.loop-at.invariant.drawn
+          (g.G.Heights.map c.touch_point.new.grid) c.touch_point.new.notes.items (vec_len c.touch_point.new.notes) c.touch_point.ensures.map c.touch_point.ensures.before c.touch_point.ensures.notes c.touch_point.ensures.len);
+      capacity = c.touch_point.ensures.capacity ∙ c.loop-at.invariant.capacity;
+      origin = g.met.G.Grid.onward c.args.grid.now c.loop-at.grid c.touch_point.new.grid c.loop-at.invariant.origin c.touch_point.ensures.origin;
+      rises = omega (arith, c.loop-at.invariant.rises, c.touch_point.ensures.rises);
+      few = omega (arith, c.loop-at.invariant.few, c.touch_point.ensures.count);
+    }
+
+pub returns-clause-map : goal.returns-clause-map
+returns-clause-map g c =
+    drawn_last (g.G.Heights.map c.args.grid.now) c.args.from c.args.to c.args.stroke (g.met.G.Heights.whole c.args.grid.now) c.requires.rectangle c.loop-at.at (g.G.Heights.map c.loop-at.grid) c.loop-at.notes.items (vec_len c.loop-at.notes) c.loop-at-test.false c.loop-at.invariant.drawn
+
+-- no more is noted than there are cells
+few_notes : {X : Type 0} (notes items : List X) (len count : ℕ) → notes ≡ items → len ≡ length items → len ≤ count → length notes ≤ count
+few_notes notes items len count same is few = rw (same, ← is) few
+
+pub returns-clause-notes : goal.returns-clause-notes
+returns-clause-notes g c =
+    let m = g.G.Heights.map c.args.grid.now in
+    let few = drawn_few m c.args.from c.args.to c.args.stroke (g.met.G.Heights.whole c.args.grid.now) c.requires.rectangle c.loop-at.at (g.G.Heights.map c.loop-at.grid) c.loop-at.notes.items (vec_len c.loop-at.notes) c.loop-at-test.false c.loop-at.invariant.drawn in
+    record {
+      each = rw c.from_vec.ensures c.loop-at.invariant.drawn.notes_are;
+      few = few_notes c.from_vec.result c.loop-at.notes.items (vec_len c.loop-at.notes) (cell_count m.size) c.from_vec.ensures c.loop-at.notes.ok.0 few;
+    }
+
+pub returns-clause-count : goal.returns-clause-count
+returns-clause-count g c =
+    let m = g.G.Heights.map c.args.grid.now in
+    let few = drawn_few m c.args.from c.args.to c.args.stroke (g.met.G.Heights.whole c.args.grid.now) c.requires.rectangle c.loop-at.at (g.G.Heights.map c.loop-at.grid) c.loop-at.notes.items (vec_len c.loop-at.notes) c.loop-at-test.false c.loop-at.invariant.drawn in
+    (c.loop-at.invariant.rises, omega (arith, c.loop-at.invariant.few, few))

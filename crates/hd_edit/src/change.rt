@@ -1,0 +1,94 @@
+// What a cell or a mask was before it was changed.
+ghost use Rattle.std.specs.Prelude.{◌≡◌, ◌<◌, ◌≤◌, ◌+◌, ◌^◌, length};
+ghost use Rattle.hd_map.specs.Map.{InGrid, IsCellOf};
+ghost use Rattle.hd_map.specs.Sets.{with_cell, with_mask};
+ghost use Rattle.hd_edit.specs.Board.{RisesUpTo};
+ghost use Rattle.hd_edit.specs.Change.{was_cell, IsChange, AreChanges, with_was, before_changes};
+
+use hd_base::List;
+use hd_map::{Cell, Grid, Heights, Pos, position_of};
+
+/// What stood at a point before it was changed.
+#[derive(Clone, Copy, Debug)]
+pub enum Was {
+    /// The cell was this height.
+    Height(i64),
+    /// The cell was not measured.
+    Bad,
+    /// The mask was this one.
+    Mask(bool),
+}
+
+/// A change of one cell or mask, by what it was. It takes 24 bytes.
+#[derive(Clone, Copy, Debug)]
+pub struct Change {
+    /// The index of the point.
+    pub index: u32,
+    /// What stood there.
+    pub was: Was,
+}
+
+const _: () = prove!(size_of::<Change>() <= 24);
+
+/// What a cell was.
+pub fn was_of(cell: Cell) -> Was
+    ensures { result ≡ was_cell cell }
+{
+    match cell {
+        Cell::Height(height) => Was::Height(height),
+        Cell::Bad => Was::Bad,
+    }
+}
+
+// Sets a cell that the grid can have.
+pub fn put_cell<G: Grid>(grid: &mut G, at: Pos, cell: Cell)
+    requires in_grid { InGrid (G.map grid.old).size at }
+    requires in_range { IsCellOf (G.map grid.old).data_type cell }
+    requires count { G.changes grid.old < 2 ^ 63 }
+    ensures map { G.map grid.new ≡ with_cell (G.map grid.old) at cell }
+    ensures origin { G.comes_from grid.old grid.new }
+    ensures count { RisesUpTo 1 (G.changes grid.old) (G.changes grid.new) }
+{
+    let _ = grid.set_cell(at, cell);
+}
+
+// Sets a mask.
+pub fn put_mask<G: Grid>(grid: &mut G, at: Pos, masked: bool)
+    requires in_grid { InGrid (G.map grid.old).size at }
+    requires count { G.changes grid.old < 2 ^ 63 }
+    ensures map { G.map grid.new ≡ with_mask (G.map grid.old) at masked }
+    ensures origin { G.comes_from grid.old grid.new }
+    ensures count { RisesUpTo 1 (G.changes grid.old) (G.changes grid.new) }
+{
+    let _ = grid.set_mask(at, masked);
+}
+
+// Puts back what stood at a point.
+fn put_was<G: Grid>(grid: &mut G, change: Change)
+    requires change { IsChange (G.map grid.old) change }
+    requires count { G.changes grid.old < 2 ^ 63 }
+    ensures map { G.map grid.new ≡ with_was change.was change.index (G.map grid.old) }
+    ensures origin { G.comes_from grid.old grid.new }
+    ensures count { RisesUpTo 1 (G.changes grid.old) (G.changes grid.new) }
+{
+    let at = position_of(grid.size(), change.index);
+    match change.was {
+        Was::Height(height) => put_cell(grid, at, Cell::Height(height)),
+        Was::Bad => put_cell(grid, at, Cell::Bad),
+        Was::Mask(masked) => put_mask(grid, at, masked),
+    }
+}
+
+/// Undoes the changes of an edit, the last first.
+pub fn put_back<G: Grid>(grid: &mut G, changes: List<Change>)
+    requires changes { AreChanges (G.map grid.old) changes }
+    requires count { G.changes grid.old + length changes < 2 ^ 63 }
+    ensures map { G.map grid.new ≡ before_changes changes (G.map grid.old) }
+    ensures origin { G.comes_from grid.old grid.new }
+    ensures count { RisesUpTo (length changes) (G.changes grid.old) (G.changes grid.new) }
+{
+    let mut left = changes.into_vec();
+    while let Some(change) = left.pop() {
+        put_was(grid, change);
+    }
+}

@@ -1,0 +1,80 @@
+// An edit of a grid, and what it changed.
+ghost use Rattle.std.specs.Prelude.{◌≡◌, ◌<◌, ◌≤◌, ◌+◌, ◌^◌, MatchResult, IfOk, OnErr, Ok, Some, None};
+ghost use Rattle.hd_map.specs.Map.{cell_count};
+ghost use Rattle.hd_edit.specs.Edit.{edited, rectangle_refusal};
+ghost use Rattle.hd_edit.specs.Board.{IsRefusalBy, RisesUpTo};
+ghost use Rattle.hd_edit.specs.Change.{AreChanges, before_changes};
+ghost use Rattle.hd_edit.specs.Stroke.{IsRectangle, first_corner, second_corner, stroke_of};
+
+use crate::change::Change;
+use crate::paint::{count_changes, stroke_points};
+use crate::stroke::Stroke;
+use crate::{Edit, EditError};
+use hd_base::{List, Memory};
+use hd_map::{Cell, Grid, Heights, Pos, Size, contains};
+use std::alloc::Global;
+
+// The corners of an edit's rectangle, and what it makes of each point of it.
+fn parts_of(edit: &Edit) -> (Pos, Pos, Stroke)
+    ensures first { result.0 ≡ first_corner edit.now }
+    ensures second { result.1 ≡ second_corner edit.now }
+    ensures stroke { result.2 ≡ stroke_of edit.now }
+{
+    match edit {
+        Edit::Set { at, z } => (*at, *at, Stroke::Put(Cell::Height(*z))),
+        Edit::Bad { at } => (*at, *at, Stroke::Put(Cell::Bad)),
+        Edit::Add { from, to, delta } => (*from, *to, Stroke::Raise(*delta)),
+        Edit::Mask { from, to } => (*from, *to, Stroke::Mask(true)),
+        Edit::Unmask { from, to } => (*from, *to, Stroke::Mask(false)),
+    }
+}
+
+// Whether two corners are those of a rectangle in a grid of this size.
+fn check_rectangle(size: Size, from: Pos, to: Pos) -> Result<(), EditError>
+    ensures { let refusal = rectangle_refusal size from to in
+        MatchResult result (λ _. IsRectangle size from to × (refusal ≡ None)) (λ error. refusal ≡ Some error) }
+{
+    if !contains(size, from) {
+        return Err(EditError::Outside(from));
+    }
+    if !contains(size, to) {
+        return Err(EditError::Outside(to));
+    }
+    if to.x < from.x || to.y < from.y {
+        return Err(EditError::EmptyRect);
+    }
+    Ok(())
+}
+
+/// Makes an edit, and tells what it changed. Its memory is taken before anything is changed.
+pub fn make<G: Grid>(alloc: Global, grid: &mut G, edit: &Edit) -> Result<List<Change>, EditError>
+    requires { G.changes grid.old < 2 ^ 62 }
+    ensures edit { let outcome = edited (G.map grid.old) edit.now in
+        MatchResult result (λ _. outcome ≡ Ok (G.map grid.new)) (IsRefusalBy outcome) }
+    ensures refused { OnErr result (grid.new ≡ grid.old) }
+    ensures before { IfOk result (λ changes. before_changes changes (G.map grid.new) ≡ G.map grid.old) }
+    ensures changes { IfOk result (AreChanges (G.map grid.new)) }
+    ensures size { (G.map grid.new).size ≡ (G.map grid.old).size }
+    ensures data_type { (G.map grid.new).data_type ≡ (G.map grid.old).data_type }
+    ensures origin { G.comes_from grid.old grid.new }
+    ensures count { RisesUpTo (cell_count (G.map grid.old).size) (G.changes grid.old) (G.changes grid.new) }
+{
+    let (from, to, stroke) = parts_of(edit);
+    check_rectangle(grid.size(), from, to)?;
+    let count = match count_changes(grid, from, to, stroke) {
+        Ok(count) => count,
+        Err(at) => return Err(EditError::HeightRange(at)),
+    };
+    let changes = stroke_points(alloc, grid, from, to, stroke, count)?;
+    Ok(changes)
+}
+
+impl From<Memory> for EditError {
+    ghost use Rattle.hd_edit.specs.declared.edit.EditError.TheVariants as error;
+
+    ghost from_gives = { λ memory refusal. refusal ≡ error.Memory };
+
+    fn from(_: Memory) -> Self {
+        EditError::Memory
+    }
+}
