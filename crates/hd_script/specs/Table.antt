@@ -1,50 +1,35 @@
 -- The table of the commands.
-use Rattle.std.specs.Prelude.{ℕ, Bool, true, false, List, [], ◌∷◌, Option, Some, None, is_some, codes, if◌then◌else◌}
+use Rattle.std.specs.Prelude.{ℕ, List, [], ◌∷◌, codes, Result, Err, if◌then◌else◌}
 use Rattle.std.specs.Str.{bytes_eq}
-use Rattle.hd_num.specs.declared.whole.Whole.{Whole}
-use Rattle.hd_num.specs.declared.whole.Whole.TheVariants as whole
-use Rattle.hd_num.specs.Whole.{count_of, whole_of}
-use Rattle.hd_script.specs.declared.table.Kind.{Kind}
-use Rattle.hd_script.specs.declared.table.Kind.TheVariants.{Count, Whole as WholeNumber}
-use Rattle.hd_script.specs.declared.table.Verb.{Verb}
-use Rattle.hd_script.specs.declared.table.Verb.TheVariants.{Set, Bad, Dales}
+use Rattle.hd_script.specs.declared.command.Command.{Command}
+use Rattle.hd_script.specs.declared.command.Command.TheVariants.{Dales, Hills}
+use Rattle.hd_script.specs.declared.command.LineError.{LineError}
+use Rattle.hd_script.specs.declared.command.LineError.TheVariants.{UnknownCommand}
+use Rattle.hd_script.specs.Rows.{Reading, no_words, set_words, bad_words, add_words, mask_words, unmask_words, undo_words, label_words, tree_words}
 
--- what a command makes, and the kinds of the words after its name
-pub record Form : Type 0 where
-  pub verb : Verb
-  pub kinds : List Kind
-
--- a row of the table: the name of a command, and its form
+-- a row of the table: the name of a command, and what the words after it give
 pub record Row : Type 0 where
   pub name : List ℕ
-  pub form : Form
+  pub reading : Reading
 
-abbrev pub row : List ℕ → Verb → List Kind → Row
-row name verb kinds = record { name = name; form = record { verb = verb; kinds = kinds } }
+abbrev pub row : List ℕ → Reading → Row
+row name reading = record { name = name; reading = reading }
 
 -- the commands
 abbrev pub commands : List Row
-commands = row (codes "set") Set (Count ∷ Count ∷ WholeNumber ∷ [])
-    ∷ row (codes "bad") Bad (Count ∷ Count ∷ [])
-    ∷ row (codes "dales") Dales []
+commands = row (codes "set") set_words
+    ∷ row (codes "bad") bad_words
+    ∷ row (codes "add") add_words
+    ∷ row (codes "mask") mask_words
+    ∷ row (codes "unmask") unmask_words
+    ∷ row (codes "undo") undo_words
+    ∷ row (codes "dales") (no_words Dales)
+    ∷ row (codes "hills") (no_words Hills)
+    ∷ row (codes "label") label_words
+    ∷ row (codes "tree") tree_words
     ∷ []
 
--- the form of the first command of this name
-abbrev pub form_among : List Row → List ℕ → Option Form
-form_among [] name = None
-form_among (first ∷ more) name = if bytes_eq name first.name then Some first.form else form_among more name
-
--- the form of the command of this name
-abbrev pub form_of : List ℕ → Option Form
-form_of name = form_among commands name
-
--- whether this is a whole number that fits i64
-abbrev pub is_whole : Whole → Bool
-is_whole (whole.Is z) = true
-is_whole whole.Not = false
-is_whole whole.Outside = false
-
--- whether a word has the form of a kind
-abbrev pub has_form : Kind → List ℕ → Bool
-has_form Count word = is_some (count_of word)
-has_form WholeNumber word = is_whole (whole_of word)
+-- what the words after a name give, by the first row of that name
+abbrev pub read_by : List Row → List ℕ → Reading
+read_by [] name words = Err UnknownCommand
+read_by (first ∷ more) name words = if bytes_eq name first.name then first.reading words else read_by more name words

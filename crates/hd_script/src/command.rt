@@ -4,15 +4,24 @@ ghost use Rattle.hd_script.specs.declared.command.LineError.TheVariants.{Memory 
 
 use hd_base::Memory;
 use hd_edit::Edit;
+use hd_map::{Pos, SideName};
 use thiserror::Error;
 
 /// What a line of a script asks for.
-#[derive(Clone, Copy, Debug, PartialEq, Eq)]
+#[derive(Debug, Drop)]
 pub enum Command {
     /// An edit of the map.
     Do(Edit),
+    /// To go back over this many edits.
+    Undo(u64),
     /// The list of the dales.
     Dales,
+    /// The list of the hills.
+    Hills,
+    /// The pit in whose region of a side a point lies.
+    Label { side: SideName, at: Pos },
+    /// The change tree of a side.
+    Tree { side: SideName },
 }
 
 /// Why a line was refused. `LineTooLong` is tried first, and then the others in the order in which

@@ -3,9 +3,10 @@
 
 mod command;
 mod line;
-mod table;
+mod rows;
 #[cfg(test)]
 mod tests;
+mod words;
 
 pub use command::{Command, LineError};
 pub use line::read_line;

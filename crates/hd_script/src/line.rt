@@ -1,17 +1,20 @@
 // The command of a line.
-ghost use Rattle.std.specs.Prelude.{◌≡◌, ◌⊎◌, ◌<◌, ◌^◌, All, length, map};
+ghost use Rattle.std.specs.Prelude.{◌≡◌, ◌⊎◌, Err, All, map};
 ghost use Rattle.hd_num.specs.Span.{IsPart, text_at};
-ghost use Rattle.hd_script.specs.Line.{answer_of, command_of, count_at, first_bad, is_comment, pos_at, script_line, whole_at};
+ghost use Rattle.hd_script.specs.Line.{is_comment, script_line, words_give};
+ghost use Rattle.hd_script.specs.Table.{commands, read_by};
 
-use crate::table::{Kind, Verb, form_of, is_of};
+use crate::rows::{
+    add_words, bad_words, label_words, mask_words, no_words, set_words, tree_words, undo_words,
+    unmask_words,
+};
+use crate::words::text;
 use crate::{Command, LineError};
-use hd_edit::Edit;
-use hd_map::Pos;
-use hd_num::{Span, Whole, read_count, read_whole, split_words};
+use hd_num::{Span, split_words};
 use std::alloc::Global;
 
 // The greatest number of bytes of a line.
-const LIMIT: usize = 4096;
+const LONGEST_LINE: usize = 4096;
 
 /// Reads a line of a script, without its line feed. None comes exactly where the line is skipped:
 /// it has no words, or its first word begins with `;`.
@@ -24,35 +27,27 @@ const LIMIT: usize = 4096;
 pub fn read_line(alloc: Global, line: &[u8]) -> Result<Option<Command>, LineError>
     ensures { (result ≡ Err LineError.Memory) ⊎ (result ≡ script_line line.now) }
 {
-    if line.len() > LIMIT {
+    if line.len() > LONGEST_LINE {
         return Err(LineError::LineTooLong);
     }
     let words = split_words(alloc, line)?;
-    answer(line, words.as_slice())
+    read_words(line, words.as_slice())
 }
 
-// The answer to the words of a line.
-fn answer(line: &[u8], words: &[Span]) -> Result<Option<Command>, LineError>
+// What the words of a line give.
+fn read_words(line: &[u8], words: &[Span]) -> Result<Option<Command>, LineError>
     requires { All (IsPart line.now) words.now }
-    ensures { result ≡ answer_of (map (text_at line.now) words.now) }
+    ensures { result ≡ words_give (map (text_at line.now) words.now) }
 {
-    let [first, rest @ ..] = words else {
+    let [name, words @ ..] = words else {
         return Ok(None);
     };
-    let name = text(line, *first);
+    let name = text(line, *name);
     if begins_comment(name) {
         return Ok(None);
     }
-    let Some(form) = form_of(name) else {
-        return Err(LineError::UnknownCommand);
-    };
-    if rest.len() != form.kinds.len() {
-        return Err(LineError::WordCount);
-    }
-    match bad_word(line, form.kinds, rest) {
-        Some(number) => Err(LineError::BadWord(number)),
-        None => Ok(Some(command(line, form.verb, rest))),
-    }
+    let command = read_command(name, line, words)?;
+    Ok(Some(command))
 }
 
 // Whether a word begins with `;`.
@@ -62,79 +57,32 @@ fn begins_comment(word: &[u8]) -> bool
     matches!(word, [b';', ..])
 }
 
-// The number of the first word that has not its form, the first of these being word 2.
-fn bad_word(line: &[u8], kinds: &[Kind], words: &[Span]) -> Option<u32>
-    requires parts { All (IsPart line.now) words.now }
-    requires count { length words.now ≡ length kinds.now }
-    requires few { length kinds.now < 2 ^ 16 }
-    ensures { result ≡ first_bad 2 kinds.now (map (text_at line.now) words.now) }
-{
-    for (index, kind) in kinds.iter().enumerate() {
-        if !is_of(*kind, text(line, words[index])) {
-            return Some(index as u32 + 2);
-        }
-    }
-    None
-}
-
-// The command that the words after its name make.
-fn command(line: &[u8], verb: Verb, words: &[Span]) -> Command
+// The command that the words after a name make.
+fn read_command(name: &[u8], line: &[u8], words: &[Span]) -> Result<Command, LineError>
     requires { All (IsPart line.now) words.now }
-    ensures { result ≡ command_of verb (map (text_at line.now) words.now) }
+    ensures { result ≡ read_by commands name.now (map (text_at line.now) words.now) }
 {
-    match verb {
-        Verb::Set => Command::Do(Edit::Set {
-            at: position(line, words, 0),
-            z: whole(line, words, 2),
-        }),
-        Verb::Bad => Command::Do(Edit::Bad {
-            at: position(line, words, 0),
-        }),
-        Verb::Dales => Command::Dales,
+    if name == b"set".as_slice() {
+        set_words(line, words)
+    } else if name == b"bad".as_slice() {
+        bad_words(line, words)
+    } else if name == b"add".as_slice() {
+        add_words(line, words)
+    } else if name == b"mask".as_slice() {
+        mask_words(line, words)
+    } else if name == b"unmask".as_slice() {
+        unmask_words(line, words)
+    } else if name == b"undo".as_slice() {
+        undo_words(line, words)
+    } else if name == b"dales".as_slice() {
+        no_words(line, words, Command::Dales)
+    } else if name == b"hills".as_slice() {
+        no_words(line, words, Command::Hills)
+    } else if name == b"label".as_slice() {
+        label_words(line, words)
+    } else if name == b"tree".as_slice() {
+        tree_words(line, words)
+    } else {
+        Err(LineError::UnknownCommand)
     }
-}
-
-// The position whose column is the word at an index, and whose profile is the next one.
-fn position(line: &[u8], words: &[Span], index: usize) -> Pos
-    requires parts { All (IsPart line.now) words.now }
-    requires index { index < 2 ^ 32 }
-    ensures { result ≡ pos_at (map (text_at line.now) words.now) index }
-{
-    Pos {
-        x: count(line, words, index),
-        y: count(line, words, index + 1),
-    }
-}
-
-// The count at an index, or 0 where none is there.
-fn count(line: &[u8], words: &[Span], index: usize) -> u32
-    requires { All (IsPart line.now) words.now }
-    ensures { result ≡ count_at (map (text_at line.now) words.now) index }
-{
-    match words.get(index) {
-        Some(word) => read_count(text(line, *word)).unwrap_or(0),
-        None => 0,
-    }
-}
-
-// The whole number at an index, or 0 where none is there.
-fn whole(line: &[u8], words: &[Span], index: usize) -> i64
-    requires { All (IsPart line.now) words.now }
-    ensures { result ≡ whole_at (map (text_at line.now) words.now) index }
-{
-    let Some(word) = words.get(index) else {
-        return 0;
-    };
-    match read_whole(text(line, *word)) {
-        Whole::Is(z) => z,
-        Whole::Not | Whole::Outside => 0,
-    }
-}
-
-// The bytes of a word.
-fn text(line: &[u8], word: Span) -> &[u8]
-    requires { IsPart line.now word }
-    ensures { result.now ≡ text_at line.now word }
-{
-    &line[word.start..word.end]
 }

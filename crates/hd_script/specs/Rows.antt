@@ -1,0 +1,57 @@
+-- The command that the words after each name make, word 2 being the first of them.
+use Rattle.std.specs.Prelude.{ℕ, List, [], ◌∷◌, Result, Ok, Err}
+use Rattle.hd_edit.specs.declared.edit.Edit.TheVariants.{Set, Bad, Add, Mask, Unmask}
+use Rattle.hd_script.specs.declared.command.Command.{Command}
+use Rattle.hd_script.specs.declared.command.Command.TheVariants.{Do, Undo, Label, Tree}
+use Rattle.hd_script.specs.declared.command.LineError.{LineError}
+use Rattle.hd_script.specs.declared.command.LineError.TheVariants.{WordCount}
+use Rattle.hd_script.specs.Words.{and_then, count_word, whole_word, side_word, position_words, corner_words}
+
+-- what the words after a name give
+abbrev pub Reading : Type 0
+Reading = List (List ℕ) → Result Command LineError
+
+-- a command with no words after its name
+abbrev pub no_words : Command → Reading
+no_words command [] = Ok command
+no_words command words = Err WordCount
+
+-- `set X Y Z`
+abbrev pub set_words : Reading
+set_words (x ∷ y ∷ z ∷ []) = and_then (position_words 2 x y) (λ at. and_then (whole_word 4 z) (λ height. Ok (Do (Set at height))))
+set_words words = Err WordCount
+
+-- `bad X Y`
+abbrev pub bad_words : Reading
+bad_words (x ∷ y ∷ []) = and_then (position_words 2 x y) (λ at. Ok (Do (Bad at)))
+bad_words words = Err WordCount
+
+-- `add X0 Y0 X1 Y1 D`
+abbrev pub add_words : Reading
+add_words (x ∷ y ∷ x' ∷ y' ∷ d ∷ []) = and_then (corner_words x y x' y') (λ corners. and_then (whole_word 6 d) (λ delta. Ok (Do (Add corners.0 corners.1 delta))))
+add_words words = Err WordCount
+
+-- `mask X0 Y0 X1 Y1`
+abbrev pub mask_words : Reading
+mask_words (x ∷ y ∷ x' ∷ y' ∷ []) = and_then (corner_words x y x' y') (λ corners. Ok (Do (Mask corners.0 corners.1)))
+mask_words words = Err WordCount
+
+-- `unmask X0 Y0 X1 Y1`
+abbrev pub unmask_words : Reading
+unmask_words (x ∷ y ∷ x' ∷ y' ∷ []) = and_then (corner_words x y x' y') (λ corners. Ok (Do (Unmask corners.0 corners.1)))
+unmask_words words = Err WordCount
+
+-- `undo K`
+abbrev pub undo_words : Reading
+undo_words (k ∷ []) = and_then (count_word 2 k) (λ count. Ok (Undo count))
+undo_words words = Err WordCount
+
+-- `label S X Y`
+abbrev pub label_words : Reading
+label_words (side ∷ x ∷ y ∷ []) = and_then (side_word 2 side) (λ name. and_then (position_words 3 x y) (λ at. Ok (Label name at)))
+label_words words = Err WordCount
+
+-- `tree S`
+abbrev pub tree_words : Reading
+tree_words (side ∷ []) = and_then (side_word 2 side) (λ name. Ok (Tree name))
+tree_words words = Err WordCount

@@ -1,0 +1,50 @@
+-- What the words of a line write, or the first of them that has not its form.
+use Rattle.std.specs.Prelude.{◌+◌, ◌==◌, ◌&&◌, ◌||◌, ◌≡◌, ℕ, ℤ, pos, negsuc, Bool, nat_le, nat_lt, int_le, List, [], ◌∷◌, length, codes, Option, Some, None, Result, Ok, Err, if◌then◌else◌}
+use Rattle.std.specs.Char.{is_ascii_alphanumeric}
+use Rattle.std.specs.List.{list_all}
+use Rattle.std.specs.Str.{bytes_eq}
+use Rattle.hd_map.specs.declared.types.Pos.{Pos}
+use Rattle.hd_map.specs.declared.types.SideName.{SideName}
+use Rattle.hd_map.specs.declared.types.SideName.TheVariants.{Dales, Hills}
+use Rattle.hd_num.specs.declared.whole.Whole.{Whole}
+use Rattle.hd_num.specs.declared.whole.Whole.TheVariants as whole
+use Rattle.hd_num.specs.Whole.{count_of, whole_of}
+use Rattle.hd_script.specs.declared.command.LineError.{LineError}
+use Rattle.hd_script.specs.declared.command.LineError.TheVariants.{BadWord}
+
+-- what is made of what was read, or the refusal of what was not
+abbrev pub and_then : {A B : Type 0} → Result A LineError → (A → Result B LineError) → Result B LineError
+and_then (Ok x) make = make x
+and_then (Err error) make = Err error
+
+-- what the word of a number writes, or that it has not its form
+abbrev pub read_or_bad : {A : Type 0} → ℕ → Option A → Result A LineError
+read_or_bad number (Some x) = Ok x
+read_or_bad number None = Err (BadWord number)
+
+-- a whole number that fits i64
+abbrev pub fitting : Whole → Option ℤ
+fitting (whole.Is z) = Some z
+fitting whole.Not = None
+fitting whole.Outside = None
+
+-- `D` or `H`
+abbrev pub side_of : List ℕ → Option SideName
+side_of word = if bytes_eq word (codes "D") then Some Dales else if bytes_eq word (codes "H") then Some Hills else None
+
+abbrev pub count_word : ℕ → List ℕ → Result ℕ LineError
+count_word number word = read_or_bad number (count_of word)
+
+abbrev pub whole_word : ℕ → List ℕ → Result ℤ LineError
+whole_word number word = read_or_bad number (fitting (whole_of word))
+
+abbrev pub side_word : ℕ → List ℕ → Result SideName LineError
+side_word number word = read_or_bad number (side_of word)
+
+-- a column and a profile, the column being the word of the number
+abbrev pub position_words : ℕ → List ℕ → List ℕ → Result Pos LineError
+position_words number x y = and_then (count_word number x) (λ column. and_then (count_word (number + 1) y) (λ profile. Ok (record { x = column; y = profile })))
+
+-- the two corners of a rectangle, the first column being word 2
+abbrev pub corner_words : List ℕ → List ℕ → List ℕ → List ℕ → Result (Pos × Pos) LineError
+corner_words x y x' y' = and_then (position_words 2 x y) (λ from. and_then (position_words 4 x' y') (λ to. Ok (from, to)))

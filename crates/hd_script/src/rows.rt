@@ -1,0 +1,138 @@
+// The commands that the words after each name make.
+ghost use Rattle.std.specs.Prelude.{◌≡◌, ◌∷◌, [], All, map};
+ghost use Rattle.hd_num.specs.Span.{IsPart, text_at};
+ghost use Rattle.hd_script.specs.Rows.{add_words, bad_words, label_words, mask_words, no_words, set_words, tree_words, undo_words, unmask_words};
+
+use crate::words::{corner_words, count_word, position_words, side_word, text, whole_word};
+use crate::{Command, LineError};
+use hd_edit::Edit;
+use hd_num::Span;
+
+/// A command with no words after its name.
+pub fn no_words(line: &[u8], words: &[Span], command: Command) -> Result<Command, LineError>
+    ensures { result ≡ no_words command (map (text_at line.now) words.now) }
+{
+    if words.is_empty() {
+        Ok(command)
+    } else {
+        Err(LineError::WordCount)
+    }
+}
+
+/// `set X Y Z`.
+pub fn set_words(line: &[u8], words: &[Span]) -> Result<Command, LineError>
+    requires { All (IsPart line.now) words.now }
+    ensures { result ≡ set_words (map (text_at line.now) words.now) }
+{
+    let [x, y, z] = words else {
+        return Err(LineError::WordCount);
+    };
+    let at = position_words(2, text(line, *x), text(line, *y))?;
+    let z = whole_word(4, text(line, *z))?;
+    Ok(Command::Do(Edit::Set { at, z }))
+}
+
+/// `bad X Y`.
+pub fn bad_words(line: &[u8], words: &[Span]) -> Result<Command, LineError>
+    requires { All (IsPart line.now) words.now }
+    ensures { result ≡ bad_words (map (text_at line.now) words.now) }
+{
+    let [x, y] = words else {
+        return Err(LineError::WordCount);
+    };
+    let at = position_words(2, text(line, *x), text(line, *y))?;
+    Ok(Command::Do(Edit::Bad { at }))
+}
+
+/// `add X0 Y0 X1 Y1 D`.
+pub fn add_words(line: &[u8], words: &[Span]) -> Result<Command, LineError>
+    requires { All (IsPart line.now) words.now }
+    ensures { result ≡ add_words (map (text_at line.now) words.now) }
+{
+    let [x, y, other_x, other_y, delta] = words else {
+        return Err(LineError::WordCount);
+    };
+    let (x, y) = (text(line, *x), text(line, *y));
+    let (other_x, other_y) = (text(line, *other_x), text(line, *other_y));
+    add_command(x, y, other_x, other_y, text(line, *delta))
+}
+
+// The command of the five words after `add`.
+fn add_command(
+    x: &[u8],
+    y: &[u8],
+    other_x: &[u8],
+    other_y: &[u8],
+    delta: &[u8],
+) -> Result<Command, LineError>
+    ensures { result ≡ add_words (x.now ∷ y.now ∷ other_x.now ∷ other_y.now ∷ delta.now ∷ []) }
+{
+    let (from, to) = corner_words(x, y, other_x, other_y)?;
+    let delta = whole_word(6, delta)?;
+    Ok(Command::Do(Edit::Add { from, to, delta }))
+}
+
+/// `mask X0 Y0 X1 Y1`.
+pub fn mask_words(line: &[u8], words: &[Span]) -> Result<Command, LineError>
+    requires { All (IsPart line.now) words.now }
+    ensures { result ≡ mask_words (map (text_at line.now) words.now) }
+{
+    let [x, y, other_x, other_y] = words else {
+        return Err(LineError::WordCount);
+    };
+    let (x, y) = (text(line, *x), text(line, *y));
+    let (other_x, other_y) = (text(line, *other_x), text(line, *other_y));
+    let (from, to) = corner_words(x, y, other_x, other_y)?;
+    Ok(Command::Do(Edit::Mask { from, to }))
+}
+
+/// `unmask X0 Y0 X1 Y1`.
+pub fn unmask_words(line: &[u8], words: &[Span]) -> Result<Command, LineError>
+    requires { All (IsPart line.now) words.now }
+    ensures { result ≡ unmask_words (map (text_at line.now) words.now) }
+{
+    let [x, y, other_x, other_y] = words else {
+        return Err(LineError::WordCount);
+    };
+    let (x, y) = (text(line, *x), text(line, *y));
+    let (other_x, other_y) = (text(line, *other_x), text(line, *other_y));
+    let (from, to) = corner_words(x, y, other_x, other_y)?;
+    Ok(Command::Do(Edit::Unmask { from, to }))
+}
+
+/// `undo K`.
+pub fn undo_words(line: &[u8], words: &[Span]) -> Result<Command, LineError>
+    requires { All (IsPart line.now) words.now }
+    ensures { result ≡ undo_words (map (text_at line.now) words.now) }
+{
+    let [count] = words else {
+        return Err(LineError::WordCount);
+    };
+    let count = count_word(2, text(line, *count))?;
+    Ok(Command::Undo(u64::from(count)))
+}
+
+/// `label S X Y`.
+pub fn label_words(line: &[u8], words: &[Span]) -> Result<Command, LineError>
+    requires { All (IsPart line.now) words.now }
+    ensures { result ≡ label_words (map (text_at line.now) words.now) }
+{
+    let [side, x, y] = words else {
+        return Err(LineError::WordCount);
+    };
+    let side = side_word(2, text(line, *side))?;
+    let at = position_words(3, text(line, *x), text(line, *y))?;
+    Ok(Command::Label { side, at })
+}
+
+/// `tree S`.
+pub fn tree_words(line: &[u8], words: &[Span]) -> Result<Command, LineError>
+    requires { All (IsPart line.now) words.now }
+    ensures { result ≡ tree_words (map (text_at line.now) words.now) }
+{
+    let [side] = words else {
+        return Err(LineError::WordCount);
+    };
+    let side = side_word(2, text(line, *side))?;
+    Ok(Command::Tree { side })
+}

@@ -1,0 +1,71 @@
+// What the words of a line write.
+ghost use Rattle.std.specs.Prelude.{◌≡◌, ◌<◌, ◌^◌};
+ghost use Rattle.hd_num.specs.Span.{IsPart, text_at};
+ghost use Rattle.hd_script.specs.Words.{corner_words, count_word, position_words, side_word, whole_word};
+
+use crate::LineError;
+use hd_map::{Pos, SideName};
+use hd_num::{Span, Whole, read_count, read_whole};
+
+/// The bytes of a word.
+pub fn text(line: &[u8], word: Span) -> &[u8]
+    requires { IsPart line.now word }
+    ensures { result.now ≡ text_at line.now word }
+{
+    &line[word.start..word.end]
+}
+
+/// The count that the word of a number writes.
+pub fn count_word(number: u32, word: &[u8]) -> Result<u32, LineError>
+    ensures { result ≡ count_word number word.now }
+{
+    match read_count(word) {
+        Some(count) => Ok(count),
+        None => Err(LineError::BadWord(number)),
+    }
+}
+
+/// The whole number that the word of a number writes.
+pub fn whole_word(number: u32, word: &[u8]) -> Result<i64, LineError>
+    ensures { result ≡ whole_word number word.now }
+{
+    match read_whole(word) {
+        Whole::Is(z) => Ok(z),
+        Whole::Not | Whole::Outside => Err(LineError::BadWord(number)),
+    }
+}
+
+/// The side that the word of a number names.
+pub fn side_word(number: u32, word: &[u8]) -> Result<SideName, LineError>
+    ensures { result ≡ side_word number word.now }
+{
+    match word {
+        b"D" => Ok(SideName::Dales),
+        b"H" => Ok(SideName::Hills),
+        _ => Err(LineError::BadWord(number)),
+    }
+}
+
+/// The position whose column is the word of a number, and whose profile is the next word.
+pub fn position_words(number: u32, x: &[u8], y: &[u8]) -> Result<Pos, LineError>
+    requires { number < 2 ^ 16 }
+    ensures { result ≡ position_words number x.now y.now }
+{
+    let x = count_word(number, x)?;
+    let y = count_word(number + 1, y)?;
+    Ok(Pos { x, y })
+}
+
+/// The two corners of a rectangle, the first column being word 2.
+pub fn corner_words(
+    x: &[u8],
+    y: &[u8],
+    other_x: &[u8],
+    other_y: &[u8],
+) -> Result<(Pos, Pos), LineError>
+    ensures { result ≡ corner_words x.now y.now other_x.now other_y.now }
+{
+    let from = position_words(2, x, y)?;
+    let to = position_words(4, other_x, other_y)?;
+    Ok((from, to))
+}
