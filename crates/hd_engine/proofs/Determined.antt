@@ -1,55 +1,123 @@
 -- A line, and a script, has one answer.
-use Rattle.std.proofs.Common.{◌≡◌, ◌+◌, ◌++◌, ◌&&◌, ◌∙◌, ℕ, Bool, List, [], ◌∷◌, Option, Some, None, Result, Ok, Err, sym, ap, subst}
-use Rattle.hd_map.specs.declared.types.SideName.TheVariants.{Dales}
-use Rattle.hd_map.specs.Map.{Map, IsMap}
-use Rattle.hd_map.proofs.Regions.{regions_one}
+use Rattle.std.proofs.Common.{◌≡◌, ◌+◌, ◌++◌, ◌&&◌, ◌∙◌, ◌<◌, ◌≤◌, ℕ, Bool, List, [], ◌∷◌, length, map, Option, Some, None, Result, Ok, Err, ◌⊎◌, inl, inr, sym, ap, subst, arith}
+use Rattle.hd_map.specs.declared.types.Pos.{Pos}
+use Rattle.hd_map.specs.declared.types.Rank.{Rank}
+use Rattle.hd_map.specs.declared.types.SideName.{SideName}
+use Rattle.hd_map.specs.Map.{Map, IsMap, InGrid, Present}
+use Rattle.hd_map.specs.Rank.{rank}
+use Rattle.hd_map.specs.ChangeTree.{Joining, IsChangeTree}
+use Rattle.hd_map.specs.Region.{IsRoot, AreRegions}
+use Rattle.hd_map.proofs.Points.{same_point}
+use Rattle.hd_edit.specs.declared.edit.Edit.{Edit}
 use Rattle.hd_edit.specs.declared.edit.EditError.{EditError}
-use Rattle.hd_edit.specs.Edit.{edited}
-use Rattle.hd_edit.specs.State.{State}
+use Rattle.hd_edit.specs.Board.{ElementTable, IsEdited}
 use Rattle.hd_script.specs.declared.command.Command.{Command}
 use Rattle.hd_script.specs.declared.command.Command.TheVariants as command
 use Rattle.hd_script.specs.declared.command.LineError.{LineError}
 use Rattle.hd_script.specs.Line.{script_line}
-use Rattle.hd_engine.specs.Answers.{Reply, IsReadAnswer, IsAnswer, AreAnswers}
-use Rattle.hd_engine.specs.Regions.{ListsRegions, regions_text}
-use Rattle.hd_engine.proofs.Kept.{IsEditAnswer, answer-whole}
+use Rattle.hd_engine.specs.declared.survey.Extent.{Extent}
+use Rattle.hd_engine.specs.Answers.{IsCommandAnswer, IsReadAnswer, IsAnswer, AreAnswers}
+use Rattle.hd_engine.specs.Edits.{IsOutcomeAnswer, IsEditAnswer, IsUndoAnswer}
+use Rattle.hd_engine.specs.Regions.{AreExtents, IsRegionsAnswer, IsLabelAnswer, TellsRoot, extent_of, pits_of, extents_text, label_text}
+use Rattle.hd_engine.specs.Reply.{Reply, Reports, Becomes, accepted_with}
+use Rattle.hd_engine.specs.State.{State, IsState}
+use Rattle.hd_engine.specs.Trees.{IsTreeAnswer, tree_text}
 
--- replies are one if their parts are
-same_reply : (a b : Reply) → a.accepted ≡ b.accepted → a.text ≡ b.text → a ≡ b
-same_reply a b accepted text =
-    let make : Bool → List ℕ → Reply = λ t xs. record { accepted = t; text = xs } in
-    ap (λ t. make t a.text) accepted ∙ ap (λ xs. make b.accepted xs) text
+-- an answer is the reply, and the state after it
+abbrev Agrees : (a b : Reply) (s' s'' : State) → Type 0
+Agrees a b s' s'' = (a ≡ b) × (s' ≡ s'')
 
--- a map has one list of dales
-lists_one : (m : Map) (a b : List ℕ) → IsMap m → ListsRegions Dales m a → ListsRegions Dales m b → a ≡ b
-lists_one m a b whole one other = one.2 ∙ ap (regions_text Dales m) (regions_one m Dales one.0 other.0 whole one.1 other.1) ∙ sym other.2
+-- one reply to one state
+reports-one : (s s' s'' : State) (wanted a b : Reply) → Reports s s' wanted a → Reports s s'' wanted b → Agrees a b s' s''
+reports-one s s' s'' wanted a b one other = (one.reply ∙ sym other.reply, one.state ∙ sym other.state)
 
--- an outcome of an edit has one answer
-edit_one : (s : State) (number : ℕ) (outcome : Result Map EditError) (a b : Reply) (s' s'' : State) → IsEditAnswer s number outcome a s' → IsEditAnswer s number outcome b s'' → (a ≡ b) × (s' ≡ s'')
-edit_one s number (Ok m) a b s' s'' one other = (one.0 ∙ sym other.0, one.1 ∙ sym other.1)
-edit_one s number (Err error) a b s' s'' one other = (one.reply ∙ sym other.reply, one.state ∙ sym other.state)
+becomes-one : (number : ℕ) (next s' s'' : State) (a b : Reply) → Becomes number next s' a → Becomes number next s'' b → Agrees a b s' s''
+becomes-one number next s' s'' a b one other = (one.reply ∙ sym other.reply, one.state ∙ sym other.state)
 
--- what a line that was read comes to is one
-read_one : (s : State) (number : ℕ) (read : Result (Option Command) LineError) (a b : Reply) (s' s'' : State) → IsMap s.map
-    → IsReadAnswer s number read a s' → IsReadAnswer s number read b s'' → (a ≡ b) × (s' ≡ s'')
-read_one s number (Err error) a b s' s'' whole one other = (one.reply ∙ sym other.reply, one.state ∙ sym other.state)
-read_one s number (Ok None) a b s' s'' whole one other = (one.reply ∙ sym other.reply, one.state ∙ sym other.state)
-read_one s number (Ok (Some (command.Do e))) a b s' s'' whole one other = edit_one s number (edited s.map e) a b s' s'' one other
-read_one s number (Ok (Some command.Dales)) a b s' s'' whole one other =
-    (same_reply a b (one.0 ∙ sym other.0) (lists_one s.map a.text b.text whole one.1 other.1), one.2 ∙ sym other.2)
+-- two replies of one form
+reports-same : (s s' s'' : State) (x y a b : Reply) → x ≡ y → Reports s s' x a → Reports s s'' y b → Agrees a b s' s''
+reports-same s s' s'' x y a b e one other = (one.reply ∙ e ∙ sym other.reply, one.state ∙ sym other.state)
 
--- a line has one answer on a state
-pub answer_one : (s : State) (number : ℕ) (line : List ℕ) (a b : Reply) (s' s'' : State) → IsMap s.map → IsAnswer s number line a s' → IsAnswer s number line b s'' → (a ≡ b) × (s' ≡ s'')
-answer_one s number line = read_one s number (script_line line)
+-- what the layers below determine
+pub record Determine : Type 0 where
+  pub edits : (elements : List ElementTable) (m : Map) (edit : Edit) (x y : Result Map EditError) → IsMap m → IsEdited elements m edit x → IsEdited elements m edit y → x ≡ y
+  pub regions : (m : Map) (side : SideName) (a b : List (Option ℕ)) → IsMap m → AreRegions m side a → AreRegions m side b → a ≡ b
+  pub trees : (m : Map) (side : SideName) (a b : List Joining) → IsChangeTree m side a → IsChangeTree m side b → a ≡ b
+  pub roots : (m : Map) (side : SideName) (p r s : Rank) → IsRoot m side p r → IsRoot m side p s → r ≡ s
+
+module _ (one : Determine) (s : State) (number : ℕ) (a b : Reply) (s' s'' : State) (whole : IsState s) where
+  outcome-one : (outcome : Result Map EditError) → IsOutcomeAnswer s number outcome a s' → IsOutcomeAnswer s number outcome b s'' → Agrees a b s' s''
+  outcome-one (Ok m) x y = becomes-one number _ s' s'' a b x y
+  outcome-one (Err error) x y = reports-one s s' s'' _ a b x y
+
+  edit-one : (edit : Edit) → IsEditAnswer s number edit a s' → IsEditAnswer s number edit b s'' → Agrees a b s' s''
+  edit-one edit x y =
+      let same = one.edits s.elements s.map edit y.outcome x.outcome whole.map y.edited x.edited in
+      outcome-one x.outcome x.answer (subst (λ o. IsOutcomeAnswer s number o b s'') same y.answer)
+
+  undo-one : (n : ℕ) → IsUndoAnswer s number n a s' → IsUndoAnswer s number n b s'' → Agrees a b s' s''
+  undo-one n (inl x) (inl y) = becomes-one number _ s' s'' a b x.1 y.1
+  undo-one n (inl x) (inr y) = absurd (omega (arith, x.0, y.0))
+  undo-one n (inr x) (inl y) = absurd (omega (arith, x.0, y.0))
+  undo-one n (inr x) (inr y) = reports-one s s' s'' _ a b x.1 y.1
+
+  regions-one : (side : SideName) → IsRegionsAnswer s side a s' → IsRegionsAnswer s side b s'' → Agrees a b s' s''
+  regions-one side x y =
+      let same : x.are.roots ≡ y.are.roots = one.regions s.map side x.are.roots y.are.roots whole.map x.are.regions y.are.regions in
+      let lists : x.extents ≡ y.extents = x.are.are ∙ ap (λ roots. map (extent_of s.map roots) (pits_of roots)) same ∙ sym y.are.are in
+      reports-same s s' s'' _ _ a b (ap (λ extents. accepted_with (extents_text side s.map.size extents)) lists) x.answer y.answer
+
+  root-one : (side : SideName) (at : Pos) → TellsRoot s side at a s' → TellsRoot s side at b s'' → Agrees a b s' s''
+  root-one side at x y =
+      let same : x.root ≡ y.root = same_point s.map x.root y.root x.root_present y.root_present (one.roots s.map side (rank s.map at) (rank s.map x.root) (rank s.map y.root) x.is_root y.is_root) in
+      reports-same s s' s'' _ _ a b (ap (λ root. accepted_with (label_text side at root)) same) x.answer y.answer
+
+  label-one : (side : SideName) (at : Pos) → IsLabelAnswer s number side at a s' → IsLabelAnswer s number side at b s'' → Agrees a b s' s''
+  label-one side at (inl x) (inl y) = reports-one s s' s'' _ a b x.1 y.1
+  label-one side at (inl x) (inr (inl y)) = absurd (x.0 y.0)
+  label-one side at (inl x) (inr (inr y)) = absurd (x.0 y.present.in_grid)
+  label-one side at (inr (inl x)) (inl y) = absurd (y.0 x.0)
+  label-one side at (inr (inl x)) (inr (inl y)) = reports-one s s' s'' _ a b x.2 y.2
+  label-one side at (inr (inl x)) (inr (inr y)) = absurd (x.1 y.present)
+  label-one side at (inr (inr x)) (inl y) = absurd (y.0 x.present.in_grid)
+  label-one side at (inr (inr x)) (inr (inl y)) = absurd (y.1 x.present)
+  label-one side at (inr (inr x)) (inr (inr y)) = root-one side at x y
+
+  tree-one : (side : SideName) → IsTreeAnswer s side a s' → IsTreeAnswer s side b s'' → Agrees a b s' s''
+  tree-one side x y =
+      let same : x.joins ≡ y.joins = one.trees s.map side x.joins y.joins x.tree y.tree in
+      reports-same s s' s'' _ _ a b (ap (λ joins. accepted_with (tree_text side s.map.size joins)) same) x.answer y.answer
+
+  command-one : (asked : Command) → IsCommandAnswer s number asked a s' → IsCommandAnswer s number asked b s'' → Agrees a b s' s''
+  command-one (command.Do edit) x y = edit-one edit x y
+  command-one (command.Undo n) x y = undo-one n x y
+  command-one command.Dales x y = regions-one _ x y
+  command-one command.Hills x y = regions-one _ x y
+  command-one (command.Label side at) x y = label-one side at x y
+  command-one (command.Tree side) x y = tree-one side x y
+
+  read-one : (read : Result (Option Command) LineError) → IsReadAnswer s number read a s' → IsReadAnswer s number read b s'' → Agrees a b s' s''
+  read-one (Err error) x y = reports-one s s' s'' _ a b x y
+  read-one (Ok None) x y = reports-one s s' s'' _ a b x y
+  read-one (Ok (Some asked)) x y = command-one asked x y
+
+  -- a line has one answer on a state
+  pub answer-one : (line : List ℕ) → IsAnswer s number line a s' → IsAnswer s number line b s'' → Agrees a b s' s''
+  answer-one line x y = read-one (script_line line) x y
+
+-- what is known of one line
+pub record OneLine : Type 0 where
+  pub one : (s : State) (number : ℕ) (line : List ℕ) (a b : Reply) (s' s'' : State) → IsState s → IsAnswer s number line a s' → IsAnswer s number line b s'' → Agrees a b s' s''
+  pub keeps : (s : State) (number : ℕ) (line : List ℕ) (a : Reply) (s' : State) → IsState s → IsAnswer s number line a s' → IsState s'
 
 -- the lines of a script have one answer on a state
-pub answers_one : (s : State) (number : ℕ) (lines : List (List ℕ)) (a b : Reply) (s' s'' : State) → IsMap s.map → AreAnswers s number lines a s' → AreAnswers s number lines b s'' → (a ≡ b) × (s' ≡ s'')
-answers_one s number [] a b s' s'' whole one other = (one.reply ∙ sym other.reply, one.state ∙ sym other.state)
-answers_one s number (line ∷ lines) a b s' s'' whole (first, middle, others, is, are, reply) (first', middle', others', is', are', reply') =
-    let same = answer_one s number line first first' middle middle' whole is is' in
+pub answers-one : OneLine → (s : State) (number : ℕ) (lines : List (List ℕ)) (a b : Reply) (s' s'' : State) → IsState s → AreAnswers s number lines a s' → AreAnswers s number lines b s'' → Agrees a b s' s''
+answers-one known s number [] a b s' s'' whole x y = reports-one s s' s'' _ a b x y
+answers-one known s number (line ∷ lines) a b s' s'' whole (first, middle, others, is, are, reply) (first', middle', others', is', are', reply') =
+    let same = known.one s number line first first' middle middle' whole is is' in
     let onward : AreAnswers middle (number + 1) lines others' s'' = subst (λ (t : State). AreAnswers t (number + 1) lines others' s'') (sym same.1) are' in
-    let rest = answers_one middle (number + 1) lines others others' s' s'' (answer-whole s number line first middle whole is) are onward in (
-      reply ∙ same_reply _ _ (ap (λ (r : Reply). r.accepted && others.accepted) same.0 ∙ ap (λ (r : Reply). first'.accepted && r.accepted) rest.0)
-          (ap (λ (r : Reply). r.text ++ others.text) same.0 ∙ ap (λ (r : Reply). first'.text ++ r.text) rest.0) ∙ sym reply',
+    let rest = answers-one known middle (number + 1) lines others others' s' s'' (known.keeps s number line first middle whole is) are onward in
+    let join : Reply → Reply → Reply = λ r t. record { accepted = r.accepted && t.accepted; text = r.text ++ t.text } in (
+      reply ∙ ap (λ r. join r others) same.0 ∙ ap (λ t. join first' t) rest.0 ∙ sym reply',
       rest.1,
     )

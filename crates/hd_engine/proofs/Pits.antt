@@ -1,12 +1,12 @@
 -- Pits and counts of points, index by index.
-use Rattle.std.proofs.Common.{◌≡◌, ◌<◌, ◌+◌, ℕ, true, false, List, ◌∷◌, ◌++◌, length, map, get_or, take, drop, drop-cons, Option, Some, None, refl, sym, ap, ◌∙◌, add-one, arith, append_assoc}
+use Rattle.std.proofs.Common.{◌≡◌, ◌<◌, ◌+◌, ℕ, true, false, List, [], ◌∷◌, ◌++◌, length, map, get_or, take, drop, drop-cons, Option, Some, None, refl, sym, ap, ◌∙◌, add-one, arith, append_assoc}
 use Rattle.std.proofs.Common.{◌≤◌, inl, inr, nat_eq, set, length-take-le}
 use Rattle.std.specs.Prelude.{filter}
 use Rattle.std.proofs.lemmas.Bool.{cases_eq}
 use Rattle.std.proofs.lemmas.Bool.Decides.{nat_tests}
 use Rattle.std.proofs.lemmas.List.{get_or-set_same, get_or-set_other}
 use Rattle.std.proofs.lemmas.List.Sums.{count_by_more_yes, count_by_more_no, count_by-le-length}
-use Rattle.std.specs.List.{enumerate_from, flat_map}
+use Rattle.std.specs.List.{enumerate_from}
 use Rattle.hd_engine.specs.Regions.{names, points_of}
 
 -- the pits among the points from an index on
@@ -21,17 +21,18 @@ pits_from-own roots k inside own = rw (drop-cons roots k None inside, own, add-o
 pub pits_from-other : (roots : List (Option ℕ)) (k : ℕ) → k < length roots → names (get_or roots k None) k ≡ false → pits_from k (drop k roots) ≡ pits_from (k + 1) (drop (k + 1) roots)
 pits_from-other roots k inside other = rw (drop-cons roots k None inside, other, add-one) refl
 
--- the lines of the pits so far, with the line of one more
-pub lines-own : (line : ℕ → List ℕ) (roots : List (Option ℕ)) (k : ℕ) (text new whole : List ℕ) → k < length roots → names (get_or roots k None) k ≡ true
-    → new ≡ text ++ line k → text ++ flat_map line (pits_from k (drop k roots)) ≡ whole → new ++ flat_map line (pits_from (k + 1) (drop (k + 1) roots)) ≡ whole
-lines-own line roots k text new whole inside own is so_far =
-    let rest = flat_map line (pits_from (k + 1) (drop (k + 1) roots)) in
-    ap (λ xs. xs ++ rest) is ∙ append_assoc text (line k) rest ∙ sym (ap (λ pits. text ++ flat_map line pits) (pits_from-own roots k inside own)) ∙ so_far
+module _ {X : Type 0} (make : ℕ → X) (roots : List (Option ℕ)) (k : ℕ) (made new whole : List X) (inside : k < length roots) where
+  -- what is made of the pits so far, with one more
+  pub made-own : names (get_or roots k None) k ≡ true → new ≡ made ++ make k ∷ []
+      → made ++ map make (pits_from k (drop k roots)) ≡ whole → new ++ map make (pits_from (k + 1) (drop (k + 1) roots)) ≡ whole
+  made-own own is so_far =
+      let rest = map make (pits_from (k + 1) (drop (k + 1) roots)) in
+      ap (λ xs. xs ++ rest) is ∙ append_assoc made (make k ∷ []) rest ∙ sym (ap (λ pits. made ++ map make pits) (pits_from-own roots k inside own)) ∙ so_far
 
--- the same where the point is no pit
-pub lines-other : (line : ℕ → List ℕ) (roots : List (Option ℕ)) (k : ℕ) (text whole : List ℕ) → k < length roots → names (get_or roots k None) k ≡ false
-    → text ++ flat_map line (pits_from k (drop k roots)) ≡ whole → text ++ flat_map line (pits_from (k + 1) (drop (k + 1) roots)) ≡ whole
-lines-other line roots k text whole inside other so_far = sym (ap (λ pits. text ++ flat_map line pits) (pits_from-other roots k inside other)) ∙ so_far
+  -- the same where the point is no pit
+  pub made-other : names (get_or roots k None) k ≡ false
+      → made ++ map make (pits_from k (drop k roots)) ≡ whole → made ++ map make (pits_from (k + 1) (drop (k + 1) roots)) ≡ whole
+  made-other other so_far = sym (ap (λ pits. made ++ map make pits) (pits_from-other roots k inside other)) ∙ so_far
 
 -- the counts of points by root so far, with one more root
 pub counted-some : (roots : List (Option ℕ)) (points : List ℕ) (i pit : ℕ) → i < length roots → get_or roots i None ≡ Some pit → pit < length points

@@ -1,5 +1,8 @@
+pub mod State
+pub mod Reply
 pub mod Place
+pub mod Forms
+pub mod Edits
 pub mod Regions
-pub mod Refusals
+pub mod Trees
 pub mod Answers
-pub mod Session

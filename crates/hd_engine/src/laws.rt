@@ -1,15 +1,37 @@
 // What a line and a script determine.
 ghost use Rattle.std.specs.Prelude.{◌≡◌, ℕ, List};
-ghost use Rattle.hd_map.specs.Map.{IsMap};
-ghost use Rattle.hd_edit.specs.State.{State};
-ghost use Rattle.hd_engine.specs.Answers.{Reply, IsAnswer, AreAnswers};
+ghost use Rattle.hd_map.specs.Map.{Map, IsMap};
+ghost use Rattle.hd_engine.specs.Answers.{IsAnswer, AreAnswers};
+ghost use Rattle.hd_engine.specs.Reply.{Reply};
+ghost use Rattle.hd_engine.specs.State.{State, IsState, first_state};
+
+use hd_edit::{edits_keep_maps, logs_keep_maps, undos_keep_maps};
+use hd_map::change_tree_is_determined;
+use hd_steep::{regions_are_determined, root_is_determined};
 
 /// A line has one answer on a state, and one state after it.
 pub fn answer_is_determined()
-    ensures { (s : State) (number : ℕ) (line : List ℕ) (a b : Reply) (s' s'' : State) → IsMap s.map → IsAnswer s number line a s' → IsAnswer s number line b s'' → (a ≡ b) × (s' ≡ s'') }
-{}
+    ensures { (s : State) (number : ℕ) (line : List ℕ) (a b : Reply) (s' s'' : State) → IsState s → IsAnswer s number line a s' → IsAnswer s number line b s'' → (a ≡ b) × (s' ≡ s'') }
+{
+    regions_are_determined();
+    root_is_determined();
+    change_tree_is_determined();
+}
 
 /// The lines of a script have one answer on a state, and one state after them.
 pub fn answers_are_determined()
-    ensures { (s : State) (number : ℕ) (lines : List (List ℕ)) (a b : Reply) (s' s'' : State) → IsMap s.map → AreAnswers s number lines a s' → AreAnswers s number lines b s'' → (a ≡ b) × (s' ≡ s'') }
-{}
+    ensures { (s : State) (number : ℕ) (lines : List (List ℕ)) (a b : Reply) (s' s'' : State) → IsState s → AreAnswers s number lines a s' → AreAnswers s number lines b s'' → (a ≡ b) × (s' ≡ s'') }
+{
+    answer_is_determined();
+    answer_keeps_a_state();
+}
+
+/// A line leaves maps: the present one, and each earlier one.
+pub fn answer_keeps_a_state()
+    ensures kept { (s : State) (number : ℕ) (line : List ℕ) (a : Reply) (s' : State) → IsState s → IsAnswer s number line a s' → IsState s' }
+    ensures first { (m : Map) → IsMap m → IsState (first_state m) }
+{
+    edits_keep_maps();
+    logs_keep_maps();
+    undos_keep_maps();
+}

@@ -1,18 +1,24 @@
 // A session on one surface.
-ghost use Rattle.std.specs.Prelude.{◌≡◌, ◌≤◌, ◌<◌, ◌+◌, true, false, [], IfOk, OnErr};
+ghost use Rattle.std.specs.Prelude.{◌≡◌, ◌≤◌, ◌<◌, ◌+◌, [], IfOk, OnErr};
+ghost use Rattle.hd_map.specs.Map.{Present};
 ghost use Rattle.hd_map.specs.Surface.{map_of};
-ghost use Rattle.hd_map.specs.declared.types.SideName.TheVariants.{Dales};
-ghost use Rattle.hd_script.specs.declared.command.Command.TheVariants.{Do};
 ghost use Rattle.hd_engine.specs.Answers.{IsAnswer, IsCommandAnswer};
-ghost use Rattle.hd_engine.specs.Refusals.{refused_line, form_text, edit_text};
-ghost use Rattle.hd_engine.specs.Regions.{ListsRegions};
+ghost use Rattle.hd_engine.specs.Edits.{IsEditAnswer, IsUndoAnswer};
+ghost use Rattle.hd_engine.specs.Forms.{form_text};
+ghost use Rattle.hd_engine.specs.Regions.{IsLabelAnswer, IsRegionsAnswer, TellsRoot};
+ghost use Rattle.hd_engine.specs.Reply.{refused_for, reply_of};
+ghost use Rattle.hd_engine.specs.State.{first_state};
+ghost use Rattle.hd_engine.specs.Trees.{IsTreeAnswer};
 
 use crate::Answer;
-use crate::dales::list_dales;
-use crate::refusals::{push_edit_refusal, push_form_refusal, push_ok_line};
+use crate::edits::{edit_cause, kept_cause};
+use crate::forms::form_cause;
+use crate::place::outside_cause;
+use crate::regions::{list_regions, not_present_cause, tell_label};
+use crate::trees::list_tree;
 use hd_base::{List, Memory};
 use hd_edit::{Board, Edit, EditError};
-use hd_map::Surface;
+use hd_map::{Down, Heights, Pos, Side, SideName, Surface, Up, contains, is_present};
 use hd_script::{Command, LineError, read_line};
 use std::alloc::Global;
 use std::marker::Model;
@@ -28,13 +34,13 @@ pub struct Session {
 }
 
 impl Model for Session {
-    ghost use Rattle.std.specs.Prelude.{[], ◌≤◌};
+    ghost use Rattle.std.specs.Prelude.{◌≤◌};
     ghost use Rattle.hd_map.specs.Surface.{map_of};
-    ghost use Rattle.hd_engine.specs.Session.{SessionState};
+    ghost use Rattle.hd_engine.specs.State.{SessionState};
 
     ghost Value = { SessionState };
 
-    ghost view = { λ s. record { state = record { map = map_of s.board.grid; earlier = []; elements = s.board.elements }; asked = s.asked } };
+    ghost view = { λ s. record { state = record { map = map_of s.board.grid; earlier = s.board.earlier; elements = s.board.elements }; asked = s.asked } };
 
     ghost invariant = { λ s. (8 ≤ s.tile) × (s.tile ≤ 256) };
 }
@@ -47,7 +53,7 @@ impl Session {
     pub fn new(alloc: Global, surface: Surface, tile: u32) -> Result<Session, Memory>
         requires least { 8 ≤ tile }
         requires greatest { tile ≤ 256 }
-        ensures { IfOk result (λ s. (s.state ≡ record { map = map_of surface; earlier = []; elements = [] }) × (s.asked ≡ 0)) }
+        ensures { IfOk result (λ s. (s.state ≡ first_state (map_of surface)) × (s.asked ≡ 0)) }
     {
         let board = Board::new(alloc, surface)?;
         Ok(Session {
@@ -61,83 +67,126 @@ impl Session {
     /// The answer to a line without its LF, which counts as asked whatever comes of it. The number
     /// is the one that the line has in its answer. At most 16,777,216 lines may be asked.
     ///
-    /// `Memory` comes where the line, the edit or the answer is refused its memory; the surface is
-    /// then as it was before.
+    /// `Memory` comes where the line, the edit or the answer is refused its memory; the surface,
+    /// the earlier maps and the elements are then as before.
     pub fn answer(&mut self, number: u64, line: &[u8]) -> Result<Answer, Memory>
         requires { self.old.asked < 16777216 }
-        ensures ok { IfOk result (λ a. IsAnswer self.old.state number line.now (record { accepted = a.accepted; text = a.text }) self.new.state) }
+        ensures ok { IfOk result (λ a. IsAnswer self.old.state number line.now (reply_of a) self.new.state) }
         ensures memory { OnErr result (self.new.state ≡ self.old.state) }
         ensures asked { self.new.asked ≡ self.old.asked + 1 }
     {
         self.asked += 1;
         match read_line(self.alloc, line) {
             Err(LineError::Memory) => Err(Memory),
-            Err(error) => self.refuse(number, error),
-            Ok(None) => Ok(self.pass()),
-            Ok(Some(Command::Do(edit))) => self.edit(number, &edit),
-            Ok(Some(Command::Dales)) => self.list_dales(),
+            Err(error) => self.refuse_form(number, error),
+            Ok(None) => Ok(Answer::with_text(List::new(self.alloc))),
+            Ok(Some(command)) => self.obey(number, command),
         }
     }
 
     // The answer to a line that has not its form.
-    fn refuse(&self, number: u64, error: LineError) -> Result<Answer, Memory>
-        ensures { IfOk result (λ a. (a.accepted ≡ false) × (a.text ≡ refused_line number (form_text error))) }
+    fn refuse_form(&self, number: u64, error: LineError) -> Result<Answer, Memory>
+        ensures { IfOk result (λ a. reply_of a ≡ refused_for number (form_text error)) }
     {
-        let mut text = List::new(self.alloc);
-        push_form_refusal(&mut text, number, error)?;
-        Ok(Answer {
-            accepted: false,
-            text,
-        })
+        let cause = form_cause(self.alloc, error)?;
+        Answer::refused(self.alloc, number, cause.as_slice())
     }
 
-    // The answer to a line that asks nothing.
-    fn pass(&self) -> Answer
-        ensures { (result.accepted ≡ true) × (result.text ≡ []) }
+    // The answer to a command.
+    fn obey(&mut self, number: u64, command: Command) -> Result<Answer, Memory>
+        ensures ok { IfOk result (λ a. IsCommandAnswer self.old.state number command (reply_of a) self.new.state) }
+        ensures memory { OnErr result (self.new.state ≡ self.old.state) }
+        ensures asked { self.new.asked ≡ self.old.asked }
     {
-        Answer {
-            accepted: true,
-            text: List::new(self.alloc),
+        match command {
+            Command::Do(edit) => self.edit(number, &edit),
+            Command::Undo(count) => self.undo(number, count),
+            Command::Dales => self.list::<Down>(),
+            Command::Hills => self.list::<Up>(),
+            Command::Label { side, at } => self.label(number, side, at),
+            Command::Tree {
+                side: SideName::Dales,
+            } => self.tree::<Down>(),
+            Command::Tree {
+                side: SideName::Hills,
+            } => self.tree::<Up>(),
         }
     }
 
     // Makes an edit, once the memory for its answer is there.
     fn edit(&mut self, number: u64, edit: &Edit) -> Result<Answer, Memory>
-        ensures ok { IfOk result (λ a. IsCommandAnswer self.old.state number (Do edit.now) (record { accepted = a.accepted; text = a.text }) self.new.state) }
+        ensures ok { IfOk result (λ a. IsEditAnswer self.old.state number edit.now (reply_of a) self.new.state) }
         ensures memory { OnErr result (self.new.state ≡ self.old.state) }
         ensures asked { self.new.asked ≡ self.old.asked }
     {
-        let mut text = List::new(self.alloc);
-        push_ok_line(&mut text, number)?;
+        let ok = Answer::ok(self.alloc, number)?;
         match self.board.apply(edit) {
-            Ok(()) => Ok(Answer {
-                accepted: true,
-                text,
-            }),
+            Ok(()) => Ok(ok),
             Err(EditError::Memory) => Err(Memory),
-            Err(error) => self.refuse_edit(number, error),
+            Err(error) => {
+                let cause = edit_cause(self.alloc, error)?;
+                Answer::refused(self.alloc, number, cause.as_slice())
+            }
         }
     }
 
-    // The answer to an edit that was refused.
-    fn refuse_edit(&self, number: u64, error: EditError) -> Result<Answer, Memory>
-        ensures { IfOk result (λ a. (a.accepted ≡ false) × (a.text ≡ refused_line number (edit_text error))) }
+    // Goes back over kept edits, once the memory for its answer is there.
+    fn undo(&mut self, number: u64, count: u64) -> Result<Answer, Memory>
+        ensures ok { IfOk result (λ a. IsUndoAnswer self.old.state number count (reply_of a) self.new.state) }
+        ensures memory { OnErr result (self.new.state ≡ self.old.state) }
+        ensures asked { self.new.asked ≡ self.old.asked }
     {
-        let mut text = List::new(self.alloc);
-        push_edit_refusal(&mut text, number, error)?;
-        Ok(Answer {
-            accepted: false,
-            text,
-        })
+        let ok = Answer::ok(self.alloc, number)?;
+        match self.board.undo(count) {
+            Ok(()) => Ok(ok),
+            Err(ends) => {
+                let cause = kept_cause(self.alloc, ends.kept)?;
+                Answer::refused(self.alloc, number, cause.as_slice())
+            }
+        }
     }
 
-    // The answer that lists the dales.
-    fn list_dales(&self) -> Result<Answer, Memory>
-        ensures { IfOk result (λ a. (a.accepted ≡ true) × ListsRegions Dales self.now.state.map a.text) }
+    // The answer that lists the regions of a side.
+    fn list<S: Side>(&self) -> Result<Answer, Memory>
+        ensures { IfOk result (λ a. IsRegionsAnswer self.now.state S.NAME (reply_of a) self.now.state) }
     {
-        Ok(Answer {
-            accepted: true,
-            text: list_dales(self.alloc, self.board.grid())?,
-        })
+        let text = list_regions::<S, Surface>(self.alloc, self.board.grid())?;
+        Ok(Answer::with_text(text))
+    }
+
+    // The answer that tells in which region of a side a point lies.
+    fn label(&self, number: u64, side: SideName, at: Pos) -> Result<Answer, Memory>
+        ensures { IfOk result (λ a. IsLabelAnswer self.now.state number side at (reply_of a) self.now.state) }
+    {
+        let grid = self.board.grid();
+        if !contains(grid.size(), at) {
+            let cause = outside_cause(self.alloc, at)?;
+            return Answer::refused(self.alloc, number, cause.as_slice());
+        }
+        if !is_present(grid, at) {
+            let cause = not_present_cause(self.alloc, at)?;
+            return Answer::refused(self.alloc, number, cause.as_slice());
+        }
+        match side {
+            SideName::Dales => self.tell_root::<Down>(at),
+            SideName::Hills => self.tell_root::<Up>(at),
+        }
+    }
+
+    // The answer that tells the pit of the region that a present point lies in.
+    fn tell_root<S: Side>(&self, at: Pos) -> Result<Answer, Memory>
+        requires { Present self.now.state.map at }
+        ensures { IfOk result (λ a. TellsRoot self.now.state S.NAME at (reply_of a) self.now.state) }
+    {
+        let text = tell_label::<S, Surface>(self.alloc, self.board.grid(), at)?;
+        Ok(Answer::with_text(text))
+    }
+
+    // The answer that lists the change tree of a side.
+    fn tree<S: Side>(&self) -> Result<Answer, Memory>
+        ensures { IfOk result (λ a. IsTreeAnswer self.now.state S.NAME (reply_of a) self.now.state) }
+    {
+        let text = list_tree::<S, Surface>(self.alloc, self.board.grid())?;
+        Ok(Answer::with_text(text))
     }
 }

@@ -1,5 +1,5 @@
 // A session on a small surface, line by line.
-ghost use Rattle.std.specs.Prelude.{◌≡◌, ◌<◌, ◌+◌, IfOk};
+ghost use Rattle.std.specs.Prelude.{◌≡◌, ◌<◌, ◌≤◌, ◌+◌, IfOk, length};
 
 use crate::Session;
 use hd_base::List;
@@ -7,7 +7,7 @@ use hd_map::{Cell, DataType, Grid, Pos, Size, Surface};
 use std::alloc::Global;
 use std::test::Fail;
 
-// A session on the heights 0 5 1.
+// A session on the heights 0 5 1, whose data type is U8.
 fn small(alloc: Global) -> Result<Session, Fail>
     ensures { IfOk result (λ session. session.asked ≡ 0) }
 {
@@ -40,18 +40,46 @@ fn answers(session: &mut Session, number: u64, line: &str, accepted: bool, text:
 }
 
 #[test]
-fn edits_and_reports_are_answered(rt: HostRuntime) -> Result<(), Fail> {
+fn edits_and_regions_are_answered(rt: HostRuntime) -> Result<(), Fail> {
     let mut session = small(rt.alloc())?;
     let out_of_range = "line 1 refused: height out of range at 1 0\n";
     assert!(rt; answers(&mut session, 1, "set 1 0 256", false, out_of_range));
     let dales = "dales 2\ndale 0 0 0 2\ndale 2 0 1 1\n";
     assert!(rt; answers(&mut session, 2, "dales", true, dales));
-    assert!(rt; answers(&mut session, 3, "set 1 0 255", true, "line 3 ok\n"));
+    assert!(rt; answers(&mut session, 3, "hills", true, "hills 1\nhill 1 0 5 3\n"));
     let outside = "line 4 refused: 3 0 is outside\n";
     assert!(rt; answers(&mut session, 4, "set 3 0 1", false, outside));
     assert!(rt; answers(&mut session, 5, "bad 0 0", true, "line 5 ok\n"));
     let dales = "dales 1\ndale 2 0 1 2\n";
     assert!(rt; answers(&mut session, 6, "dales", true, dales));
+    Ok(())
+}
+
+#[test]
+fn labels_name_a_pit_and_refuse_what_is_not_present(rt: HostRuntime) -> Result<(), Fail> {
+    let mut session = small(rt.alloc())?;
+    assert!(rt; answers(&mut session, 1, "label H 2 0", true, "label H 2 0 in 1 0\n"));
+    assert!(rt; answers(&mut session, 2, "label D 1 0", true, "label D 1 0 in 0 0\n"));
+    let outside = "line 3 refused: 3 0 is outside\n";
+    assert!(rt; answers(&mut session, 3, "label D 3 0", false, outside));
+    assert!(rt; answers(&mut session, 4, "bad 1 0", true, "line 4 ok\n"));
+    let missing = "line 5 refused: 1 0 is not present\n";
+    assert!(rt; answers(&mut session, 5, "label H 1 0", false, missing));
+    Ok(())
+}
+
+#[test]
+fn undo_goes_back_over_cells_and_masks(rt: HostRuntime) -> Result<(), Fail> {
+    let mut session = small(rt.alloc())?;
+    assert!(rt; answers(&mut session, 1, "mask 1 0 1 0", true, "line 1 ok\n"));
+    let dales = "dales 2\ndale 0 0 0 1\ndale 2 0 1 1\n";
+    assert!(rt; answers(&mut session, 2, "dales", true, dales));
+    let ends = "line 3 refused: only 1 edits kept\n";
+    assert!(rt; answers(&mut session, 3, "undo 2", false, ends));
+    assert!(rt; answers(&mut session, 4, "undo 1", true, "line 4 ok\n"));
+    assert!(rt; answers(&mut session, 5, "hills", true, "hills 1\nhill 1 0 5 3\n"));
+    let empty = "line 6 refused: empty rectangle\n";
+    assert!(rt; answers(&mut session, 6, "add 2 0 0 0 1", false, empty));
     Ok(())
 }
 

@@ -1,5 +1,12 @@
-use Rattle.hd_engine.proofs.Determined.{answer_one}
+use Rattle.std.proofs.Common.{◌∙◌, sym}
+use Rattle.hd_engine.proofs.Determined.{answer-one}
 use Rattle.hd_engine.proofs.laws.answer_is_determined.Goals as goal
 
 pub returns : goal.returns
-returns c = answer_one
+returns c = λ s number line a b s' s'' whole x y.
+    answer-one (record {
+      edits = λ elements m edit outcome other map is is'. is ∙ sym is';
+      regions = c.regions_are_determined.ensures;
+      trees = c.change_tree_is_determined.ensures;
+      roots = c.root_is_determined.ensures;
+    }) s number a b s' s'' whole line x y

@@ -2,8 +2,8 @@ use Rattle.std.proofs.Common.{◌≡◌, ◌<◌, ◌+◌, get_or, set, length, 
 use Rattle.std.proofs.Math.ListN.{length-set}
 use Rattle.std.proofs.lemmas.List.{get_or_default}
 use Rattle.hd_engine.proofs.Pits.{counted-some, counted-none, points_of-le}
-use Rattle.hd_engine.proofs.dales.count_points.Goals as goal
-use Rattle.hd_engine.proofs.dales.count_points.Goals.{in-Some, in_default}
+use Rattle.hd_engine.proofs.survey.count_points.Goals as goal
+use Rattle.hd_engine.proofs.survey.count_points.Goals.{in-Some, in_default}
 
 pub overflow_add-index_mut : goal.overflow_add-index_mut
 overflow_add-index_mut c =

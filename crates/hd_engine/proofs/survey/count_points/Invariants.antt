@@ -1,6 +1,6 @@
 use Rattle.std.proofs.Common.{◌≡◌, ◌<◌, ℕ, length, get_or, take}
 use Rattle.hd_engine.specs.Regions.{points_of}
-use Rattle.hd_engine.proofs.dales.count_points.Given as goal
+use Rattle.hd_engine.proofs.survey.count_points.Given as goal
 
 abbrev pub invariant-roots : goal.invariant-roots
 invariant-roots l = record {
