@@ -1,110 +1,158 @@
--- Answers as they are written, line by line.
-use Rattle.std.proofs.Common.{◌≡◌, ◌+◌, ◌++◌, ◌&&◌, ℕ, Bool, true, false, List, [], ◌∷◌, take, drop, Option, Result, Ok, Err, IsErr, refl, sym, ap, ◌∙◌, subst, append_assoc, append-nil, take-append-drop}
+-- Answers to lines, one more line at a time.
+use Rattle.std.proofs.Common.{◌≡◌, ◌+◌, ◌++◌, ◌&&◌, ◌≤◌, ℕ, zero, suc, Bool, true, false, List, [], ◌∷◌, length, take, drop, Option, Result, Ok, Err, IsErr, refl, sym, ap, ◌∙◌, subst, arith, append_assoc, append-nil, take-append-drop, length-drop, length-take-le}
+use Rattle.std.specs.Io.{StartsWith}
 use Rattle.std.specs.Io.KnownBytes.{Appends}
-use Rattle.std.proofs.KnownBytes.{Appends-trans}
-use Rattle.hd_map.specs.Map.{IsMap}
-use Rattle.hd_edit.specs.State.{State}
-use Rattle.hd_engine.specs.Answers.{Reply, IsAnswer, AreAnswers}
-use Rattle.hd_engine.proofs.Determined.{answer_one}
+use Rattle.std.proofs.KnownBytes.{Appends-nil, Appends-trans, Appends-kept, starts_with_rest}
+use Rattle.std.proofs.Math.Seq.{take-add, take-append_seam}
+use Rattle.std.proofs.lemmas.List.{drop-drop}
 use Rattle.std.proofs.lemmas.Bool.{false≢true}
+use Rattle.hd_base.specs.Told.{AppendsStart}
+use Rattle.hd_engine.specs.State.{State, IsState}
+use Rattle.hd_engine.specs.Answers.{IsAnswer, AreAnswers}
+use Rattle.hd_engine.specs.Reply.{Reply}
 use Rattle.hilldale.specs.declared.stop.Stop.{Stop}
-use Rattle.hilldale.specs.Answering.{AnswersLines}
-use Rattle.hilldale.specs.Prefix.{IsPrefixOf}
+use Rattle.hilldale.specs.declared.stop.Stop.TheVariants.{Memory, ReadFault, WriteFault, Refused}
+use Rattle.hilldale.specs.WrittenAnswers.{reply_of, AnswersFirst, WritesAnswer, WritesAnswers}
 
--- the first so many bytes of a text begin it
-pub prefix-take : (n : ℕ) (xs : List ℕ) → IsPrefixOf (take n xs) xs
-prefix-take n xs = (drop n xs, sym (take-append-drop n xs))
+-- a text begins with its first part
+pub start_of : (part rest : List ℕ) → StartsWith (part ++ rest) part
+start_of part rest = take-append_seam part rest
 
--- the answer so far, and then the others
-abbrev pub joined : Bool → List ℕ → Reply → Reply
-joined accepted got others = record { accepted = accepted && others.accepted; text = got ++ others.text }
+start_after : (front text part : List ℕ) → StartsWith text part → StartsWith (front ++ text) (front ++ part)
+start_after front text part begins =
+    subst (λ (whole : List ℕ). StartsWith whole (front ++ part)) (append_assoc front part (drop (length part) text) ∙ ap (λ xs. front ++ xs) (sym (starts_with_rest text part begins)))
+    (start_of (front ++ part) (drop (length part) text))
 
--- the lines before the rest are answered, and their texts are written
-pub record AreAnswered (first : State) (all : List (List ℕ)) (s : State) (number : ℕ) (rest : List (List ℕ)) (accepted : Bool) (old new : Option (List ℕ)) : Type 0 where
-  pub got : List ℕ
-  pub written : Appends old new got
-  pub onward : (others : Reply) (after : State) → AreAnswers s number rest others after → AreAnswers first 1 all (joined accepted got others) after
-  pub back : (reply : Reply) (after : State) → AreAnswers first 1 all reply after → (others : Reply) × AreAnswers s number rest others after × (reply ≡ joined accepted got others)
+-- a text is written, and then some first bytes of another
+pub AppendsStart-after : (old mid new : Option (List ℕ)) (front text : List ℕ) → Appends old mid front → AppendsStart mid new text → AppendsStart old new (front ++ text)
+AppendsStart-after old mid new front text written (got, begins, more) = (front ++ got, start_after front text got begins, Appends-trans old mid new front got written more)
 
-and_assoc : (a b c : Bool) → (a && (b && c)) ≡ ((a && b) && c)
+-- no answers
+abbrev pub nothing : Reply
+nothing = record { accepted = true; text = [] }
+
+-- some answers, and then others
+abbrev pub joined : Reply → Reply → Reply
+joined some others = record { accepted = some.accepted && others.accepted; text = some.text ++ others.text }
+
+and_assoc : (a b c : Bool) → ((a && b) && c) ≡ (a && (b && c))
 and_assoc true b c = refl
 and_assoc false b c = refl
 
--- the answers so far, with those to one more line
-joined_more : (accepted : Bool) (got : List ℕ) (first others : Reply)
-    → joined accepted got (record { accepted = first.accepted && others.accepted; text = first.text ++ others.text }) ≡ joined (accepted && first.accepted) (got ++ first.text) others
-joined_more accepted got first others =
-    let make : Bool → List ℕ → Reply = λ a t. record { accepted = a; text = t } in
-    ap (λ a. make a (got ++ (first.text ++ others.text))) (and_assoc accepted first.accepted others.accepted)
-    ∙ ap (λ t. make ((accepted && first.accepted) && others.accepted) t) (sym (append_assoc got first.text others.text))
+and_true : (a : Bool) → (a && true) ≡ a
+and_true true = refl
+and_true false = refl
 
--- one more line is answered
-pub answered_more : (start : State) (all : List (List ℕ)) (s s' : State) (number : ℕ) (line : List ℕ) (rest : List (List ℕ)) (accepted : Bool) (first : Reply) (old mid new : Option (List ℕ))
-    → IsMap s.map → IsAnswer s number line first s' → Appends mid new first.text → AreAnswered start all s number (line ∷ rest) accepted old mid
-    → AreAnswered start all s' (number + 1) rest (accepted && first.accepted) old new
-answered_more start all s s' number line rest accepted first old mid new whole answer written so_far = record {
-  got = so_far.got ++ first.text;
-  written = Appends-trans old mid new so_far.got first.text so_far.written written;
-  onward = λ others after h.
-      subst (λ (r : Reply). AreAnswers start 1 all r after) (joined_more accepted so_far.got first others)
-      (so_far.onward (record { accepted = first.accepted && others.accepted; text = first.text ++ others.text }) after (first, s', others, answer, h, refl));
-  back = λ reply after h.
-      let b = so_far.back reply after h in
-      let other : Reply = b.0 in
-      let parts = b.1 in
-      let one = answer_one s number line parts.0 first parts.1 s' whole parts.3 answer in
-      let others : Reply = parts.2 in
-      let rest_is : AreAnswers s' (number + 1) rest others after = subst (λ (t : State). AreAnswers t (number + 1) rest others after) one.1 parts.4 in (
-        others,
-        rest_is,
-        b.2 ∙ ap (joined accepted so_far.got) (parts.5 ∙ ap (λ (r : Reply). record { accepted = r.accepted && others.accepted; text = r.text ++ others.text }) one.0)
-            ∙ joined_more accepted so_far.got first others,
-      );
-}
+joined_assoc : (a b c : Reply) → joined (joined a b) c ≡ joined a (joined b c)
+joined_assoc a b c = ap (λ t. reply_of t ((a.text ++ b.text) ++ c.text)) (and_assoc a.accepted b.accepted c.accepted) ∙ ap (λ xs. reply_of (a.accepted && (b.accepted && c.accepted)) xs) (append_assoc a.text b.text c.text)
+
+joined_nothing : (a : Reply) → joined a nothing ≡ a
+joined_nothing a = ap (λ t. reply_of t (a.text ++ [])) (and_true a.accepted) ∙ ap (λ xs. reply_of a.accepted xs) (append-nil a.text)
+
+-- the answers to some lines, and then that to one more
+answers_then : (s : State) (number : ℕ) (lines : List (List ℕ)) (reply : Reply) (mid : State) (line : List ℕ) (last : Reply) (after : State) → AreAnswers s number lines reply mid
+    → IsAnswer mid (number + length lines) line last after → AreAnswers s number (lines ++ line ∷ []) (joined reply last) after
+answers_then s number [] reply mid line last after are is =
+    let e : number + 0 ≡ number = omega arith in
+    let here : IsAnswer s number line last after = subst (λ (t : State). IsAnswer t number line last after) are.state (subst (λ (n : ℕ). IsAnswer mid n line last after) e is) in
+    (last, after, nothing, here, record { state = refl; reply = refl }, ap (λ (r : Reply). joined r last) are.reply ∙ sym (joined_nothing last))
+answers_then s number (other ∷ lines) reply mid line last after (first, middle, others, is_first, are, reply_is) is =
+    let e : number + length (other ∷ lines) ≡ (number + 1) + length lines = omega arith in
+    let here : IsAnswer mid ((number + 1) + length lines) line last after = subst (λ (n : ℕ). IsAnswer mid n line last after) e is in
+    (first, middle, joined others last, is_first, answers_then middle (number + 1) lines others mid line last after are here, ap (λ (r : Reply). joined r last) reply_is ∙ joined_assoc first others last)
+
+-- of the answers to all lines, those to the first few
+first_answers : (s : State) (number : ℕ) (lines : List (List ℕ)) (n : ℕ) (reply : Reply) (after : State) → AreAnswers s number lines reply after
+    → (first : Reply) × (mid : State) × (others : List ℕ) × AreAnswers s number (take n lines) first mid × (reply.text ≡ first.text ++ others)
+first_answers s number lines zero reply after are = (nothing, s, reply.text, record { state = refl; reply = refl }, refl)
+first_answers s number [] (suc n) reply after are = (reply, after, [], are, sym (append-nil reply.text))
+first_answers s number (line ∷ lines) (suc n) reply after (first, middle, others, is_first, are, reply_is) =
+    let some = first_answers middle (number + 1) lines n others after are in
+    let few : Reply = some.0 in
+    let more : List ℕ = some.2 in (
+      joined first few,
+      some.1,
+      more,
+      (first, middle, few, is_first, some.3, refl),
+      ap (λ (r : Reply). r.text) reply_is ∙ ap (λ (t : List ℕ). first.text ++ t) some.4 ∙ sym (append_assoc first.text few.text more),
+    )
+
+-- that the lines of a script have one answer
+abbrev pub AnswersAreDetermined : Type 0
+AnswersAreDetermined = (s : State) (number : ℕ) (lines : List (List ℕ)) (a b : Reply) (s' s'' : State) → IsState s → AreAnswers s number lines a s' → AreAnswers s number lines b s'' → (a ≡ b) × (s' ≡ s'')
+
+-- the answers to all lines begin with those to the first few
+pub every_start : AnswersAreDetermined → (s : State) (lines : List (List ℕ)) (text : List ℕ) (reply : Reply) (last : State) → IsState s → AnswersFirst s lines text → AreAnswers s 1 lines reply last
+    → StartsWith reply.text text
+every_start law s lines text reply last whole first all =
+    let some = first_answers s 1 lines first.count reply last all in
+    let few : Reply = some.0 in
+    let same = law s 1 (take first.count lines) (reply_of first.accepted text) few first.after some.1 whole first.answers some.3 in
+    subst (λ (t : List ℕ). StartsWith t text) (ap (λ (r : Reply). r.text ++ some.2) same.0 ∙ sym some.4) (start_of text some.2)
+
+-- the answers to the first no lines
+pub no_answers : (s : State) (lines : List (List ℕ)) → AnswersFirst s lines []
+no_answers s lines = record { count = 0; accepted = true; after = s; answers = record { state = refl; reply = refl } }
+
+-- the lines before the rest are answered, and their texts are written
+pub record AreAnswered (first : State) (all : List (List ℕ)) (s : State) (number : ℕ) (rest : List (List ℕ)) (accepted : Bool) (old new : Option (List ℕ)) : Type 0 where
+  pub count : ℕ
+  pub numbered : number ≡ count + 1
+  pub rest_is : drop count all ≡ rest
+  pub text : List ℕ
+  pub answers : AreAnswers first 1 (take count all) (record { accepted = accepted; text = text }) s
+  pub written : Appends old new text
+
+-- no line is answered yet
+pub none_answered : (s : State) (all : List (List ℕ)) (told : Option (List ℕ)) → AreAnswered s all s 1 all true told told
+none_answered s all told = record { count = 0; numbered = refl; rest_is = refl; text = []; answers = record { state = refl; reply = refl }; written = Appends-nil told }
+
+module _ (start : State) (all : List (List ℕ)) (s : State) (number : ℕ) (line : List ℕ) (rest : List (List ℕ)) (accepted : Bool) (old mid : Option (List ℕ)) where
+  within : (so_far : AreAnswered start all s number (line ∷ rest) accepted old mid) → so_far.count ≤ length all
+  within so_far = let some : length (drop so_far.count all) ≡ suc (length rest) = ap length so_far.rest_is in omega (arith, some, length-drop so_far.count all)
+
+  -- the answers with that to one more line
+  answers_more : (first : Reply) (after : State) → IsAnswer s number line first after → (so_far : AreAnswered start all s number (line ∷ rest) accepted old mid)
+      → AreAnswers start 1 (take (so_far.count + 1) all) (record { accepted = accepted && first.accepted; text = so_far.text ++ first.text }) after
+  answers_more first after is so_far =
+      let few : length (take so_far.count all) ≡ so_far.count = length-take-le so_far.count all (within so_far) in
+      let place : number ≡ 1 + length (take so_far.count all) = omega (arith, so_far.numbered, few) in
+      let lines : take (so_far.count + 1) all ≡ take so_far.count all ++ line ∷ [] = take-add so_far.count 1 all ∙ ap (λ xs. take so_far.count all ++ take 1 xs) so_far.rest_is in
+      subst (λ (xs : List (List ℕ)). AreAnswers start 1 xs (joined (reply_of accepted so_far.text) first) after) (sym lines)
+      (answers_then start 1 (take so_far.count all) (reply_of accepted so_far.text) s line first after so_far.answers (subst (λ (n : ℕ). IsAnswer s n line first after) place is))
+
+  -- one more line is answered
+  pub answered_more : (first : Reply) (after : State) (new : Option (List ℕ)) → IsAnswer s number line first after → Appends mid new first.text
+      → AreAnswered start all s number (line ∷ rest) accepted old mid → AreAnswered start all after (number + 1) rest (accepted && first.accepted) old new
+  answered_more first after new is written so_far = record {
+    count = so_far.count + 1;
+    numbered = ap (λ n. n + 1) so_far.numbered;
+    rest_is = sym (drop-drop 1 so_far.count all) ∙ ap (drop 1) so_far.rest_is;
+    text = so_far.text ++ first.text;
+    answers = answers_more first after is so_far;
+    written = Appends-trans old mid new so_far.text first.text so_far.written written;
+  }
+
+  -- a stop at the next line
+  pub answered_stop : (stop : Stop) (after : State) (new : Option (List ℕ)) → WritesAnswer s number line (Err stop) after mid new
+      → AreAnswered start all s number (line ∷ rest) accepted old mid → WritesAnswers start all (Err stop) old new
+  answered_stop Memory after new kept so_far =
+      (so_far.text, record { count = so_far.count; accepted = accepted; after = s; answers = so_far.answers }, Appends-kept old mid new so_far.text so_far.written kept)
+  answered_stop WriteFault after new (reply, is, part) so_far =
+      let first : Reply = reply in (
+        so_far.text ++ first.text,
+        record { count = so_far.count + 1; accepted = accepted && first.accepted; after = after; answers = answers_more first after is so_far },
+        AppendsStart-after old mid new so_far.text first.text so_far.written part,
+      )
+  answered_stop ReadFault after new h so_far = absurd h
+  answered_stop (Refused refusal) after new h so_far = absurd h
 
 -- all lines are answered
 pub answered_all : (start : State) (all : List (List ℕ)) (s : State) (number : ℕ) (accepted : Bool) (old new : Option (List ℕ)) → AreAnswered start all s number [] accepted old new
-    → (text : List ℕ) × (after : State) × AreAnswers start 1 all (record { accepted = accepted; text = text }) after × Appends old new text
+    → WritesAnswers start all (Ok accepted) old new
 answered_all start all s number accepted old new so_far =
-    let make : Bool → List ℕ → Reply = λ a t. record { accepted = a; text = t } in
-    let and_true : (accepted && true) ≡ accepted = elim accepted as (λ a. (a && true) ≡ a) [ true ↦ refl | false ↦ refl ] in (
-      so_far.got,
-      s,
-      subst (λ (r : Reply). AreAnswers start 1 all r s) (ap (λ a. make a (so_far.got ++ [])) and_true ∙ ap (λ t. make accepted t) (append-nil so_far.got))
-          (so_far.onward (make true []) s (record { state = refl; reply = refl })),
-      so_far.written,
-    )
-
--- a prefix of one more answer is written
-pub answered_part : (start : State) (all : List (List ℕ)) (s : State) (number : ℕ) (line : List ℕ) (rest : List (List ℕ)) (accepted : Bool) (part : List ℕ) (old mid new : Option (List ℕ))
-    → ((reply : Reply) (later : State) → IsAnswer s number line reply later → IsPrefixOf part reply.text) → Appends mid new part
-    → AreAnswered start all s number (line ∷ rest) accepted old mid
-    → (got : List ℕ) × Appends old new got × ((reply : Reply) (after : State) → AreAnswers start 1 all reply after → IsPrefixOf got reply.text)
-answered_part start all s number line rest accepted part old mid new begins written so_far = (
-  so_far.got ++ part,
-  Appends-trans old mid new so_far.got part so_far.written written,
-  λ reply after h.
-      let b = so_far.back reply after h in
-      let parts = b.1 in
-      let first : Reply = parts.0 in
-      let others : Reply = parts.2 in
-      let p = begins first parts.1 parts.3 in
-      let tail : List ℕ = p.0 in (
-        tail ++ others.text,
-        ap (λ (r : Reply). r.text) b.2
-            ∙ ap (λ (r : Reply). so_far.got ++ r.text) parts.5
-            ∙ ap (λ t. so_far.got ++ (t ++ others.text)) p.1
-            ∙ ap (λ t. so_far.got ++ t) (append_assoc part tail others.text)
-            ∙ sym (append_assoc so_far.got part (tail ++ others.text)),
-      ),
-)
-
--- a stop tells what is written of the answers
-pub answers_stopped : (start : State) (all : List (List ℕ)) (result : Result Bool Stop) (old new : Option (List ℕ)) → IsErr result
-    → (got : List ℕ) × Appends old new got × ((reply : Reply) (after : State) → AreAnswers start 1 all reply after → IsPrefixOf got reply.text)
-    → AnswersLines start all result old new
-answers_stopped start all (Ok accepted) old new is part = absurd (false≢true is)
-answers_stopped start all (Err stop) old new is part = part
+    let whole : take so_far.count all ≡ all = sym (append-nil (take so_far.count all)) ∙ ap (λ xs. take so_far.count all ++ xs) (sym so_far.rest_is) ∙ take-append-drop so_far.count all in
+    (so_far.text, s, subst (λ (lines : List (List ℕ)). AreAnswers start 1 lines (reply_of accepted so_far.text) s) whole so_far.answers, so_far.written)
 
 pub and-false : (a b c : Bool) → b ≡ false → c ≡ false → (a && b) ≡ c
 and-false true b c e f = e ∙ sym f

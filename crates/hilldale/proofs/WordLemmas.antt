@@ -4,7 +4,7 @@ use Rattle.std.specs.List.{starts_with}
 use Rattle.std.specs.Option.{option_copied}
 use Rattle.std.specs.Str.{bytes_eq}
 use Rattle.hilldale.specs.Words.{Given, given_of, with_name, with_tile, begins_with_dash, dales_names, run_names}
-use Rattle.hilldale.specs.Reads.{HasNoForm, followed_by}
+use Rattle.hilldale.specs.WordSteps.{HasNoForm, followed_by}
 use Rattle.hilldale.specs.declared.words.Stage.TheVariants.{Options, TileValue}
 
 two_tiles-dales : (names : List (List ℕ)) (first second : List ℕ) (more : List (List ℕ)) → dales_names names (first ∷ (second ∷ more)) ≡ None

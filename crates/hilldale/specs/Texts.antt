@@ -23,11 +23,3 @@ read_fault_text = line (codes "read fault")
 
 unfoldable pub second_too_long_text : List ℕ
 second_too_long_text = line (codes "second input too long")
-
--- the greatest length of a surface file
-abbrev pub surface_limit : ℕ
-surface_limit = 268435456
-
--- the greatest length of a script
-abbrev pub script_limit : ℕ
-script_limit = 16777216

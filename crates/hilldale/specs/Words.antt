@@ -5,7 +5,8 @@ use Rattle.std.specs.List.{starts_with}
 use Rattle.std.specs.Str.{bytes_eq}
 use Rattle.std.specs.Str.Parse.{digits_value}
 use Rattle.hd_num.specs.Whole.{is_numeral}
-use Rattle.hilldale.specs.declared.words.Asked.{Asked}
+use Rattle.hilldale.specs.declared.limits.TheConstants.{LEAST_TILE, GREATEST_TILE, USUAL_TILE}
+use Rattle.hilldale.specs.declared.words.Job.{Job}
 use Rattle.hilldale.specs.declared.words.Stage.{Stage}
 use Rattle.hilldale.specs.declared.words.Stage.TheVariants.{Options, TileValue, Names}
 
@@ -31,8 +32,9 @@ abbrev pub begins_with_dash : List ℕ → Bool
 begins_with_dash [] = false
 begins_with_dash (byte ∷ bytes) = nat_eq byte 45
 
--- the words after the command, read from left to right. The word `--` ends the options, `--tile` takes the next word as
--- its value and `--tile=V` takes V; another word that begins with `-` is refused, and each other word is a name
+-- the words after the command, read from left to right. The word `--` ends the options, `--tile` takes the next
+-- word as its value and `--tile=V` takes V; another word that begins with `-` is refused, and each other word is a
+-- name
 abbrev pub given_of : Stage → List (List ℕ) → Option Given
 given_of Options [] = Some (record { names = []; tiles = [] })
 given_of Options (word ∷ words) =
@@ -45,10 +47,13 @@ given_of TileValue [] = None
 given_of TileValue (value ∷ words) = with_tile value (given_of Options words)
 given_of Names words = Some (record { names = words; tiles = [] })
 
--- the side of a tile, where `--tile` is given at most once: 64, or one to three digits with a value from 8 to 256
+-- the side of a tile, where `--tile` is given at most once: the usual one, or one to three digits with a value
+-- between the least and the greatest
 abbrev pub tile_of : List (List ℕ) → Option ℕ
-tile_of [] = Some 64
-tile_of (value ∷ []) = if is_numeral value && nat_le (length value) 3 && nat_le 8 (digits_value 10 value) && nat_le (digits_value 10 value) 256 then Some (digits_value 10 value) else None
+tile_of [] = Some USUAL_TILE
+tile_of (value ∷ []) =
+    if is_numeral value && nat_le (length value) 3 && nat_le LEAST_TILE (digits_value 10 value)
+    && nat_le (digits_value 10 value) GREATEST_TILE then Some (digits_value 10 value) else None
 tile_of (value ∷ (other ∷ more)) = None
 
 -- a name that is not empty
@@ -58,7 +63,8 @@ filled (byte ∷ bytes) = Some (byte ∷ bytes)
 
 -- what `dales` asks for, by the names and the values of `--tile`
 abbrev pub dales_names : List (List ℕ) → List (List ℕ) → Option Request
-dales_names (surface ∷ []) [] = option_map (λ name. record { surface = name; script = None; tile = 64 }) (filled surface)
+dales_names (surface ∷ []) [] =
+    option_map (λ name. record { surface = name; script = None; tile = USUAL_TILE }) (filled surface)
 dales_names _ _ = None
 
 -- `dales SURFACE` has one name and no option
@@ -68,7 +74,9 @@ dales_form given = dales_names given.names given.tiles
 -- what `run` asks for, by the names and the values of `--tile`
 abbrev pub run_names : List (List ℕ) → List (List ℕ) → Option Request
 run_names (surface ∷ (script ∷ [])) tiles =
-    option_and_then (λ name. option_and_then (λ second. option_map (λ side. record { surface = name; script = Some second; tile = side }) (tile_of tiles)) (filled script)) (filled surface)
+    option_and_then (λ name. option_and_then (λ second.
+    option_map (λ side. record { surface = name; script = Some second; tile = side }) (tile_of tiles))
+    (filled script)) (filled surface)
 run_names _ _ = None
 
 -- `run SURFACE SCRIPT` has two names, and may have `--tile`
@@ -83,6 +91,6 @@ form_of (command ∷ words) =
     else if bytes_eq command (codes "run") then option_and_then run_form (given_of Options words)
     else None
 
--- what the program's answer stands for
-abbrev pub request_of : Asked → Request
-request_of asked = record { surface = asked.surface.now; script = option_copied asked.script; tile = asked.tile }
+-- what a job of the program stands for
+abbrev pub request_of : Job → Request
+request_of job = record { surface = job.surface.now; script = option_copied job.script; tile = job.tile }

@@ -1,9 +1,9 @@
 // Answering the lines of a script, one after the other.
-ghost use Rattle.std.specs.Prelude.{◌≡◌, ◌<◌, ◌≤◌, ◌+◌, ◌^◌, length, IsTrue};
+ghost use Rattle.std.specs.Prelude.{◌≡◌, ◌<◌, ◌≤◌, ◌+◌, length, IsTrue};
 ghost use Rattle.hd_num.specs.Lines.{lines_of};
-ghost use Rattle.hd_map.specs.Map.{IsMap};
-ghost use Rattle.hilldale.specs.Answering.{AnswersLine, AnswersLines, HasWriteStop};
+ghost use Rattle.hilldale.specs.WrittenAnswers.{WritesAnswer, WritesAnswers, HasWriteStop};
 
+use crate::limits::SCRIPT_LIMIT;
 use crate::stop::Stop;
 use hd_base::{Sink, write_all};
 use hd_engine::Session;
@@ -18,18 +18,22 @@ pub fn answer_lines<W: Sink>(
     out: &mut W,
 ) -> Result<bool, Stop>
     requires open { IsTrue (W.is_open out.old) }
-    requires few { length script.now ≤ 16777216 }
+    requires few { length script.now ≤ SCRIPT_LIMIT }
     requires fresh { session.old.asked ≡ 0 }
-    requires whole { IsMap session.old.state.map }
     ensures open { IsTrue (W.is_open out.new) }
-    ensures answers { AnswersLines session.old.state (lines_of script.now) result (W.written out.old) (W.written out.new) }
+    ensures answers { WritesAnswers session.old.state (lines_of script.now) result
+        (W.written out.old) (W.written out.new) }
     ensures cause { HasWriteStop (W.faults out.old) (W.faults out.new) result }
 {
     let mut accepted = true;
     let mut number = 1;
     let mut from = 0;
     'lines: while let Some((line, next)) = next_line(script, from) {
-        if !answer_line(session, number, &script[line.start..line.end], out)? {
+        let is_accepted = match answer_line(session, number, &script[line.start..line.end], out) {
+            Ok(is_accepted) => is_accepted,
+            Err(stop) => return Err(stop),
+        };
+        if !is_accepted {
             accepted = false;
         }
         number += 1;
@@ -46,11 +50,11 @@ fn answer_line<W: Sink>(
     out: &mut W,
 ) -> Result<bool, Stop>
     requires open { IsTrue (W.is_open out.old) }
-    requires asked { session.old.asked < 16777216 }
-    requires whole { IsMap session.old.state.map }
+    requires asked { session.old.asked < SCRIPT_LIMIT }
     ensures open { IsTrue (W.is_open out.new) }
     ensures asked { session.new.asked ≡ session.old.asked + 1 }
-    ensures answer { AnswersLine session.old.state number line.now result session.new.state (W.written out.old) (W.written out.new) }
+    ensures answer { WritesAnswer session.old.state number line.now result session.new.state
+        (W.written out.old) (W.written out.new) }
     ensures cause { HasWriteStop (W.faults out.old) (W.faults out.new) result }
 {
     let Ok(answer) = session.answer(number, line) else {

@@ -1,10 +1,9 @@
 // Reading the surface file and the script.
 ghost use Rattle.std.specs.Prelude.{◌≡◌, ◌≤◌, ℕ, List as Items, length, Some, IsTrue, IfOk};
 ghost use Rattle.hilldale.specs.Inputs.{IsSurfaceRead, IsScriptRead, HasReadStop};
-ghost use Rattle.hilldale.specs.Texts.{script_limit};
 
-use crate::stop::Stop;
-use crate::texts::{SCRIPT_LIMIT, SURFACE_LIMIT};
+use crate::limits::{SCRIPT_LIMIT, SURFACE_LIMIT};
+use crate::stop::{Refusal, Stop};
 use hd_base::{List, ReadError, Source, read_all};
 use hd_map::Surface;
 use hd_sdf_read::{PlainError, read_plain};
@@ -20,12 +19,12 @@ pub fn read_surface<S: Source>(alloc: Global, source: &mut S, name: &str) -> Res
         Ok(bytes) => bytes,
         Err(ReadError::Memory) => return Err(Stop::Memory),
         Err(ReadError::ReadFault) => return Err(Stop::ReadFault),
-        Err(ReadError::TooLong(_)) => return Err(Stop::SurfaceTooLong),
+        Err(ReadError::TooLong(_)) => return Err(Stop::Refused(Refusal::SurfaceTooLong)),
     };
     match read_plain(alloc, bytes.as_slice()) {
         Ok(surface) => Ok(surface),
         Err(PlainError::Memory) => Err(Stop::Memory),
-        Err(PlainError::NotPlain) => Err(Stop::NotPlain),
+        Err(PlainError::NotPlain) => Err(Stop::Refused(Refusal::NotPlain)),
     }
 }
 
@@ -33,13 +32,13 @@ pub fn read_surface<S: Source>(alloc: Global, source: &mut S, name: &str) -> Res
 pub fn read_script<R: Source>(alloc: Global, source: &mut R, name: &str) -> Result<List<u8>, Stop>
     requires { IsTrue (R.allows source.old name.now) }
     ensures told { (bytes : Items ℕ) → R.files source.old name.now ≡ Some bytes → IsScriptRead bytes result }
-    ensures within { IfOk result (λ read. length read ≤ script_limit) }
+    ensures within { IfOk result (λ read. length read ≤ SCRIPT_LIMIT) }
     ensures cause { HasReadStop (R.faults source.old) (R.faults source.new) result }
 {
     match read_all(alloc, source, name, SCRIPT_LIMIT) {
         Ok(bytes) => Ok(bytes),
         Err(ReadError::Memory) => Err(Stop::Memory),
         Err(ReadError::ReadFault) => Err(Stop::ReadFault),
-        Err(ReadError::TooLong(_)) => Err(Stop::ScriptTooLong),
+        Err(ReadError::TooLong(_)) => Err(Stop::Refused(Refusal::ScriptTooLong)),
     }
 }

@@ -4,6 +4,7 @@
 
 mod answers;
 mod inputs;
+mod limits;
 mod run;
 mod status;
 mod stop;
@@ -13,32 +14,44 @@ mod texts;
 mod top;
 mod words;
 
-use hd_base::{FileSource, List, MemSink, StdoutSink};
+use hd_base::{FileSource, List, MemSink, Memory, StdoutSink};
 pub use status::Status;
 use std::env;
+use std::io::ErrorKind;
 use std::process::ExitCode;
 use std::rt::Env;
 pub use top::top;
 
 fn main(rt: HostRuntime) -> ExitCode {
-    let words = given_words(&rt).unwrap_or(Vec::new(rt.alloc()));
-    let mut surface = FileSource::new(&rt);
-    let mut script = FileSource::new(&rt);
-    let mut out = StdoutSink::new(&rt);
+    ExitCode::from(status_of_run(&rt).code())
+}
+
+// Runs the program on the words, the files and the standard output of the system.
+fn status_of_run(rt: &HostRuntime) -> Status {
+    let Ok(words) = given_words(rt) else {
+        return Status::Memory;
+    };
+    let Ok(mut out) = StdoutSink::new(rt.alloc(), rt) else {
+        return Status::Memory;
+    };
+    let mut surface = FileSource::new(rt);
+    let mut script = FileSource::new(rt);
     let mut saved = MemSink::new(rt.alloc(), List::new(rt.alloc()), 1);
-    let status = top(
+    top(
         rt.alloc(),
         words.as_slice(),
         &mut surface,
         &mut script,
         &mut out,
         &mut saved,
-    );
-    ExitCode::from(status.code())
+    )
 }
 
-// The words after the program's name, where all of them are text.
-fn given_words(rt: &(impl Env + AllocGlobal)) -> Option<Vec<String>> {
-    let given = env::args(rt).ok()?;
-    given.skip(1).collect(rt.alloc()).ok()
+// The words after the program's name; none where some of them are no text.
+fn given_words(rt: &(impl Env + AllocGlobal)) -> Result<Vec<String>, Memory> {
+    match env::args(rt) {
+        Ok(given) => Ok(given.skip(1).collect(rt.alloc())?),
+        Err(error) if error.kind() == ErrorKind::OutOfMemory => Err(Memory),
+        Err(_) => Ok(Vec::new(rt.alloc())),
+    }
 }

@@ -384,6 +384,27 @@ fn each_call_that_fails_is_a_fault_of_its_kind(rt: HostRuntime) -> Result<(), Fa
 }
 
 #[test]
+fn each_answer_is_written_before_the_next_line(rt: HostRuntime) -> Result<(), Fail> {
+    let surface = profile(rt.alloc(), 5)?;
+    let answers = [
+        "line 1 ok\n",
+        PROFILE_DALES,
+        "line 4 refused: unknown command\n",
+    ];
+    let mut written = String::new(rt.alloc());
+    for (call, answer) in answers.iter().enumerate() {
+        let feed = Feed {
+            sink_fails: &[call as u64],
+            ..whole(surface.as_str(), "set 1 0 5\n;\ndales\nplot\n")
+        };
+        let wanted = Status::WriteFault;
+        expect(&rt, &["run", "A", "B"], &feed, wanted, written.as_str())?;
+        written.push_str(answer)?;
+    }
+    Ok(())
+}
+
+#[test]
 fn a_read_fault_that_cannot_be_told_is_a_write_fault(rt: HostRuntime) -> Result<(), Fail> {
     let (status, text) = run_in_pieces(rt.alloc(), 4, &[0], &[], &[1])?;
     assert_eq!(rt; status, Status::WriteFault);

@@ -16,11 +16,5 @@ pub const NOT_PLAIN: &str = "surface refused: not a plain file\n";
 /// A source that failed.
 pub const READ_FAULT: &str = "read fault\n";
 
-/// The greatest number of bytes of a surface file.
-pub const SURFACE_LIMIT: usize = 268_435_456;
-
 /// A script with more bytes than the limit.
 pub const SECOND_TOO_LONG: &str = "second input too long\n";
-
-/// The greatest number of bytes of a script.
-pub const SCRIPT_LIMIT: usize = 16_777_216;

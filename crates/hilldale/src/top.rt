@@ -4,16 +4,17 @@ ghost use Rattle.std.specs.Option.{ForSome};
 ghost use Rattle.std.specs.Io.KnownBytes.{Appends};
 ghost use Rattle.hd_base.specs.Told.{OnTold};
 ghost use Rattle.hilldale.specs.Words.{form_of};
-ghost use Rattle.hilldale.specs.Outcome.{TellsInputs, EndsAs};
-ghost use Rattle.hilldale.specs.Causes.{HasCause};
-ghost use Rattle.hilldale.specs.Finish.{Finishes};
+ghost use Rattle.hilldale.specs.Outcome.{TellsInputs, surface_of};
+ghost use Rattle.hilldale.specs.FaultCounts.{HasStatusCause, SourceFailed, over};
+ghost use Rattle.hilldale.specs.ReadOrder.{ReadsInOrder};
+ghost use Rattle.hilldale.specs.Ending.{EndsAs, EndsRun, Finishes};
 ghost use Rattle.hilldale.specs.Texts.{read_fault_text};
 
 use crate::run::run;
 use crate::status::Status;
 use crate::stop::Stop;
-use crate::texts::{NOT_PLAIN, READ_FAULT, SECOND_TOO_LONG, SURFACE_TOO_LONG, USAGE};
-use crate::words::asked_in;
+use crate::texts::{READ_FAULT, USAGE};
+use crate::words::job_of;
 use hd_base::{Sink, Source, write_all};
 use std::alloc::Global;
 
@@ -32,46 +33,64 @@ pub fn top<S: Source, R: Source, W: Sink, V: Sink>(
     saved: &mut V,
 ) -> Status
     requires open { IsTrue (W.is_open out.old) }
-    requires surface { ForSome (form_of (map string_bytes words.now)) (λ asked. IsTrue (S.allows surface.old asked.surface)) }
-    requires script { ForSome (form_of (map string_bytes words.now)) (λ asked. ForSome asked.script (λ name. IsTrue (R.allows script.old name))) }
+    requires surface { ForSome (form_of (map string_bytes words.now))
+        (λ request. IsTrue (S.allows surface.old request.surface)) }
+    requires script { ForSome (form_of (map string_bytes words.now))
+        (λ request. ForSome request.script (λ name. IsTrue (R.allows script.old name))) }
 
     // What the words and the told bytes of both inputs come to is what was written.
-    ensures outcome { (bytes second : Items ℕ) → TellsInputs (map string_bytes words.now) (S.files surface.old) (R.files script.old) bytes second
-        → EndsAs (map string_bytes words.now) bytes second result (W.written out.old) (W.written out.new) }
+    ensures outcome { (bytes second : Items ℕ)
+        → TellsInputs (map string_bytes words.now) (S.files surface.old) (R.files script.old) bytes second
+        → EndsAs (map string_bytes words.now) bytes second
+        (SourceFailed (surface_of bytes) (over (S.faults surface.old) (S.faults surface.new))
+        (over (R.faults script.old) (R.faults script.new)))
+        result (W.written out.old) (W.written out.new) }
     ensures usage { result ≡ Status.Usage → form_of (map string_bytes words.now) ≡ None }
-    ensures unformed { form_of (map string_bytes words.now) ≡ None → (result ≡ Status.Usage) ⊎ (result ≡ Status.WriteFault) }
+    ensures unformed { form_of (map string_bytes words.now) ≡ None
+        → (result ≡ Status.Usage) ⊎ (result ≡ Status.WriteFault) }
+
+    // No step comes before its turn.
+    ensures order { ReadsInOrder (form_of (map string_bytes words.now)) (S.files surface.old)
+        (over (S.faults surface.old) (S.faults surface.new)) surface.old surface.new script.old script.new }
 
     // Faults are answered only where there was one.
-    ensures cause { HasCause result
-        (record { before = S.faults surface.old; now = S.faults surface.new })
-        (record { before = R.faults script.old; now = R.faults script.new })
-        (record { before = W.faults out.old; now = W.faults out.new })
-        (record { before = V.faults saved.old; now = V.faults saved.new }) }
-    ensures read_fault { result ≡ Status.ReadFault → Appends (W.written out.old) (W.written out.new) read_fault_text }
-    ensures flushed { OnTold (W.written out.old) (result ≢ Status.WriteFault → result ≢ Status.Memory → IsTrue (W.flushed out.new)) }
+    ensures cause { HasStatusCause result (over (S.faults surface.old) (S.faults surface.new))
+        (over (R.faults script.old) (R.faults script.new)) (over (W.faults out.old) (W.faults out.new))
+        (over (V.faults saved.old) (V.faults saved.new)) }
+    ensures read_fault { result ≡ Status.ReadFault
+        → Appends (W.written out.old) (W.written out.new) read_fault_text }
+    ensures flushed { OnTold (W.written out.old)
+        (result ≢ Status.WriteFault → result ≢ Status.Memory → IsTrue (W.flushed out.new)) }
     ensures saved { saved.new ≡ saved.old }
 {
-    let Some(asked) = asked_in(words) else {
+    let Some(job) = job_of(words) else {
         return finish(out, USAGE.as_bytes(), Status::Usage);
     };
-    match run(alloc, &asked, surface, script, out) {
+    let ran = run(alloc, &job, surface, script, out);
+    end_run(out, ran)
+}
+
+// Ends a run by what it came to.
+fn end_run<W: Sink>(out: &mut W, ran: Result<bool, Stop>) -> Status
+    requires { IsTrue (W.is_open out.old) }
+    ensures { EndsRun ran result (W.written out.old) (W.written out.new) (W.flushed out.new)
+        (over (W.faults out.old) (W.faults out.new)) }
+{
+    match ran {
         Ok(true) => finish(out, b"".as_slice(), Status::Done),
         Ok(false) => finish(out, b"".as_slice(), Status::LineRefused),
         Err(Stop::Memory) => Status::Memory,
         Err(Stop::WriteFault) => Status::WriteFault,
         Err(Stop::ReadFault) => finish(out, READ_FAULT.as_bytes(), Status::ReadFault),
-        Err(Stop::SurfaceTooLong) => {
-            finish(out, SURFACE_TOO_LONG.as_bytes(), Status::SurfaceRefused)
-        }
-        Err(Stop::NotPlain) => finish(out, NOT_PLAIN.as_bytes(), Status::SurfaceRefused),
-        Err(Stop::ScriptTooLong) => finish(out, SECOND_TOO_LONG.as_bytes(), Status::TooLong),
+        Err(Stop::Refused(refusal)) => finish(out, refusal.text(), refusal.status()),
     }
 }
 
 // Writes and flushes what is left to write, and answers the status, or a write fault.
 fn finish<W: Sink>(out: &mut W, bytes: &[u8], status: Status) -> Status
     requires { IsTrue (W.is_open out.old) }
-    ensures { Finishes bytes.now status result (W.written out.old) (W.written out.new) (W.flushed out.new) (W.faults out.old) (W.faults out.new) }
+    ensures { Finishes bytes.now status result (W.written out.old) (W.written out.new) (W.flushed out.new)
+        (over (W.faults out.old) (W.faults out.new)) }
 {
     if write_all(out, bytes).is_err() || out.flush().is_err() {
         return Status::WriteFault;

@@ -3,13 +3,14 @@ ghost use Rattle.std.specs.Prelude.{◌≡◌, ◌≤◌, [], ◌∷◌, ◌++�
 ghost use Rattle.std.specs.List.{starts_with};
 ghost use Rattle.std.specs.Option.{option_copied, option_map, option_to_list};
 ghost use Rattle.hilldale.specs.Words.{begins_with_dash, dales_form, filled, form_of, given_of, request_of, run_form, tile_of};
-ghost use Rattle.hilldale.specs.Reads.{HasNoForm, IsRefused, LeadsTo, found_so_far};
+ghost use Rattle.hilldale.specs.WordSteps.{HasNoForm, IsRefused, LeadsTo, at_stage, found_so_far};
 
+use crate::limits::{GREATEST_TILE, LEAST_TILE, USUAL_TILE};
 use hd_num::read_count;
 
 /// What the words ask for: a surface, the script to run or none, and the side of a tile.
 #[derive(Clone, Copy, Debug)]
-pub struct Asked<'a> {
+pub struct Job<'a> {
     /// The name of the surface.
     pub surface: &'a str,
     /// The name of the script, where one is to run.
@@ -51,15 +52,15 @@ struct Progress<'a> {
 /// What the words ask for: `dales SURFACE`, or `run SURFACE SCRIPT`, which may have `--tile SIDE`
 /// or `--tile=SIDE`. The word `--` ends the options. None comes exactly where the words have
 /// neither form.
-pub fn asked_in(words: &[String]) -> Option<Asked<'_>>
+pub fn job_of(words: &[String]) -> Option<Job<'_>>
     ensures form { option_map request_of result ≡ form_of (map string_bytes words.now) }
-    ensures tile { IfSome result (λ asked. 8 ≤ asked.tile × asked.tile ≤ 256) }
+    ensures tile { IfSome result (λ job. LEAST_TILE ≤ job.tile × job.tile ≤ GREATEST_TILE) }
 {
     let (command, rest) = words.split_first()?;
     if command.as_str() == "dales" {
-        dales_asked(found_in(rest)?)
+        dales_job(found_in(rest)?)
     } else if command.as_str() == "run" {
-        run_asked(found_in(rest)?)
+        run_job(found_in(rest)?)
     } else {
         None
     }
@@ -69,7 +70,8 @@ pub fn asked_in(words: &[String]) -> Option<Asked<'_>>
 // either form.
 fn found_in(words: &[String]) -> Option<Found<'_>>
     ensures none { IfNone result (HasNoForm (given_of Stage.Options (map string_bytes words.now))) }
-    ensures some { IfSome result (λ found. given_of Stage.Options (map string_bytes words.now) ≡ Some (found_so_far found)) }
+    ensures some { IfSome result
+        (λ found. given_of Stage.Options (map string_bytes words.now) ≡ Some (found_so_far found)) }
 {
     let mut progress = Progress {
         stage: Stage::Options,
@@ -104,8 +106,8 @@ fn after_word<'a>(progress: Progress<'a>, word: &'a str) -> Option<Progress<'a>>
 
 // Reads the next word where it is an option or a name.
 fn after_option<'a>(found: Found<'a>, word: &'a str) -> Option<Progress<'a>>
-    ensures none { IfNone result (IsRefused (record { stage = Stage.Options; found = found.entry }) word.now) }
-    ensures some { IfSome result (λ next. LeadsTo (record { stage = Stage.Options; found = found.entry }) word.now next) }
+    ensures none { IfNone result (IsRefused (at_stage Stage.Options found.entry) word.now) }
+    ensures some { IfSome result (λ next. LeadsTo (at_stage Stage.Options found.entry) word.now next) }
 {
     if word == "--" {
         Some(Progress {
@@ -131,7 +133,8 @@ fn after_option<'a>(found: Found<'a>, word: &'a str) -> Option<Progress<'a>>
 
 // The value in `--tile=VALUE`.
 fn joined_tile(word: &str) -> Option<&[u8]>
-    ensures { option_copied result ≡ (if starts_with nat_eq word.now (codes "--tile=") then Some (drop 7 word.now) else None) }
+    ensures { option_copied result
+        ≡ (if starts_with nat_eq word.now (codes "--tile=") then Some (drop 7 word.now) else None) }
 {
     word.as_bytes().strip_prefix(b"--tile=")
 }
@@ -145,8 +148,8 @@ fn is_option(word: &str) -> bool
 
 // One more value of `--tile`, where it is the first.
 fn with_tile<'a>(found: Found<'a>, value: &'a [u8]) -> Option<Progress<'a>>
-    ensures none { IfNone result (IsRefused (record { stage = Stage.TileValue; found = found.entry }) value.now) }
-    ensures some { IfSome result (λ next. LeadsTo (record { stage = Stage.TileValue; found = found.entry }) value.now next) }
+    ensures none { IfNone result (IsRefused (at_stage Stage.TileValue found.entry) value.now) }
+    ensures some { IfSome result (λ next. LeadsTo (at_stage Stage.TileValue found.entry) value.now next) }
 {
     match found.tile {
         Some(_) => None,
@@ -163,7 +166,10 @@ fn with_tile<'a>(found: Found<'a>, value: &'a [u8]) -> Option<Progress<'a>>
 // One more name, where there are not two yet.
 fn with_name<'a>(found: Found<'a>, name: &'a str) -> Option<Found<'a>>
     ensures none { IfNone result (length (found_so_far found.entry).names ≡ 2) }
-    ensures some { IfSome result (λ more. found_so_far more ≡ record { names = (found_so_far found.entry).names ++ (name.now ∷ []); tiles = (found_so_far found.entry).tiles }) }
+    ensures some { IfSome result (λ more. found_so_far more ≡ record {
+      names = (found_so_far found.entry).names ++ (name.now ∷ []);
+      tiles = (found_so_far found.entry).tiles;
+    }) }
 {
     let names = match found.names {
         FoundNames::Zero => FoundNames::One(name),
@@ -177,27 +183,27 @@ fn with_name<'a>(found: Found<'a>, name: &'a str) -> Option<Found<'a>>
 }
 
 // What `dales` asks for.
-fn dales_asked(found: Found<'_>) -> Option<Asked<'_>>
+fn dales_job(found: Found<'_>) -> Option<Job<'_>>
     ensures form { option_map request_of result ≡ dales_form (found_so_far found.entry) }
-    ensures tile { IfSome result (λ asked. 8 ≤ asked.tile × asked.tile ≤ 256) }
+    ensures tile { IfSome result (λ job. LEAST_TILE ≤ job.tile × job.tile ≤ GREATEST_TILE) }
 {
     match (found.names, found.tile) {
-        (FoundNames::One(surface), None) => Some(Asked {
+        (FoundNames::One(surface), None) => Some(Job {
             surface: filled_name(surface)?,
             script: None,
-            tile: 64,
+            tile: USUAL_TILE,
         }),
         _ => None,
     }
 }
 
 // What `run` asks for.
-fn run_asked(found: Found<'_>) -> Option<Asked<'_>>
+fn run_job(found: Found<'_>) -> Option<Job<'_>>
     ensures form { option_map request_of result ≡ run_form (found_so_far found.entry) }
-    ensures tile { IfSome result (λ asked. 8 ≤ asked.tile × asked.tile ≤ 256) }
+    ensures tile { IfSome result (λ job. LEAST_TILE ≤ job.tile × job.tile ≤ GREATEST_TILE) }
 {
     match found.names {
-        FoundNames::Two(surface, script) => Some(Asked {
+        FoundNames::Two(surface, script) => Some(Job {
             surface: filled_name(surface)?,
             script: Some(filled_name(script)?),
             tile: tile_side(found.tile)?,
@@ -213,13 +219,13 @@ fn filled_name(name: &str) -> Option<&str>
     if name.is_empty() { None } else { Some(name) }
 }
 
-// The side of a tile: 64 where none is given, else a number of one to three digits.
+// The side of a tile: the usual one where none is given, else a number of one to three digits.
 fn tile_side(value: Option<&[u8]>) -> Option<u32>
     ensures form { result ≡ tile_of (option_to_list (option_copied value.entry)) }
-    ensures bounds { IfSome result (λ side. 8 ≤ side × side ≤ 256) }
+    ensures bounds { IfSome result (λ side. LEAST_TILE ≤ side × side ≤ GREATEST_TILE) }
 {
     match value {
-        None => Some(64),
+        None => Some(USUAL_TILE),
         Some(digits) => given_side(digits),
     }
 }
@@ -227,13 +233,13 @@ fn tile_side(value: Option<&[u8]>) -> Option<u32>
 // The side of a tile that is given.
 fn given_side(digits: &[u8]) -> Option<u32>
     ensures form { result ≡ tile_of (digits.now ∷ []) }
-    ensures bounds { IfSome result (λ side. 8 ≤ side × side ≤ 256) }
+    ensures bounds { IfSome result (λ side. LEAST_TILE ≤ side × side ≤ GREATEST_TILE) }
 {
     if digits.len() > 3 {
         return None;
     }
     let side = read_count(digits)?;
-    if (8..=256).contains(&side) {
+    if (LEAST_TILE..=GREATEST_TILE).contains(&side) {
         Some(side)
     } else {
         None

@@ -1,6 +1,5 @@
 use Rattle.std.proofs.Common.{◌≡◌, ◌≤◌, ◌+◌, ◌-◌, length, drop, IsTrue}
 use Rattle.hd_num.specs.Lines.{lines_of}
-use Rattle.hd_map.specs.Map.{IsMap}
 use Rattle.hilldale.proofs.Answered.{AreAnswered}
 use Rattle.hilldale.proofs.answers.answer_lines.Given as goal
 
@@ -10,7 +9,6 @@ invariant-lines g l = record {
   within : l.from ≤ length l.script;
   numbered : l.number ≡ l.session.asked + 1;
   few : l.number ≤ l.from + 1;
-  whole : IsMap l.session.state.map;
   faults : g.W.Sink.faults l.out ≡ g.W.Sink.faults l.fn.out;
   answered : AreAnswered l.fn.session.state (lines_of l.script) l.session.state l.number (lines_of (drop l.from l.script)) l.accepted (g.W.Sink.written l.fn.out) (g.W.Sink.written l.out);
 }

@@ -2,7 +2,7 @@ use Rattle.std.proofs.Common.{◌≡◌, ◌∙◌, ap, false, Some, None, codes
 use Rattle.std.specs.List.{starts_with}
 use Rattle.std.specs.Str.{bytes_eq}
 use Rattle.hilldale.specs.Words.{given_of, begins_with_dash}
-use Rattle.hilldale.specs.Reads.{found_so_far, followed_by}
+use Rattle.hilldale.specs.WordSteps.{found_so_far, followed_by}
 use Rattle.hilldale.specs.declared.words.Stage.TheVariants.{Options}
 use Rattle.hilldale.proofs.WordLemmas.{absent-false, present-true, full_names, joined_tile, none_more, one_name, plain_word}
 use Rattle.hilldale.proofs.words.after_option.Goals as goal

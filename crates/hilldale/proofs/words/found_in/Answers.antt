@@ -1,6 +1,6 @@
 use Rattle.std.proofs.Common.{◌≡◌, ◌∙◌, ◌∷◌, ap, drop, map, string_bytes, suc, sym}
 use Rattle.hilldale.specs.Words.{given_of}
-use Rattle.hilldale.specs.Reads.{given_after}
+use Rattle.hilldale.specs.WordSteps.{given_after}
 use Rattle.hilldale.specs.declared.words.Stage.TheVariants.{Options}
 use Rattle.hilldale.proofs.WordLemmas.{left_item, none_before}
 use Rattle.hilldale.proofs.words.found_in.Goals as goal

@@ -1,6 +1,6 @@
 use Rattle.std.proofs.Common.{◌≡◌, map, drop, string_bytes}
 use Rattle.hilldale.specs.Words.{given_of}
-use Rattle.hilldale.specs.Reads.{given_after}
+use Rattle.hilldale.specs.WordSteps.{given_after}
 use Rattle.hilldale.specs.declared.words.Stage.TheVariants.{Options}
 use Rattle.hilldale.proofs.words.found_in.Given as goal
 

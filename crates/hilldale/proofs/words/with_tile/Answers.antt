@@ -1,5 +1,5 @@
 use Rattle.hilldale.specs.Words.{given_of}
-use Rattle.hilldale.specs.Reads.{names_in}
+use Rattle.hilldale.specs.WordSteps.{names_in}
 use Rattle.hilldale.specs.declared.words.Stage.TheVariants.{Options}
 use Rattle.hilldale.proofs.WordLemmas.{full_tiles, first_tile}
 use Rattle.hilldale.proofs.words.with_tile.Goals as goal

@@ -6,6 +6,7 @@ use Rattle.hilldale.specs.declared.words.Found.{Found}
 use Rattle.hilldale.specs.declared.words.FoundNames.{FoundNames}
 use Rattle.hilldale.specs.declared.words.FoundNames.TheVariants.{Zero, One, Two}
 use Rattle.hilldale.specs.declared.words.Progress.{Progress}
+use Rattle.hilldale.specs.declared.words.Stage.{Stage}
 
 -- the names that were found
 abbrev pub names_in : FoundNames → List (List ℕ)
@@ -15,11 +16,17 @@ names_in (Two first second) = first.now ∷ second.now ∷ []
 
 -- what was found, as names and values of `--tile`
 abbrev pub found_so_far : Found → Given
-found_so_far found = record { names = names_in found.names; tiles = option_to_list (option_copied found.tile) }
+found_so_far found =
+    record { names = names_in found.names; tiles = option_to_list (option_copied found.tile) }
 
 -- what was given before, and then what the later words give
 abbrev pub followed_by : Given → Option Given → Option Given
-followed_by before later = option_map (λ more. record { names = before.names ++ more.names; tiles = before.tiles ++ more.tiles }) later
+followed_by before later =
+    option_map (λ more. record { names = before.names ++ more.names; tiles = before.tiles ++ more.tiles }) later
+
+-- at a stage, with what was found
+abbrev pub at_stage : Stage → Found → Progress
+at_stage stage found = record { stage = stage; found = found }
 
 -- what was found, and then what the words that are left give
 abbrev pub given_after : Progress → List (List ℕ) → Option Given
@@ -36,4 +43,5 @@ IsRefused progress word = (words : List (List ℕ)) → HasNoForm (given_after p
 
 -- after this word the later words give, from next on, what the word and they give from progress on
 abbrev pub LeadsTo : Progress → List ℕ → Progress → Type 0
-LeadsTo progress word next = (words : List (List ℕ)) → given_after progress (word ∷ words) ≡ given_after next words
+LeadsTo progress word next =
+    (words : List (List ℕ)) → given_after progress (word ∷ words) ≡ given_after next words

@@ -1,0 +1,79 @@
+-- How a run ends, and what `out` holds then.
+use Rattle.std.specs.Prelude.{◌≡◌, ◌⊎◌, ℕ, Bool, List, [], Some, Result, Ok, Err, IsTrue}
+use Rattle.std.specs.Io.KnownBytes.{Appends, Keeps}
+use Rattle.hd_base.specs.Told.{Told, AppendsStart}
+use Rattle.hilldale.specs.declared.status.Status.{Status}
+use Rattle.hilldale.specs.declared.status.Status.TheVariants.{ReadFault, WriteFault, Memory}
+use Rattle.hilldale.specs.declared.stop.Stop.{Stop}
+use Rattle.hilldale.specs.declared.stop.Stop.TheVariants as stop
+use Rattle.hilldale.specs.FaultCounts.{Count, RoseIn, Stays}
+use Rattle.hilldale.specs.Outcome.{Outcome, status_of, IsOutcome}
+use Rattle.hilldale.specs.Refusals.{refusal_status, refusal_text}
+use Rattle.hilldale.specs.RunResult.{IsBegun}
+use Rattle.hilldale.specs.Texts.{read_fault_text}
+use Rattle.hilldale.specs.Words.{Request, form_of}
+
+-- all of the defined output was written
+abbrev pub Completes : List (List ℕ) → List ℕ → List ℕ → Status → Told → Told → Type 0
+Completes words surface script status old new = (text : List ℕ)
+    × IsOutcome words surface script (record { status = status; out = text }) × Appends old new text
+
+-- the words have their form, and this is the text of the answers to the first few lines
+abbrev pub AnswersSome : List (List ℕ) → List ℕ → List ℕ → List ℕ → Type 0
+AnswersSome words surface script text =
+    (request : Request) × (form_of words ≡ Some request) × IsBegun request surface script text
+
+-- this is the text of an outcome, and so of each
+pub record IsWholeText (words : List (List ℕ)) (surface script text : List ℕ) : Type 0 where
+  pub status : Status
+  pub is : IsOutcome words surface script (record { status = status; out = text })
+  pub only : (o : Outcome) → IsOutcome words surface script o → o.out ≡ text
+
+-- some first bytes are written of the defined output, or of the answers to the first few lines
+abbrev pub WritesStart : List (List ℕ) → List ℕ → List ℕ → Told → Told → Type 0
+WritesStart words surface script old new = (text : List ℕ)
+    × (IsWholeText words surface script text ⊎ AnswersSome words surface script text) × AppendsStart old new text
+
+-- what `out` holds at the end, by the status; `failed` says that a source failed
+abbrev pub EndsAs : List (List ℕ) → List ℕ → List ℕ → Type 0 → Status → Told → Told → Type 0
+EndsAs words surface script failed ReadFault old new = failed × Appends old new read_fault_text
+EndsAs words surface script failed WriteFault old new =
+    WritesStart words surface script old new ⊎ (failed × AppendsStart old new read_fault_text)
+EndsAs words surface script failed Memory old new =
+    Keeps old new ⊎ ((text : List ℕ) × AnswersSome words surface script text × Appends old new text)
+EndsAs words surface script failed status old new = Completes words surface script status old new
+
+-- the last bytes are all written and flushed, and the status is the one that was wanted
+pub record IsWhole (bytes : List ℕ) (wanted status : Status) (old new : Told) (flushed : Bool) (faults : Count) :
+    Type 0 where
+  pub status_is : status ≡ wanted
+  pub written : Appends old new bytes
+  pub flushed_all : IsTrue flushed
+  pub count : Stays faults
+
+-- the sink failed, and some first bytes of the last are written
+pub record IsCut (bytes : List ℕ) (status : Status) (old new : Told) (faults : Count) : Type 0 where
+  pub status_is : status ≡ WriteFault
+  pub written : AppendsStart old new bytes
+  pub count : RoseIn faults
+
+abbrev pub Finishes : List ℕ → Status → Status → Told → Told → Bool → Count → Type 0
+Finishes bytes wanted status old new flushed faults =
+    IsWhole bytes wanted status old new flushed faults ⊎ IsCut bytes status old new faults
+
+-- nothing more is written
+pub record StopsAt (wanted status : Status) (old new : Told) (faults : Count) : Type 0 where
+  pub status_is : status ≡ wanted
+  pub kept : Keeps old new
+  pub count : Stays faults
+
+-- how a run ends, by what it came to
+abbrev pub EndsRun : Result Bool Stop → Status → Told → Told → Bool → Count → Type 0
+EndsRun (Ok accepted) status old new flushed faults =
+    Finishes [] (status_of accepted) status old new flushed faults
+EndsRun (Err stop.Memory) status old new flushed faults = StopsAt Memory status old new faults
+EndsRun (Err stop.WriteFault) status old new flushed faults = StopsAt WriteFault status old new faults
+EndsRun (Err stop.ReadFault) status old new flushed faults =
+    Finishes read_fault_text ReadFault status old new flushed faults
+EndsRun (Err (stop.Refused refusal)) status old new flushed faults =
+    Finishes (refusal_text refusal) (refusal_status refusal) status old new flushed faults

@@ -1,0 +1,35 @@
+-- Counts of faults over a run, and the statuses that they explain.
+use Rattle.std.specs.Prelude.{◌≡◌, ◌≢◌, ◌⊎◌, ℕ, Result, Ok}
+use Rattle.hd_base.specs.Causes.{Rose}
+use Rattle.hd_map.specs.Map.{Map}
+use Rattle.hilldale.specs.declared.status.Status.{Status}
+use Rattle.hilldale.specs.declared.status.Status.TheVariants.{ReadFault, WriteFault}
+use Rattle.hilldale.specs.declared.stop.Refusal.{Refusal}
+
+-- a count of faults before and after the run
+pub record Count : Type 0 where
+  pub before : ℕ
+  pub now : ℕ
+
+-- the count over a call
+abbrev pub over : ℕ → ℕ → Count
+over before now = record { before = before; now = now }
+
+abbrev pub RoseIn : Count → Type 0
+RoseIn count = Rose count.before count.now
+
+abbrev pub Stays : Count → Type 0
+Stays count = count.now ≡ count.before
+
+-- a source failed: that of the surface, or, once the surface is accepted, that of the script
+abbrev pub SourceFailed : Result Map Refusal → Count → Count → Type 0
+SourceFailed surface surfaces scripts =
+    RoseIn surfaces ⊎ ((map : Map) × (surface ≡ Ok map) × RoseIn scripts)
+
+-- a read fault comes only where a source failed and no sink, a write fault only where a sink failed, and each
+-- other status only where none failed
+pub record HasStatusCause (status : Status) (surface script out saved : Count) : Type 0 where
+  pub read : status ≡ ReadFault → (RoseIn surface ⊎ RoseIn script) × Stays out × Stays saved
+  pub write : status ≡ WriteFault → RoseIn out ⊎ RoseIn saved
+  pub other : status ≢ ReadFault → status ≢ WriteFault
+      → Stays surface × Stays script × Stays out × Stays saved
