@@ -1,5 +1,5 @@
 pub mod Causes
 pub mod Told
-pub mod FileSource
+pub mod FileState
 pub mod MemSource
 pub mod MemSink

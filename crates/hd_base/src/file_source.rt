@@ -1,6 +1,6 @@
 // A source over real files, which tells nothing of their content.
 ghost use Rattle.std.specs.Prelude.{◌≡◌, None, true, false, is_some};
-ghost use Rattle.hd_base.specs.FileSource.{FileSourceState};
+ghost use Rattle.hd_base.specs.FileState.{FileState};
 
 use crate::faults::Faults;
 use crate::{Failed, Source};
@@ -18,7 +18,7 @@ pub struct FileSource<'a, R: Files> {
 }
 
 impl<'a, R: Files> Model for FileSource<'a, R> {
-    ghost Value = { FileSourceState };
+    ghost Value = { FileState };
 
     ghost view = { λ s. record { has_file = is_some s.file; fault_count = s.faults } };
 }

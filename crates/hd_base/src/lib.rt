@@ -5,6 +5,7 @@
 #![tactic(auto)]
 
 mod faults;
+mod file_sink;
 mod file_source;
 mod list;
 mod mem_sink;
@@ -16,6 +17,7 @@ mod stdout_sink;
 #[cfg(test)]
 mod tests;
 
+pub use file_sink::FileSink;
 pub use file_source::FileSource;
 pub use list::{List, Memory};
 pub use mem_sink::MemSink;

@@ -108,6 +108,22 @@ fn a_file_of_the_system_is_read(rt: HostRuntime) -> Result<(), Fail> {
 }
 
 #[test]
+fn a_file_of_the_system_is_written_anew(rt: HostRuntime) -> Result<(), Fail> {
+    let name = format!(in rt.alloc(); "/tmp/hd_base-sink-{}", process::id(rt.process()))?;
+    fs::write(&rt, &name, b"longer than what is written")?;
+    let mut sink = FileSink::new(&rt);
+    sink.open(&name)?;
+    write_all(&mut sink, b"written".as_slice())?;
+    sink.flush()?;
+    let mut source = FileSource::new(&rt);
+    let answer = read_all(rt.alloc(), &mut source, &name, 100);
+    fs::remove_file(&rt, &name)?;
+    assert_eq!(rt; answer?.as_slice(), b"written".as_slice());
+    assert_eq!(rt; sink.open("/tmp/hd_base-no-folder/name"), Err(Failed));
+    Ok(())
+}
+
+#[test]
 fn the_standard_output_takes_all_bytes(rt: HostRuntime) -> Result<(), Fail> {
     let mut sink = StdoutSink::new(rt.alloc(), &rt)?;
     write_all(&mut sink, b"written\n".as_slice())?;

@@ -1,7 +1,0 @@
--- A source over real files, as contracts see it.
-use Rattle.std.specs.Prelude.{ℕ, Bool}
-
--- whether a file is open, and how often the source failed
-pub record FileSourceState : Type 0 where
-  pub has_file : Bool
-  pub fault_count : ℕ
