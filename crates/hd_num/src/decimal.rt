@@ -103,7 +103,7 @@ fn signed(negative: bool, magnitude: u32) -> i32
 }
 
 // The text before the first point, and the text after it.
-fn split_point(text: &[u8]) -> (&[u8], &[u8])
+pub(crate) fn split_point(text: &[u8]) -> (&[u8], &[u8])
     ensures before { result.0.now ≡ before_first is_point text.now }
     ensures after { result.1.now ≡ after_first is_point text.now }
     ensures short { length result.0.now + length result.1.now ≤ length text.now }

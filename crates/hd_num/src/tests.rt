@@ -1,7 +1,7 @@
 // What no clause says: the outcomes that the rules give for words and texts from outside.
 use crate::{
-    Whole, leading_digits, next_line, push_text, push_unsigned, push_whole, read_count,
-    read_decimal, read_whole, split_words, trim,
+    Frac, Whole, leading_digits, next_line, push_frac, push_text, push_unsigned, push_whole,
+    read_count, read_decimal, read_whole, split_words, trim,
 };
 use hd_base::List;
 use std::test::Fail;
@@ -230,4 +230,34 @@ fn digits_at_the_front(rt: HostRuntime) {
         leading_digits(b"1234567890123456789"),
         (18, 123_456_789_012_345_678)
     );
+}
+
+#[test]
+fn reduced_fractions(rt: HostRuntime) -> Result<(), Fail> {
+    let mut out = List::new(rt.alloc());
+    let cases: [(i128, u128); 7] = [
+        (0, 12),
+        (6, 4),
+        (-6, 4),
+        (12, 4),
+        (1, 7),
+        (i128::MIN, 1 << 127),
+        (i128::MAX, u128::MAX),
+    ];
+    for (n, d) in &cases {
+        if *d > 0 {
+            push_frac(&mut out, Frac::new(*n, *d))?;
+            push_text(&mut out, b" ")?;
+        }
+    }
+    let text: &[u8] =
+        b"0/1 3/2 -3/2 3/1 1/7 -1/1 170141183460469231731687303715884105727/340282366920938463463374607431768211455 ";
+    assert_eq!(rt; out.as_slice(), text);
+    Ok(())
+}
+
+#[test]
+fn sums_of_fractions(rt: HostRuntime) {
+    let sum = Frac::new(1, 6).add(Frac::new(-1, 10));
+    assert_eq!(rt; (sum.num(), sum.den()), (1, 15));
 }
