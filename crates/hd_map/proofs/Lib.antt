@@ -7,3 +7,5 @@ pub mod Regions
 pub mod Levels
 pub mod Saddles
 pub mod Trees
+pub mod Prunings
+mod Packed

@@ -9,4 +9,11 @@ pub mod Saddle
 pub mod ChangeTree
 pub mod Passes
 pub mod Sets
+pub mod Packing
 pub mod Surface
+pub mod NearestSaddle
+pub mod Pruning
+pub mod Undercut
+pub mod Walks
+pub mod Crossings
+pub mod Shown

@@ -5,6 +5,8 @@
 mod grid;
 mod laws;
 mod near;
+mod packing;
+mod pruning_law;
 mod range;
 mod side;
 mod surface;
@@ -20,6 +22,7 @@ pub use laws::{
     saddle_is_the_same_both_ways,
 };
 pub use near::neighbours;
+pub use pruning_law::pruning_is_determined;
 pub use range::{greatest_of, is_cell_of, least_of};
 pub use side::{Down, Side, Up};
 pub use surface::Surface;

@@ -1,19 +1,26 @@
 // A surface as it was read: its cells, and masks over them.
-ghost use Rattle.std.specs.Prelude.{◌≡◌, ◌<◌, ◌≤◌, ◌*◌, IfOk, ℕ, length, replicate, false};
-ghost use Rattle.hd_map.specs.Map.{IsSize, IsMap, AreCellsOf, cell_count};
+ghost use Rattle.std.specs.Prelude.{◌≡◌, IfOk, length, replicate, false};
+ghost use Rattle.hd_map.specs.Map.{IsSize, IsMap, AreCellsOf, cell_count, least_height};
+ghost use Rattle.hd_map.specs.Packing.{packed_map};
 
-use crate::{Cell, DataType, Grid, Heights, MapError, Pos, Size, contains, index_of, is_cell_of};
+use crate::packing::{Mark, pack};
+use crate::{
+    Cell, DataType, Grid, Heights, MapError, Pos, Size, contains, index_of, is_cell_of, least_of,
+};
 use hd_base::{List, Memory};
 use std::alloc::Global;
 
-/// A measured surface in memory: 16 bytes a cell and one a mask.
+/// A measured surface in memory: four bytes a point for its height and one for its mark.
 #[derive(Debug, Drop)]
 pub struct Surface {
     size: Size,
     data_type: DataType,
-    cells: Vec<Cell>,
-    masks: Vec<bool>,
-    ghost whole: { IsMap (record { size = size; data_type = data_type; cells = cells.items; masks = masks.items }) },
+    least: i64,
+    heights: Vec<u32>,
+    marks: Vec<Mark>,
+    ghost is_least: { least ≡ least_height data_type },
+    ghost paired: { length heights.items ≡ length marks.items },
+    ghost whole: { IsMap (packed_map size data_type heights.items marks.items) },
 }
 
 impl Surface {
@@ -22,8 +29,8 @@ impl Surface {
     /// A surface with these cells by index, none of them masked.
     ///
     /// Both sizes are from 1 to 65,535 with at most 4,194,304 cells, there are as many cells as the
-    /// size says, and each height is in the range of the type. `Memory` comes where the masks are
-    /// refused their memory.
+    /// size says, and each height is in the range of the type. `Memory` comes where the five bytes a
+    /// point are refused.
     pub fn new(
         alloc: Global,
         size: Size,
@@ -35,12 +42,20 @@ impl Surface {
         requires heights { AreCellsOf data_type cells }
         ensures { IfOk result (λ s. map_of s ≡ record { size = size; data_type = data_type; cells = cells; masks = replicate (cell_count size) false }) }
     {
-        let masks = vec![in alloc; false; cells.as_slice().len()]?;
+        let count = cells.as_slice().len();
+        let mut heights = Vec::with_capacity(alloc, count)?;
+        let mut marks = Vec::with_capacity(alloc, count)?;
+        for index in 0..count {
+            let packed = pack(data_type, cells.as_slice()[index], false);
+            heights.push(packed.over)?;
+            marks.push(packed.mark)?;
+        }
         Ok(Surface {
             size,
             data_type,
-            cells: cells.into_vec(),
-            masks,
+            least: least_of(data_type),
+            heights,
+            marks,
         })
     }
 }
@@ -57,8 +72,9 @@ impl Heights for Surface {
     }
 
     fn height(&self, at: Pos) -> Option<i64> {
-        match self.cells[index_of(self.size, at) as usize] {
-            Cell::Height(height) if !self.masks[index_of(self.size, at) as usize] => Some(height),
+        let index = index_of(self.size, at) as usize;
+        match self.marks[index] {
+            Mark::Shown => Some(self.least + self.heights[index] as i64),
             _ => None,
         }
     }
@@ -80,11 +96,16 @@ impl Grid for Surface {
     }
 
     fn cell(&self, at: Pos) -> Cell {
-        self.cells[index_of(self.size, at) as usize]
+        let index = index_of(self.size, at) as usize;
+        if self.marks[index].is_measured() {
+            Cell::Height(self.least + self.heights[index] as i64)
+        } else {
+            Cell::Bad
+        }
     }
 
     fn masked(&self, at: Pos) -> bool {
-        self.masks[index_of(self.size, at) as usize]
+        self.marks[index_of(self.size, at) as usize].is_masked()
     }
 
     fn set_cell(&mut self, at: Pos, cell: Cell) -> Result<(), MapError> {
@@ -94,7 +115,10 @@ impl Grid for Surface {
         if !is_cell_of(self.data_type, cell) {
             return Err(MapError::HeightRange(at));
         }
-        self.cells[index_of(self.size, at) as usize] = cell;
+        let index = index_of(self.size, at) as usize;
+        let packed = pack(self.data_type, cell, self.marks[index].is_masked());
+        self.heights[index] = packed.over;
+        self.marks[index] = packed.mark;
         Ok(())
     }
 
@@ -102,7 +126,8 @@ impl Grid for Surface {
         if !contains(self.size, at) {
             return Err(MapError::Outside(at));
         }
-        self.masks[index_of(self.size, at) as usize] = masked;
+        let index = index_of(self.size, at) as usize;
+        self.marks[index] = Mark::of(self.marks[index].is_measured(), masked);
         Ok(())
     }
 }

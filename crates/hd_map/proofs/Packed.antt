@@ -1,0 +1,154 @@
+-- What is packed is read again, and a point that is set keeps the others.
+use Rattle.std.proofs.Common.{◌≡◌, ◌≢◌, ◌<◌, ◌≤ℤ◌, ◌<ℤ◌, ◌+◌, ◌+ℤ◌, ◌++◌, ℕ, ℤ, zero, suc, pos, Bool, false, List, [], ◌∷◌, length, get_or, set, take, map, replicate, None, inl, inr, ap, sym, subst, refl, ◌∙◌, arith}
+use Rattle.std.specs.Simd.Lanes.{zip2}
+use Rattle.std.proofs.Math.ListN.{length-set}
+use Rattle.std.proofs.Math.Seq.{map-set_same}
+use Rattle.std.proofs.lemmas.Int.{ints}
+use Rattle.std.proofs.lemmas.Bool.{cases_eq}
+use Rattle.std.proofs.lemmas.Grind.{get_or-set_at}
+use Rattle.std.proofs.lemmas.List.{get_or_default, length-replicate, length-map, map-append, map-set, get_or-map, get_or-set_other, replicate_more, take_more, take_all, length_push}
+use Rattle.std.proofs.lemmas.Simd.{get_or-zip2}
+use Rattle.hd_map.specs.declared.types.Pos.{Pos}
+use Rattle.hd_map.specs.declared.types.Size.{Size}
+use Rattle.hd_map.specs.declared.types.Cell.{Cell}
+use Rattle.hd_map.specs.declared.types.Cell.TheVariants.{Bad}
+use Rattle.hd_map.specs.declared.types.DataType.{DataType}
+use Rattle.hd_map.specs.declared.types.DataType.TheVariants.{U8, U16, U32, I8, I16, I32}
+use Rattle.hd_map.specs.declared.packing.Mark.{Mark}
+use Rattle.hd_map.specs.declared.packing.Mark.TheVariants.{Shown, Masked, Unmeasured, MaskedUnmeasured}
+use Rattle.hd_map.specs.Map.{Map, IsMap, IsSize, IsCellOf, AreCellsOf, least_height, greatest_height, cell_count, place_of, cell_at, mask_at, shown_height}
+use Rattle.hd_map.specs.Sets.{with_cell, with_mask}
+use Rattle.hd_map.specs.Packing.{measures, masks, cell_from, packed_map}
+
+-- each height of a data type is less than 2 ^ 32 over the least one
+pub in_four_bytes : (t : DataType) (h : ℤ) → h ≤ℤ greatest_height t → h <ℤ (least_height t +ℤ pos 4294967296)
+in_four_bytes U8 h below = omega (arith, ints, below)
+in_four_bytes U16 h below = omega (arith, ints, below)
+in_four_bytes U32 h below = omega (arith, ints, below)
+in_four_bytes I8 h below = omega (arith, ints, below)
+in_four_bytes I16 h below = omega (arith, ints, below)
+in_four_bytes I32 h below = omega (arith, ints, below)
+
+module _ {X Y Z : Type 0} (f : X → Y → Z) where
+  -- a pair that is set in two lists
+  zip2-set : (xs : List X) (ys : List Y) (i : ℕ) (x : X) (y : Y) → zip2 f (set xs i x) (set ys i y) ≡ set (zip2 f xs ys) i (f x y)
+  zip2-set [] ys i x y = refl
+  zip2-set (a ∷ xs) [] zero x y = refl
+  zip2-set (a ∷ xs) [] (suc i) x y = refl
+  zip2-set (a ∷ xs) (b ∷ ys) zero x y = refl
+  zip2-set (a ∷ xs) (b ∷ ys) (suc i) x y = ap (λ zs. f a b ∷ zs) (zip2-set xs ys i x y)
+
+  -- one that f cannot tell from what was there
+  zip2-set_same : (xs : List X) (ys : List Y) (i : ℕ) (y d : Y) → ((x : X) → f x y ≡ f x (get_or ys i d)) → zip2 f xs (set ys i y) ≡ zip2 f xs ys
+  zip2-set_same [] ys i y d same = refl
+  zip2-set_same (a ∷ xs) [] i y d same = refl
+  zip2-set_same (a ∷ xs) (b ∷ ys) zero y d same = ap (λ z. z ∷ zip2 f xs ys) (same a)
+  zip2-set_same (a ∷ xs) (b ∷ ys) (suc i) y d same = ap (λ zs. f a b ∷ zs) (zip2-set_same xs ys i y d same)
+
+  -- a pair that is added to two lists
+  zip2-push : (xs : List X) (ys : List Y) (x : X) (y : Y) → length xs ≡ length ys → zip2 f (xs ++ x ∷ []) (ys ++ y ∷ []) ≡ zip2 f xs ys ++ f x y ∷ []
+  zip2-push [] [] x y e = refl
+  zip2-push [] (b ∷ ys) x y e = absurd (omega arith)
+  zip2-push (a ∷ xs) [] x y e = absurd (omega arith)
+  zip2-push (a ∷ xs) (b ∷ ys) x y e = ap (λ zs. f a b ∷ zs) (zip2-push xs ys x y (omega arith))
+
+-- what shows of a point that is not both measured and clear of masks
+pub not_shown : (t : DataType) (over : ℕ) (mark : Mark) → mark ≢ Shown → shown_height (cell_from t over mark) (masks mark) ≡ None
+not_shown t over Shown other = absurd (other refl)
+not_shown t over Masked other = refl
+not_shown t over Unmeasured other = refl
+not_shown t over MaskedUnmeasured other = refl
+
+-- a map with a cell of its type is a map
+pub cell_kept : (m : Map) (p : Pos) (cell : Cell) → IsMap m → IsCellOf m.data_type cell → IsMap (with_cell m p cell)
+cell_kept m p cell whole of_type = let k = place_of m.size p in record {
+  size = whole.size;
+  cells = length-set m.cells k cell ∙ whole.cells;
+  masks = whole.masks;
+  heights = λ j inside. elim (cases_eq j k) [
+    | inl same ↦ rw (get_or-set_at m.cells k j cell Bad same (rw (sym same) (rw (length-set m.cells k cell) at inside))) of_type
+    | inr other ↦ rw (get_or-set_other m.cells k j cell Bad other) (whole.heights j (rw (length-set m.cells k cell) at inside))
+  ];
+}
+
+-- a map with a mask set is a map
+pub mask_kept : (m : Map) (p : Pos) (masked : Bool) → IsMap m → IsMap (with_mask m p masked)
+mask_kept m p masked whole = record { size = whole.size; cells = whole.cells; masks = length-set m.masks (place_of m.size p) masked ∙ whole.masks; heights = whole.heights }
+
+-- a map of these cells and masks
+abbrev with_lists : Size → DataType → List Cell → List Bool → Map
+with_lists s t cells covers = record { size = s; data_type = t; cells = cells; masks = covers }
+
+-- a kept map with the mark that was read at a position
+module _ (s : Size) (t : DataType) (heights : List ℕ) (marks : List Mark) (paired : length heights ≡ length marks) (whole : IsMap (packed_map s t heights marks))
+    (at : Pos) (k : ℕ) (here : k ≡ place_of s at) (below : k < cell_count s) (mark : Mark) (is : mark ≡ get_or marks k mark) where
+  abbrev kept : Map
+  kept = packed_map s t heights marks
+
+  inside : k < length marks
+  inside = rw (sym (length-map marks masks) ∙ whole.masks) below
+
+  cell_read : cell_at kept at ≡ cell_from t (get_or heights k 0) mark
+  cell_read = ap (λ (i : ℕ). get_or kept.cells i Bad) (sym here) ∙ get_or-zip2 (cell_from t) heights marks k 0 mark Bad (rw paired inside) inside ∙ ap (cell_from t (get_or heights k 0)) (sym is)
+
+  mask_read : mask_at kept at ≡ masks mark
+  mask_read = ap (λ (i : ℕ). get_or kept.masks i false) (sym here) ∙ get_or-map masks marks k mark false inside ∙ ap masks (sym is)
+
+  -- none is read where the mark does not measure
+  pub bad_read : measures mark ≡ false → cell_at kept at ≡ Bad
+  bad_read unmeasured = cell_read ∙ rw unmeasured refl
+
+  -- nothing shows of a point that is not both measured and clear of masks
+  pub none_read : mark ≢ Shown → shown_height (cell_at kept at) (mask_at kept at) ≡ None
+  none_read other = rw (cell_read, mask_read) (not_shown t (get_or heights k 0) mark other)
+
+  -- setting a height and a mark sets the cell, where the mask stays
+  pub cell_set : (over : ℕ) (new : Mark) (cell : Cell) → cell_from t over new ≡ cell → masks new ≡ masks mark → packed_map s t (set heights k over) (set marks k new) ≡ with_cell kept at cell
+  cell_set over new cell packs stays =
+      ap (λ covers. with_lists s t (zip2 (cell_from t) (set heights k over) (set marks k new)) covers) (map-set_same masks marks k new mark (stays ∙ ap masks is))
+      ∙ ap (λ cells. with_lists s t cells kept.masks) (zip2-set (cell_from t) heights marks k over new ∙ ap (λ c. set kept.cells k c) packs ∙ ap (λ (i : ℕ). set kept.cells i cell) here)
+
+  -- setting a mark sets the mask, where the mark measures as the one before
+  pub mask_set : (new : Mark) (masked : Bool) → measures new ≡ measures mark → masks new ≡ masked → packed_map s t heights (set marks k new) ≡ with_mask kept at masked
+  mask_set new masked stays covers =
+      ap (λ cells. with_lists s t cells (map masks (set marks k new))) (zip2-set_same (cell_from t) heights marks k new mark (λ over. rw (stays ∙ ap measures is) refl))
+      ∙ ap (λ covers. with_lists s t kept.cells covers) (map-set masks marks k new ∙ ap (λ m. set kept.masks k m) covers ∙ ap (λ (i : ℕ). set kept.masks i masked) here)
+
+-- the first cells, none of them masked, are packed
+pub record ArePacked (t : DataType) (cells : List Cell) (count : ℕ) (heights : List ℕ) (marks : List Mark) : Type 0 where
+  pub height_count : length heights ≡ count
+  pub mark_count : length marks ≡ count
+  pub are_cells : zip2 (cell_from t) heights marks ≡ take count cells
+  pub no_masks : map masks marks ≡ replicate count false
+
+-- none are packed at the start
+pub none_packed : (t : DataType) (cells : List Cell) (heights : List ℕ) (marks : List Mark) → heights ≡ [] → marks ≡ [] → ArePacked t cells 0 heights marks
+none_packed t cells heights marks no_height no_mark = rw (no_height, no_mark) (record { height_count = refl; mark_count = refl; are_cells = refl; no_masks = refl })
+
+-- one more is packed
+pub more_packed : (t : DataType) (cells : List Cell) (count over : ℕ) (heights : List ℕ) (marks : List Mark) (mark : Mark) → ArePacked t cells count heights marks → count < length cells
+    → cell_from t over mark ≡ get_or cells count Bad → masks mark ≡ false → ArePacked t cells (count + 1) (heights ++ over ∷ []) (marks ++ mark ∷ [])
+more_packed t cells count over heights marks mark before below is clear = record {
+  height_count = length_push heights over ∙ ap (λ n. n + 1) before.height_count;
+  mark_count = length_push marks mark ∙ ap (λ n. n + 1) before.mark_count;
+  are_cells = zip2-push (cell_from t) heights marks over mark (before.height_count ∙ sym before.mark_count) ∙ ap (λ xs. xs ++ cell_from t over mark ∷ []) before.are_cells
+      ∙ ap (λ c. take count cells ++ c ∷ []) is ∙ sym (take_more cells count Bad below);
+  no_masks = map-append masks marks (mark ∷ []) ∙ ap (λ ms. ms ++ masks mark ∷ []) before.no_masks ∙ ap (λ m. replicate count false ++ m ∷ []) clear ∙ replicate_more count false;
+}
+
+-- a cell that the loop reads
+pub cell_in_turn : (cells counted read : List Cell) (k : ℕ) (d : Cell) → counted ≡ cells → read ≡ cells → k < length counted → (k < length cells) × (get_or read k d ≡ get_or cells k Bad)
+cell_in_turn cells counted read k d one other below =
+    let inside : k < length cells = subst (λ (xs : List Cell). k < length xs) one below in
+    (inside, ap (λ (xs : List Cell). get_or xs k d) other ∙ get_or_default cells k d Bad inside)
+
+-- all are packed at the end
+pub all_packed : (s : Size) (t : DataType) (cells : List Cell) (count : ℕ) (heights : List ℕ) (marks : List Mark) → ArePacked t cells count heights marks → length cells ≡ cell_count s → count ≡ cell_count s
+    → packed_map s t heights marks ≡ record { size = s; data_type = t; cells = cells; masks = replicate (cell_count s) false }
+all_packed s t cells count heights marks packed all sized =
+    ap (λ c. with_lists s t c (map masks marks)) (packed.are_cells ∙ take_all count cells (omega (arith, all, sized)))
+    ∙ ap (λ m. with_lists s t cells m) (packed.no_masks ∙ ap (λ n. replicate n false) sized)
+
+-- as many cells of a data type as a size says make a map
+pub fresh_map : (s : Size) (t : DataType) (cells : List Cell) → IsSize s → length cells ≡ cell_count s → AreCellsOf t cells → IsMap (record { size = s; data_type = t; cells = cells; masks = replicate (cell_count s) false })
+fresh_map s t cells limits all of_type = record { size = limits; cells = all; masks = length-replicate (cell_count s) false; heights = of_type }
