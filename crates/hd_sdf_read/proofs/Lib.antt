@@ -1,7 +1,12 @@
-mod Cells
-mod Files
-mod Header
-mod Integers
-mod Numbers
-mod Options
-mod Tokens
+pub mod Counting
+mod EntryLists
+mod Firsts
+pub mod Follow
+mod Forms
+pub mod Fronts
+pub mod Gapless
+pub mod GoodEntries
+pub mod Heights
+mod HeaderSteps
+pub mod Stages
+pub mod Trims

@@ -1,4 +1,8 @@
-pub mod Data
-pub mod Header
-pub mod Plain
-pub mod Reading
+pub mod Entries
+pub mod File
+pub mod FileOf
+pub mod Grammar
+pub mod Keys
+pub mod Places
+pub mod Reads
+pub mod Views

@@ -1,0 +1,26 @@
+-- The first byte of a text that passes a test.
+use Rattle.std.proofs.Common.{◌≡◌, ◌+◌, ◌<◌, ℕ, Bool, true, false, List, length, take, drop, get_or, sym, ap, arith}
+use Rattle.std.specs.List.{after_first, before_first, list_any, position_or_len}
+use Rattle.std.proofs.lemmas.List.Folds.{list_any_at, list_any_none}
+use Rattle.std.proofs.lemmas.List.Elements.{All-from_get_or}
+use Rattle.std.proofs.lemmas.List.Sums.{position_or_len_is}
+
+-- it is found at its place
+pub record IsFirstAt (test : ℕ → Bool) (text : List ℕ) (place : ℕ) : Type 0 where
+  pub some : list_any test text ≡ true
+  pub before : take place text ≡ before_first test text
+  pub after : drop (place + 1) text ≡ after_first test text
+
+pub first_at : (test : ℕ → Bool) (text : List ℕ) (place : ℕ) → place < length text → ((k : ℕ) → k < place → test (get_or text k 0) ≡ false) → test (get_or text place 0) ≡ true
+    → IsFirstAt test text place
+first_at test text place inside before here =
+    let at : position_or_len test text ≡ place = position_or_len_is test text place 0 (omega arith) before (λ _. here) in
+    record {
+      some = list_any_at test text place 0 inside here;
+      before = sym (ap (λ n. take n text) at);
+      after = sym (ap (λ n. drop (n + 1) text) at);
+    }
+
+-- none is found
+pub none_at : (test : ℕ → Bool) (text : List ℕ) → ((k : ℕ) → k < length text → test (get_or text k 0) ≡ false) → list_any test text ≡ false
+none_at test text none = list_any_none test text (All-from_get_or (λ x. test x ≡ false) text 0 none)

@@ -1,0 +1,98 @@
+-- A text in front of others.
+use Rattle.std.proofs.Common.{◌≡◌, ◌+◌, ◌-◌, ◌<◌, ℕ, suc, Bool, true, false, List, [], ◌∷◌, ◌++◌, length, take, drop, get_or, refl, sym, ap, ap₂, arith, ◌∙◌, length-append, append-nil}
+use Rattle.std.specs.List.{after_first, before_first, list_all, list_any, position_or_len, prefix_len, suffix_len, slice_split}
+use Rattle.std.proofs.Math.Seq.{take-append_seam, drop-append_seam, drop-append-add}
+use Rattle.std.proofs.lemmas.Bool.{and_parts, or_parts}
+use Rattle.std.proofs.lemmas.List.{get_or-append_right, get_or_append_left}
+use Rattle.std.proofs.lemmas.List.Elements.{All-get_or}
+use Rattle.std.proofs.lemmas.List.Splits.{length-slice_split, slice_split_first}
+use Rattle.std.proofs.lemmas.List.Sums.{AllPass-from_list_all, suffix_len_is}
+use Rattle.hd_num.specs.Lines.{after_line, is_line_feed, lines_of, trimmed_by, without_empty_last, without_end, without_start}
+use Rattle.hd_sdf_read.specs.File.{is_gap}
+use Rattle.hd_sdf_read.specs.Grammar.{after_token, token_of}
+use Rattle.hd_sdf_read.proofs.Trims.{IsTrimmed}
+
+module _ (test : ℕ → Bool) where
+  -- the first byte that passes stands after a text in which none does
+  place_front : (text : List ℕ) (x : ℕ) (rest : List ℕ) → list_any test text ≡ false → test x ≡ true → position_or_len test (text ++ x ∷ rest) ≡ length text
+  place_front [] x rest none here = rw here refl
+  place_front (y ∷ ys) x rest none here =
+      let parts = or_parts (test y) (list_any test ys) none in
+      let more = place_front ys x rest parts.1 here in
+      rw (parts.0, more) (omega arith)
+
+  pub before_front : (text : List ℕ) (x : ℕ) (rest : List ℕ) → list_any test text ≡ false → test x ≡ true → before_first test (text ++ x ∷ rest) ≡ text
+  before_front text x rest none here = ap (λ n. take n (text ++ x ∷ rest)) (place_front text x rest none here) ∙ take-append_seam text (x ∷ rest)
+
+  pub after_front : (text : List ℕ) (x : ℕ) (rest : List ℕ) → list_any test text ≡ false → test x ≡ true → after_first test (text ++ x ∷ rest) ≡ rest
+  after_front text x rest none here = ap (λ n. drop (n + 1) (text ++ x ∷ rest)) (place_front text x rest none here) ∙ drop-append-add text (x ∷ rest) 1
+
+  -- the bytes at the front that pass are left out
+  pub start_front : (front rest : List ℕ) → list_all test front ≡ true → without_start test (front ++ rest) ≡ without_start test rest
+  start_front [] rest all = refl
+  start_front (x ∷ xs) rest all =
+      let parts = and_parts (test x) (list_all test xs) all in
+      let one : 1 + prefix_len test (xs ++ rest) ≡ suc (prefix_len test (xs ++ rest)) = omega arith in
+      rw (parts.0, one) (start_front xs rest parts.1)
+
+  -- a text whose first byte does not pass stays
+  pub start_stays : (text rest : List ℕ) → 0 < length text → test (get_or text 0 0) ≡ false → without_start test (text ++ rest) ≡ text ++ rest
+  start_stays [] rest some first = absurd (omega arith)
+  start_stays (x ∷ xs) rest some first = rw first refl
+
+  start_all : (back : List ℕ) → list_all test back ≡ true → without_start test back ≡ []
+  start_all back all = ap (without_start test) (sym (append-nil back)) ∙ start_front back [] all
+
+  end_front : (text back : List ℕ) → 0 < length text → test (get_or text (length text - 1) 0) ≡ false → list_all test back ≡ true → without_end test (text ++ back) ≡ text
+  end_front text back some last all =
+      let whole = length-append text back in
+      let end : suffix_len test (text ++ back) ≡ length (text ++ back) - length text =
+      suffix_len_is test (text ++ back) (length text) 0 (omega arith)
+      (λ k low high. ap test (get_or-append_right text back (length text) k 0 refl low)
+      ∙ All-get_or (λ byte. test byte ≡ true) back (k - length text) 0 (omega arith) (AllPass-from_list_all test back all))
+      (λ _. ap test (get_or_append_left text back 0 (length text - 1) (omega arith)) ∙ last) in
+      let size : length (text ++ back) - suffix_len test (text ++ back) ≡ length text = omega arith in
+      ap (λ n. take n (text ++ back)) size ∙ take-append_seam text back
+
+  -- bytes around a text that pass are left out
+  pub trim_around : (front text back : List ℕ) → list_all test front ≡ true → list_all test back ≡ true → IsTrimmed test text → trimmed_by test (front ++ (text ++ back)) ≡ text
+  trim_around front [] back before after is = ap (without_end test) (start_front front back before ∙ start_all back after)
+  trim_around front (x ∷ xs) back before after is =
+      ap (without_end test) (start_front front ((x ∷ xs) ++ back) before ∙ start_stays (x ∷ xs) back (omega arith) (is.first (omega arith)))
+      ∙ end_front (x ∷ xs) back (omega arith) (is.last (omega arith)) after
+
+-- there is a piece after the first
+last_front : (text : List ℕ) (pieces : List (List ℕ)) (n : ℕ) → length pieces ≡ n + 1 → without_empty_last (text ∷ pieces) ≡ text ∷ without_empty_last pieces
+last_front text [] n size = absurd (omega (arith, size))
+last_front text (piece ∷ pieces) n size = refl
+
+-- a line in front of others
+pub lines_front : (text rest : List ℕ) → list_any is_line_feed text ≡ false → lines_of (text ++ 10 ∷ rest) ≡ text ∷ lines_of rest
+lines_front text rest one =
+    let place = place_front is_line_feed text 10 rest one refl in
+    let inside : position_or_len is_line_feed (text ++ 10 ∷ rest) < length (text ++ 10 ∷ rest) = omega (arith, place, length-append text (10 ∷ rest)) in
+    let split : slice_split is_line_feed (text ++ 10 ∷ rest) ≡ text ∷ slice_split is_line_feed rest =
+    slice_split_first is_line_feed (text ++ 10 ∷ rest) 0 inside
+    ∙ ap₂ (λ (line more : List ℕ). line ∷ slice_split is_line_feed more) (before_front is_line_feed text 10 rest one refl) (after_front is_line_feed text 10 rest one refl) in
+    ap without_empty_last split ∙ last_front text (slice_split is_line_feed rest) _ (length-slice_split is_line_feed rest)
+
+pub after_line_front : (text rest : List ℕ) → list_any is_line_feed text ≡ false → after_line (text ++ 10 ∷ rest) ≡ rest
+after_line_front text rest one = after_front is_line_feed text 10 rest one refl
+
+-- no byte passes, so the first does not
+first_fails : (test : ℕ → Bool) (text : List ℕ) → 0 < length text → list_any test text ≡ false → test (get_or text 0 0) ≡ false
+first_fails test [] some none = absurd (omega arith)
+first_fails test (x ∷ xs) some none = (or_parts (test x) (list_any test xs) none).0
+
+module _ (front token : List ℕ) (gap : ℕ) (rest : List ℕ) (gaps : list_all is_gap front ≡ true) (some : 0 < length token) (none : list_any is_gap token ≡ false) (ends : is_gap gap ≡ true) where
+  begins : without_start is_gap (front ++ (token ++ gap ∷ rest)) ≡ token ++ gap ∷ rest
+  begins = start_front is_gap front (token ++ gap ∷ rest) gaps ∙ start_stays is_gap token (gap ∷ rest) some (first_fails is_gap token some none)
+
+  -- a token between gaps
+  pub token_front : token_of (front ++ (token ++ gap ∷ rest)) ≡ token
+  unfolding token_of
+  token_front = ap (before_first is_gap) begins ∙ before_front is_gap token gap rest none ends
+
+  pub after_token_front : after_token (front ++ (token ++ gap ∷ rest)) ≡ gap ∷ rest
+  unfolding after_token
+  after_token_front = ap₂ (λ (n : ℕ) (xs : List ℕ). drop n xs) (ap length token_front) begins ∙ drop-append_seam token (gap ∷ rest)

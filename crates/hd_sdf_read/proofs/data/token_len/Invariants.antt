@@ -1,6 +1,0 @@
-use Rattle.std.proofs.Common.{◌≡◌, ◌<◌, ℕ, false, get_or}
-use Rattle.hd_sdf_read.specs.Data.{is_gap}
-use Rattle.hd_sdf_read.proofs.data.token_len.Given as goal
-
-abbrev pub invariant-bytes : goal.invariant-bytes
-invariant-bytes l = (k : ℕ) → k < l.place → is_gap (get_or l.text k 0) ≡ false

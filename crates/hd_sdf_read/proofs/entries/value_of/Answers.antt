@@ -1,0 +1,9 @@
+use Rattle.std.proofs.Common.{sym, ◌∙◌}
+use Rattle.hd_sdf_read.proofs.EntryLists.{value_of_found, value_of_passed}
+use Rattle.hd_sdf_read.proofs.entries.value_of.Goals as goal
+
+pub returns-then-same_key : goal.returns-then-same_key
+returns-then-same_key c = value_of_found c.args.key.now c.args.entries.now c.entries.entry-index _ c.entries-test.true c.entries.invariant (sym c.same_key.ensures ∙ c.if-same_key.true)
+
+pub entries-preserved : goal.entries-preserved
+entries-preserved c = value_of_passed c.args.key.now c.args.entries.now c.entries.entry-index _ c.entries-test.true c.entries.invariant (sym c.same_key.ensures ∙ c.if-same_key.false)

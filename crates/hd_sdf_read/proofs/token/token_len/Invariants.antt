@@ -1,0 +1,6 @@
+use Rattle.std.proofs.Common.{◌≡◌, ◌<◌, ℕ, false, get_or}
+use Rattle.hd_sdf_read.specs.File.{is_gap}
+use Rattle.hd_sdf_read.proofs.token.token_len.Given as goal
+
+abbrev pub invariant-bytes : goal.invariant-bytes
+invariant-bytes l = (k : ℕ) → k < l.place → is_gap (get_or l.text k 0) ≡ false

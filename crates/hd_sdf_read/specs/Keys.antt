@@ -1,0 +1,95 @@
+-- The known keys of a header, and what their values say.
+use Rattle.std.specs.Prelude.{◌==◌, ◌||◌, ℕ, pos, negsuc, nat_lt, Bool, List, [], ◌∷◌, Option, Some, None, is_some, if◌then◌else◌, codes}
+use Rattle.std.specs.Int.{is_in_range}
+use Rattle.std.specs.Str.{str_eq_ignore_ascii_case}
+use Rattle.hd_map.specs.declared.types.DataType.{DataType}
+use Rattle.hd_map.specs.declared.types.DataType.TheVariants.{U8, U16, U32, I8, I16, I32}
+use Rattle.hd_num.specs.Decimal.{is_decimal}
+use Rattle.hd_num.specs.Whole.{whole_of}
+use Rattle.hd_num.specs.declared.whole.Whole.{Whole}
+use Rattle.hd_num.specs.declared.whole.Whole.TheVariants.{Not, Outside, Is}
+use Rattle.hd_sdf_read.specs.declared.keys.Form.{Form}
+use Rattle.hd_sdf_read.specs.declared.keys.Form.TheVariants.{AnyText, Extent, Number, Zero, TypeCode}
+use Rattle.hd_sdf_read.specs.declared.keys.Verdict.{Verdict}
+use Rattle.hd_sdf_read.specs.declared.keys.Verdict.TheVariants.{Right, Wrong, Unsupported}
+
+-- keys are compared without regard to the case of ASCII letters
+abbrev pub same_key : List ℕ → List ℕ → Bool
+same_key a b = str_eq_ignore_ascii_case a b
+
+-- the twelve known keys, and the form of the value of each
+abbrev pub known_keys : List (List ℕ × Form)
+known_keys = (codes "ManufacID", AnyText)
+    ∷ (codes "CreateDate", AnyText)
+    ∷ (codes "ModDate", AnyText)
+    ∷ (codes "NumPoints", Extent)
+    ∷ (codes "NumProfiles", Extent)
+    ∷ (codes "Xscale", Number)
+    ∷ (codes "Yscale", Number)
+    ∷ (codes "Zscale", Number)
+    ∷ (codes "Zresolution", Number)
+    ∷ (codes "Compression", Zero)
+    ∷ (codes "DataType", TypeCode)
+    ∷ (codes "CheckType", Zero)
+    ∷ []
+
+-- the form of a key in a table
+abbrev pub form_in : List (List ℕ × Form) → List ℕ → Option Form
+form_in [] key = None
+form_in (known ∷ more) key = if same_key known.0 key then Some known.1 else form_in more key
+
+-- the form of the value of a key, where the key is known
+unfoldable pub form_of : List ℕ → Option Form
+form_of key = form_in known_keys key
+
+-- a whole number from 1 to 65,535
+abbrev pub extent_in : Whole → Option ℕ
+extent_in (Is (pos n)) = if is_in_range 1 65535 n then Some n else None
+extent_in (Is (negsuc n)) = None
+extent_in Outside = None
+extent_in Not = None
+
+abbrev pub extent_of : List ℕ → Option ℕ
+extent_of value = extent_in (whole_of value)
+
+-- the type of the heights, by its code
+abbrev pub type_by_code : ℕ → Option DataType
+type_by_code code =
+    if code == 0 then Some U8
+    else if code == 1 then Some U16
+    else if code == 2 then Some U32
+    else if code == 4 then Some I8
+    else if code == 5 then Some I16
+    else if code == 6 then Some I32
+    else None
+
+abbrev pub type_in : Whole → Option DataType
+type_in (Is (pos n)) = type_by_code n
+type_in (Is (negsuc n)) = None
+type_in Outside = None
+type_in Not = None
+
+abbrev pub type_of : List ℕ → Option DataType
+type_of value = type_in (whole_of value)
+
+-- a whole number: 0, or one that is not supported
+abbrev pub judge_zero : Whole → Verdict
+judge_zero (Is (pos n)) = if n == 0 then Right else Unsupported
+judge_zero (Is (negsuc n)) = Unsupported
+judge_zero Outside = Unsupported
+judge_zero Not = Wrong
+
+-- a whole number from 0 to 7, of which 3 and 7 are not supported
+abbrev pub judge_type : Whole → Verdict
+judge_type (Is (pos n)) = if nat_lt 7 n then Wrong else if n == 3 || n == 7 then Unsupported else Right
+judge_type (Is (negsuc n)) = Wrong
+judge_type Outside = Wrong
+judge_type Not = Wrong
+
+-- what a value is for a form
+abbrev pub judge : Form → List ℕ → Verdict
+judge AnyText value = Right
+judge Extent value = if is_some (extent_of value) then Right else Wrong
+judge Number value = if is_decimal value then Right else Wrong
+judge Zero value = judge_zero (whole_of value)
+judge TypeCode value = judge_type (whole_of value)

@@ -1,0 +1,86 @@
+-- What is known of a text where its parts begin.
+use Rattle.std.specs.Prelude.{◌≡◌, ◌≤◌, ◌==◌, ℕ, ℤ, int_le, true, false, List, [], length, take, drop, Some, Result, Ok, Err}
+use Rattle.std.specs.List.{position_or_len}
+use denote.Bor.{Bor}
+use Rattle.hd_map.specs.declared.types.Cell.{Cell}
+use Rattle.hd_map.specs.declared.types.Cell.TheVariants.{Height}
+use Rattle.hd_num.specs.Whole.{whole_of}
+use Rattle.hd_num.specs.declared.whole.Whole.TheVariants.{Is}
+use Rattle.hd_num.specs.Decimal.{decimal_of}
+use Rattle.hd_num.specs.Lines.{after_line, lines_of}
+use Rattle.hd_sdf_read.specs.declared.entries.Entry.{Entry}
+use Rattle.hd_sdf_read.specs.declared.error.SdfError.{SdfError}
+use Rattle.hd_sdf_read.specs.declared.error.SdfError.TheVariants.{Memory}
+use Rattle.hd_sdf_read.specs.declared.file.Version.{Version}
+use Rattle.hd_sdf_read.specs.declared.header_lines.Frame as declared
+use Rattle.hd_sdf_read.specs.Entries.{header_from}
+use Rattle.hd_sdf_read.specs.File.{AreGood, is_gap}
+use Rattle.hd_sdf_read.specs.Grammar.{Cells, Frame, after_lines, after_token, datum_at, version_of}
+use Rattle.hd_sdf_read.specs.Views.{extras_of}
+
+-- line 2 begins here, behind some bytes
+pub record IsSecondLine (bytes : List ℕ) (start : ℕ) : Type 0 where
+  pub behind : 2 ≤ start
+  pub within : start ≤ length bytes
+  pub rest : drop start bytes ≡ after_line bytes
+  pub lines : lines_of (drop start bytes) ≡ drop 1 (lines_of bytes)
+
+-- the version of a text and where line 2 begins, or why it has none
+abbrev pub VersionGiven : List ℕ → Result (Version × ℕ) SdfError → Type 0
+VersionGiven bytes (Ok (version, start)) = (version_of (lines_of bytes) ≡ Ok version) × IsSecondLine bytes start
+VersionGiven bytes (Err e) = version_of (lines_of bytes) ≡ Err e
+
+-- the header from line 2 on, with these entries, and the data begin here
+pub record IsHeader (bytes : List ℕ) (start : ℕ) (entries : List Entry) (next : ℕ) : Type 0 where
+  pub last : ℕ
+  pub within : next ≤ length bytes
+  pub header : header_from 2 [] (lines_of (drop start bytes)) ≡ Ok (record { entries = extras_of entries; last = last })
+  pub rest : after_lines last bytes ≡ drop next bytes
+  pub good : AreGood (extras_of entries)
+
+-- the entries of a header and where the data begin, or why there is none
+abbrev pub HeaderGiven : List ℕ → ℕ → Result (List Entry × ℕ) SdfError → Type 0
+HeaderGiven bytes start (Ok (entries, next)) = IsHeader bytes start entries next
+HeaderGiven bytes start (Err e) = (e ≡ Memory → ⊥) → header_from 2 [] (lines_of (drop start bytes)) ≡ Err e
+
+-- each decimal is the reading of its literal
+pub record HasDecimals (frame : Frame) : Type 0 where
+  pub x_scale : decimal_of frame.x_scale.literal ≡ Some frame.x_scale
+  pub y_scale : decimal_of frame.y_scale.literal ≡ Some frame.y_scale
+  pub z_scale : decimal_of frame.z_scale.literal ≡ Some frame.z_scale
+
+-- a frame without where its literals lie in memory
+abbrev pub frame_view : declared.Frame → Frame
+frame_view f = record {
+  size = f.size;
+  data_type = f.data_type;
+  x_scale = f.x_scale;
+  y_scale = f.y_scale;
+  z_scale = f.z_scale;
+}
+
+-- the cells of data and the text after them, without where they lie in memory
+abbrev pub cells_view : List Cell × Bor (List ℕ) → Cells
+cells_view parts = record { cells = parts.0; rest = parts.1.now }
+
+-- the cell of the next datum after so many, and the text after it, or why there is none
+abbrev pub DatumGiven : ℤ → ℤ → ℕ → List ℕ → Result (Cell × Bor (List ℕ)) SdfError → Type 0
+DatumGiven least greatest read text (Ok (cell, rest)) =
+    (datum_at least greatest read text ≡ Ok cell) × (rest.now ≡ after_token text)
+DatumGiven least greatest read text (Err e) = datum_at least greatest read text ≡ Err e
+
+-- a token at the front is this whole number, and the rest follows it
+pub record TakesHeight (text rest : List ℕ) (height : ℤ) : Type 0 where
+  pub token : List ℕ
+  pub place : take (position_or_len is_gap text) text ≡ token
+  pub after : drop (position_or_len is_gap text) text ≡ rest
+  pub filled : (length token == 0) ≡ false
+  pub number : whole_of token ≡ Is height
+
+-- the same, where the number is in the range and gives this cell
+pub record TakesCell (least greatest : ℤ) (text rest : List ℕ) (cell : Cell) : Type 0 where
+  pub height : ℤ
+  pub takes : TakesHeight text rest height
+  pub low : int_le least height ≡ true
+  pub high : int_le height greatest ≡ true
+  pub cell_is : cell ≡ Height height

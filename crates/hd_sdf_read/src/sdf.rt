@@ -1,0 +1,195 @@
+// A whole file.
+ghost use Rattle.std.specs.Prelude.{◌≡◌, ◌<◌, ◌^◌, IfOk, length, true};
+ghost use Rattle.hd_map.specs.Map.{AreCellsOf, IsSize, cell_count};
+ghost use Rattle.hd_sdf_read.specs.Entries.{extra_entries, text_of};
+ghost use Rattle.hd_sdf_read.specs.File.{AreGood, is_trailer};
+ghost use Rattle.hd_sdf_read.specs.FileOf.{file_of};
+ghost use Rattle.hd_sdf_read.specs.Grammar.{body_in, file_in, file_with, resolution_of, trailer_of};
+ghost use Rattle.hd_sdf_read.specs.Places.{HasDecimals, frame_view};
+ghost use Rattle.hd_sdf_read.specs.Reads.{Gives};
+ghost use Rattle.hd_sdf_read.specs.Views.{extra_of, extras_of};
+
+use crate::datum::read_cells;
+use crate::entries::{Entry, value_of};
+use crate::header_lines::{Frame, decimal_at, read_frame, read_header, read_version};
+use crate::keys::form_of;
+use crate::token::{next_token, trim_gaps};
+use crate::{Extra, SdfError, SdfFile, Version};
+use hd_base::{List, Memory};
+use hd_map::{Cell, Surface};
+use hd_num::Decimal;
+use std::alloc::Global;
+
+/// Reads a text in the ASCII form of ISO 25178-71 (SDF).
+///
+/// The first line names the version. Then come the keys of the header with their values, in any
+/// order and without regard to case, comments and empty lines, and the line `*`. Then come the
+/// data, profile by profile, broken into lines anywhere: `BAD` or a whole number each. A `*` or the
+/// end of the text ends them, and what follows the `*` is the trailer.
+///
+/// Memory is taken for the texts that the file keeps and for its cells, and for no more cells than
+/// the bytes that are left can hold.
+///
+/// # Errors
+///
+/// The first offence from the front, with its line, datum or key, or `Memory` for want of memory.
+pub fn read_sdf(alloc: Global, bytes: &[u8]) -> Result<SdfFile, SdfError>
+    ensures { Gives file_of result (file_in bytes.now) }
+{
+    let (version, start) = match read_version(bytes) {
+        Ok(parts) => parts,
+        Err(refusal) => return Err(refusal),
+    };
+    let (entries, from) = match read_header(alloc, bytes, start) {
+        Ok(parts) => parts,
+        Err(refusal) => return Err(refusal),
+    };
+    read_body(alloc, version, entries.as_slice(), &bytes[from..])
+}
+
+// The file of a version, the entries of a header, and the text after it.
+fn read_body(
+    alloc: Global,
+    version: Version,
+    entries: &[Entry],
+    text: &[u8],
+) -> Result<SdfFile, SdfError>
+    requires { AreGood (extras_of entries.now) }
+    ensures { Gives file_of result (body_in version (extras_of entries.now) text.now) }
+{
+    let frame = match read_frame(alloc, entries) {
+        Ok(frame) => frame,
+        Err(refusal) => return Err(refusal),
+    };
+    let count = frame.size.profiles as usize * frame.size.points as usize;
+    let (cells, rest) = match read_cells(alloc, frame.data_type, count, text) {
+        Ok(parts) => parts,
+        Err(refusal) => return Err(refusal),
+    };
+    let trailer = match read_trailer(alloc, count as u64, rest) {
+        Ok(trailer) => trailer,
+        Err(refusal) => return Err(refusal),
+    };
+    Ok(build(alloc, version, entries, frame, cells, trailer)?)
+}
+
+// The file of its parts.
+fn build(
+    alloc: Global,
+    version: Version,
+    entries: &[Entry],
+    frame: Frame,
+    cells: List<Cell>,
+    trailer: List<u8>,
+) -> Result<SdfFile, Memory>
+    requires limits { IsSize frame.size }
+    requires whole { length cells ≡ cell_count frame.size }
+    requires heights { AreCellsOf frame.data_type cells }
+    requires entries { AreGood (extras_of entries.now) }
+    requires decimals { HasDecimals (frame_view frame) }
+    requires trailer { is_trailer trailer ≡ true }
+    ensures { IfOk result (λ f. file_of f ≡ file_with version (extras_of entries.now) (frame_view frame) cells trailer) }
+{
+    let manufac_id = text_of(alloc, entries, b"ManufacID")?;
+    let create_date = text_of(alloc, entries, b"CreateDate")?;
+    let mod_date = text_of(alloc, entries, b"ModDate")?;
+    let z_resolution = resolution_of(alloc, entries)?;
+    let extra = extra_entries(alloc, entries)?;
+    let Frame {
+        size,
+        data_type,
+        x_scale,
+        y_scale,
+        z_scale,
+    } = frame;
+    let surface = Surface::new(alloc, size, data_type, cells)?;
+    Ok(SdfFile {
+        version,
+        manufac_id,
+        create_date,
+        mod_date,
+        x_scale,
+        y_scale,
+        z_scale,
+        z_resolution,
+        extra,
+        surface,
+        trailer,
+    })
+}
+
+// The text of a key, or nothing.
+fn text_of(alloc: Global, entries: &[Entry], key: &[u8]) -> Result<List<u8>, Memory>
+    ensures { IfOk result (λ text. text ≡ text_of key.now (extras_of entries.now)) }
+{
+    match value_of(entries, key) {
+        Some(value) => copied(alloc, value),
+        None => Ok(List::new(alloc)),
+    }
+}
+
+// The resolution, or -1 where it is absent.
+fn resolution_of(alloc: Global, entries: &[Entry]) -> Result<Decimal, Memory>
+    ensures { IfOk result (λ resolution. resolution ≡ resolution_of (extras_of entries.now)) }
+{
+    match decimal_at(alloc, entries, b"Zresolution")? {
+        Some(resolution) => Ok(resolution),
+        None => Ok(Decimal {
+            negative: true,
+            digits: 1,
+            exponent: 0,
+            literal: copied(alloc, b"-1")?,
+        }),
+    }
+}
+
+// The entries whose keys are not known.
+fn extra_entries(alloc: Global, entries: &[Entry]) -> Result<List<Extra>, Memory>
+    ensures { IfOk result (λ extra. extra ≡ extra_entries (extras_of entries.now)) }
+{
+    let mut extra = List::new(alloc);
+    'entries: for entry in entries {
+        if form_of(entry.key).is_none() {
+            extra.push(extra_of(alloc, entry)?)?;
+        }
+    }
+    Ok(extra)
+}
+
+// A copy of an entry.
+fn extra_of(alloc: Global, entry: &Entry) -> Result<Extra, Memory>
+    ensures { IfOk result (λ extra. extra ≡ extra_of entry.now) }
+{
+    Ok(Extra {
+        key: copied(alloc, entry.key)?,
+        value: copied(alloc, entry.value)?,
+    })
+}
+
+// The trailer in the text after the last of so many data.
+#[tactic(auto, unfolding(crate::specs::Grammar::trailer_of))]
+fn read_trailer(alloc: Global, count: u64, text: &[u8]) -> Result<List<u8>, SdfError>
+    requires { count < 2 ^ 63 }
+    ensures trailer { Gives (λ trailer. trailer) result (trailer_of count text.now) }
+    ensures form { IfOk result (λ trailer. is_trailer trailer ≡ true) }
+{
+    let (token, rest) = next_token(text);
+    if token.is_empty() {
+        return Ok(List::new(alloc));
+    }
+    if token != b"*".as_slice() {
+        return Err(SdfError::TooManyData(count + 1));
+    }
+    let trailer = trim_gaps(rest);
+    if trailer.len() > 65_536 {
+        return Err(SdfError::TrailerTooLong);
+    }
+    Ok(copied(alloc, trailer)?)
+}
+
+// A copy of a text.
+fn copied(alloc: Global, text: &[u8]) -> Result<List<u8>, Memory>
+    ensures { IfOk result (λ copy. copy ≡ text.now) }
+{
+    Ok(List::from_vec(Vec::from_slice(alloc, text)?))
+}
