@@ -1,0 +1,9 @@
+-- Texts behind one another.
+use Rattle.std.proofs.Common.{◌≡◌, ℕ, List, ◌++◌, ap, ◌∙◌, append_assoc}
+
+module _ (out first second third a b c : List ℕ) (one : first ≡ out ++ a) (two : second ≡ first ++ b) (three : third ≡ second ++ c) where
+  pub three_texts : third ≡ out ++ ((a ++ b) ++ c)
+  three_texts = three ∙ ap (λ t. t ++ c) (two ∙ ap (λ t. t ++ b) one ∙ append_assoc out a b) ∙ append_assoc out (a ++ b) c
+
+  pub four_texts : (fourth d : List ℕ) → fourth ≡ third ++ d → fourth ≡ out ++ (((a ++ b) ++ c) ++ d)
+  four_texts fourth d four = four ∙ ap (λ t. t ++ d) three_texts ∙ append_assoc out ((a ++ b) ++ c) d

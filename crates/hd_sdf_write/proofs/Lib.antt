@@ -1,0 +1,7 @@
+mod EntryLines
+mod HeaderText
+mod Joined
+mod Known
+mod Laid
+mod ReadsBack
+mod Rows

@@ -1,0 +1,12 @@
+//! Writes surfaces in the ASCII form of ISO 25178-71 (SDF), in one canonical text.
+#![tactic(auto)]
+
+mod cells;
+mod laws;
+mod lines;
+#[cfg(test)]
+mod tests;
+mod write;
+
+pub use laws::{canonical_text_reads_back, canonical_text_stays};
+pub use write::write_sdf;

@@ -1,0 +1,103 @@
+// A whole file.
+ghost use Rattle.std.specs.Prelude.{◌≡◌, ◌++◌, IfOk, OnOk, decimal};
+ghost use Rattle.hd_sdf_read.specs.FileOf.{file_of};
+ghost use Rattle.hd_sdf_write.specs.Canonical.{canonical, encoding_lines, entry_line, line, name_lines, scale_lines, type_text, version_text};
+
+use crate::cells::push_profiles;
+use crate::lines::{push_end, push_entry, push_extra, push_line};
+use hd_base::{List, Memory};
+use hd_map::{DataType, Grid, Heights};
+use hd_num::push_unsigned;
+use hd_sdf_read::{SdfFile, Version};
+use std::alloc::Global;
+
+/// The canonical text of a file: the version; the twelve known keys in their order and spelling, as
+/// `Key = value`, or `Key =` where the value is empty; the extra keys in their order; `*`; a line
+/// for each profile; `*`; and the trailer where there is one. An LF ends each line. Texts and
+/// decimals stand as they were read, whole numbers in plain digits. Masks are not written.
+///
+/// `Memory` comes where the text is refused its memory.
+#[tactic(auto, unfolding(crate::specs::Canonical::canonical))]
+pub fn write_sdf(alloc: Global, file: &SdfFile) -> Result<List<u8>, Memory>
+    ensures { IfOk result (λ text. text ≡ canonical (file_of file.now)) }
+{
+    let mut out = List::new(alloc);
+    push_version(&mut out, file.version)?;
+    push_names(alloc, &mut out, file)?;
+    push_scales(&mut out, file)?;
+    push_encoding(&mut out, file)?;
+    push_extra(&mut out, file.extra.as_slice())?;
+    push_line(&mut out, b"*")?;
+    push_profiles(&mut out, &file.surface)?;
+    push_end(&mut out, file.trailer.as_slice())?;
+    Ok(out)
+}
+
+// Adds line 1.
+fn push_version(out: &mut List<u8>, version: Version) -> Result<(), Memory>
+    ensures { OnOk result (out.new ≡ out.old ++ line (version_text version)) }
+{
+    match version {
+        Version::Bcr => push_line(out, b"aBCR-1.0"),
+        Version::Iso => push_line(out, b"aISO-1.0"),
+    }
+}
+
+// Adds the lines of the names, the dates and the size.
+#[tactic(auto, unfolding(crate::specs::Canonical::name_lines))]
+fn push_names(alloc: Global, out: &mut List<u8>, file: &SdfFile) -> Result<(), Memory>
+    ensures { OnOk result (out.new ≡ out.old ++ name_lines (file_of file.now)) }
+{
+    let size = file.surface.size();
+    push_entry(out, b"ManufacID", file.manufac_id.as_slice())?;
+    push_entry(out, b"CreateDate", file.create_date.as_slice())?;
+    push_entry(out, b"ModDate", file.mod_date.as_slice())?;
+    push_count(alloc, out, b"NumPoints", size.points)?;
+    push_count(alloc, out, b"NumProfiles", size.profiles)
+}
+
+// Adds the line of a key whose value is a count.
+fn push_count(alloc: Global, out: &mut List<u8>, key: &[u8], count: u32) -> Result<(), Memory>
+    ensures { OnOk result (out.new ≡ out.old ++ entry_line key.now (decimal count)) }
+{
+    let mut value = List::new(alloc);
+    push_unsigned(&mut value, u64::from(count))?;
+    push_entry(out, key, value.as_slice())
+}
+
+// Adds the lines of the scales and the resolution.
+#[tactic(auto, unfolding(crate::specs::Canonical::scale_lines))]
+fn push_scales(out: &mut List<u8>, file: &SdfFile) -> Result<(), Memory>
+    ensures { OnOk result (out.new ≡ out.old ++ scale_lines (file_of file.now)) }
+{
+    push_entry(out, b"Xscale", file.x_scale.literal.as_slice())?;
+    push_entry(out, b"Yscale", file.y_scale.literal.as_slice())?;
+    push_entry(out, b"Zscale", file.z_scale.literal.as_slice())?;
+    push_entry(out, b"Zresolution", file.z_resolution.literal.as_slice())?;
+    Ok(())
+}
+
+// Adds the lines of how the data are written.
+#[tactic(auto, unfolding(crate::specs::Canonical::encoding_lines))]
+fn push_encoding(out: &mut List<u8>, file: &SdfFile) -> Result<(), Memory>
+    ensures { OnOk result (out.new ≡ out.old ++ encoding_lines (file_of file.now)) }
+{
+    push_entry(out, b"Compression", b"0")?;
+    push_entry(out, b"DataType", type_text(file.surface.data_type()))?;
+    push_entry(out, b"CheckType", b"0")?;
+    Ok(())
+}
+
+// The code of a type.
+fn type_text(data_type: DataType) -> &'static [u8]
+    ensures { result.now ≡ type_text data_type }
+{
+    match data_type {
+        DataType::U8 => b"0",
+        DataType::U16 => b"1",
+        DataType::U32 => b"2",
+        DataType::I8 => b"4",
+        DataType::I16 => b"5",
+        DataType::I32 => b"6",
+    }
+}
