@@ -6,3 +6,6 @@ pub mod Walks
 pub mod Draws
 pub mod Logs
 pub mod Outcomes
+pub mod Unique
+pub mod CellLists
+pub mod Named

@@ -1,6 +1,6 @@
 -- An edit as a stroke of its rectangle.
 use Rattle.std.proofs.Common.{◌≡◌, ◌≢◌, ◌<◌, ℕ, Bool, true, false, List, length, get_or, set, Option, Some, None, Result, Ok, Err, refl, sym, ap, subst, ◌∙◌, inl, inr, arith}
-use Rattle.std.specs.Prelude.{not, nat_le, nat_lt, if◌then◌else◌, ℤ, position}
+use Rattle.std.specs.Prelude.{MatchOption, MatchResult, not, nat_le, nat_lt, if◌then◌else◌, ℤ, position}
 use Rattle.std.specs.List.{position_or_len}
 use Rattle.std.specs.Option.{option_map}
 use Rattle.std.proofs.Math.ListN.{length-set}
@@ -23,9 +23,15 @@ use Rattle.hd_edit.specs.declared.stroke.Stroke.TheVariants as stroke
 use Rattle.hd_edit.specs.declared.edit.Edit.{Edit}
 use Rattle.hd_edit.specs.declared.edit.Edit.TheVariants as edit
 use Rattle.hd_edit.specs.declared.edit.EditError.{EditError}
-use Rattle.hd_edit.specs.declared.edit.EditError.TheVariants.{Outside, HeightRange}
-use Rattle.hd_edit.specs.Edit.{edited, in_rectangle, cell_in_range, by_index, height_refusal, rectangle_refusal, unless, masks_with}
-use Rattle.hd_edit.specs.Stroke.{IsRectangle, IsStrokeOf, new_cell, new_mask, stroked, first_corner, second_corner, stroke_of, outcome}
+use Rattle.hd_edit.specs.declared.edit.EditError.TheVariants.{Memory, Outside, HeightRange, EmptyRect, NoElement}
+use Rattle.hd_morph.specs.Element.{ElementTable}
+use Rattle.hd_morph.specs.Filter.{Filter, Dilation, Erosion, Opening, Closing}
+use Rattle.hd_morph.specs.Answer.{AreFilteredCells, with_cells}
+use Rattle.hd_edit.specs.Elements.{first_named}
+use Rattle.hd_edit.specs.Filter.{IsFilteredBy}
+use Rattle.hd_edit.specs.Board.{IsEdited, IsRefusalBy}
+use Rattle.hd_edit.specs.Edit.{height_set, height_taken, heights_raised, masks_set, in_rectangle, cell_in_range, by_index, height_refusal, rectangle_refusal, unless, masks_with}
+use Rattle.hd_edit.specs.Stroke.{IsRectangle, IsStrokeOf, new_cell, new_mask, stroked, stroke_parts, outcome}
 use Rattle.hd_edit.proofs.Rectangles.{IsIn, in_rectangle-true, chosen_past, stands_first}
 use Rattle.hd_edit.proofs.Strokes.{same_map, new_cell-in}
 use Rattle.hd_edit.proofs.Walks.{cell_in_range-is, cell_in_range-of, counted_first, refused_here}
@@ -79,6 +85,16 @@ accepted : (r h : Option EditError) (made new : Map) → ◌≡◌ {A = Result M
 accepted None None made new e = (refl, cc)
 accepted None (Some error) made new e = cc
 accepted (Some error) h made new e = cc
+
+-- what is an outcome of the one is one of the other
+pub carried : (IsOne IsOther : Result Map EditError → Type 0) → ((out : Result Map EditError) → IsOne out → IsOther out) → {X : Type 0} (r : Result X EditError) (new : Map)
+    → MatchResult r (λ _. IsOne (Ok new)) (IsRefusalBy IsOne) → MatchResult r (λ _. IsOther (Ok new)) (IsRefusalBy IsOther)
+carried IsOne IsOther on (Ok x) new is = on (Ok new) is
+carried IsOne IsOther on (Err Memory) new is = tt
+carried IsOne IsOther on (Err (Outside p)) new is = on (Err (Outside p)) is
+carried IsOne IsOther on (Err (HeightRange p)) new is = on (Err (HeightRange p)) is
+carried IsOne IsOther on (Err EmptyRect) new is = on (Err EmptyRect) is
+carried IsOne IsOther on (Err NoElement) new is = on (Err NoElement) is
 
 module _ (m : Map) (whole : IsMap m) where
   -- the cell and the mask of an index
@@ -160,30 +176,48 @@ module _ (m : Map) (whole : IsMap m) where
       (sym (cells_stay (new_cell m from to (stroke.Mask b)) (λ p. either_way (in_rectangle from to p) (cell_at m p))))
       (rw (height_refusal-none m m.cells whole.heights))
 
-  -- an edit is a stroke of its rectangle
-  pub edited-is : (e : Edit) → edited m e ≡ outcome m (first_corner e) (second_corner e) (stroke_of e)
-  edited-is (edit.Set at z) = point_outcome at (Height z) (if in_range m.data_type z then Ok (with_cell m at (Height z)) else Err (HeightRange at)) (in_grid m.size at) refl (λ inside. height_outcome at inside z (in_range m.data_type z) refl)
-  edited-is (edit.Bad at) = point_outcome at Bad (Ok (with_cell m at Bad)) (in_grid m.size at) refl (λ inside. one_made at inside Bad (bad_of_type m.data_type))
-  edited-is (edit.Add from to delta) =
+  -- each edit that is no filter is a stroke of its rectangle
+  pub set-is : (at : Pos) (z : ℤ) → height_set m at z ≡ outcome m at at (stroke.Put (Height z))
+  set-is at z = point_outcome at (Height z) (if in_range m.data_type z then Ok (with_cell m at (Height z)) else Err (HeightRange at)) (in_grid m.size at) refl (λ inside. height_outcome at inside z (in_range m.data_type z) refl)
+
+  pub bad-is : (at : Pos) → height_taken m at ≡ outcome m at at (stroke.Put Bad)
+  bad-is at = point_outcome at Bad (Ok (with_cell m at Bad)) (in_grid m.size at) refl (λ inside. one_made at inside Bad (bad_of_type m.data_type))
+
+  pub raise-is : (from to : Pos) (delta : ℤ) → heights_raised m from to delta ≡ outcome m from to (stroke.Raise delta)
+  raise-is from to delta =
       let s = stroke.Raise delta in
       ap (λ (masks : List Bool). unless (rectangle_refusal m.size from to) (unless (height_refusal m (stroked m from to s).cells) (Ok (record m { cells = (stroked m from to s).cells; masks = masks }))))
       (sym (masks_stay (new_mask m from to s) (λ p. either_way (in_rectangle from to p) (mask_at m p))))
-  edited-is (edit.Mask from to) = ap (unless (rectangle_refusal m.size from to)) (mask_outcome from to true)
-  edited-is (edit.Unmask from to) = ap (unless (rectangle_refusal m.size from to)) (mask_outcome from to false)
 
-  module _ (e : Edit) (from to : Pos) (s : Stroke) (first : from ≡ first_corner e) (second : to ≡ second_corner e) (its : s ≡ stroke_of e) (rectangle : rectangle_refusal m.size from to ≡ None) where
-    edited-by : edited m e ≡ unless (height_refusal m (stroked m from to s).cells) (Ok (stroked m from to s))
-    edited-by =
-        edited-is e ∙ ap (λ (p : Pos). outcome m p (second_corner e) (stroke_of e)) (sym first) ∙ ap (λ (p : Pos). outcome m from p (stroke_of e)) (sym second) ∙ ap (outcome m from to) (sym its)
-        ∙ ap (λ (r : Option EditError). unless r (unless (height_refusal m (stroked m from to s).cells) (Ok (stroked m from to s)))) rectangle
+  pub masks-are : (from to : Pos) (b : Bool) → masks_set m from to b ≡ outcome m from to (stroke.Mask b)
+  masks-are from to b = ap (unless (rectangle_refusal m.size from to)) (mask_outcome from to b)
 
-    -- an edit with a new height that is not of the type
-    pub edited-refused : (error : EditError) → height_refusal m (stroked m from to s).cells ≡ Some error → edited m e ≡ Err error
-    edited-refused error refused = edited-by ∙ ap (λ (r : Option EditError). unless r (Ok (stroked m from to s))) refused
+  -- the outcome of the stroke is that of the edit
+  pub stroke-edited : (elements : List ElementTable) (e : Edit) → MatchOption (stroke_parts e) (Unit {0}) (λ parts. (out : Result Map EditError) → out ≡ outcome m parts.0 parts.1 parts.2 → IsEdited elements m e out)
+  stroke-edited elements (edit.Set at z) = λ out is. is ∙ sym (set-is at z)
+  stroke-edited elements (edit.Bad at) = λ out is. is ∙ sym (bad-is at)
+  stroke-edited elements (edit.Add from to delta) = λ out is. is ∙ sym (raise-is from to delta)
+  stroke-edited elements (edit.Mask from to) = λ out is. is ∙ sym (masks-are from to true)
+  stroke-edited elements (edit.Unmask from to) = λ out is. is ∙ sym (masks-are from to false)
+  stroke-edited elements (edit.Dilate name) = tt
+  stroke-edited elements (edit.Erode name) = tt
+  stroke-edited elements (edit.Open name) = tt
+  stroke-edited elements (edit.Close name) = tt
 
-    -- an edit whose new heights are of the type
-    pub edited-made : IsStrokeOf m from to s → edited m e ≡ Ok (stroked m from to s)
-    edited-made fits = edited-by ∙ ap (λ (r : Option EditError). unless r (Ok (stroked m from to s))) (height_refusal-none m (stroked m from to s).cells (λ k inside.
+  pub edited-by : (elements : List ElementTable) (e : Edit) (from to : Pos) (s : Stroke) → Some (from, to, s) ≡ stroke_parts e → (out : Result Map EditError) → out ≡ outcome m from to s → IsEdited elements m e out
+  edited-by elements e from to s parts = subst (λ (p : Option (Pos × Pos × Stroke)). MatchOption p (Unit {0}) (λ parts. (out : Result Map EditError) → out ≡ outcome m parts.0 parts.1 parts.2 → IsEdited elements m e out)) (sym parts) (stroke-edited elements e)
+
+  module _ (from to : Pos) (s : Stroke) (rectangle : rectangle_refusal m.size from to ≡ None) where
+    outcome-by : outcome m from to s ≡ unless (height_refusal m (stroked m from to s).cells) (Ok (stroked m from to s))
+    outcome-by = ap (λ (r : Option EditError). unless r (unless (height_refusal m (stroked m from to s).cells) (Ok (stroked m from to s)))) rectangle
+
+    -- a stroke with a new height that is not of the type
+    pub outcome-refused : (error : EditError) → height_refusal m (stroked m from to s).cells ≡ Some error → outcome m from to s ≡ Err error
+    outcome-refused error refused = outcome-by ∙ ap (λ (r : Option EditError). unless r (Ok (stroked m from to s))) refused
+
+    -- a stroke whose new heights are of the type
+    pub outcome-made : IsStrokeOf m from to s → outcome m from to s ≡ Ok (stroked m from to s)
+    outcome-made fits = outcome-by ∙ ap (λ (r : Option EditError). unless r (Ok (stroked m from to s))) (height_refusal-none m (stroked m from to s).cells (λ k inside.
         let f : ℕ → Cell = λ k. new_cell m from to s (position_at m.size k) in
         let below : k < cell_count m.size = rw (← length-map-range_with_len f 0 (cell_count m.size)) inside in
         subst (λ (c : Cell). IsCellOf m.data_type c) (sym (get_or-map-range_with_len f 0 (cell_count m.size) k k Bad below (omega arith))) (fits (position_at m.size k) (position_at-inside m.size k whole.size.some_points below))))
@@ -197,9 +231,26 @@ module _ (m : Map) (whole : IsMap m) where
     heights = are;
   }
 
-  -- the map that an edit makes of a map is a map
-  pub edited-whole : (e : Edit) (new : Map) → edited m e ≡ Ok new → IsMap new
-  edited-whole e new is =
-      let from = first_corner e in let to = second_corner e in let s = stroke_of e in
-      let made = accepted (rectangle_refusal m.size from to) (height_refusal m (stroked m from to s).cells) (stroked m from to s) new (sym (edited-is e) ∙ is) in
+  -- the map that a stroke makes of a map is a map
+  outcome-whole : (from to : Pos) (s : Stroke) (new : Map) → Ok new ≡ outcome m from to s → IsMap new
+  outcome-whole from to s new is =
+      let made = accepted (rectangle_refusal m.size from to) (height_refusal m (stroked m from to s).cells) (stroked m from to s) new (sym is) in
       subst (λ (n : Map). IsMap n) made.1 (stroked-whole from to s (height_refusal-cells m (stroked m from to s).cells made.0))
+
+  -- filtered cells make a map
+  module _ (keeps : (filter : Filter) (e : ElementTable) (cells : List Cell) → AreFilteredCells filter m e cells → IsMap (with_cells m cells)) where
+    filtered-whole : (filter : Filter) (found : Option ElementTable) (new : Map) → IsFilteredBy filter m found (Ok new) → IsMap new
+    filtered-whole filter None new is = cc
+    filtered-whole filter (Some e) new is = subst (λ (n : Map). IsMap n) (sym is.is_map) (keeps filter e is.cells is.are_filtered)
+
+    -- the map that an edit makes of a map is a map
+    pub edited-whole : (elements : List ElementTable) (e : Edit) (new : Map) → IsEdited elements m e (Ok new) → IsMap new
+    edited-whole elements (edit.Set at z) new is = outcome-whole at at (stroke.Put (Height z)) new (is ∙ set-is at z)
+    edited-whole elements (edit.Bad at) new is = outcome-whole at at (stroke.Put Bad) new (is ∙ bad-is at)
+    edited-whole elements (edit.Add from to delta) new is = outcome-whole from to (stroke.Raise delta) new (is ∙ raise-is from to delta)
+    edited-whole elements (edit.Mask from to) new is = outcome-whole from to (stroke.Mask true) new (is ∙ masks-are from to true)
+    edited-whole elements (edit.Unmask from to) new is = outcome-whole from to (stroke.Mask false) new (is ∙ masks-are from to false)
+    edited-whole elements (edit.Dilate name) new is = filtered-whole Dilation (first_named elements name) new is
+    edited-whole elements (edit.Erode name) new is = filtered-whole Erosion (first_named elements name) new is
+    edited-whole elements (edit.Open name) new is = filtered-whole Opening (first_named elements name) new is
+    edited-whole elements (edit.Close name) new is = filtered-whole Closing (first_named elements name) new is

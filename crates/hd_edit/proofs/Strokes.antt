@@ -20,10 +20,10 @@ use Rattle.hd_edit.proofs.Rectangles.{IsIn, in_rectangle-is, chosen_below, chose
 abbrev pub mix : {X : Type 0} → ℕ → (ℕ → X) → (ℕ → X) → ℕ → X
 mix n new old k = if nat_lt k n then new k else old k
 
-mix-before : {X : Type 0} (n : ℕ) (new old : ℕ → X) (k : ℕ) → k < n → mix n new old k ≡ new k
+pub mix-before : {X : Type 0} (n : ℕ) (new old : ℕ → X) (k : ℕ) → k < n → mix n new old k ≡ new k
 mix-before n new old k h = chosen_below k n (new k) (old k) h
 
-mix-from : {X : Type 0} (n : ℕ) (new old : ℕ → X) (k : ℕ) → n ≤ k → mix n new old k ≡ old k
+pub mix-from : {X : Type 0} (n : ℕ) (new old : ℕ → X) (k : ℕ) → n ≤ k → mix n new old k ≡ old k
 mix-from n new old k h = chosen_past k n (new k) (old k) h
 
 mix-skip : {X : Type 0} (n n' : ℕ) (new old : ℕ → X) (k : ℕ) → n ≤ n' → (n ≤ k → k < n' → new k ≡ old k) → mix n new old k ≡ mix n' new old k
@@ -35,7 +35,7 @@ mix-skip n n' new old k on same = elim (cases_lt k n) [
   ]
 ]
 
-mix-other : {X : Type 0} (n : ℕ) (new old : ℕ → X) (k : ℕ) → k ≢ n → mix n new old k ≡ mix (n + 1) new old k
+pub mix-other : {X : Type 0} (n : ℕ) (new old : ℕ → X) (k : ℕ) → k ≢ n → mix n new old k ≡ mix (n + 1) new old k
 mix-other n new old k other = mix-skip n (n + 1) new old k (omega arith) (λ from below. absurd (other (omega (arith, from, below))))
 
 -- maps of the same lists are one
@@ -51,7 +51,7 @@ same_fill : {X : Type 0} (f g : ℕ → X) (count : ℕ) (d : X) → ((k : ℕ) 
 same_fill f g count d same = fill_by_all g (map f (range_with_len 0 count)) count d (length-map-range_with_len f 0 count) (λ k h. get_or-map-range_with_len f 0 count k k d h (omega arith) ∙ same k h)
 
 -- a list of a function with one place set
-set_fill : {X : Type 0} (f g : ℕ → X) (count n : ℕ) (v d : X) → n < count → ((k : ℕ) → k ≢ n → k < count → f k ≡ g k) → v ≡ g n → set (map f (range_with_len 0 count)) n v ≡ map g (range_with_len 0 count)
+pub set_fill : {X : Type 0} (f g : ℕ → X) (count n : ℕ) (v d : X) → n < count → ((k : ℕ) → k ≢ n → k < count → f k ≡ g k) → v ≡ g n → set (map f (range_with_len 0 count)) n v ≡ map g (range_with_len 0 count)
 set_fill f g count n v d inside others here =
     let xs = map f (range_with_len 0 count) in
     let len = length-map-range_with_len f 0 count in

@@ -1,22 +1,28 @@
 -- What a board is seen as, and what an edit and an undo make of it.
-use Rattle.std.specs.Prelude.{◌≡◌, ◌<◌, ◌≤◌, ◌+◌, ◌-◌, ℕ, ℤ, List, [], ◌∷◌, ◌++◌, length, take, drop, slice_index_or, Option, Result, Ok, Err}
+use Rattle.std.specs.Prelude.{◌≡◌, ◌<◌, ◌≤◌, ◌+◌, ◌-◌, ℕ, true, false, List, [], ◌∷◌, ◌++◌, length, take, drop, slice_index_or, Result, Ok, Err}
 use Rattle.hd_map.specs.Map.{Map}
-use Rattle.hd_edit.specs.Edit.{edited}
+use Rattle.hd_morph.specs.Element.{ElementTable}
+use Rattle.hd_morph.specs.Filter.{Dilation, Erosion, Opening, Closing}
+use Rattle.hd_edit.specs.Edit.{height_set, height_taken, heights_raised, masks_set}
+use Rattle.hd_edit.specs.Elements.{first_named}
+use Rattle.hd_edit.specs.Filter.{IsFilteredBy}
 use Rattle.hd_edit.specs.declared.edit.Edit.{Edit}
+use Rattle.hd_edit.specs.declared.edit.Edit.TheVariants as edit
 use Rattle.hd_edit.specs.declared.edit.EditError.{EditError}
-use Rattle.hd_edit.specs.declared.edit.EditError.TheVariants.{Memory, Outside, HeightRange, EmptyRect}
+use Rattle.hd_edit.specs.declared.edit.EditError.TheVariants.{Memory, Outside, HeightRange, EmptyRect, NoElement}
 use Rattle.hd_edit.specs.declared.edit.LogEnds.{LogEnds}
 
--- an element of the filters: a name, and a table of numbers or none, row by row
-pub record ElementTable : Type 0 where
-  pub name : List ℕ
-  pub width : ℕ
-  pub height : ℕ
-  pub table : List (Option ℤ)
-
--- this is the outcome of an edit of a map
+-- this is the outcome of an edit of a map, on a board with these elements
 abbrev pub IsEdited : List ElementTable → Map → Edit → Result Map EditError → Type 0
-IsEdited elements m edit outcome = outcome ≡ edited m edit
+IsEdited elements m (edit.Set at z) outcome = outcome ≡ height_set m at z
+IsEdited elements m (edit.Bad at) outcome = outcome ≡ height_taken m at
+IsEdited elements m (edit.Add from to delta) outcome = outcome ≡ heights_raised m from to delta
+IsEdited elements m (edit.Mask from to) outcome = outcome ≡ masks_set m from to true
+IsEdited elements m (edit.Unmask from to) outcome = outcome ≡ masks_set m from to false
+IsEdited elements m (edit.Dilate name) outcome = IsFilteredBy Dilation m (first_named elements name) outcome
+IsEdited elements m (edit.Erode name) outcome = IsFilteredBy Erosion m (first_named elements name) outcome
+IsEdited elements m (edit.Open name) outcome = IsFilteredBy Opening m (first_named elements name) outcome
+IsEdited elements m (edit.Close name) outcome = IsFilteredBy Closing m (first_named elements name) outcome
 
 -- the grid with the present map, the earlier maps with the newest last, and the elements
 pub record BoardState (G : Type 0) : Type 0 where
@@ -26,19 +32,21 @@ pub record BoardState (G : Type 0) : Type 0 where
 
 -- an accepted edit makes the map that is defined; a refused one tells the refusal that is defined,
 -- and leaves the map; so does want of memory
-abbrev pub Applies : Result Map EditError → Result (Unit {0}) EditError → Map → Map → Type 0
-Applies outcome (Ok done) old new = outcome ≡ Ok new
-Applies outcome (Err Memory) old new = new ≡ old
-Applies outcome (Err (Outside at)) old new = (outcome ≡ Err (Outside at)) × (new ≡ old)
-Applies outcome (Err (HeightRange at)) old new = (outcome ≡ Err (HeightRange at)) × (new ≡ old)
-Applies outcome (Err EmptyRect) old new = (outcome ≡ Err EmptyRect) × (new ≡ old)
+abbrev pub Applies : (Result Map EditError → Type 0) → Result (Unit {0}) EditError → Map → Map → Type 0
+Applies IsOutcome (Ok done) old new = IsOutcome (Ok new)
+Applies IsOutcome (Err Memory) old new = new ≡ old
+Applies IsOutcome (Err (Outside at)) old new = IsOutcome (Err (Outside at)) × (new ≡ old)
+Applies IsOutcome (Err (HeightRange at)) old new = IsOutcome (Err (HeightRange at)) × (new ≡ old)
+Applies IsOutcome (Err EmptyRect) old new = IsOutcome (Err EmptyRect) × (new ≡ old)
+Applies IsOutcome (Err NoElement) old new = IsOutcome (Err NoElement) × (new ≡ old)
 
 -- want of memory, or the refusal that is defined
-abbrev pub IsRefusalBy : Result Map EditError → EditError → Type 0
-IsRefusalBy outcome Memory = Unit {0}
-IsRefusalBy outcome (Outside at) = outcome ≡ Err (Outside at)
-IsRefusalBy outcome (HeightRange at) = outcome ≡ Err (HeightRange at)
-IsRefusalBy outcome EmptyRect = outcome ≡ Err EmptyRect
+abbrev pub IsRefusalBy : (Result Map EditError → Type 0) → EditError → Type 0
+IsRefusalBy IsOutcome Memory = Unit {0}
+IsRefusalBy IsOutcome (Outside at) = IsOutcome (Err (Outside at))
+IsRefusalBy IsOutcome (HeightRange at) = IsOutcome (Err (HeightRange at))
+IsRefusalBy IsOutcome EmptyRect = IsOutcome (Err EmptyRect)
+IsRefusalBy IsOutcome NoElement = IsOutcome (Err NoElement)
 
 -- how many earlier maps are kept
 abbrev pub log_places : ℕ

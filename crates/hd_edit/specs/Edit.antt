@@ -1,4 +1,4 @@
--- The map after an edit, or its first refusal.
+-- The map after an edit that is no filter, or its first refusal.
 use Rattle.std.specs.Prelude.{◌&&◌, not, Bool, true, false, ℤ, ◌+ℤ◌, nat_le, List, map, position, Option, Some, None, Result, Ok, Err, if◌then◌else◌}
 use Rattle.std.specs.List.{range_with_len}
 use Rattle.std.specs.Option.{option_map}
@@ -9,8 +9,6 @@ use Rattle.hd_map.specs.declared.types.Cell.{Cell}
 use Rattle.hd_map.specs.declared.types.Cell.TheVariants.{Height, Bad}
 use Rattle.hd_map.specs.Map.{Map, cell_at, mask_at, cell_count, position_at, in_grid, in_range}
 use Rattle.hd_map.specs.Sets.{with_cell}
-use Rattle.hd_edit.specs.declared.edit.Edit.{Edit}
-use Rattle.hd_edit.specs.declared.edit.Edit.TheVariants as edit
 use Rattle.hd_edit.specs.declared.edit.EditError.{EditError}
 use Rattle.hd_edit.specs.declared.edit.EditError.TheVariants.{Outside, HeightRange, EmptyRect}
 
@@ -62,20 +60,27 @@ abbrev pub unless : Option EditError → Result Map EditError → Result Map Edi
 unless None outcome = outcome
 unless (Some refusal) outcome = Err refusal
 
--- the map with all its cells set
-abbrev pub with_cells : Map → List Cell → Result Map EditError
-with_cells m cells = unless (height_refusal m cells) (Ok (record m { cells = cells }))
+-- the map with all its cells set, or why these are refused
+abbrev pub all_cells_set : Map → List Cell → Result Map EditError
+all_cells_set m cells = unless (height_refusal m cells) (Ok (record m { cells = cells }))
 
--- the map that an edit makes of a map, or why it is refused
-abbrev pub edited : Map → Edit → Result Map EditError
-edited m (edit.Set at z) =
+-- the map with a height set at a position, or why it is refused
+abbrev pub height_set : Map → Pos → ℤ → Result Map EditError
+height_set m at z =
     if in_grid m.size at then
     (if in_range m.data_type z then Ok (with_cell m at (Height z)) else Err (HeightRange at))
     else Err (Outside at)
-edited m (edit.Bad at) = if in_grid m.size at then Ok (with_cell m at Bad) else Err (Outside at)
-edited m (edit.Add from to delta) =
-    unless (rectangle_refusal m.size from to) (with_cells m (raised_cells m from to delta))
-edited m (edit.Mask from to) =
-    unless (rectangle_refusal m.size from to) (Ok (record m { masks = masks_with m from to true }))
-edited m (edit.Unmask from to) =
-    unless (rectangle_refusal m.size from to) (Ok (record m { masks = masks_with m from to false }))
+
+-- the map with no height at a position
+abbrev pub height_taken : Map → Pos → Result Map EditError
+height_taken m at = if in_grid m.size at then Ok (with_cell m at Bad) else Err (Outside at)
+
+-- the map with the present points of a rectangle this much higher
+abbrev pub heights_raised : Map → Pos → Pos → ℤ → Result Map EditError
+heights_raised m from to delta =
+    unless (rectangle_refusal m.size from to) (all_cells_set m (raised_cells m from to delta))
+
+-- the map with the masks of a rectangle set
+abbrev pub masks_set : Map → Pos → Pos → Bool → Result Map EditError
+masks_set m from to masked =
+    unless (rectangle_refusal m.size from to) (Ok (record m { masks = masks_with m from to masked }))

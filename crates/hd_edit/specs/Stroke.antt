@@ -1,5 +1,5 @@
 -- What a stroke makes of the points of a rectangle.
-use Rattle.std.specs.Prelude.{◌≡◌, ◌≢◌, ◌≤◌, ◌+◌, ◌&&◌, not, Bool, true, false, ℕ, zero, suc, nat_lt, Result, Ok, slice_set, if◌then◌else◌}
+use Rattle.std.specs.Prelude.{◌≡◌, ◌≢◌, ◌≤◌, ◌+◌, ◌&&◌, not, Bool, true, false, ℕ, zero, suc, nat_lt, Option, Some, None, Result, Ok, slice_set, if◌then◌else◌}
 use Rattle.std.specs.Ordering.{int_eq}
 use Rattle.hd_map.specs.declared.types.Pos.{Pos}
 use Rattle.hd_map.specs.declared.types.Size.{Size}
@@ -119,30 +119,23 @@ changed_points m from to s = count_below (changes_at m from to s) (cell_count m.
 abbrev pub IsStrokeOf : Map → Pos → Pos → Stroke → Type 0
 IsStrokeOf m from to s = (p : Pos) → InGrid m.size p → IsCellOf m.data_type (new_cell m from to s p)
 
--- the corners of an edit's rectangle, and its stroke
-abbrev pub first_corner : Edit → Pos
-first_corner (edit.Set at z) = at
-first_corner (edit.Bad at) = at
-first_corner (edit.Add from to delta) = from
-first_corner (edit.Mask from to) = from
-first_corner (edit.Unmask from to) = from
-
-abbrev pub second_corner : Edit → Pos
-second_corner (edit.Set at z) = at
-second_corner (edit.Bad at) = at
-second_corner (edit.Add from to delta) = to
-second_corner (edit.Mask from to) = to
-second_corner (edit.Unmask from to) = to
-
-abbrev pub stroke_of : Edit → Stroke
-stroke_of (edit.Set at z) = stroke.Put (Height z)
-stroke_of (edit.Bad at) = stroke.Put Bad
-stroke_of (edit.Add from to delta) = stroke.Raise delta
-stroke_of (edit.Mask from to) = stroke.Mask true
-stroke_of (edit.Unmask from to) = stroke.Mask false
+-- the corners of an edit's rectangle and its stroke; a filter has none
+abbrev pub stroke_parts : Edit → Option (Pos × Pos × Stroke)
+stroke_parts (edit.Set at z) = Some (at, at, stroke.Put (Height z))
+stroke_parts (edit.Bad at) = Some (at, at, stroke.Put Bad)
+stroke_parts (edit.Add from to delta) = Some (from, to, stroke.Raise delta)
+stroke_parts (edit.Mask from to) = Some (from, to, stroke.Mask true)
+stroke_parts (edit.Unmask from to) = Some (from, to, stroke.Mask false)
+stroke_parts (edit.Dilate name) = None
+stroke_parts (edit.Erode name) = None
+stroke_parts (edit.Open name) = None
+stroke_parts (edit.Close name) = None
 
 -- the outcome of a stroke of a rectangle
 abbrev pub outcome : Map → Pos → Pos → Stroke → Result Map EditError
 outcome m from to s =
     unless (rectangle_refusal m.size from to)
     (unless (height_refusal m (stroked m from to s).cells) (Ok (stroked m from to s)))
+
+abbrev pub IsStroked : Map → Pos → Pos → Stroke → Result Map EditError → Type 0
+IsStroked m from to s result = result ≡ outcome m from to s

@@ -1,32 +1,34 @@
 // A board: a grid that edits work on.
-ghost use Rattle.std.specs.Prelude.{◌≡◌, ◌≢◌, ◌<◌, ◌≤◌, ◌+◌, ◌-◌, ◌^◌, ◌∷◌, ◌++◌, [], IfOk, OnErr, length, is_ok, if◌then◌else◌};
+ghost use Rattle.std.specs.Prelude.{◌≡◌, ◌≢◌, ◌<◌, ◌≤◌, ◌+◌, ◌-◌, ◌^◌, ◌∷◌, ◌++◌, [], IfOk, OnOk, OnErr, length, map, is_ok, if◌then◌else◌};
 ghost use Rattle.hd_map.specs.Map.{cell_count};
-ghost use Rattle.hd_edit.specs.Edit.{edited};
-ghost use Rattle.hd_edit.specs.Board.{BoardState, Applies, kept_after, Undoes, RisesUpTo};
+ghost use Rattle.hd_edit.specs.Elements.{elements_with, line_of};
+ghost use Rattle.hd_edit.specs.Board.{BoardState, IsEdited, Applies, kept_after, Undoes, RisesUpTo};
 
 use crate::change::{Change, put_back};
+use crate::elements::Elements;
 use crate::make::make;
-use crate::{Edit, EditError, LogEnds};
+use crate::{Edit, EditError, ElementLine, LogEnds};
 use circular_buffer::HeapCircularBuffer;
 use hd_base::{List, Memory};
 use hd_map::Grid;
+use hd_morph::Element;
 use std::alloc::Global;
 use std::marker::Model;
 
 /// How many edits can be undone.
 const LOG_PLACES: usize = 32;
 
-/// A grid with the log of its last 32 edits. Contracts see the log as the maps before these edits.
-/// No element of the filters is kept yet.
+/// A grid with the log of its last 32 edits, and the elements of its filters. Contracts see the log
+/// as the maps before these edits, and the elements as their tables in the order of first naming.
 #[derive(Drop)]
 pub struct Board<G: Grid> {
     alloc: Global,
     grid: G,
+    elements: Elements,
     log: HeapCircularBuffer<List<Change>>,
 }
 
 impl<G: Grid> Model for Board<G> {
-    ghost use Rattle.std.specs.Prelude.{[]};
     ghost use Rattle.hd_edit.specs.Board.{BoardState};
     ghost use Rattle.hd_edit.specs.Log.{earlier_maps, IsLog};
 
@@ -35,7 +37,7 @@ impl<G: Grid> Model for Board<G> {
     ghost view = { λ board. record {
       grid = board.grid;
       earlier = earlier_maps board.log.items (G.map board.grid);
-      elements = [];
+      elements = board.elements;
     } };
 
     ghost invariant = { λ board. IsLog (G.map board.grid) board.log };
@@ -51,7 +53,13 @@ impl<G: Grid> Board<G> {
         ensures { IfOk result (λ board. board ≡ record { grid = grid; earlier = []; elements = [] }) }
     {
         let log = HeapCircularBuffer::with_capacity(alloc, LOG_PLACES)?;
-        Ok(Board { alloc, grid, log })
+        let elements = Elements::new(alloc);
+        Ok(Board {
+            alloc,
+            grid,
+            elements,
+            log,
+        })
     }
 
     /// The grid with the present map.
@@ -70,6 +78,27 @@ impl<G: Grid> Board<G> {
         self.log.len() as u32
     }
 
+    /// Takes an element in. A known name keeps its place and takes the new table, and a new name
+    /// goes last.
+    ///
+    /// `Memory` comes where the element is refused its memory; then nothing is changed.
+    pub fn define(&mut self, element: Element) -> Result<(), Memory>
+        ensures defined { OnOk result (self.new ≡ record self.old { elements = elements_with self.old.elements element }) }
+        ensures refused { OnErr result (self.new ≡ self.old) }
+    {
+        self.elements.define(self.alloc, element)?;
+        Ok(())
+    }
+
+    /// The names and sizes of the elements, in the order of first naming.
+    ///
+    /// `Memory` comes where the list is refused its memory.
+    pub fn elements(&self) -> Result<List<ElementLine>, Memory>
+        ensures { IfOk result (λ lines. lines ≡ map line_of self.now.elements) }
+    {
+        self.elements.lines(self.alloc)
+    }
+
     /// Makes an edit. Accepted, the map before it is kept, also where it changes nothing, and the
     /// oldest of 33 is dropped. Refused, it changes nothing.
     ///
@@ -77,10 +106,12 @@ impl<G: Grid> Board<G> {
     /// comes exactly where a position is not in the grid, and names the first; else `EmptyRect`
     /// exactly where the second corner has a lesser column or profile than the first; else
     /// `HeightRange` exactly where a new height is not in the range of the data type, and names the
-    /// first such position by index.
+    /// first such position by index. Of a filter, `NoElement` comes exactly where there is no element
+    /// of the name, else `HeightRange` as before.
     pub fn apply(&mut self, edit: &Edit) -> Result<(), EditError>
         requires { G.changes self.old.grid < 2 ^ 62 }
-        ensures edit { let m = G.map self.old.grid in Applies (edited m edit.now) result m (G.map self.new.grid) }
+        ensures edit { let m = G.map self.old.grid in
+            Applies (IsEdited self.old.elements m edit.now) result m (G.map self.new.grid) }
         ensures earlier { let earlier = self.old.earlier in
             self.new.earlier ≡ (if is_ok result then kept_after earlier (G.map self.old.grid) else earlier) }
         ensures elements { self.new.elements ≡ self.old.elements }
@@ -88,7 +119,7 @@ impl<G: Grid> Board<G> {
         ensures origin { G.comes_from self.old.grid self.new.grid }
         ensures count { RisesUpTo (2 ^ 27) (G.changes self.old.grid) (G.changes self.new.grid) }
     {
-        let changes = make(self.alloc, &mut self.grid, edit)?;
+        let changes = make(self.alloc, &mut self.grid, &self.elements, edit)?;
         self.log.push_back(changes);
         Ok(())
     }

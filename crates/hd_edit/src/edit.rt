@@ -1,10 +1,11 @@
 // The edits and their refusals.
+use hd_base::List;
 use hd_map::Pos;
 use thiserror::Error;
 
 /// An edit of the map. A rectangle is given by two of its corners: the first has the least column
-/// and profile, and the second the greatest.
-#[derive(Clone, Copy, Debug, PartialEq, Eq)]
+/// and profile, and the second the greatest. A filter is given by the name of its element.
+#[derive(Debug, Drop)]
 pub enum Edit {
     /// The cell becomes this height in steps; the mask stays.
     Set { at: Pos, z: i64 },
@@ -16,6 +17,14 @@ pub enum Edit {
     Mask { from: Pos, to: Pos },
     /// No point of the rectangle is masked; the cells stay.
     Unmask { from: Pos, to: Pos },
+    /// The cells become those of the dilation by the element of this name; the masks stay.
+    Dilate { name: List<u8> },
+    /// The cells become those of the erosion; the masks stay.
+    Erode { name: List<u8> },
+    /// The cells become those of the opening, an erosion and then a dilation; the masks stay.
+    Open { name: List<u8> },
+    /// The cells become those of the closing, a dilation and then an erosion; the masks stay.
+    Close { name: List<u8> },
 }
 
 /// Why an edit was refused, in the order in which the causes are tried. Want of memory may come
@@ -31,6 +40,9 @@ pub enum EditError {
     /// The second corner has a lesser column or profile than the first.
     #[error("the rectangle is empty")]
     EmptyRect,
+    /// There is no element of the name.
+    #[error("no element of this name")]
+    NoElement,
     /// The height is not in the range of the data type; the first such position by index.
     #[error("a height is out of range")]
     HeightRange(Pos),

@@ -1,14 +1,28 @@
 // What edits and undos keep of maps.
-ghost use Rattle.std.specs.Prelude.{◌≡◌, ◌≤◌, ℕ, List, length, Ok, All};
+ghost use Rattle.std.specs.Prelude.{◌≡◌, ◌≤◌, ℕ, List, length, Result, Ok, All};
 ghost use Rattle.hd_map.specs.Map.{Map, IsMap};
+ghost use Rattle.hd_morph.specs.Element.{ElementTable};
 ghost use Rattle.hd_edit.specs.declared.edit.Edit.{Edit as AnyEdit};
-ghost use Rattle.hd_edit.specs.Edit.{edited};
-ghost use Rattle.hd_edit.specs.Board.{log_places, kept_after, map_before, earlier_before};
+ghost use Rattle.hd_edit.specs.declared.edit.EditError.{EditError};
+ghost use Rattle.hd_edit.specs.Board.{IsEdited, log_places, kept_after, map_before, earlier_before};
+
+use hd_morph::{accepted_cells_make_a_map, filter_is_determined};
 
 /// An accepted edit makes a map of a map.
 pub fn edits_keep_maps()
-    ensures { (m new : Map) (e : AnyEdit) → IsMap m → edited m e ≡ Ok new → IsMap new }
-{}
+    ensures { (elements : List ElementTable) (m new : Map) (e : AnyEdit) →
+        IsMap m → IsEdited elements m e (Ok new) → IsMap new }
+{
+    accepted_cells_make_a_map();
+}
+
+/// An edit of a map has one outcome.
+pub fn edit_is_determined()
+    ensures { (elements : List ElementTable) (m : Map) (e : AnyEdit) (x y : Result Map EditError) →
+        IsMap m → IsEdited elements m e x → IsEdited elements m e y → x ≡ y }
+{
+    filter_is_determined();
+}
 
 /// At most 32 earlier maps are kept, and each is a map.
 pub fn logs_keep_maps()

@@ -4,6 +4,8 @@
 mod board;
 mod change;
 mod edit;
+mod elements;
+mod filter;
 mod laws;
 mod make;
 mod paint;
@@ -13,4 +15,7 @@ mod tests;
 
 pub use board::Board;
 pub use edit::{Edit, EditError, LogEnds};
-pub use laws::{edits_keep_maps, logs_keep_maps, undos_go_back, undos_keep_maps};
+pub use elements::ElementLine;
+pub use laws::{
+    edit_is_determined, edits_keep_maps, logs_keep_maps, undos_go_back, undos_keep_maps,
+};

@@ -1,12 +1,14 @@
 // An edit of a grid, and what it changed.
 ghost use Rattle.std.specs.Prelude.{◌≡◌, ◌<◌, ◌≤◌, ◌+◌, ◌^◌, MatchResult, IfOk, OnErr, Ok, Some, None};
 ghost use Rattle.hd_map.specs.Map.{cell_count};
-ghost use Rattle.hd_edit.specs.Edit.{edited, rectangle_refusal};
-ghost use Rattle.hd_edit.specs.Board.{IsRefusalBy, RisesUpTo};
+ghost use Rattle.hd_edit.specs.Edit.{rectangle_refusal};
+ghost use Rattle.hd_edit.specs.Board.{IsEdited, IsRefusalBy, RisesUpTo};
 ghost use Rattle.hd_edit.specs.Change.{AreChanges, before_changes};
-ghost use Rattle.hd_edit.specs.Stroke.{IsRectangle, first_corner, second_corner, stroke_of};
+ghost use Rattle.hd_edit.specs.Stroke.{IsRectangle, IsStroked, stroke_parts};
 
 use crate::change::Change;
+use crate::elements::Elements;
+use crate::filter::{changed_cells, filtered, put_cells};
 use crate::paint::{count_changes, stroke_points};
 use crate::stroke::Stroke;
 use crate::{Edit, EditError};
@@ -14,18 +16,20 @@ use hd_base::{List, Memory};
 use hd_map::{Cell, Grid, Heights, Pos, Size, contains};
 use std::alloc::Global;
 
-// The corners of an edit's rectangle, and what it makes of each point of it.
-fn parts_of(edit: &Edit) -> (Pos, Pos, Stroke)
-    ensures first { result.0 ≡ first_corner edit.now }
-    ensures second { result.1 ≡ second_corner edit.now }
-    ensures stroke { result.2 ≡ stroke_of edit.now }
+// The corners of an edit's rectangle, and what it makes of each point of it. A filter has none.
+fn parts_of(edit: &Edit) -> Option<(Pos, Pos, Stroke)>
+    ensures { result ≡ stroke_parts edit.now }
 {
     match edit {
-        Edit::Set { at, z } => (*at, *at, Stroke::Put(Cell::Height(*z))),
-        Edit::Bad { at } => (*at, *at, Stroke::Put(Cell::Bad)),
-        Edit::Add { from, to, delta } => (*from, *to, Stroke::Raise(*delta)),
-        Edit::Mask { from, to } => (*from, *to, Stroke::Mask(true)),
-        Edit::Unmask { from, to } => (*from, *to, Stroke::Mask(false)),
+        Edit::Set { at, z } => Some((*at, *at, Stroke::Put(Cell::Height(*z)))),
+        Edit::Bad { at } => Some((*at, *at, Stroke::Put(Cell::Bad))),
+        Edit::Add { from, to, delta } => Some((*from, *to, Stroke::Raise(*delta))),
+        Edit::Mask { from, to } => Some((*from, *to, Stroke::Mask(true))),
+        Edit::Unmask { from, to } => Some((*from, *to, Stroke::Mask(false))),
+        Edit::Dilate { .. } => None,
+        Edit::Erode { .. } => None,
+        Edit::Open { .. } => None,
+        Edit::Close { .. } => None,
     }
 }
 
@@ -46,11 +50,17 @@ fn check_rectangle(size: Size, from: Pos, to: Pos) -> Result<(), EditError>
     Ok(())
 }
 
-/// Makes an edit, and tells what it changed. Its memory is taken before anything is changed.
-pub fn make<G: Grid>(alloc: Global, grid: &mut G, edit: &Edit) -> Result<List<Change>, EditError>
+// Strokes a rectangle, and tells what that changed.
+fn stroke_grid<G: Grid>(
+    alloc: Global,
+    grid: &mut G,
+    from: Pos,
+    to: Pos,
+    stroke: Stroke,
+) -> Result<List<Change>, EditError>
     requires { G.changes grid.old < 2 ^ 62 }
-    ensures edit { let outcome = edited (G.map grid.old) edit.now in
-        MatchResult result (λ _. outcome ≡ Ok (G.map grid.new)) (IsRefusalBy outcome) }
+    ensures edit { let IsOutcome = IsStroked (G.map grid.old) from to stroke in
+        MatchResult result (λ _. IsOutcome (Ok (G.map grid.new))) (IsRefusalBy IsOutcome) }
     ensures refused { OnErr result (grid.new ≡ grid.old) }
     ensures before { IfOk result (λ changes. before_changes changes (G.map grid.new) ≡ G.map grid.old) }
     ensures changes { IfOk result (AreChanges (G.map grid.new)) }
@@ -59,7 +69,6 @@ pub fn make<G: Grid>(alloc: Global, grid: &mut G, edit: &Edit) -> Result<List<Ch
     ensures origin { G.comes_from grid.old grid.new }
     ensures count { RisesUpTo (cell_count (G.map grid.old).size) (G.changes grid.old) (G.changes grid.new) }
 {
-    let (from, to, stroke) = parts_of(edit);
     check_rectangle(grid.size(), from, to)?;
     let count = match count_changes(grid, from, to, stroke) {
         Ok(count) => count,
@@ -67,6 +76,55 @@ pub fn make<G: Grid>(alloc: Global, grid: &mut G, edit: &Edit) -> Result<List<Ch
     };
     let changes = stroke_points(alloc, grid, from, to, stroke, count)?;
     Ok(changes)
+}
+
+// Filters a grid, and tells what that changed.
+fn filter_grid<G: Grid>(
+    alloc: Global,
+    grid: &mut G,
+    elements: &Elements,
+    edit: &Edit,
+) -> Result<List<Change>, EditError>
+    requires filter { stroke_parts edit.now ≡ None }
+    requires count { G.changes grid.old < 2 ^ 62 }
+    ensures edit { let IsOutcome = IsEdited elements.now (G.map grid.old) edit.now in
+        MatchResult result (λ _. IsOutcome (Ok (G.map grid.new))) (IsRefusalBy IsOutcome) }
+    ensures refused { OnErr result (grid.new ≡ grid.old) }
+    ensures before { IfOk result (λ changes. before_changes changes (G.map grid.new) ≡ G.map grid.old) }
+    ensures changes { IfOk result (AreChanges (G.map grid.new)) }
+    ensures size { (G.map grid.new).size ≡ (G.map grid.old).size }
+    ensures data_type { (G.map grid.new).data_type ≡ (G.map grid.old).data_type }
+    ensures origin { G.comes_from grid.old grid.new }
+    ensures count { RisesUpTo (cell_count (G.map grid.old).size) (G.changes grid.old) (G.changes grid.new) }
+{
+    let cells = filtered(alloc, grid, elements, edit)?;
+    let changes = changed_cells(alloc, grid, cells.as_slice())?;
+    put_cells(grid, cells.as_slice());
+    Ok(changes)
+}
+
+/// Makes an edit, and tells what it changed. Its memory is taken before anything is changed.
+pub fn make<G: Grid>(
+    alloc: Global,
+    grid: &mut G,
+    elements: &Elements,
+    edit: &Edit,
+) -> Result<List<Change>, EditError>
+    requires { G.changes grid.old < 2 ^ 62 }
+    ensures edit { let IsOutcome = IsEdited elements.now (G.map grid.old) edit.now in
+        MatchResult result (λ _. IsOutcome (Ok (G.map grid.new))) (IsRefusalBy IsOutcome) }
+    ensures refused { OnErr result (grid.new ≡ grid.old) }
+    ensures before { IfOk result (λ changes. before_changes changes (G.map grid.new) ≡ G.map grid.old) }
+    ensures changes { IfOk result (AreChanges (G.map grid.new)) }
+    ensures size { (G.map grid.new).size ≡ (G.map grid.old).size }
+    ensures data_type { (G.map grid.new).data_type ≡ (G.map grid.old).data_type }
+    ensures origin { G.comes_from grid.old grid.new }
+    ensures count { RisesUpTo (cell_count (G.map grid.old).size) (G.changes grid.old) (G.changes grid.new) }
+{
+    match parts_of(edit) {
+        Some((from, to, stroke)) => stroke_grid(alloc, grid, from, to, stroke),
+        None => filter_grid(alloc, grid, elements, edit),
+    }
 }
 
 impl From<Memory> for EditError {

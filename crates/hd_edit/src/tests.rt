@@ -1,5 +1,5 @@
 // Edits on boards over two kinds of grid.
-ghost use Rattle.std.specs.Prelude.{◌≤◌, ◌∷◌, []};
+ghost use Rattle.std.specs.Prelude.{◌≤◌, ◌≤ℤ◌, ◌∷◌, [], pos, neg_ℤ};
 ghost use Rattle.std.proofs.Common.{rules};
 ghost use Rattle.std.proofs.lemmas.Grind.{common_steps};
 ghost use Rattle.hd_map.specs.declared.types.DataType.TheVariants.{I8};
@@ -10,6 +10,7 @@ use hd_base::List;
 use hd_map::{
     Cell, DataType, Grid, Heights, MapError, Pos, Size, Surface, contains, height, is_cell_of,
 };
+use hd_morph::Element;
 use std::alloc::Global;
 use std::test::Fail;
 
@@ -261,6 +262,110 @@ fn the_last_32_edits_are_undone(rt: HostRuntime) -> Result<(), Fail> {
     assert_eq!(rt; shown(board.grid(), 0, 0), Some(8));
     assert_eq!(rt; board.kept(), 0);
     assert_eq!(rt; board.undo(1), Err(LogEnds { kept: 0 }));
+    Ok(())
+}
+
+// The flat element of three columns, under this name.
+fn flat(alloc: Global, name: &[u8], number: i64) -> Result<Element, Fail>
+    requires least { neg_ℤ (pos 4294967295) ≤ℤ number }
+    requires greatest { number ≤ℤ pos 4294967295 }
+{
+    let name = List::from_vec(Vec::from_slice(alloc, name)?);
+    let table = vec![in alloc; Some(number), Some(number), Some(number)]?;
+    Ok(
+        Element::new(name, 3, 1, List::from_vec(table))
+            .ok()
+            .ok_or("no element")?,
+    )
+}
+
+// A name of one letter.
+fn named(alloc: Global, letter: u8) -> Result<List<u8>, Fail> {
+    Ok(List::from_vec(vec![in alloc; letter]?))
+}
+
+// The board of six points with the flat elements `f` of zeros and `h` of sixes.
+fn six_with_elements(alloc: Global) -> Result<Board<Surface>, Fail> {
+    let mut board = six(alloc)?;
+    for (name, number) in [(b"f".as_slice(), 0), (b"h".as_slice(), 6)] {
+        let element = flat(alloc, name, number)?;
+        board.define(element).ok().ok_or("no memory")?;
+    }
+    Ok(board)
+}
+
+// Whether an edit gives these heights, and its undo the ones before.
+fn goes_and_comes_back(board: &mut Board<Surface>, edit: &Edit, after: [Option<i64>; 6]) -> bool {
+    let before = profiles(board);
+    board.apply(edit).is_ok()
+        && profiles(board) == after
+        && board.undo(1).is_ok()
+        && profiles(board) == before
+}
+
+#[test]
+fn dilations_and_erosions_are_undone(rt: HostRuntime) -> Result<(), Fail> {
+    let mut board = six_with_elements(rt.alloc())?;
+    let name = named(rt.alloc(), b'f')?;
+    let dilated = [Some(2), Some(3), Some(3), Some(5), Some(250), Some(250)];
+    assert!(rt; goes_and_comes_back(&mut board, &Edit::Dilate { name }, dilated));
+    let name = named(rt.alloc(), b'f')?;
+    let eroded = [Some(1), Some(1), Some(2), Some(4), Some(4), Some(5)];
+    assert!(rt; goes_and_comes_back(&mut board, &Edit::Erode { name }, eroded));
+    Ok(())
+}
+
+#[test]
+fn openings_and_closings_are_undone(rt: HostRuntime) -> Result<(), Fail> {
+    let mut board = six_with_elements(rt.alloc())?;
+    let name = named(rt.alloc(), b'f')?;
+    let opened = [Some(1), Some(2), Some(2), Some(4), Some(5), Some(5)];
+    assert!(rt; goes_and_comes_back(&mut board, &Edit::Open { name }, opened));
+    let name = named(rt.alloc(), b'f')?;
+    let closed = [Some(2), Some(2), Some(3), Some(5), Some(5), Some(250)];
+    assert!(rt; goes_and_comes_back(&mut board, &Edit::Close { name }, closed));
+    Ok(())
+}
+
+#[test]
+fn a_filter_is_refused_at_its_first_height_or_without_its_element(
+    rt: HostRuntime,
+) -> Result<(), Fail> {
+    let mut board = six_with_elements(rt.alloc())?;
+    let name = named(rt.alloc(), b'h')?;
+    let at = Pos { x: 1, y: 1 };
+    assert_eq!(rt;
+        board.apply(&Edit::Dilate { name }),
+        Err(EditError::HeightRange(at))
+    );
+    let name = named(rt.alloc(), b'g')?;
+    assert_eq!(rt;
+        board.apply(&Edit::Open { name }),
+        Err(EditError::NoElement)
+    );
+    assert_eq!(rt; board.kept(), 0);
+    Ok(())
+}
+
+#[test]
+fn a_known_element_keeps_its_place(rt: HostRuntime) -> Result<(), Fail> {
+    let alloc = rt.alloc();
+    let mut board = six(alloc)?;
+    for name in [b"f".as_slice(), b"g".as_slice()] {
+        board.define(flat(alloc, name, 0)?).ok().ok_or("no memory")?;
+    }
+    let table = List::from_vec(vec![in alloc; Some(2)]?);
+    let small = Element::new(named(alloc, b'f')?, 1, 1, table)
+        .ok()
+        .ok_or("no element")?;
+    board.define(small).ok().ok_or("no memory")?;
+    let lines = board.elements().ok().ok_or("no memory")?;
+    let expected = [(b'f', 1), (b'g', 3)];
+    assert_eq!(rt; lines.as_slice().len(), 2);
+    for (line, (letter, width)) in lines.as_slice().iter().zip(&expected) {
+        assert_eq!(rt; line.name.as_slice(), [*letter].as_slice());
+        assert_eq!(rt; (line.width, line.height), (*width, 1));
+    }
     Ok(())
 }
 

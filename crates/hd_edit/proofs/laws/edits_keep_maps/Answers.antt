@@ -2,4 +2,5 @@ use Rattle.hd_edit.proofs.Outcomes.{edited-whole}
 use Rattle.hd_edit.proofs.laws.edits_keep_maps.Goals as goal
 
 pub returns : goal.returns
-returns c = λ m new e whole is. edited-whole m whole e new is
+returns c = λ elements m new e whole is.
+    edited-whole m whole (λ filter element cells are. c.accepted_cells_make_a_map.ensures filter m element cells whole are) elements e new is

@@ -1,18 +1,11 @@
-use Rattle.std.proofs.Common.{◌∙◌, ap, sym, Ok}
-use Rattle.hd_edit.specs.declared.edit.EditError.TheVariants.{HeightRange}
-use Rattle.hd_edit.proofs.Outcomes.{edited-refused, edited-made}
+use Rattle.hd_edit.proofs.Outcomes.{edited-by, carried}
+use Rattle.hd_edit.specs.Stroke.{IsStroked}
+use Rattle.hd_edit.specs.Board.{IsEdited}
 use Rattle.hd_edit.proofs.make.make.Goals as goal
 
-pub returns-in-Err-clause-edit : goal.returns-in-Err-clause-edit
-returns-in-Err-clause-edit g c =
+pub returns-in-Some-clause-edit : goal.returns-in-Some-clause-edit
+returns-in-Some-clause-edit g c =
     let m = g.G.Heights.map c.args.grid.now in
-    edited-refused m (g.met.G.Heights.whole c.args.grid.now) c.args.edit.now c.parts_of-stroke.result.0 c.parts_of-stroke.result.1 c.parts_of-stroke.result.2
-    c.parts_of-stroke.ensures.first c.parts_of-stroke.ensures.second c.parts_of-stroke.ensures.stroke (rw c.size.ensures at c.in_ok-check_rectangle.ensures.1)
-    (HeightRange c.in-Err.at) c.in-Err.ensures
-
-pub returns-clause-edit : goal.returns-clause-edit
-returns-clause-edit g c =
-    let m = g.G.Heights.map c.args.grid.now in
-    edited-made m (g.met.G.Heights.whole c.args.grid.now) c.args.edit.now c.parts_of-stroke.result.0 c.parts_of-stroke.result.1 c.parts_of-stroke.result.2
-    c.parts_of-stroke.ensures.first c.parts_of-stroke.ensures.second c.parts_of-stroke.ensures.stroke (rw c.size.ensures at c.in_ok-check_rectangle.ensures.1)
-    c.in-Ok.ensures.1 ∙ ap Ok (sym c.in_ok-changes.ensures.map)
+    carried (IsStroked m c.in-Some.from c.in-Some.to c.in-Some.stroke) (IsEdited c.args.elements.now m c.args.edit.now)
+    (edited-by m (g.met.G.Heights.whole c.args.grid.now) c.args.elements.now c.args.edit.now c.in-Some.from c.in-Some.to c.in-Some.stroke c.in-Some.ensures)
+    c.stroke_grid.result _ c.stroke_grid.ensures.edit

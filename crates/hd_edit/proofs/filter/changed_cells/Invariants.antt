@@ -1,0 +1,5 @@
+use Rattle.hd_edit.proofs.CellLists.{IsAt, Noted}
+use Rattle.hd_edit.proofs.filter.changed_cells.Given as goal
+
+abbrev pub invariant-loop-index : goal.invariant-loop-index
+invariant-loop-index g l = IsAt (g.G.Heights.map l.grid).size l.index l.at × Noted (g.G.Heights.map l.grid) l.cells l.index l.notes
