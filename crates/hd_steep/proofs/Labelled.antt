@@ -26,10 +26,10 @@ module _ (m : Map) (side : SideName) (labels : List (Option ℕ)) (regions : Are
       let same : found.0 ≡ a = root-unique m side (rank m point.at) found.0 a found.1 at in
       ap (λ (r : Rank). slice_get labels r.index) point.rank_is ∙ found.2 ∙ ap (λ (r : Rank). Some (Some r.index)) same
 
-  to_label : (x a : Rank) → IsPoint m x → IsRoot m side x a → IsLabelled m labels x a
+  pub to_label : (x a : Rank) → IsPoint m x → IsRoot m side x a → IsLabelled m labels x a
   to_label x a point root = record { point = point; low = (root-is_pit m side x a root).point; label = label_of x a point root }
 
-  from_label : (x a : Rank) → IsLabelled m labels x a → IsRoot m side x a
+  pub from_label : (x a : Rank) → IsLabelled m labels x a → IsRoot m side x a
   from_label x a labelled =
       let point = labelled.point in
       let found = regions.present point.at point.present in

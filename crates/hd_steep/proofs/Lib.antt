@@ -11,4 +11,9 @@ pub mod Joining
 pub mod Adding
 pub mod Passing
 pub mod Labelled
+pub mod Ring
+pub mod Around
+pub mod Enough
+pub mod Crossed
+pub mod Served
 pub mod Unmeasured

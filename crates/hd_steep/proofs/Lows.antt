@@ -20,7 +20,7 @@ use Rattle.hd_steep.specs.Lowest.{missing, lower_of, IsLow, IsAtPlace}
 use Rattle.hd_steep.proofs.Lower.{IsLower, lower-is}
 
 -- a point is below where none is present
-below_missing : (side : SideName) (r : Rank) → InLimits r → below_by side r (missing side) ≡ true
+pub below_missing : (side : SideName) (r : Rank) → InLimits r → below_by side r (missing side) ≡ true
 below_missing Dales r within = let high = within.high in grind (arith, ints, nat_tests)
 below_missing Hills r within = let low = within.low in grind (arith, ints, nat_tests)
 

@@ -51,7 +51,7 @@ module _ (m : Map) (side : SideName) where
   }
 
   -- each place of a row, also on either side
-  row_place : (y : ℕ) (row : List Rank) (k : ℕ) → IsRowOf m side y row → k < m.size.points + 2 → IsLow m side (IsAtPlace y k) (rank_in row k)
+  pub row_place : (y : ℕ) (row : List Rank) (k : ℕ) → IsRowOf m side y row → k < m.size.points + 2 → IsLow m side (IsAtPlace y k) (rank_in row k)
   row_place y row k of below = elim (cases_eq k 0) [
     | inl e ↦ rw (e, of.framed.left) (low_empty m side (IsAtPlace y 0) (λ q there here. (let p = there.place in omega (arith, p))))
     | inr some ↦ elim (cases_eq k (m.size.points + 1)) [

@@ -3,3 +3,5 @@ pub mod Rows
 pub mod Links
 pub mod Borders
 pub mod Meetings
+pub mod Ring
+pub mod Crossed

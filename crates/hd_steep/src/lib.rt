@@ -3,17 +3,21 @@
 #![tactic(auto)]
 
 mod borders;
+mod crossing;
 mod laws;
 mod leading;
 mod links;
 mod lowest;
 mod meetings;
+mod places;
 mod profile;
+mod rolling;
 mod steep;
 #[cfg(test)]
 mod tests;
 
 pub use borders::passes;
+pub use crossing::crossings;
 pub use laws::{
     next_is_determined, pit_is_its_own_root, regions_are_determined, root_is_determined,
 };

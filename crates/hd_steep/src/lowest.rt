@@ -1,5 +1,6 @@
 // The lowest of the points at some positions, which are looked at in the order of their indexes.
 ghost use Rattle.std.specs.Prelude.{◌≡◌, ◌<◌, ◌+◌};
+ghost use Rattle.std.specs.Ordering.{int_eq};
 ghost use Rattle.hd_map.specs.Map.{InGrid, Present};
 ghost use Rattle.hd_steep.specs.Lowest.{missing, lower_of, IsLow, IsAtPlace, InSpan, IsRound};
 
@@ -18,6 +19,14 @@ pub fn missing_rank<S: Side>() -> Rank
         height,
         index: u32::MAX,
     }
+}
+
+/// Whether a rank stands where no point is present.
+#[inline]
+pub fn is_missing<S: Side>(rank: Rank) -> bool
+    ensures { result ≡ int_eq rank.height (missing S.NAME).height }
+{
+    rank.height == missing_rank::<S>().height
 }
 
 /// The rank of the point at a position, if one is present there.

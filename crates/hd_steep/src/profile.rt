@@ -43,8 +43,8 @@ impl Profile {
     }
 }
 
-// Writes the ranks of a profile into a row; past the last profile no point is present.
-fn fill_row<S: Side, G: Heights>(grid: &G, y: u32, row: &mut [Rank])
+/// Writes the ranks of a profile into a row; past the last profile no point is present.
+pub fn fill_row<S: Side, G: Heights>(grid: &G, y: u32, row: &mut [Rank])
     requires profile { y ≤ (G.map grid.now).size.profiles }
     requires framed { IsFramed S.NAME (G.map grid.now).size.points row.old }
     ensures { IsRowOf (G.map grid.now) S.NAME (y + 1) row.new }

@@ -2,7 +2,7 @@
 ghost use Rattle.std.specs.Prelude.{◌≤◌};
 ghost use Rattle.hd_map.specs.Map.{IsSize};
 
-use crate::{next, passes, regions, root};
+use crate::{crossings, next, passes, regions, root};
 use hd_base::{List, Memory};
 use hd_map::{
     Cell, DataType, Down, Grid, Heights, Pass, Rank, Side, Size, Surface, Up, index_of, is_present,
@@ -167,4 +167,60 @@ fn passes_of_a_profile(rt: HostRuntime) {
     }];
     expect_passes::<Down>(&rt, alloc, &surface, down.as_slice());
     expect_passes::<Up>(&rt, alloc, &surface, up.as_slice());
+}
+
+// Compares the crossings of one side with those that are known.
+fn expect_crossings<S: Side>(rt: &impl Abort, alloc: Global, surface: &Surface, want: &[Pass]) {
+    let labels = regions::<S, _>(alloc, surface).expect(rt, "memory");
+    let found = crossings::<S, _>(alloc, surface, &labels).expect(rt, "memory");
+    assert_eq!(rt; found.as_slice(), want);
+}
+
+#[test]
+fn crossings_at_one_point(rt: HostRuntime) {
+    let alloc = rt.alloc();
+    let size = Size {
+        points: 3,
+        profiles: 3,
+    };
+    let surface = surface_of(alloc, size, &[0, 9, 1, 9, 5, 9, 2, 9, 9]).expect(&rt, "memory");
+    let down = [
+        Pass {
+            a: point(0, 0),
+            b: point(1, 2),
+            at: point(5, 4),
+        },
+        Pass {
+            a: point(0, 0),
+            b: point(2, 6),
+            at: point(5, 4),
+        },
+    ];
+    expect_crossings::<Down>(&rt, alloc, &surface, down.as_slice());
+    expect_crossings::<Up>(&rt, alloc, &surface, &[]);
+}
+
+#[test]
+fn crossings_of_a_plateau_and_of_two_parts(rt: HostRuntime) {
+    let alloc = rt.alloc();
+    let size = Size {
+        points: 7,
+        profiles: 1,
+    };
+    let plateau = surface_of(alloc, size, &[4; 7]).expect(&rt, "memory");
+    expect_crossings::<Down>(&rt, alloc, &plateau, &[]);
+    expect_crossings::<Up>(&rt, alloc, &plateau, &[]);
+    let parts = surface_of(alloc, size, &[0, 3, 1, -1, 5, 2, 6]).expect(&rt, "memory");
+    let down = [Pass {
+        a: point(0, 0),
+        b: point(1, 2),
+        at: point(3, 1),
+    }];
+    let up = [Pass {
+        a: point(6, 6),
+        b: point(5, 4),
+        at: point(2, 5),
+    }];
+    expect_crossings::<Down>(&rt, alloc, &parts, down.as_slice());
+    expect_crossings::<Up>(&rt, alloc, &parts, up.as_slice());
 }

@@ -1,0 +1,36 @@
+use Rattle.std.proofs.Common.{◌≡◌, ◌<◌, ◌+◌, ◌⊎◌, [], ap, subst, inl, inr, arith}
+use Rattle.std.proofs.lemmas.Bool.{cases_lt}
+use Rattle.hd_map.specs.declared.types.Size.{Size}
+use Rattle.hd_steep.specs.Rows.{IsRowOf}
+use Rattle.hd_steep.proofs.Crossed.{gathers_less, gathers_join}
+use Rattle.hd_steep.proofs.crossing.gather.Goals as goal
+
+pub profiles-preserved : goal.profiles-preserved
+profiles-preserved g c =
+    let m = g.G.Heights.map c.args.grid.now in
+    let side = g.S.Side.NAME in
+    let y = c.profiles.y in
+    let round = c.advance.ensures in
+    let new = c.gather_profile.new.passes.items in
+    record {
+      rows = record {
+        spare = round.above.framed;
+        level = round.level;
+        below = (let e : y + 2 ≡ y + 1 + 1 = omega arith in subst (λ i. IsRowOf m side i c.advance.new.self.below.items) e round.below);
+      };
+      gathers = gathers_less m side (λ u. (u.y < y) ⊎ (u.y ≡ y)) (λ u. u.y < y + 1) [] new
+          (λ u here less. elim (cases_lt u.y y) [
+            | inl before ↦ inl before
+            | inr past ↦ inr (omega (arith, less, past))
+          ])
+          (gathers_join m side (λ u. u.y < y) (λ u. u.y ≡ y) [] c.profiles.passes.items new c.profiles.invariant.gathers c.in_ok-gather_profile.ensures);
+    }
+
+pub returns : goal.returns
+returns g c =
+    let m = g.G.Heights.map c.args.grid.now in
+    let side = g.S.Side.NAME in
+    let y = c.profiles.y in
+    let height : c.size-y-end.result.profiles ≡ m.size.profiles = ap (λ (s : Size). s.profiles) c.size-y-end.ensures in
+    let end = c.profiles-test.false in
+    gathers_less m side (λ u. u.y < y) (λ u. u.y < m.size.profiles) [] c.profiles.passes.items (λ u here less. (omega (arith, less, height, end))) c.profiles.invariant.gathers

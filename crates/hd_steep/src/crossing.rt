@@ -1,0 +1,190 @@
+// The passes at points whose lower neighbours fall into several groups.
+ghost use Rattle.std.specs.Prelude.{◌≡◌, ◌<◌, ℕ, [], true, IfOk, OnOk, MatchOption};
+ghost use Rattle.hd_map.specs.Map.{InGrid};
+ghost use Rattle.hd_map.specs.Crossings.{AreCrossingsUnder};
+ghost use Rattle.hd_map.specs.Rank.{IsPoint};
+ghost use Rattle.hd_map.specs.Region.{LowerNeighbour, AreRegions};
+ghost use Rattle.hd_steep.specs.Rows.{rank_in};
+ghost use Rattle.hd_steep.specs.Ring.{is_marked};
+ghost use Rattle.hd_steep.specs.Crossed.{AreRowsRound, IsPitOf, AreInOne, IsPassTo, Extends, IsCrossed, Gathers};
+
+use crate::lowest::is_missing;
+use crate::places::{are_several, firsts, lower_at, ring_at};
+use crate::rolling::Rows;
+use hd_base::{List, Memory};
+use hd_map::{Heights, Pass, Pos, Rank, Side, position_of, rank_of};
+use std::alloc::Global;
+
+/// Passes between the regions with these labels that are enough to tell at which heights regions
+/// are joined: where two of them meet, passes that are not above the meeting lead from one to the
+/// other.
+///
+/// The labels are those that `regions` gives for this grid and side. There may be several passes
+/// for two regions, or none; `passes` gives one for each two that meet. It takes time in proportion
+/// to the points, and memory for the passes and 48 bytes a column. `Memory` comes where that is
+/// refused.
+pub fn crossings<S: Side, G: Heights>(
+    alloc: Global,
+    grid: &G,
+    labels: &List<Option<u32>>,
+) -> Result<List<Pass>, Memory>
+    requires { AreRegions (G.map grid.now) S.NAME labels.now }
+    ensures { IfOk result (AreCrossingsUnder (G.map grid.now) S.NAME labels.now) }
+{
+    let passes = gather::<S, G>(alloc, grid, labels.as_slice())?;
+    Ok(List::from_vec(passes))
+}
+
+// The passes at all points.
+fn gather<S: Side, G: Heights>(
+    alloc: Global,
+    grid: &G,
+    labels: &[Option<u32>],
+) -> Result<Vec<Pass>, Memory>
+    requires { AreRegions (G.map grid.now) S.NAME labels.now }
+    ensures { IfOk result (λ passes. Gathers (G.map grid.now) S.NAME (λ u. u.y < (G.map grid.now).size.profiles) [] passes.items) }
+{
+    let mut rows = Rows::new::<S, G>(alloc, grid)?;
+    let mut passes = Vec::new(alloc);
+    'profiles: for y in 0..grid.size().profiles {
+        rows.advance::<S, G>(grid, y);
+        gather_profile::<S, G>(grid, labels, &rows, y, &mut passes)?;
+    }
+    Ok(passes)
+}
+
+// Adds the passes at the points of a profile.
+fn gather_profile<S: Side, G: Heights>(
+    grid: &G,
+    labels: &[Option<u32>],
+    rows: &Rows,
+    y: u32,
+    passes: &mut Vec<Pass>,
+) -> Result<(), Memory>
+    requires regions { AreRegions (G.map grid.now) S.NAME labels.now }
+    requires profile { y < (G.map grid.now).size.profiles }
+    requires rows { AreRowsRound (G.map grid.now) S.NAME y rows.now }
+    ensures { OnOk result (Gathers (G.map grid.now) S.NAME (λ u. u.y ≡ y) passes.old.items passes.new.items) }
+{
+    for x in 0..grid.size().points {
+        gather_point::<S, G>(grid, labels, rows, Pos { x, y }, passes)?;
+    }
+    Ok(())
+}
+
+// Adds the passes at a point, if it is present. Where its lower neighbours are one group, they are
+// joined below it.
+#[inline]
+fn gather_point<S: Side, G: Heights>(
+    grid: &G,
+    labels: &[Option<u32>],
+    rows: &Rows,
+    at: Pos,
+    passes: &mut Vec<Pass>,
+) -> Result<(), Memory>
+    requires regions { AreRegions (G.map grid.now) S.NAME labels.now }
+    requires inside { InGrid (G.map grid.now).size at }
+    requires rows { AreRowsRound (G.map grid.now) S.NAME at.y rows.now }
+    ensures { OnOk result (Gathers (G.map grid.now) S.NAME (λ u. u ≡ at) passes.old.items passes.new.items) }
+{
+    let x = at.x as usize;
+    let own = rows.level[x + 1];
+    if is_missing::<S>(own) {
+        return Ok(());
+    }
+    let lower = lower_at::<S>(&rows.above, &rows.level, &rows.below, x, own);
+    let first = firsts(&lower);
+    if are_several(&first) {
+        let ring = ring_at(&rows.above, &rows.level, &rows.below, x);
+        cross::<S, G>(grid, labels, own, &ring, &first, passes)?;
+    }
+    Ok(())
+}
+
+// Adds the passes at a point to the marked ones of its lower neighbours.
+fn cross<S: Side, G: Heights>(
+    grid: &G,
+    labels: &[Option<u32>],
+    own: Rank,
+    ring: &[Rank; 8],
+    marks: &[bool; 8],
+    passes: &mut Vec<Pass>,
+) -> Result<(), Memory>
+    requires regions { AreRegions (G.map grid.now) S.NAME labels.now }
+    requires lower { (k : ℕ) → is_marked marks.now k ≡ true → LowerNeighbour (G.map grid.now) S.NAME own (rank_in ring.now k) }
+    ensures extends { OnOk result (Extends (G.map grid.now) S.NAME passes.old.items passes.new.items) }
+    ensures crossed { OnOk result ((k : ℕ) → is_marked marks.now k ≡ true → IsCrossed (G.map grid.now) S.NAME passes.new.items own (rank_in ring.now k)) }
+{
+    for place in 0..8 {
+        if marks[place] {
+            cross_to::<S, G>(grid, labels, own, ring[place], passes)?;
+        }
+    }
+    Ok(())
+}
+
+// Adds the pass at a point to one of its lower neighbours, if that lies in another region.
+fn cross_to<S: Side, G: Heights>(
+    grid: &G,
+    labels: &[Option<u32>],
+    own: Rank,
+    other: Rank,
+    passes: &mut Vec<Pass>,
+) -> Result<(), Memory>
+    requires regions { AreRegions (G.map grid.now) S.NAME labels.now }
+    requires lower { LowerNeighbour (G.map grid.now) S.NAME own other }
+    ensures extends { OnOk result (Extends (G.map grid.now) S.NAME passes.old.items passes.new.items) }
+    ensures crossed { OnOk result (IsCrossed (G.map grid.now) S.NAME passes.new.items own other) }
+{
+    if let Some(pass) = pass_to::<S, G>(grid, labels, own, other) {
+        passes.push(pass)?;
+    }
+    Ok(())
+}
+
+// The pass at a point to one of its lower neighbours, and none if both lie in one region.
+fn pass_to<S: Side, G: Heights>(
+    grid: &G,
+    labels: &[Option<u32>],
+    own: Rank,
+    other: Rank,
+) -> Option<Pass>
+    requires regions { AreRegions (G.map grid.now) S.NAME labels.now }
+    requires lower { LowerNeighbour (G.map grid.now) S.NAME own other }
+    ensures { MatchOption result (AreInOne (G.map grid.now) S.NAME own other) (IsPassTo (G.map grid.now) S.NAME own other) }
+{
+    let here = pit_of::<S, G>(grid, labels, own);
+    let there = pit_of::<S, G>(grid, labels, other);
+    if here == there {
+        return None;
+    }
+    let size = grid.size();
+    let one = rank_of(grid, position_of(size, here));
+    let two = rank_of(grid, position_of(size, there));
+    if S::below(one, two) {
+        Some(Pass {
+            a: one,
+            b: two,
+            at: own,
+        })
+    } else {
+        Some(Pass {
+            a: two,
+            b: one,
+            at: own,
+        })
+    }
+}
+
+// The index of the pit of a point.
+#[inline]
+fn pit_of<S: Side, G: Heights>(_grid: &G, labels: &[Option<u32>], point: Rank) -> u32
+    requires regions { AreRegions (G.map _grid.now) S.NAME labels.now }
+    requires point { IsPoint (G.map _grid.now) point }
+    ensures { IsPitOf (G.map _grid.now) S.NAME point result }
+{
+    match labels[point.index as usize] {
+        Some(pit) => pit,
+        None => unreachable!(),
+    }
+}

@@ -1,0 +1,89 @@
+// The eight places round one, clockwise from the one above it. Two places are beside each other
+// where they follow each other, and so are the one above and the one to the right, and so on.
+ghost use Rattle.std.specs.Prelude.{◌≡◌, ◌<◌, ◌+◌, length};
+ghost use Rattle.std.specs.Bool.{OnFalse};
+ghost use Rattle.hd_steep.specs.Ring.{ring_of, are_lower, firsts_of, IsOneAtMost};
+
+use hd_map::{Rank, Side};
+
+/// The ranks round a place of the middle one of three rows. Their first places are left of it.
+#[inline]
+pub fn ring_at(above: &[Rank], level: &[Rank], below: &[Rank], x: usize) -> [Rank; 8]
+    requires above { x + 2 < length above.now }
+    requires level { x + 2 < length level.now }
+    requires below { x + 2 < length below.now }
+    ensures { result ≡ ring_of above.now level.now below.now x }
+{
+    [
+        above[x + 1],
+        above[x + 2],
+        level[x + 2],
+        below[x + 2],
+        below[x + 1],
+        below[x],
+        level[x],
+        above[x],
+    ]
+}
+
+/// Which of the ranks round a place of the middle row are below the one that stands there.
+#[inline]
+pub fn lower_at<S: Side>(
+    above: &[Rank],
+    level: &[Rank],
+    below: &[Rank],
+    x: usize,
+    own: Rank,
+) -> [bool; 8]
+    requires above { x + 2 < length above.now }
+    requires level { x + 2 < length level.now }
+    requires below { x + 2 < length below.now }
+    ensures { result ≡ are_lower S.NAME own (ring_of above.now level.now below.now x) }
+{
+    [
+        S::below(above[x + 1], own),
+        S::below(above[x + 2], own),
+        S::below(level[x + 2], own),
+        S::below(below[x + 2], own),
+        S::below(below[x + 1], own),
+        S::below(below[x], own),
+        S::below(level[x], own),
+        S::below(above[x], own),
+    ]
+}
+
+/// Of each group of lower places that are beside one another the first straight one, clockwise from
+/// the one above. A corner is first only where it is alone.
+#[inline]
+pub fn firsts(lower: &[bool; 8]) -> [bool; 8]
+    ensures { result ≡ firsts_of lower.now }
+{
+    let north = lower[0];
+    let east = lower[2];
+    let south = lower[4];
+    let west = lower[6];
+    [
+        north,
+        lower[1] & (!north & !east),
+        east & !north,
+        lower[3] & (!east & !south),
+        south & (!east & !(west & north)),
+        lower[5] & (!south & !west),
+        west & (!south & !north),
+        lower[7] & (!west & !north),
+    ]
+}
+
+/// Whether more than one place is marked.
+#[inline]
+pub fn are_several(marks: &[bool; 8]) -> bool
+    ensures { OnFalse result (IsOneAtMost marks.now) }
+{
+    let mut count = 0u32;
+    for place in 0..8 {
+        if marks[place] {
+            count += 1;
+        }
+    }
+    count > 1
+}

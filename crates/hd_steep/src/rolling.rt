@@ -1,0 +1,48 @@
+// The rows of three profiles, which roll over the map.
+ghost use Rattle.std.specs.Prelude.{◌<◌, ◌+◌, IfOk};
+ghost use Rattle.hd_steep.specs.Crossed.{AreRowsRound, AreRowsBefore};
+
+use crate::lowest::missing_rank;
+use crate::profile::fill_row;
+use hd_base::Memory;
+use hd_map::{Heights, Rank, Side};
+use std::alloc::Global;
+use std::mem::swap;
+
+/// The ranks of three profiles, one after the other, each with an empty place on each side.
+#[derive(Drop)]
+pub struct Rows {
+    pub above: Vec<Rank>,
+    pub level: Vec<Rank>,
+    pub below: Vec<Rank>,
+}
+
+impl Rows {
+    /// The rows before those of the first profile. `Memory` comes where their 48 bytes a column are
+    /// refused.
+    pub fn new<S: Side, G: Heights>(alloc: Global, grid: &G) -> Result<Rows, Memory>
+        ensures { IfOk result (AreRowsBefore (G.map grid.now) S.NAME 0) }
+    {
+        let width = grid.size().points as usize + 2;
+        let above = vec![in alloc; missing_rank::<S>(); width]?;
+        let level = vec![in alloc; missing_rank::<S>(); width]?;
+        let mut below = vec![in alloc; missing_rank::<S>(); width]?;
+        fill_row::<S, G>(grid, 0, &mut below);
+        Ok(Rows {
+            above,
+            level,
+            below,
+        })
+    }
+
+    /// Goes on to the rows of a profile. Past the last one no point is present.
+    pub fn advance<S: Side, G: Heights>(&mut self, grid: &G, y: u32)
+        requires profile { y < (G.map grid.now).size.profiles }
+        requires rows { AreRowsBefore (G.map grid.now) S.NAME y self.old }
+        ensures { AreRowsRound (G.map grid.now) S.NAME y self.new }
+    {
+        swap(&mut self.above, &mut self.level);
+        swap(&mut self.level, &mut self.below);
+        fill_row::<S, G>(grid, y + 1, &mut self.below);
+    }
+}
