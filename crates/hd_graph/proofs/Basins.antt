@@ -1,12 +1,13 @@
--- A path of points changes its basin only at a pair whose higher point is not above the path's top, and a
--- pass is a path of points that descends on both sides: so two lows are joined by passes exactly where
--- paths of points join them.
-use Rattle.std.proofs.Common.{◌≡◌, ◌≢◌, ℕ, List, true, false, Option, Some, None, ◌⊎◌, inl, inr, cond, refl, sym, ◌∙◌, ap, subst, arith, slice_get}
+-- A path of points changes its basin only at a pair whose higher point is not above the path's top, so
+-- passes that are not above it lead along; and a pass is a path of points that descends on both sides. So
+-- two lows are joined by passes exactly where paths of points join them.
+use Rattle.std.proofs.Common.{◌≡◌, ◌≢◌, ℕ, List, [], ◌∷◌, true, false, Option, Some, None, inl, inr, cond, refl, sym, ◌∙◌, ap, subst, arith, slice_get}
 use Rattle.std.specs.Prelude.{◌↔◌, AllPairs, Contains}
-use Rattle.std.proofs.lemmas.List.Elements.{All-cons, All-contains_itself, All-weaker}
+use Rattle.std.proofs.lemmas.List.Elements.{All-cons, All-nil, All-contains_itself, All-weaker}
 use Rattle.hd_map.specs.declared.types.Pass.{Pass}
 use Rattle.hd_map.specs.declared.types.Rank.{Rank}
 use Rattle.hd_map.specs.declared.types.SideName.{SideName}
+use Rattle.hd_map.specs.Crossings.{AreCrossings}
 use Rattle.hd_map.specs.Map.{Map}
 use Rattle.hd_map.specs.Order.{IsNotAbove, IsStrictOrder}
 use Rattle.hd_map.specs.Passes.{IsMeeting, ArePasses, higher_by}
@@ -14,7 +15,7 @@ use Rattle.hd_map.specs.Rank.{IsPoint, Near, below_by}
 use Rattle.hd_map.specs.Region.{IsPit}
 use Rattle.hd_map.specs.Saddle.{IsSaddle, SaddleIs}
 use Rattle.hd_map.specs.SideLaws.{below_by-order}
-use Rattle.hd_map.proofs.Levels.{Reach, here, step, PointStep, reach-trans, reach-sym, reach-from_path, path-from_reach, reach-higher, points-both, same_or_not, top_of}
+use Rattle.hd_map.proofs.Levels.{Reach, here, step, PointStep, reach-trans, reach-sym, reach-from_path, path-from_reach, reach-higher, points-both, same_or_not, none_above-higher, top_of}
 use Rattle.hd_map.proofs.Points.{Near-to, same_point}
 use Rattle.hd_map.proofs.Saddles.{near-sym, level-from_saddle, saddle-from_level}
 use Rattle.hd_map.proofs.Sides.{not_above-trans, not_above-refl, below-not_above, below-apart}
@@ -24,7 +25,8 @@ use Rattle.hd_graph.specs.Basins.{AreBasins, AreLowsOf}
 use Rattle.hd_graph.specs.Graph.{IsGraph, IsPassOf}
 use Rattle.hd_graph.specs.Line.{IsFloodLine, rise_between}
 use Rattle.hd_graph.specs.Tells.{IsPitOn, TellsSaddles}
-use Rattle.hd_graph.specs.Walks.{HasPass, IsLeastHighest, LeastHighestIs}
+use Rattle.hd_map.specs.Walks.{HasPass, Stride, passes_of}
+use Rattle.hd_graph.specs.Walks.{IsLeastHighest, LeastHighestIs}
 use Rattle.hd_graph.proofs.Places.{at_place, one_place}
 use Rattle.hd_graph.proofs.Floods.{PassStep, reach-from_walk, walk-from_reach, walk_top, least-from_level, level-from_least}
 
@@ -61,6 +63,42 @@ lower-than side a b low ne = elim (below_by side a b) as (λ v. below_by side a 
   | false ↦ λ e. absurd (ne ((below_by-order side).total a b e low))
 ] refl
 
+module _ (m : Map) (side : SideName) (In : Rank → Rank → Type 0) where
+  -- a meeting of two basins is one both ways
+  meeting-sym : (a b w : Rank) → IsMeeting m side In a b w → IsMeeting m side In b a w
+  meeting-sym a b w h = record { from = h.to; to = h.from; near = near-sym m h.from h.to h.near; from_in = h.to_in; to_in = h.from_in; higher = h.higher ∙ higher-sym side h.from h.to }
+
+  -- where two basins meet, a pass at their lowest meeting joins them
+  pass_along : (passes : List Pass) → ArePasses m side In passes → (a b u : Rank) → below_by side a b ≡ true → IsMeeting m side In a b u → (w : Rank) × Contains passes (record { a = a; b = b; at = w }) × IsNotAbove (below_by side) w u
+  pass_along passes right a b u low meet =
+      let p = right.all a b u low meet in
+      let is : p.0 ≡ record { a = a; b = b; at = (p.0).at } = same_pass p.0 a b p.2 p.3 in
+      ((p.0).at, subst (λ (q : Pass). Contains passes q) is p.1, (right.each p.0 p.1).lowest u (subst (λ v. IsMeeting m side In v (p.0).b u) (sym p.2) (subst (λ v. IsMeeting m side In a v u) (sym p.3) meet)))
+    where
+      same_pass : (q : Pass) (x y : Rank) → q.a ≡ x → q.b ≡ y → q ≡ record { a = x; b = y; at = q.at }
+      same_pass q x y e f = ap (λ v. record { a = v; b = q.b; at = q.at }) e ∙ ap (λ v. record { a = x; b = v; at = q.at }) f
+
+  -- the same, whichever of the two is below the other
+  pass_at : (passes : List Pass) → ArePasses m side In passes → (a b u : Rank) → a ≢ b → IsMeeting m side In a b u → (w : Rank) × HasPass passes a b w × IsNotAbove (below_by side) w u
+  pass_at passes right a b u apart meet = elim (below_by side a b) as (λ v. below_by side a b ≡ v → (w : Rank) × HasPass passes a b w × IsNotAbove (below_by side) w u) [
+    | true ↦ λ e. (let p = pass_along passes right a b u e meet in (p.0, inl p.1, p.2))
+    | false ↦ λ e. (let p = pass_along passes right b a u (lower-than side b a e (λ same. apart (sym same))) (meeting-sym a b u meet) in (p.0, inr p.1, p.2))
+  ] refl
+
+  -- the passes are crossings: a walk over one of them joins two basins that meet
+  pub passes-crossings : (passes : List Pass) → ArePasses m side In passes → AreCrossings m side In passes
+  passes-crossings passes right = record {
+    ends = λ p at. (right.each p at).ends;
+    meets = λ p at. (right.each p at).meeting;
+    enough = λ a b u meet. elim (same_or_not (below_by side) (below_by-order side) a b) [
+      | inl e ↦ ([], e, All-nil (λ w. IsNotAbove (below_by side) w u))
+      | inr apart ↦ (
+          let p = pass_at passes right a b u apart meet in
+          let stride : Stride = record { to = b; at = p.0 } in
+          (stride ∷ [], (p.1, refl), All-cons (λ w. IsNotAbove (below_by side) w u) p.0 [] p.2 (All-nil (λ w. IsNotAbove (below_by side) w u))))
+    ];
+  }
+
 module _ (m : Map) (side : SideName) (In : Rank → Rank → Type 0) (basins : AreBasins m side In) where
   -- a low is a point, not above the points of its basin
   low-point : (x a : Rank) → In x a → IsPoint m x
@@ -93,51 +131,26 @@ module _ (m : Map) (side : SideName) (In : Rank → Rank → Type 0) (basins : A
         | inr ne ↦ pit.alone b (record { near = s.0; below = lower-than side b p s.2 ne })
       ])
 
-  -- a meeting of two basins is one both ways
-  meeting-sym : (a b w : Rank) → IsMeeting m side In a b w → IsMeeting m side In b a w
-  meeting-sym a b w h = record { from = h.to; to = h.from; near = near-sym m h.from h.to h.near; from_in = h.to_in; to_in = h.from_in; higher = h.higher ∙ higher-sym side h.from h.to }
-
-  module _ (passes : List Pass) (right : ArePasses m side In passes) where
-    -- a pass joins two basins at a meeting, which is not above any other
+  module _ (passes : List Pass) (right : AreCrossings m side In passes) where
+    -- a pass joins two basins at a meeting
     meeting_of : (a b w : Rank) → HasPass passes a b w → IsMeeting m side In a b w
-    meeting_of a b w (inl h) = (right.each (record { a = a; b = b; at = w }) h).meeting
-    meeting_of a b w (inr h) = meeting-sym b a w (right.each (record { a = b; b = a; at = w }) h).meeting
+    meeting_of a b w (inl h) = right.meets (record { a = a; b = b; at = w }) h
+    meeting_of a b w (inr h) = meeting-sym m side In b a w (right.meets (record { a = b; b = a; at = w }) h)
 
-    -- where two basins meet, a pass that is not above the meeting joins them
-    pass_along : (a b u : Rank) → below_by side a b ≡ true → IsMeeting m side In a b u → (w : Rank) × Contains passes (record { a = a; b = b; at = w }) × IsNotAbove (below_by side) w u
-    pass_along a b u low meet =
-        let p = right.all a b u low meet in
-        let is : p.0 ≡ record { a = a; b = b; at = (p.0).at } = same_pass p.0 a b p.2 p.3 in
-        ((p.0).at, subst (λ (q : Pass). Contains passes q) is p.1, (right.each p.0 p.1).lowest u (subst (λ v. IsMeeting m side In v (p.0).b u) (sym p.2) (subst (λ v. IsMeeting m side In a v u) (sym p.3) meet)))
-      where
-        same_pass : (q : Pass) (x y : Rank) → q.a ≡ x → q.b ≡ y → q ≡ record { a = x; b = y; at = q.at }
-        same_pass q x y e f = ap (λ v. record { a = v; b = q.b; at = q.at }) e ∙ ap (λ v. record { a = x; b = v; at = q.at }) f
+    -- the basins of neighbours are joined by passes that are not above the two
+    crossed : (t x y a b : Rank) → PointStep (Near m) (below_by side) t x y → In x a → In y b → Reach (PassStep (below_by side) passes t) a b
+    crossed t x y a b s xa yb =
+        let w : Rank = higher_by side x y in
+        let walk = right.enough a b w (record { from = x; to = y; near = s.0; from_in = xa; to_in = yb; higher = refl }) in
+        reach-from_walk (below_by side) (below_by-order side) passes t a b walk.0 walk.1
+        (none_above-higher (below_by side) (below_by-order side) w t (passes_of walk.0) (higher-least side x y t s.1 s.2) walk.2)
 
-    pass_at : (a b u : Rank) → a ≢ b → IsMeeting m side In a b u → (w : Rank) × HasPass passes a b w × IsNotAbove (below_by side) w u
-    pass_at a b u apart meet = elim (below_by side a b) as (λ v. below_by side a b ≡ v → (w : Rank) × HasPass passes a b w × IsNotAbove (below_by side) w u) [
-      | true ↦ λ e. (let p = pass_along a b u e meet in (p.0, inl p.1, p.2))
-      | false ↦ λ e. (let p = pass_along b a u (lower-than side b a e (λ same. apart (sym same))) (meeting-sym a b u meet) in (p.0, inr p.1, p.2))
-    ] refl
-
-    -- neighbours lie in one basin, or in two that a pass joins, which is not above them
-    crossed : (t x y a b : Rank) → PointStep (Near m) (below_by side) t x y → In x a → In y b → (a ≡ b) ⊎ PassStep (below_by side) passes t a b
-    crossed t x y a b s xa yb = elim (same_or_not (below_by side) (below_by-order side) a b) [
-      | inl e ↦ inl e
-      | inr apart ↦ (
-          let p = pass_at a b (higher_by side x y) apart (record { from = x; to = y; near = s.0; from_in = xa; to_in = yb; higher = refl }) in
-          inr (p.0, p.1, not_above-trans (below_by side) (below_by-order side) p.0 (higher_by side x y) t p.2 (higher-least side x y t s.1 s.2)))
-    ]
-
-    -- a path of points changes its basin only at a pass that is not above the path's top
+    -- a path of points changes its basin only over passes that are not above the path's top
     lows-joined : (t : Rank) {x y : Rank} → Reach (PointStep (Near m) (below_by side) t) x y → (a b : Rank) → In x a → In y b → Reach (PassStep (below_by side) passes t) a b
     lows-joined t (here {a = x}) a b xa xb = subst (λ (z : Rank). Reach (PassStep (below_by side) passes t) a z) (basins.one x a b xa xb) here
     lows-joined t (step {a = x} {b = y} {c = z} s r) a b xa zb =
         let o = basins.some y (Near-to m x y s.0) in
-        let rest = lows-joined t r o.0 b o.1 zb in
-        elim (crossed t x y a o.0 s xa o.1) [
-          | inl e ↦ subst (λ (v : Rank). Reach (PassStep (below_by side) passes t) v b) (sym e) rest
-          | inr pass ↦ step pass rest
-        ]
+        reach-trans (PassStep (below_by side) passes t) (crossed t x y a o.0 s xa o.1) (lows-joined t r o.0 b o.1 zb)
 
     -- a pass is a path of points that descends on both sides
     pass_made : (t a b : Rank) → PassStep (below_by side) passes t a b → Reach (PointStep (Near m) (below_by side) t) a b
@@ -207,12 +220,11 @@ module _ (m : Map) (side : SideName) (In : Rank → Rank → Type 0) (basins : A
     basins-graph lows of different = record {
       different = different;
       joins = All-weaker (Contains passes) (IsPassOf (below_by side) lows) (λ p at.
-          let is = right.each p at in
-          let meet = is.meeting in
+          let meet = right.meets p at in
           record {
             first = of.all meet.from p.a meet.from_in;
             second = of.all meet.to p.b meet.to_in;
-            different = below-apart (below_by side) (below_by-order side) p.a p.b is.ends;
+            different = below-apart (below_by side) (below_by-order side) p.a p.b (right.ends p at);
             above_first = pass-above p.a p.b p.at (inl at);
             above_second = pass-above p.b p.a p.at (inr at);
           }) passes (All-contains_itself passes);

@@ -13,7 +13,8 @@ use Rattle.hd_map.proofs.Levels.{Reach, here, step, reach-trans, reach-sym, reac
 use Rattle.hd_map.proofs.Sides.{not_above-trans}
 use Rattle.hd_graph.specs.declared.line.Stop.{Stop}
 use Rattle.hd_graph.specs.Line.{IsPrimOrder, TellsPasses, rise_between}
-use Rattle.hd_graph.specs.Walks.{HasPass, Stride, IsWalk, passes_of, IsLeastHighest, LeastHighestIs}
+use Rattle.hd_map.specs.Walks.{HasPass, Stride, IsWalk, passes_of}
+use Rattle.hd_graph.specs.Walks.{IsLeastHighest, LeastHighestIs}
 use Rattle.hd_graph.proofs.Places.{item_at}
 use Rattle.hd_graph.proofs.Rises.{RiseWithin, between-within, within-between}
 

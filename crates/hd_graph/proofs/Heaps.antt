@@ -1,20 +1,25 @@
 -- What the heap holds while ways go in and candidates come out.
-use Rattle.std.proofs.Common.{◌≡◌, ℕ, zero, suc, ◌<◌, ◌≤◌, ◌⊎◌, inl, inr, Bool, true, false, List, [], ◌∷◌, length, Option, Some, None, cond, refl, sym, ◌∙◌, ap, subst, arith, slice_get}
+use Rattle.std.proofs.Common.{◌≡◌, ℕ, zero, suc, ◌+◌, ◌<◌, ◌≤◌, ◌⊎◌, inl, inr, Bool, true, false, List, [], ◌∷◌, length, Option, Some, None, cond, refl, sym, ◌∙◌, ap, subst, arith, slice_get, set}
 use Rattle.std.specs.BinaryHeap.{IsUpperBound}
 use Rattle.std.specs.List.Sorted.{IsPermutation}
 use Rattle.std.specs.Ordering.{is_lt}
 use Rattle.std.specs.declared.cmp.Ordering.TheVariants.{Less, Equal, Greater}
+use Rattle.std.proofs.lemmas.List.{length-set}
 use Rattle.std.proofs.lemmas.List.Elements.{All-contains, All-from_recursion}
 use Rattle.std.proofs.lemmas.List.Sorted.{Contains-permutation, IsPermutation-sym}
-use Rattle.std.proofs.lemmas.Option.{slice_get_within, same_Some}
+use Rattle.std.proofs.lemmas.Option.{same_Some}
+use Rattle.hd_map.specs.declared.types.Pass.{Pass}
 use Rattle.hd_map.specs.declared.types.Rank.{Rank}
-use Rattle.hd_map.specs.Order.{IsNotAbove}
+use Rattle.hd_map.specs.Order.{IsNotAbove, IsStrictOrder}
 use Rattle.hd_map.proofs.Levels.{Contains-head, Contains-tail, Contains-cases}
+use Rattle.hd_map.proofs.Sides.{not_above-trans, not_above-refl, below-not_above}
 use Rattle.hd_graph.specs.declared.candidate.Candidate.{Candidate}
 use Rattle.hd_graph.specs.declared.ways.Way.{Way}
-use Rattle.hd_graph.specs.Flood.{HasWay, IsLastFrom, Holds, HoldsLows, Spreads, Takes, bound_of}
+use Rattle.hd_graph.specs.declared.ways.Ways.{Ways}
+use Rattle.hd_graph.specs.Candidates.{pass_of}
+use Rattle.hd_graph.specs.Flood.{HasWay, AreGrouped, Holds, HoldsLows, HasLowest, IsReached, Lowers, Offers, Spreads, Takes, below_lowest, lows_of}
 use Rattle.hd_graph.specs.Lower.{lower_first}
-use Rattle.hd_graph.proofs.Places.{less_same_more}
+use Rattle.hd_graph.proofs.Places.{get-set_same, get-set_other, item_at, same_number}
 
 -- a mark is set or clear
 pub marked : (done : List Bool) (v : ℕ) → v < length done → (slice_get done v ≡ Some true) ⊎ (slice_get done v ≡ Some false)
@@ -27,10 +32,12 @@ not_lower : (a b : Bool) → is_lt (cond a Less (cond b Greater Equal)) ≡ fals
 not_lower true b e = cc
 not_lower false b e = refl
 
--- the last of the first n ways is one of them
-pub bound-within : (ways : List Way) (n v : ℕ) (o : Option ℕ) → IsLastFrom ways n v o → bound_of o ≤ n
-bound-within ways n v None l = omega arith
-bound-within ways n v (Some k) l = (let less = (l.one k refl).0 in omega arith)
+-- a way that stands among those of a low is over a pass, and leads to a low
+pub way-goes : (ways : Ways) → AreGrouped ways → (low place start stop : ℕ) (x : Way) → slice_get ways.starts.items low ≡ Some start → slice_get ways.starts.items (low + 1) ≡ Some stop → start ≤ place → place < stop → slice_get ways.all.items place ≡ Some x →
+    (p : Pass) × (slice_get ways.passes.now x.pass ≡ Some p) × (x.to < lows_of ways)
+way-goes ways grouped low place start stop x starts_at stops_at from_start before_stop atx =
+    let p = item_at ways.passes.now x.pass (grouped.passes place x atx) in
+    (p.0, p.1, grouped.inside low x.to (p.0).at (record { place = place; start = start; stop = stop; way = x; pass = p.0; starts_at = starts_at; stops_at = stops_at; from_start = from_start; before_stop = before_stop; at_place = atx; leads_to = refl; of_pass = p.1; over = refl }))
 
 module _ {S : Type 0} where
   -- the heap holds nothing
@@ -42,74 +49,136 @@ module _ {S : Type 0} where
     pub holds-rest : (to : ℕ) (at : Rank) → Holds others to at → Holds heap to at
     holds-rest to at h = (h.0, Contains-permutation (c ∷ others) heap h.0 (IsPermutation-sym heap (c ∷ others) p) (Contains-tail c h.0 others h.1), h.2, h.3)
 
-    pub holds-itself : Holds heap c.to c.at
+    pub holds-itself : Holds heap c.to (pass_of c)
     holds-itself = (c, Contains-permutation (c ∷ others) heap c (IsPermutation-sym heap (c ∷ others) p) (Contains-head c others), refl, refl)
 
-    pub holds-cases : (to : ℕ) (at : Rank) → Holds heap to at → ((c.to ≡ to) × (c.at ≡ at)) ⊎ Holds others to at
+    pub holds-cases : (to : ℕ) (at : Rank) → Holds heap to at → ((c.to ≡ to) × (pass_of c ≡ at)) ⊎ Holds others to at
     holds-cases to at h = elim (Contains-cases c h.0 others (Contains-permutation heap (c ∷ others) h.0 p h.1)) [
-      | inl e ↦ inl (sym (ap (λ (z : Candidate S). z.to) e) ∙ h.2, sym (ap (λ (z : Candidate S). z.at) e) ∙ h.3)
+      | inl e ↦ inl (sym (ap (λ (z : Candidate S). z.to) e) ∙ h.2, sym (ap (λ (z : Candidate S). pass_of z) e) ∙ h.3)
       | inr later ↦ inr (h.0, later, h.2, h.3)
     ]
 
-  -- the ways of the low from the bound on are in the heap
-  pub record SpreadsFrom (ways : List Way) (low : ℕ) (done : List Bool) (last : Option ℕ) (old new : List (Candidate S)) : Type 0 where
-    pub only : (to : ℕ) (at : Rank) → Holds new to at → Holds old to at ⊎ HasWay ways low to at
-    pub kept : (to : ℕ) (at : Rank) → Holds old to at → Holds new to at
-    pub added : (k : ℕ) (x : Way) → slice_get ways k ≡ Some x → x.from ≡ low → bound_of last ≤ k → slice_get done x.to ≡ Some false → Holds new x.to x.at
-    pub one : (k : ℕ) → last ≡ Some k → (x : Way) × (slice_get ways k ≡ Some x) × (x.from ≡ low)
+  module _ (below : Rank → Rank → Bool) (order : IsStrictOrder below) where
+    -- the lowest passes stay
+    lowers-none : (lowest : List (Option Rank)) (old : List (Candidate S)) → Lowers below lowest lowest old old
+    lowers-none lowest old = record { long = refl; kept = λ to at h. h; falls = λ v r h. (r, h, not_above-refl below order r); held = λ v r h. inl h }
 
-  module _ (ways : List Way) (low : ℕ) (done : List Bool) (old : List (Candidate S)) where
-    pub spreads-none : (o : Option ℕ) → IsLastFrom ways (length ways) low o → SpreadsFrom ways low done o old old
-    spreads-none o l = record {
-      only = λ to at h. inl h;
-      kept = λ to at h. h;
-      added = λ k x at from le undone. absurd (let lt = l.none_later k x (slice_get_within ways k x at) at from in omega arith);
-      one = λ k e. (l.one k e).1;
+    -- they fall twice
+    lowers-trans : (first mid last : List (Option Rank)) (old heap new : List (Candidate S)) → Lowers below first mid old heap → Lowers below mid last heap new → Lowers below first last old new
+    lowers-trans first mid last old heap new p q = record {
+      long = q.long ∙ p.long;
+      kept = λ to at h. q.kept to at (p.kept to at h);
+      falls = λ v r h. (let x = p.falls v r h in let y = q.falls v x.0 x.1 in (y.0, y.1, not_above-trans below order y.0 x.0 r y.2 x.2));
+      held = λ v r h. elim (q.held v r h) [
+        | inl was ↦ elim (p.held v r was) [ inl at_first ↦ inl at_first | inr between ↦ inr (q.kept v r between) ]
+        | inr later ↦ inr later
+      ];
     }
 
-    pub spreads-all : (new : List (Candidate S)) → SpreadsFrom ways low done None old new → Spreads ways low done old new
-    spreads-all new h = record {
-      only = h.only;
-      kept = h.kept;
-      added = λ to at way undone.
-          let x : Way = way.1 in
-          let held : Holds new x.to x.at = h.added way.0 x way.2 way.3 (omega arith) (subst (λ v. slice_get done v ≡ Some false) (sym way.4) undone) in
-          subst (λ v. Holds new v at) way.4 (subst (λ v. Holds new x.to v) way.5 held);
-    }
+    -- what was reached is reached
+    pub reached-falls : (lowest lowest' : List (Option Rank)) (old new : List (Candidate S)) → Lowers below lowest lowest' old new → (v : ℕ) (w : Rank) → IsReached below lowest v w → IsReached below lowest' v w
+    reached-falls lowest lowest' old new p v w h = (let y = p.falls v h.0 h.1 in (y.0, y.1, not_above-trans below order y.0 h.0 w y.2 h.2))
 
-    -- at the way k, which is put into the heap or is done
-    module _ (k : ℕ) (x : Way) (at_k : slice_get ways k ≡ Some x) (before : IsLastFrom ways k x.from x.before) (heap : List (Candidate S)) (so : SpreadsFrom ways low done (Some k) old heap) where
-      is_from : x.from ≡ low
-      is_from = (let r = so.one k refl in subst (λ (z : Way). z.from ≡ low) (same_Some r.0 x (sym r.1 ∙ at_k)) r.2)
-
-      here_or_later : (new : List (Candidate S)) → ((to : ℕ) (at : Rank) → Holds heap to at → Holds new to at) → (slice_get done x.to ≡ Some false → Holds new x.to x.at) →
-          (j : ℕ) (y : Way) → slice_get ways j ≡ Some y → y.from ≡ low → bound_of x.before ≤ j → slice_get done y.to ≡ Some false → Holds new y.to y.at
-      here_or_later new more here j y aty from le undone = elim (less_same_more j k) [
-        | inl less ↦ absurd (let lt = before.none_later j y less aty (from ∙ sym is_from) in omega arith)
-        | inr o ↦ elim o [
-          | inl same ↦ (let e : x ≡ y = same_Some x y (sym at_k ∙ ap (λ i. slice_get ways i) (sym same) ∙ aty) in
-              subst (λ (z : Way). Holds new z.to z.at) e (here (subst (λ (z : Way). slice_get done z.to ≡ Some false) (sym e) undone)))
-          | inr more_k ↦ more y.to y.at (so.added j y aty from (omega arith) undone)
-        ]
-      ]
-
-      pub spreads-push : (c : Candidate S) (new : List (Candidate S)) → IsPermutation new (c ∷ heap) → c.to ≡ x.to → c.at ≡ x.at → SpreadsFrom ways low done x.before old new
-      spreads-push c new p to_is at_is = record {
-        only = λ to at h. elim (holds-cases c heap new p to at h) [
-          | inl e ↦ inr (k, x, at_k, is_from, sym to_is ∙ e.0, sym at_is ∙ e.1)
-          | inr was ↦ so.only to at was
-        ];
-        kept = λ to at h. holds-rest c heap new p to at (so.kept to at h);
-        added = here_or_later new (holds-rest c heap new p) (λ undone. subst (λ v. Holds new v x.at) to_is (subst (λ v. Holds new c.to v) at_is (holds-itself c heap new p)));
-        one = λ j e. (let r = before.one j e in ((r.1).0, (r.1).1, (r.1).2 ∙ is_from));
+    module _ (next : ℕ) (over : Rank) (done : List Bool) (lowest : List (Option Rank)) (heap : List (Candidate S)) where
+      -- a way to a low that is done is left out
+      pub offers-done : slice_get done next ≡ Some true → Offers below next over done lowest lowest heap heap
+      offers-done is_done = record {
+        lowers = lowers-none lowest heap;
+        only = λ to at h. inl h;
+        reached = λ undone. absurd (let e : Some true ≡ Some false = sym is_done ∙ undone in cc);
       }
 
-      pub spreads-skip : slice_get done x.to ≡ Some true → SpreadsFrom ways low done x.before old heap
-      spreads-skip is_done = record {
-        only = so.only;
-        kept = so.kept;
-        added = here_or_later heap (λ to at h. h) (λ undone. absurd (let e : Some true ≡ Some false = sym is_done ∙ undone in cc));
-        one = λ j e. (let r = before.one j e in ((r.1).0, (r.1).1, (r.1).2 ∙ is_from));
+      -- and one that is not below the lowest so far
+      pub offers-high : (o : Option Rank) → slice_get lowest next ≡ Some o → below_lowest below over o ≡ false → Offers below next over done lowest lowest heap heap
+      offers-high None at_to high = absurd cc
+      offers-high (Some r) at_to high = record {
+        lowers = lowers-none lowest heap;
+        only = λ to at h. inl h;
+        reached = λ undone. (r, at_to, high);
+      }
+
+      falls-to : (o : Option Rank) → slice_get lowest next ≡ Some o → below_lowest below over o ≡ true → (v : ℕ) (r : Rank) → HasLowest lowest v r → IsReached below (set lowest next (Some over)) v r
+      falls-to o at_to low v r h = elim (same_number next v) [
+        | inl e ↦ (
+            let o_is : o ≡ Some r = same_Some o (Some r) (sym at_to ∙ ap (λ k. slice_get lowest k) e ∙ h) in
+            let less : below over r ≡ true = subst (λ (p : Option Rank). below_lowest below over p ≡ true) o_is low in
+            (over, ap (λ k. slice_get (set lowest next (Some over)) k) (sym e) ∙ get-set_same lowest next (Some over) o at_to, below-not_above below order over r less))
+        | inr ne ↦ (r, get-set_other lowest next v (Some over) ne ∙ h, not_above-refl below order r)
+      ]
+
+      -- another one is the lowest now
+      pub offers-push : (o : Option Rank) → slice_get lowest next ≡ Some o → below_lowest below over o ≡ true → (c : Candidate S) (new : List (Candidate S)) → IsPermutation new (c ∷ heap) → c.to ≡ next → pass_of c ≡ over →
+          Offers below next over done lowest (set lowest next (Some over)) heap new
+      offers-push o at_to low c new p to_is at_is =
+          let here : slice_get (set lowest next (Some over)) next ≡ Some (Some over) = get-set_same lowest next (Some over) o at_to in
+          let itself : Holds new next over = subst (λ v. Holds new v over) to_is (subst (λ v. Holds new c.to v) at_is (holds-itself c heap new p)) in
+          record {
+            lowers = record {
+              long = length-set lowest next (Some over);
+              kept = holds-rest c heap new p;
+              falls = falls-to o at_to low;
+              held = λ v r h. elim (same_number next v) [
+                | inl e ↦ (
+                    let two : Some over ≡ Some r = same_Some (Some over) (Some r) (sym here ∙ ap (λ k. slice_get (set lowest next (Some over)) k) e ∙ h) in
+                    inr (subst (λ k. Holds new k r) e (subst (λ w. Holds new next w) (same_Some over r two) itself)))
+                | inr ne ↦ inl (sym (get-set_other lowest next v (Some over) ne) ∙ h)
+              ];
+            };
+            only = λ to at h. elim (holds-cases c heap new p to at h) [
+              | inl e ↦ inr (sym to_is ∙ e.0, sym at_is ∙ e.1)
+              | inr was ↦ inl was
+            ];
+            reached = λ undone. (over, here, not_above-refl below order over);
+          }
+
+    -- the ways of the low between the start and the place were offered
+    pub record SpreadsTo (ways : Ways) (low : ℕ) (done : List Bool) (start place : ℕ) (lowest lowest' : List (Option Rank)) (old new : List (Candidate S)) : Type 0 where
+      pub lowers : Lowers below lowest lowest' old new
+      pub only : (to : ℕ) (at : Rank) → Holds new to at → Holds old to at ⊎ HasWay ways low to at
+      pub reached : (k : ℕ) (x : Way) (p : Pass) → start ≤ k → k < place → slice_get ways.all.items k ≡ Some x → slice_get ways.passes.now x.pass ≡ Some p
+          → slice_get done x.to ≡ Some false → IsReached below lowest' x.to p.at
+
+    module _ (ways : Ways) (low : ℕ) (done : List Bool) (start : ℕ) (lowest : List (Option Rank)) (old : List (Candidate S)) where
+      pub spreads-none : SpreadsTo ways low done start start lowest lowest old old
+      spreads-none = record {
+        lowers = lowers-none lowest old;
+        only = λ to at h. inl h;
+        reached = λ k x p le less atx atp undone. absurd (omega arith);
+      }
+
+      pub spreads-all : (place stop : ℕ) → slice_get ways.starts.items low ≡ Some start → slice_get ways.starts.items (low + 1) ≡ Some stop → stop ≤ place → (lowest' : List (Option Rank)) (new : List (Candidate S)) →
+          SpreadsTo ways low done start place lowest lowest' old new → Spreads below ways low done lowest lowest' old new
+      spreads-all place stop starts_at stops_at past lowest' new h = record {
+        lowers = h.lowers;
+        only = h.only;
+        reached = λ to at way undone.
+            let x : Way = way.way in
+            let p : Pass = way.pass in
+            let first : way.start ≡ start = same_Some way.start start (sym way.starts_at ∙ starts_at) in
+            let last : way.stop ≡ stop = same_Some way.stop stop (sym way.stops_at ∙ stops_at) in
+            let le = way.from_start in
+            let less = way.before_stop in
+            let r : IsReached below lowest' x.to p.at = h.reached way.place x p (omega arith) (omega arith) way.at_place way.of_pass (subst (λ v. slice_get done v ≡ Some false) (sym way.leads_to) undone) in
+            subst (λ v. IsReached below lowest' v at) way.leads_to (subst (λ v. IsReached below lowest' x.to v) way.over r);
+      }
+
+      -- at the next way, which is offered
+      pub spreads-step : (place stop : ℕ) (x : Way) (p : Pass) → slice_get ways.starts.items low ≡ Some start → slice_get ways.starts.items (low + 1) ≡ Some stop → start ≤ place → place < stop → slice_get ways.all.items place ≡ Some x → slice_get ways.passes.now x.pass ≡ Some p →
+          (mid last : List (Option Rank)) (heap new : List (Candidate S)) → SpreadsTo ways low done start place lowest mid old heap → Offers below x.to p.at done mid last heap new → SpreadsTo ways low done start (place + 1) lowest last old new
+      spreads-step place stop x p starts_at stops_at from_start before_stop atx atp mid last heap new so offers = record {
+        lowers = lowers-trans lowest mid last old heap new so.lowers offers.lowers;
+        only = λ to at h. elim (offers.only to at h) [
+          | inl was ↦ so.only to at was
+          | inr e ↦ inr (record { place = place; start = start; stop = stop; way = x; pass = p; starts_at = starts_at; stops_at = stops_at; from_start = from_start; before_stop = before_stop; at_place = atx; leads_to = e.0; of_pass = atp; over = e.1 })
+        ];
+        reached = λ k y q le less aty atq undone. elim (same_number k place) [
+          | inl same ↦ (
+              let y_is : x ≡ y = same_Some x y (sym atx ∙ ap (λ i. slice_get ways.all.items i) (sym same) ∙ aty) in
+              let q_is : p ≡ q = same_Some p q (sym atp ∙ ap (λ (z : Way). slice_get ways.passes.now z.pass) y_is ∙ atq) in
+              let r : IsReached below last x.to p.at = offers.reached (subst (λ (z : Way). slice_get done z.to ≡ Some false) (sym y_is) undone) in
+              subst (λ (z : Way). IsReached below last z.to q.at) y_is (subst (λ (z : Pass). IsReached below last x.to z.at) q_is r))
+          | inr apart ↦ reached-falls mid last heap new offers.lowers y.to q.at (so.reached k y q le (omega arith) aty atq undone)
+        ];
       }
 
   -- only candidates that are done were taken out
@@ -130,14 +199,14 @@ module _ {S : Type 0} where
       ];
     }
 
-    pub takes-top : slice_get done c.to ≡ Some false → IsUpperBound (λ x y. lower_first below x.at y.at) c heap → Takes below done old c rest
+    pub takes-top : slice_get done c.to ≡ Some false → IsUpperBound (λ x y. lower_first below (pass_of x) (pass_of y)) c heap → Takes below done old c rest
     takes-top fresh top = record {
       fresh = fresh;
-      held = so.only c.to c.at (holds-itself c rest heap p);
+      held = so.only c.to (pass_of c) (holds-itself c rest heap p);
       lowest = λ to at h undone.
           let held = so.kept to at h undone in
-          let a = All-contains (λ (y : Candidate S). is_lt (lower_first below c.at y.at) ≡ false) heap held.0 (All-from_recursion _ heap top) held.1 in
-          subst (λ v. IsNotAbove below c.at v) held.3 (not_lower (below (held.0).at c.at) (below c.at (held.0).at) a);
+          let a = All-contains (λ (y : Candidate S). is_lt (lower_first below (pass_of c) (pass_of y)) ≡ false) heap held.0 (All-from_recursion _ heap top) held.1 in
+          subst (λ v. IsNotAbove below (pass_of c) v) held.3 (not_lower (below (pass_of held.0) (pass_of c)) (below (pass_of c) (pass_of held.0)) a);
       only = λ to at h. so.only to at (holds-rest c rest heap p to at h);
       kept = λ to at h undone ne. elim (holds-cases c rest heap p to at (so.kept to at h undone)) [
         | inl e ↦ absurd (ne (sym e.0))

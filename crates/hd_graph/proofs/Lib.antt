@@ -1,5 +1,5 @@
 pub mod Places
-pub mod Chains
+pub mod Ends
 pub mod Numbers
 pub mod Heaps
 pub mod Visits

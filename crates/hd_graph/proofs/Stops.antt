@@ -9,15 +9,15 @@ use Rattle.hd_map.specs.Order.{IsStrictOrder}
 use Rattle.hd_graph.specs.declared.flooding.Visit.{Visit}
 use Rattle.hd_graph.specs.declared.graph.Low.{Low}
 use Rattle.hd_graph.specs.declared.line.Stop.{Stop}
-use Rattle.hd_graph.specs.declared.ways.Way.{Way}
-use Rattle.hd_graph.specs.Flood.{AreWaysOf, ArePrim, IsVisited, IsStopOf}
+use Rattle.hd_graph.specs.declared.ways.Ways.{Ways}
+use Rattle.hd_graph.specs.Flood.{HasWay, AreWaysOf, ArePrim, IsVisited, IsStopOf}
 use Rattle.hd_graph.specs.Graph.{IsGraph, IsPassOf, IsLow}
 use Rattle.hd_graph.specs.Line.{EachOnce, IsPrimOrder, IsFloodLine}
-use Rattle.hd_graph.specs.Walks.{HasPass}
+use Rattle.hd_map.specs.Walks.{HasPass}
 use Rattle.hd_graph.proofs.Floods.{prim-tells}
 use Rattle.hd_graph.proofs.Places.{at_place, place_of, item_at, one_place, pairs_from_places}
 
-module _ (below : Rank → Rank → Bool) (order : IsStrictOrder below) (lows : List Low) (passes : List Pass) (graph : IsGraph below lows passes) (ways : List Way) (of : AreWaysOf lows passes ways)
+module _ (below : Rank → Rank → Bool) (order : IsStrictOrder below) (lows : List Low) (passes : List Pass) (graph : IsGraph below lows passes) (ways : Ways) (of : AreWaysOf lows passes (HasWay ways))
     (visits : List Visit) (prim : ArePrim below ways visits) (all : (v : ℕ) → v < length lows → IsVisited visits v)
     (stops : List Stop) (long : length stops ≡ length visits) (each : (k : ℕ) (v : Visit) → slice_get visits k ≡ Some v → (s : Stop) × (slice_get stops k ≡ Some s) × IsStopOf lows v s) where
   -- the visit of a stop

@@ -4,13 +4,14 @@ use Rattle.std.specs.Prelude.{if◌then◌else◌}
 use Rattle.std.proofs.lemmas.List.{length-set}
 use Rattle.std.proofs.lemmas.Option.{slice_get_within}
 use Rattle.hd_map.specs.declared.types.Rank.{Rank}
-use Rattle.hd_map.specs.Order.{IsNotAbove}
+use Rattle.hd_map.specs.Order.{IsNotAbove, IsStrictOrder}
+use Rattle.hd_map.proofs.Sides.{not_above-trans}
 use Rattle.hd_graph.specs.declared.candidate.Candidate.{Candidate}
 use Rattle.hd_graph.specs.declared.flooding.Visit.{Visit}
-use Rattle.hd_graph.specs.declared.ways.Way.{Way}
 use Rattle.hd_graph.specs.declared.ways.Ways.{Ways}
-use Rattle.hd_graph.specs.Flood.{HasWay, AreChained, Holds, HoldsLows, Spreads, Takes, IsFlooded, AllDone}
-use Rattle.hd_graph.proofs.Heaps.{marked, holds-none}
+use Rattle.hd_graph.specs.Candidates.{pass_of}
+use Rattle.hd_graph.specs.Flood.{HasWay, AreGrouped, Holds, HoldsLows, Spreads, Takes, IsFlooded, AllDone, lows_of}
+use Rattle.hd_graph.proofs.Heaps.{marked, holds-none, reached-falls}
 use Rattle.hd_graph.proofs.Places.{get-push_old, get-push_new, get-push_cases, get-set_same, get-set_other, same_number}
 
 -- how many lows are not done
@@ -26,8 +27,8 @@ undone-set (false ∷ ds) zero h = omega arith
 undone-set (d ∷ ds) (suc i) h = (let r = undone-set ds i h in omega arith)
 
 -- each way leads to a low
-pub ways-inside : (ways : Ways) → AreChained ways → (a b : ℕ) (w : Rank) → HasWay ways.all.items a b w → b < length ways.last.items
-ways-inside ways chained a b w h = subst (λ v. v < length ways.last.items) h.4 (chained.inside h.0 h.1 h.2).1
+pub ways-inside : (ways : Ways) → AreGrouped ways → (a b : ℕ) (w : Rank) → HasWay ways a b w → b < lows_of ways
+ways-inside ways grouped a b w h = grouped.inside a b w h
 
 -- the rise of the next visit: a candidate for its low, not above any that is not done
 pub record IsNextRise {S : Type 0} (below : Rank → Rank → Bool) (done : List Bool) (heap : List (Candidate S)) (low : ℕ) (rise : Option Rank) : Type 0 where
@@ -41,12 +42,12 @@ all_done-more done k all here v less = elim (same_number v k) [
   | inr ne ↦ all v (omega arith)
 ]
 
-module _ {S : Type 0} (below : Rank → Rank → Bool) (ways : List Way) (n : ℕ) (range : (a b : ℕ) (w : Rank) → HasWay ways a b w → b < n) where
-  module _ (done : List Bool) (visits : List Visit) (heap mid new : List (Candidate S)) (low : ℕ) (rise : Option Rank)
-      (so : IsFlooded below ways n done visits heap) (fresh : slice_get done low ≡ Some false) (next : IsNextRise below done heap low rise)
+module _ {S : Type 0} (below : Rank → Rank → Bool) (ways : Ways) (n : ℕ) (range : (a b : ℕ) (w : Rank) → HasWay ways a b w → b < n) where
+  module _ (order : IsStrictOrder below) (done : List Bool) (lowest lowest' : List (Option Rank)) (visits : List Visit) (heap mid new : List (Candidate S)) (low : ℕ) (rise : Option Rank)
+      (so : IsFlooded below ways n done lowest visits heap) (fresh : slice_get done low ≡ Some false) (next : IsNextRise below done heap low rise)
       (fewer : (to : ℕ) (at : Rank) → Holds mid to at → Holds heap to at)
       (kept : (to : ℕ) (at : Rank) → Holds heap to at → slice_get done to ≡ Some false → to ≢ low → Holds mid to at)
-      (spread : Spreads ways low (set done low true) mid new) where
+      (spread : Spreads below ways low (set done low true) lowest lowest' mid new) where
     not_yet : (k : ℕ) (y : Visit) → slice_get visits k ≡ Some y → y.low ≢ low
     not_yet k y h e = (let d : slice_get done low ≡ Some true = subst (λ v. slice_get done v ≡ Some true) e (so.visited_done k y h) in cc)
 
@@ -85,7 +86,10 @@ module _ {S : Type 0} (below : Rank → Rank → Bool) (ways : List Way) (n : �
         | inl q ↦ (let bound : v < length done = subst (λ b. v < b) (sym so.long) (range z.low v w way) in
             elim (marked done v bound) [
               | inl a ↦ (let o = so.done_visited v a in absurd (apart o.0 o.1 (omega (arith, slice_get_within visits o.0 o.1 o.2, p.0)) (old o.0 o.1 o.2) o.3))
-              | inr a ↦ subst (λ (u : Visit). (r : Rank) × (u.rise ≡ Some r) × IsNotAbove below r w) p.1 (next.least v w (so.complete m z v w q way a) a)
+              | inr a ↦ (
+                  let c = so.complete m z v w q way a in
+                  let l = next.least v c.0 (so.held v c.0 c.1 a) a in
+                  subst (λ (u : Visit). (r : Rank) × (u.rise ≡ Some r) × IsNotAbove below r w) p.1 (l.0, l.1, not_above-trans below order l.0 c.0 w l.2 c.2))
             ])
         | inr q ↦ absurd (omega (arith, q.0, p.0))
       ]
@@ -104,10 +108,11 @@ module _ {S : Type 0} (below : Rank → Rank → Bool) (ways : List Way) (n : �
       ]
     ]
 
-    pub flooded-visit : IsFlooded below ways n (set done low true) (visits ++ record { low = low; rise = rise } ∷ []) new
+    pub flooded-visit : IsFlooded below ways n (set done low true) lowest' (visits ++ record { low = low; rise = rise } ∷ []) new
     unfolding visit
     flooded-visit = record {
       long = length-set done low true ∙ so.long;
+      long_lowest = spread.lowers.long ∙ so.long_lowest;
       done_visited = λ v h. elim (same_number low v) [
         | inl e ↦ (length visits, visit, get-push_new visits visit, e)
         | inr ne ↦ (let o = so.done_visited v (sym (get-set_other done low v true ne) ∙ h) in (o.0, o.1, old o.0 o.1 o.2, o.3))
@@ -121,45 +126,52 @@ module _ {S : Type 0} (below : Rank → Rank → Bool) (ways : List Way) (n : �
         | inl o ↦ (let a = so.sound to at (fewer to at o) in (a.0, a.1, old a.0 a.1 a.2, a.3))
         | inr o ↦ (length visits, visit, get-push_new visits visit, o)
       ];
-      complete = λ m y v w hm way h. (let u = still v h in elim (get-push_cases visits visit y m hm) [
-        | inl p ↦ spread.kept v w (kept v w (so.complete m y v w p way u.1) u.1 u.0)
-        | inr p ↦ spread.added v w (subst (λ (z : Visit). HasWay ways z.low v w) (sym p.1) way) h
-      ]);
+      held = λ v r h undone. elim (spread.lowers.held v r h) [
+        | inl was ↦ (let u = still v undone in spread.lowers.kept v r (kept v r (so.held v r was u.1) u.1 u.0))
+        | inr here ↦ here
+      ];
+      complete = λ m y v w hm way h. elim (get-push_cases visits visit y m hm) [
+        | inl p ↦ reached-falls below order lowest lowest' mid new spread.lowers v w (so.complete m y v w p way (still v h).1)
+        | inr p ↦ spread.reached v w (subst (λ (z : Visit). HasWay ways z.low v w) (sym p.1) way) h
+      ];
     }
 
   -- a visit to a first low, with an empty heap
-  pub flooded-start : (done : List Bool) (visits : List Visit) (heap new : List (Candidate S)) (low : ℕ) → IsFlooded below ways n done visits heap → slice_get done low ≡ Some false → length heap ≡ 0 →
-      Spreads ways low (set done low true) heap new → IsFlooded below ways n (set done low true) (visits ++ record { low = low; rise = None } ∷ []) new
-  flooded-start done visits heap new low so fresh empty spread = flooded-visit done visits heap heap new low None so fresh
+  pub flooded-start : IsStrictOrder below → (done : List Bool) (lowest lowest' : List (Option Rank)) (visits : List Visit) (heap new : List (Candidate S)) (low : ℕ) → IsFlooded below ways n done lowest visits heap → slice_get done low ≡ Some false → length heap ≡ 0 →
+      Spreads below ways low (set done low true) lowest lowest' heap new → IsFlooded below ways n (set done low true) lowest' (visits ++ record { low = low; rise = None } ∷ []) new
+  flooded-start order done lowest lowest' visits heap new low so fresh empty spread = flooded-visit order done lowest lowest' visits heap heap new low None so fresh
       (record { held = λ r e. cc; least = λ to at h undone. absurd (holds-none heap to at empty h) }) (λ to at h. h) (λ to at h undone ne. h) spread
 
   -- a visit to the lowest candidate
-  pub flooded-next : (done : List Bool) (visits : List Visit) (heap mid new : List (Candidate S)) (c : Candidate S) → IsFlooded below ways n done visits heap → Takes below done heap c mid →
-      Spreads ways c.to (set done c.to true) mid new → IsFlooded below ways n (set done c.to true) (visits ++ record { low = c.to; rise = Some c.at } ∷ []) new
-  flooded-next done visits heap mid new c so takes spread = flooded-visit done visits heap mid new c.to (Some c.at) so takes.fresh
-      (record { held = λ r e. (let same : c.at ≡ r = cc in subst (λ w. Holds heap c.to w) same takes.held); least = λ to at h undone. (c.at, refl, takes.lowest to at h undone) })
+  pub flooded-next : IsStrictOrder below → (done : List Bool) (lowest lowest' : List (Option Rank)) (visits : List Visit) (heap mid new : List (Candidate S)) (c : Candidate S) → IsFlooded below ways n done lowest visits heap → Takes below done heap c mid →
+      Spreads below ways c.to (set done c.to true) lowest lowest' mid new → IsFlooded below ways n (set done c.to true) lowest' (visits ++ record { low = c.to; rise = Some (pass_of c) } ∷ []) new
+  flooded-next order done lowest lowest' visits heap mid new c so takes spread = flooded-visit order done lowest lowest' visits heap mid new c.to (Some (pass_of c)) so takes.fresh
+      (record { held = λ r e. (let same : pass_of c ≡ r = cc in subst (λ w. Holds heap c.to w) same takes.held); least = λ to at h undone. (pass_of c, refl, takes.lowest to at h undone) })
       takes.only takes.kept spread
 
   -- where all candidates are done, none is needed
-  pub flooded-over : (done : List Bool) (visits : List Visit) (heap new : List (Candidate S)) → IsFlooded below ways n done visits heap → ((to : ℕ) (at : Rank) → Holds heap to at → slice_get done to ≡ Some true) →
-      length new ≡ 0 → IsFlooded below ways n done visits new
-  flooded-over done visits heap new so over empty = record {
+  pub flooded-over : (done : List Bool) (lowest : List (Option Rank)) (visits : List Visit) (heap new : List (Candidate S)) → IsFlooded below ways n done lowest visits heap → ((to : ℕ) (at : Rank) → Holds heap to at → slice_get done to ≡ Some true) →
+      length new ≡ 0 → IsFlooded below ways n done lowest visits new
+  flooded-over done lowest visits heap new so over empty = record {
     long = so.long;
+    long_lowest = so.long_lowest;
     done_visited = so.done_visited;
     visited_done = so.visited_done;
     prim = so.prim;
     sound = λ to at h. absurd (holds-none new to at empty h);
-    complete = λ m y v w hm way undone. absurd (let d = over v w (so.complete m y v w hm way undone) in cc);
+    held = λ v r h undone. absurd (let d = over v r (so.held v r h undone) in cc);
+    complete = so.complete;
   }
 
   -- the candidates are lows
-  pub flooded-lows : (done : List Bool) (visits : List Visit) (heap : List (Candidate S)) → IsFlooded below ways n done visits heap → HoldsLows heap (length done)
-  flooded-lows done visits heap so to at h = (let a = so.sound to at h in subst (λ b. to < b) (sym so.long) (range (a.1).low to at a.3))
+  pub flooded-lows : (done : List Bool) (lowest : List (Option Rank)) (visits : List Visit) (heap : List (Candidate S)) → IsFlooded below ways n done lowest visits heap → HoldsLows heap (length done)
+  flooded-lows done lowest visits heap so to at h = (let a = so.sound to at h in subst (λ b. to < b) (sym so.long) (range (a.1).low to at a.3))
 
   -- nothing is visited yet
-  pub flooded-none : (done : List Bool) (visits : List Visit) (heap : List (Candidate S)) → done ≡ replicate n false → visits ≡ [] → length heap ≡ 0 → IsFlooded below ways n done visits heap
-  flooded-none done visits heap clear none empty = record {
-    long = ap length clear ∙ long_replicate n;
+  pub flooded-none : (done : List Bool) (lowest : List (Option Rank)) (visits : List Visit) (heap : List (Candidate S)) → done ≡ replicate n false → lowest ≡ replicate n None → visits ≡ [] → length heap ≡ 0 → IsFlooded below ways n done lowest visits heap
+  flooded-none done lowest visits heap clear no_lowest none empty = record {
+    long = ap length clear ∙ long_replicate n false;
+    long_lowest = ap length no_lowest ∙ long_replicate n None;
     done_visited = λ v h. absurd (all_clear n v (ap (λ ds. slice_get ds v) (sym clear) ∙ h));
     visited_done = λ k x h. absurd (nothing k x h);
     prim = record {
@@ -168,15 +180,21 @@ module _ {S : Type 0} (below : Rank → Rank → Bool) (ways : List Way) (n : �
       lowest = λ k m x y v w less hk hm way apart. absurd (nothing k x hk);
     };
     sound = λ to at h. absurd (holds-none heap to at empty h);
+    held = λ v r h undone. absurd (none_lowest n v r (ap (λ rs. slice_get rs v) (sym no_lowest) ∙ h));
     complete = λ m y v w hm way undone. absurd (nothing m y hm);
   }
     where
       nothing : (k : ℕ) (x : Visit) → slice_get visits k ≡ Some x → ⊥
       nothing k x h = (let at : slice_get [] k ≡ Some x = subst (λ (vs : List Visit). slice_get vs k ≡ Some x) none h in cc)
 
-      long_replicate : (m : ℕ) → length (replicate m false) ≡ m
-      long_replicate zero = refl
-      long_replicate (suc m) = ap suc (long_replicate m)
+      long_replicate : {X : Type 0} (m : ℕ) (x : X) → length (replicate m x) ≡ m
+      long_replicate zero x = refl
+      long_replicate (suc m) x = ap suc (long_replicate m x)
+
+      none_lowest : (m v : ℕ) (r : Rank) → slice_get (replicate m None) v ≡ Some (Some r) → ⊥
+      none_lowest zero v r h = cc
+      none_lowest (suc m) zero r h = cc
+      none_lowest (suc m) (suc v) r h = none_lowest m v r h
 
       all_clear : (m v : ℕ) → slice_get (replicate m false) v ≡ Some true → ⊥
       all_clear zero v h = cc

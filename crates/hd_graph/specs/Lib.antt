@@ -4,6 +4,8 @@ pub mod Line
 pub mod Tells
 pub mod Basins
 pub mod Lower
+pub mod Candidates
+pub mod Ends
 pub mod Flood
 pub mod Parts
 pub mod Literal

@@ -5,7 +5,8 @@ use Rattle.hd_map.specs.declared.types.Rank.{Rank}
 use Rattle.hd_map.specs.Order.{IsNotAbove}
 use Rattle.hd_graph.specs.declared.graph.Low.{Low}
 use Rattle.hd_graph.specs.declared.line.Stop.{Stop}
-use Rattle.hd_graph.specs.Walks.{HasPass, LeastHighestIs}
+use Rattle.hd_map.specs.Walks.{HasPass}
+use Rattle.hd_graph.specs.Walks.{LeastHighestIs}
 
 -- each low stands at one place of the line
 abbrev pub EachOnce : List Stop → Type 0

@@ -1,28 +1,10 @@
--- Walks from low to low over passes, and the least highest pass of those between two lows.
-use Rattle.std.specs.Prelude.{◌≡◌, ◌⊎◌, Bool, List, [], ◌∷◌, map, Option, Some, None, Contains}
+-- The least highest pass of the walks between two lows.
+use Rattle.std.specs.Prelude.{Bool, List, Option, Some, None}
 use Rattle.hd_map.specs.declared.types.Pass.{Pass}
 use Rattle.hd_map.specs.declared.types.Rank.{Rank}
 use Rattle.hd_map.specs.Order.{IsNotAbove}
 use Rattle.hd_map.specs.Path.{IsTop}
-
--- a pass at w joins a and b, whichever of them it names first
-abbrev pub HasPass : List Pass → Rank → Rank → Rank → Type 0
-HasPass passes a b w = Contains passes (record { a = a; b = b; at = w })
-    ⊎ Contains passes (record { a = b; b = a; at = w })
-
--- a stride of a walk: where it leads, and over which pass
-pub record Stride : Type 0 where
-  pub to : Rank
-  pub at : Rank
-
--- the strides lead from a to b
-abbrev pub IsWalk : List Pass → Rank → List Stride → Rank → Type 0
-IsWalk passes a [] b = a ≡ b
-IsWalk passes a (s ∷ ss) b = HasPass passes a s.to s.at × IsWalk passes s.to ss b
-
--- the passes of a walk
-abbrev pub passes_of : List Stride → List Rank
-passes_of ss = map {A = Stride} {B = Rank} (λ s. s.at) ss
+use Rattle.hd_map.specs.Walks.{Stride, IsWalk, passes_of}
 
 -- s is the highest pass of some walk from a to b, and not above the highest of any
 pub record IsLeastHighest (below : Rank → Rank → Bool) (passes : List Pass) (a b s : Rank) : Type 0 where

@@ -1,21 +1,21 @@
 // The order in which rising water reaches the lows.
 ghost use Rattle.std.specs.Prelude.{◌≡◌, ◌≢◌, ◌<◌, ◌+◌, ℕ, IfOk, OnOk, Some, None, MatchOption, ⊤, [], ◌∷◌, ◌++◌, true, false, length, slice_get, slice_set};
 ghost use Rattle.std.specs.BinaryHeap.{heap_items, heap_len};
+ghost use Rattle.hd_map.specs.declared.types.Pass.{Pass};
 ghost use Rattle.hd_map.specs.declared.types.Rank.{Rank};
 ghost use Rattle.hd_map.specs.Rank.{below_by};
 ghost use Rattle.hd_graph.specs.declared.line.Stop.{Stop};
-ghost use Rattle.hd_graph.specs.Flood.{AreChained, IsLowestFirst, Holds, HoldsLows, Spreads, Takes, IsFlooded, ArePrim, IsVisited, IsStopOf};
+ghost use Rattle.hd_graph.specs.Flood.{AreGrouped, IsLowestFirst, Holds, HoldsLows, Offers, Spreads, Takes, IsFlooded, ArePrim, IsVisited, IsStopOf, below_lowest, lows_of};
 ghost use Rattle.hd_graph.specs.Line.{IsFloodLine};
 
 use crate::candidate::Candidate;
 use crate::graph::{Graph, Low};
 use crate::line::{FloodLine, Stop};
-use crate::ways::{Ways, ways_between};
+use crate::ways::{Way, Ways, ways_between};
 use hd_base::{List, Memory};
-use hd_map::{Rank, Side};
+use hd_map::{Pass, Rank, Side};
 use std::alloc::Global;
 use std::collections::BinaryHeap;
-use std::marker::PhantomData;
 
 /// A low that the water has reached.
 #[derive(Clone, Copy)]
@@ -29,7 +29,8 @@ pub struct Visit {
 /// The flood line of a graph, a Prim order: each low once, each rise the lowest pass to a stop before,
 /// and no rise at the first stop of each connected part. For each two stops the highest rise of the
 /// places between, as `FloodLine::between` gives it, is the least highest pass of all walks between the
-/// two lows, and none exactly where there is no walk.
+/// two lows, and none exactly where there is no walk. `Memory` comes where it is refused its memory, and
+/// where there are more than 2,147,483,647 lows or passes.
 pub fn flood<S: Side>(alloc: Global, graph: &Graph<S>) -> Result<FloodLine<S>, Memory>
     ensures { IfOk result (IsFloodLine (below_by S.NAME) graph.now.lows graph.now.passes) }
 {
@@ -41,39 +42,41 @@ pub fn flood<S: Side>(alloc: Global, graph: &Graph<S>) -> Result<FloodLine<S>, M
 }
 
 // Visits all lows, each once.
-fn visit_all<S: Side>(alloc: Global, ways: &Ways) -> Result<Vec<Visit>, Memory>
-    requires { AreChained ways.now }
-    ensures prim { IfOk result (λ visits. ArePrim (below_by S.NAME) ways.now.all.items visits.items) }
-    ensures all { IfOk result (λ visits. (v : ℕ) → v < length ways.now.last.items → IsVisited visits.items v) }
+fn visit_all<S: Side>(alloc: Global, ways: &Ways<'_>) -> Result<Vec<Visit>, Memory>
+    requires { AreGrouped ways.now }
+    ensures prim { IfOk result (λ visits. ArePrim (below_by S.NAME) ways.now visits.items) }
+    ensures all { IfOk result (λ visits. (v : ℕ) → v < lows_of ways.now → IsVisited visits.items v) }
     ensures only { IfOk result (λ visits. (k : ℕ) (x : _) → slice_get visits.items k ≡ Some x
-        → x.low < length ways.now.last.items) }
+        → x.low < lows_of ways.now) }
 {
-    let count = ways.last.len();
+    let count = ways.starts.len() - 1;
     let mut done = vec![in alloc; false; count]?;
+    let mut lowest = vec![in alloc; None; count]?;
     let mut visits = Vec::with_capacity(alloc, count)?;
     let mut heap: BinaryHeap<Candidate<S>> = BinaryHeap::new(alloc);
     for start in 0..count {
-        visit_part(ways, start, &mut done, &mut visits, &mut heap)?;
+        visit_part(ways, start, &mut done, &mut lowest, &mut visits, &mut heap)?;
     }
     Ok(visits)
 }
 
 // Visits all lows that can be reached from one, where that one is not done.
 fn visit_part<S: Side>(
-    ways: &Ways,
+    ways: &Ways<'_>,
     start: usize,
     done: &mut [bool],
+    lowest: &mut [Option<Rank>],
     visits: &mut Vec<Visit>,
     heap: &mut BinaryHeap<Candidate<S>>,
 ) -> Result<(), Memory>
-    requires chained { AreChained ways.now }
-    requires flooded { IsFlooded (below_by S.NAME) ways.now.all.items (length ways.now.last.items)
-        done.old visits.old.items (heap_items heap.old) }
-    requires start { start < length ways.now.last.items }
+    requires grouped { AreGrouped ways.now }
+    requires flooded { IsFlooded (below_by S.NAME) ways.now (lows_of ways.now)
+        done.old lowest.old visits.old.items (heap_items heap.old) }
+    requires start { start < lows_of ways.now }
     requires empty { heap_len heap.old ≡ 0 }
     requires heap { IsLowestFirst (below_by S.NAME) (heap_items heap.old) }
-    ensures flooded { OnOk result (IsFlooded (below_by S.NAME) ways.now.all.items (length ways.now.last.items)
-        done.new visits.new.items (heap_items heap.new)) }
+    ensures flooded { OnOk result (IsFlooded (below_by S.NAME) ways.now (lows_of ways.now)
+        done.new lowest.new visits.new.items (heap_items heap.new)) }
     ensures done { OnOk result (slice_get done.new start ≡ Some true) }
     ensures kept { OnOk result ((v : ℕ) → slice_get done.old v ≡ Some true → slice_get done.new v ≡ Some true) }
     ensures empty { OnOk result (heap_len heap.new ≡ 0) }
@@ -82,63 +85,107 @@ fn visit_part<S: Side>(
     if done[start] {
         return Ok(());
     }
-    make_visit(ways, start, None, done, visits, heap)?;
+    make_visit(ways, start, None, done, lowest, visits, heap)?;
     while let Some(next) = take_lowest(heap, done) {
-        make_visit(ways, next.to, Some(next.at), done, visits, heap)?;
+        make_visit(
+            ways,
+            next.to as usize,
+            Some(next.at()),
+            done,
+            lowest,
+            visits,
+            heap,
+        )?;
     }
     Ok(())
 }
 
 // Visits a low, and puts its ways into the heap.
 fn make_visit<S: Side>(
-    ways: &Ways,
+    ways: &Ways<'_>,
     low: usize,
     rise: Option<Rank>,
     done: &mut [bool],
+    lowest: &mut [Option<Rank>],
     visits: &mut Vec<Visit>,
     heap: &mut BinaryHeap<Candidate<S>>,
 ) -> Result<(), Memory>
-    requires chained { AreChained ways.now }
-    requires within { low < length ways.now.last.items }
-    requires long { length done.old ≡ length ways.now.last.items }
+    requires grouped { AreGrouped ways.now }
+    requires within { low < lows_of ways.now }
+    requires long { length done.old ≡ lows_of ways.now }
+    requires long_lowest { length lowest.old ≡ lows_of ways.now }
     requires heap { IsLowestFirst (below_by S.NAME) (heap_items heap.old) }
     ensures done { OnOk result (done.new ≡ slice_set done.old low true) }
     ensures visits { OnOk result (visits.new.items ≡ visits.old.items ++ (record { low = low; rise = rise }) ∷ []) }
-    ensures spreads { OnOk result (Spreads ways.now.all.items low done.new (heap_items heap.old) (heap_items heap.new)) }
+    ensures spreads { OnOk result (Spreads (below_by S.NAME) ways.now low done.new lowest.old lowest.new (heap_items heap.old) (heap_items heap.new)) }
     ensures heap { OnOk result (IsLowestFirst (below_by S.NAME) (heap_items heap.new)) }
 {
     visits.push(Visit { low, rise })?;
     done[low] = true;
-    spread(ways, low, done, heap)
+    spread(ways, low, done, lowest, heap)
 }
 
-// Puts the ways of a low into the heap, but for those to lows that are done.
+// Puts the ways of a low into the heap, as far as they may lead on.
 fn spread<S: Side>(
-    ways: &Ways,
+    ways: &Ways<'_>,
     low: usize,
     done: &[bool],
+    lowest: &mut [Option<Rank>],
     heap: &mut BinaryHeap<Candidate<S>>,
 ) -> Result<(), Memory>
-    requires chained { AreChained ways.now }
-    requires within { low < length ways.now.last.items }
-    requires long { length done.now ≡ length ways.now.last.items }
+    requires grouped { AreGrouped ways.now }
+    requires within { low < lows_of ways.now }
+    requires long { length done.now ≡ lows_of ways.now }
+    requires long_lowest { length lowest.old ≡ lows_of ways.now }
     requires heap { IsLowestFirst (below_by S.NAME) (heap_items heap.old) }
-    ensures spreads { OnOk result (Spreads ways.now.all.items low done.now (heap_items heap.old) (heap_items heap.new)) }
+    ensures spreads { OnOk result (Spreads (below_by S.NAME) ways.now low done.now lowest.old lowest.new (heap_items heap.old) (heap_items heap.new)) }
     ensures heap { OnOk result (IsLowestFirst (below_by S.NAME) (heap_items heap.new)) }
 {
-    let mut last = ways.last[low];
-    while let Some(number) = last {
-        let way = ways.all[number];
-        if !done[way.to] {
-            heap.push(Candidate {
-                at: way.at,
-                to: way.to,
-                side: PhantomData,
-            })?;
-        }
-        last = way.before;
+    let start = ways.starts[low];
+    let stop = ways.starts[low + 1];
+    for place in start..stop {
+        offer(ways.all[place as usize], ways.passes, done, lowest, heap)?;
     }
     Ok(())
+}
+
+// Puts a way into the heap, unless its low is done or has a candidate that is not above it.
+fn offer<S: Side>(
+    way: Way,
+    passes: &[Pass],
+    done: &[bool],
+    lowest: &mut [Option<Rank>],
+    heap: &mut BinaryHeap<Candidate<S>>,
+) -> Result<(), Memory>
+    requires within { way.to < length done.now }
+    requires passes { way.pass < length passes.now }
+    requires long { length lowest.old ≡ length done.now }
+    requires heap { IsLowestFirst (below_by S.NAME) (heap_items heap.old) }
+    ensures offers { OnOk result ((p : Pass) → slice_get passes.now way.pass ≡ Some p
+        → Offers (below_by S.NAME) way.to p.at done.now lowest.old lowest.new (heap_items heap.old) (heap_items heap.new)) }
+    ensures heap { OnOk result (IsLowestFirst (below_by S.NAME) (heap_items heap.new)) }
+{
+    let to = way.to as usize;
+    if done[to] {
+        return Ok(());
+    }
+    let at = passes[way.pass as usize].at;
+    if !is_lower::<S>(at, lowest[to]) {
+        return Ok(());
+    }
+    heap.push(Candidate::new(at, way.to))?;
+    lowest[to] = Some(at);
+    Ok(())
+}
+
+// Whether a pass is below the lowest so far, where there is one.
+fn is_lower<S: Side>(at: Rank, lowest: Option<Rank>) -> bool
+    ensures { result ≡ below_lowest (below_by S.NAME) at lowest }
+{
+    match lowest {
+        Some(other) => S::below(at, other),
+        None => true,
+    }
 }
 
 // Takes out the lowest candidate that is not done, and those that are done before it.
@@ -152,7 +199,7 @@ fn take_lowest<S: Side>(heap: &mut BinaryHeap<Candidate<S>>, done: &[bool]) -> O
     ensures heap { IsLowestFirst (below_by S.NAME) (heap_items heap.new) }
 {
     while let Some(candidate) = heap.pop() {
-        if !done[candidate.to] {
+        if !done[candidate.to as usize] {
             return Some(candidate);
         }
     }

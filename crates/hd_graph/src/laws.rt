@@ -3,6 +3,7 @@ ghost use Rattle.std.specs.Prelude.{◌≡◌, ◌≢◌, ◌↔◌, ℕ, List, 
 ghost use Rattle.hd_map.specs.declared.types.Pass.{Pass};
 ghost use Rattle.hd_map.specs.declared.types.Rank.{Rank};
 ghost use Rattle.hd_map.specs.declared.types.SideName.{SideName};
+ghost use Rattle.hd_map.specs.Crossings.{AreCrossingsUnder};
 ghost use Rattle.hd_map.specs.Map.{Map};
 ghost use Rattle.hd_map.specs.Passes.{IsLabelled, ArePassesUnder};
 ghost use Rattle.hd_map.specs.Rank.{below_by};
@@ -24,19 +25,25 @@ pub fn regions_are_basins()
         → AreRegions m side labels → ArePitsOf m side lows → AreLowsOf m side (IsLabelled m labels) lows }
 {}
 
-/// The passes between the basins of a map and the basins' lows, of different indexes, are a graph.
+/// The passes between the basins of a map are crossings between them.
+pub fn passes_are_crossings()
+    ensures { (m : Map) (side : SideName) (labels : List (Option ℕ)) (passes : List Pass)
+        → ArePassesUnder m side labels passes → AreCrossingsUnder m side labels passes }
+{}
+
+/// The crossings between the basins of a map and the basins' lows, of different indexes, are a graph.
 pub fn passes_of_basins_are_a_graph()
     ensures { (m : Map) (side : SideName) (labels : List (Option ℕ)) (lows : List Low) (passes : List Pass)
-        → AreBasins m side (IsLabelled m labels) → ArePassesUnder m side labels passes
+        → AreBasins m side (IsLabelled m labels) → AreCrossingsUnder m side labels passes
         → AreLowsOf m side (IsLabelled m labels) lows
         → AllPairs (λ x y. x.rank.index ≢ y.rank.index) lows → IsGraph (below_by side) lows passes }
 {}
 
-/// The least highest pass over all walks between the lows of two basins is their saddle over all paths
-/// of points, and there is no walk exactly where there is no path.
+/// The least highest crossing over all walks between the lows of two basins is their saddle over all
+/// paths of points, and there is no walk exactly where there is no path.
 pub fn least_highest_pass_is_the_saddle()
     ensures { (m : Map) (side : SideName) (labels : List (Option ℕ)) (passes : List Pass)
-        → AreBasins m side (IsLabelled m labels) → ArePassesUnder m side labels passes
+        → AreBasins m side (IsLabelled m labels) → AreCrossingsUnder m side labels passes
         → (a b : Rank) → IsLabelled m labels a a → IsLabelled m labels b b → a ≢ b
         → (s : Option Rank) → LeastHighestIs (below_by side) passes a b s ↔ SaddleIs m side a b s }
 {}
@@ -44,7 +51,7 @@ pub fn least_highest_pass_is_the_saddle()
 /// The flood line of such a graph tells the pits of the map and their saddles.
 pub fn flood_line_tells_the_saddles()
     ensures { (m : Map) (side : SideName) (labels : List (Option ℕ)) (lows : List Low) (passes : List Pass) (line : List Stop)
-        → AreBasins m side (IsLabelled m labels) → ArePassesUnder m side labels passes
+        → AreBasins m side (IsLabelled m labels) → AreCrossingsUnder m side labels passes
         → AreLowsOf m side (IsLabelled m labels) lows
         → IsFloodLine (below_by side) lows passes line → TellsSaddles m side line }
 {}

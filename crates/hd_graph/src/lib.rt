@@ -16,8 +16,8 @@ mod ways;
 pub use flooding::flood;
 pub use graph::{Graph, Low};
 pub use laws::{
-    flood_line_tells_the_saddles, least_highest_pass_is_the_saddle, passes_of_basins_are_a_graph,
-    regions_are_basins,
+    flood_line_tells_the_saddles, least_highest_pass_is_the_saddle, passes_are_crossings,
+    passes_of_basins_are_a_graph, regions_are_basins,
 };
 pub use line::{FloodLine, Stop};
 pub use trees::{ChangeTree, Join, tree};

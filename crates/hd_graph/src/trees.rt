@@ -82,11 +82,11 @@ fn add_part<S: Side>(alloc: Global, joins: &mut Vec<Join>, part: Part) -> Result
     Ok(())
 }
 
-// Adds a join of the part alone.
+// Adds a join of the part alone, with room for a second one.
 fn add_join(alloc: Global, joins: &mut Vec<Join>, part: Part) -> Result<(), Memory>
     ensures { OnOk result (joins_of joins.new.items ≡ joins_of joins.old.items ++ join_of part ∷ []) }
 {
-    let mut parts = List::new(alloc);
+    let mut parts = List::with_capacity(alloc, 2)?;
     parts.push(part.low)?;
     joins.push(Join {
         saddle: part.saddle,

@@ -1,15 +1,14 @@
+use Rattle.std.proofs.Common.{◌≤◌}
 use Rattle.std.specs.BinaryHeap.{heap_items, IsHeap}
 use Rattle.hd_map.specs.Rank.{below_by}
-use Rattle.hd_graph.specs.Flood.{bound_of}
+use Rattle.hd_graph.specs.Candidates.{pass_of}
 use Rattle.hd_graph.specs.Lower.{lower_first}
-use Rattle.hd_graph.proofs.Heaps.{SpreadsFrom}
+use Rattle.hd_graph.proofs.Heaps.{SpreadsTo}
 use Rattle.hd_graph.proofs.flooding.spread.Given as goal
 
-abbrev pub invariant-loop-last : goal.invariant-loop-last
-invariant-loop-last g l = record {
-  heap : IsHeap (λ x y. lower_first (below_by g.S.Side.NAME) x.at y.at) (heap_items l.heap);
-  so : SpreadsFrom l.ways.all.items l.low l.done l.last (heap_items l.fn.heap) (heap_items l.heap);
+abbrev pub invariant-loop-place : goal.invariant-loop-place
+invariant-loop-place g l = record {
+  heap : IsHeap (λ x y. lower_first (below_by g.S.Side.NAME) (pass_of x) (pass_of y)) (heap_items l.heap);
+  from : l.start ≤ l.place;
+  so : SpreadsTo (below_by g.S.Side.NAME) g.met.S.Side.order l.ways l.low l.done l.start l.place l.fn.lowest l.lowest (heap_items l.fn.heap) (heap_items l.heap);
 }
-
-abbrev pub decreases-loop-last : goal.decreases-loop-last
-decreases-loop-last g l = bound_of l.last

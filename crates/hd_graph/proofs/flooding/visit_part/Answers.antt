@@ -2,6 +2,7 @@ use Rattle.std.proofs.Common.{◌≡◌, ◌<◌, ◌∙◌, sym, length, slice_
 use Rattle.std.specs.BinaryHeap.{heap_items}
 use Rattle.std.proofs.lemmas.Option.{slice_get_within}
 use Rattle.hd_map.specs.Rank.{below_by}
+use Rattle.hd_graph.specs.Flood.{lows_of}
 use Rattle.hd_graph.proofs.Places.{get-from_read, get-set_same, mark_stays}
 use Rattle.hd_graph.proofs.Visits.{undone-set, flooded-start, flooded-next, flooded-over, flooded-lows, ways-inside}
 use Rattle.hd_graph.proofs.flooding.visit_part.Goals as goal
@@ -12,7 +13,7 @@ loop-next-init g c =
     let inside : c.args.start < length c.args.done.now = omega (arith, c.requires.start, c.requires.flooded.long) in
     let fresh : slice_get c.args.done.now c.args.start ≡ Some false = get-from_read c.args.done.now c.args.start _ _ inside c.if-done-start.false in
     record {
-      flooded = rw (made.done, made.visits) (flooded-start (below_by g.S.Side.NAME) c.args.ways.now.all.items (length c.args.ways.now.last.items) (ways-inside c.args.ways.now c.requires.chained) c.args.done.now c.args.visits.now.items
+      flooded = rw (made.done, made.visits) (flooded-start (below_by g.S.Side.NAME) c.args.ways.now (lows_of c.args.ways.now) (ways-inside c.args.ways.now c.requires.grouped) g.met.S.Side.order c.args.done.now c.args.lowest.now c.make_visit.new.lowest c.args.visits.now.items
           (heap_items c.args.heap.now) (heap_items c.make_visit.new.heap) c.args.start c.requires.flooded fresh (sym c.args.heap.now.data.ok.0 ∙ c.requires.empty) (rw made.done at made.spreads));
       heap = made.heap;
       start = rw made.done (get-set_same c.args.done.now c.args.start true _ fresh);
@@ -21,7 +22,7 @@ loop-next-init g c =
 
 pub take_lowest-requires-clause-within : goal.take_lowest-requires-clause-within
 take_lowest-requires-clause-within g c =
-    flooded-lows (below_by g.S.Side.NAME) c.args.ways.now.all.items (length c.args.ways.now.last.items) (ways-inside c.args.ways.now c.requires.chained) c.loop-next.done c.loop-next.visits.items
+    flooded-lows (below_by g.S.Side.NAME) c.args.ways.now (lows_of c.args.ways.now) (ways-inside c.args.ways.now c.requires.grouped) c.loop-next.done c.loop-next.lowest c.loop-next.visits.items
     (heap_items c.loop-next.heap) c.loop-next.invariant.flooded
 
 pub make_visit-requires-in-Some-clause-within : goal.make_visit-requires-in-Some-clause-within
@@ -38,7 +39,7 @@ pub loop-next-preserved : goal.loop-next-preserved
 loop-next-preserved g c =
     let made = c.in_ok-make_visit-2.ensures in
     record {
-      flooded = rw (made.done, made.visits) (flooded-next (below_by g.S.Side.NAME) c.args.ways.now.all.items (length c.args.ways.now.last.items) (ways-inside c.args.ways.now c.requires.chained) c.loop-next.done c.loop-next.visits.items
+      flooded = rw (made.done, made.visits, c.at.ensures) (flooded-next (below_by g.S.Side.NAME) c.args.ways.now (lows_of c.args.ways.now) (ways-inside c.args.ways.now c.requires.grouped) g.met.S.Side.order c.loop-next.done c.loop-next.lowest c.make_visit-in-Some.new.lowest c.loop-next.visits.items
           (heap_items c.loop-next.heap) (heap_items c.take_lowest.new.heap) (heap_items c.make_visit-in-Some.new.heap) c.in-Some.next c.loop-next.invariant.flooded c.in-Some.ensures.takes (rw made.done at made.spreads));
       heap = made.heap;
       start = rw made.done (mark_stays c.loop-next.done c.in-Some.next.to c.args.start c.loop-next.invariant.start);
@@ -47,5 +48,5 @@ loop-next-preserved g c =
 
 pub returns-clause-flooded : goal.returns-clause-flooded
 returns-clause-flooded g c =
-    flooded-over (below_by g.S.Side.NAME) c.args.ways.now.all.items (length c.args.ways.now.last.items) (ways-inside c.args.ways.now c.requires.chained) c.loop-next.done c.loop-next.visits.items
+    flooded-over (below_by g.S.Side.NAME) c.args.ways.now (lows_of c.args.ways.now) (ways-inside c.args.ways.now c.requires.grouped) c.loop-next.done c.loop-next.lowest c.loop-next.visits.items
     (heap_items c.loop-next.heap) (heap_items c.take_lowest.new.heap) c.loop-next.invariant.flooded c.in_default.ensures.takes (sym c.take_lowest.new.heap.data.ok.0 ∙ c.in_default.ensures.empty)
