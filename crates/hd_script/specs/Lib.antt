@@ -1,4 +1,5 @@
 pub mod Words
 pub mod Rows
+pub mod Whole
 pub mod Table
 pub mod Line

@@ -1,11 +1,12 @@
 -- The command that the words after each name make, word 2 being the first of them.
-use Rattle.std.specs.Prelude.{ℕ, List, [], ◌∷◌, Result, Ok, Err}
+use Rattle.std.specs.Prelude.{◌*◌, ◌==◌, ℕ, List, [], ◌∷◌, length, Result, Ok, Err, if◌then◌else◌}
+use Rattle.hd_edit.specs.declared.edit.Edit.{Edit}
 use Rattle.hd_edit.specs.declared.edit.Edit.TheVariants.{Set, Bad, Add, Mask, Unmask}
 use Rattle.hd_script.specs.declared.command.Command.{Command}
-use Rattle.hd_script.specs.declared.command.Command.TheVariants.{Do, Undo, Label, Tree}
+use Rattle.hd_script.specs.declared.command.Command.TheVariants.{Do, Undo, Element, Label, Tree}
 use Rattle.hd_script.specs.declared.command.LineError.{LineError}
 use Rattle.hd_script.specs.declared.command.LineError.TheVariants.{WordCount}
-use Rattle.hd_script.specs.Words.{and_then, count_word, whole_word, side_word, position_words, corner_words}
+use Rattle.hd_script.specs.Words.{and_then, count_word, whole_word, side_word, name_word, position_words, corner_words, entry_words}
 
 -- what the words after a name give
 abbrev pub Reading : Type 0
@@ -41,10 +42,22 @@ abbrev pub unmask_words : Reading
 unmask_words (x ∷ y ∷ x' ∷ y' ∷ []) = and_then (corner_words x y x' y') (λ corners. Ok (Do (Unmask corners.0 corners.1)))
 unmask_words words = Err WordCount
 
+-- the name of an element after the name of a filter
+abbrev pub filter_words : (List ℕ → Edit) → Reading
+filter_words edit (name ∷ []) = and_then (name_word 2 name) (λ named. Ok (Do (edit named)))
+filter_words edit words = Err WordCount
+
 -- `undo K`
 abbrev pub undo_words : Reading
 undo_words (k ∷ []) = and_then (count_word 2 k) (λ count. Ok (Undo count))
 undo_words words = Err WordCount
+
+-- `element NAME W H` and W times H entries
+abbrev pub element_words : Reading
+element_words (name ∷ width ∷ height ∷ entries) =
+    and_then (name_word 2 name) (λ named. and_then (count_word 3 width) (λ w. and_then (count_word 4 height) (λ h.
+    if length entries == w * h then and_then (entry_words 5 entries) (λ table. Ok (Element named w h table)) else Err WordCount)))
+element_words words = Err WordCount
 
 -- `label S X Y`
 abbrev pub label_words : Reading

@@ -1,11 +1,12 @@
 -- The table of the commands.
 use Rattle.std.specs.Prelude.{ℕ, List, [], ◌∷◌, codes, Result, Err, if◌then◌else◌}
 use Rattle.std.specs.Str.{bytes_eq}
+use Rattle.hd_edit.specs.declared.edit.Edit.TheVariants.{Dilate, Erode, Open, Close}
 use Rattle.hd_script.specs.declared.command.Command.{Command}
-use Rattle.hd_script.specs.declared.command.Command.TheVariants.{Dales, Hills}
+use Rattle.hd_script.specs.declared.command.Command.TheVariants.{Elements, Info, Dales, Hills}
 use Rattle.hd_script.specs.declared.command.LineError.{LineError}
 use Rattle.hd_script.specs.declared.command.LineError.TheVariants.{UnknownCommand}
-use Rattle.hd_script.specs.Rows.{Reading, no_words, set_words, bad_words, add_words, mask_words, unmask_words, undo_words, label_words, tree_words}
+use Rattle.hd_script.specs.Rows.{Reading, no_words, set_words, bad_words, add_words, mask_words, unmask_words, filter_words, undo_words, element_words, label_words, tree_words}
 
 -- a row of the table: the name of a command, and what the words after it give
 pub record Row : Type 0 where
@@ -22,7 +23,14 @@ commands = row (codes "set") set_words
     ∷ row (codes "add") add_words
     ∷ row (codes "mask") mask_words
     ∷ row (codes "unmask") unmask_words
+    ∷ row (codes "dilate") (filter_words Dilate)
+    ∷ row (codes "erode") (filter_words Erode)
+    ∷ row (codes "open") (filter_words Open)
+    ∷ row (codes "close") (filter_words Close)
     ∷ row (codes "undo") undo_words
+    ∷ row (codes "element") element_words
+    ∷ row (codes "elements") (no_words Elements)
+    ∷ row (codes "info") (no_words Info)
     ∷ row (codes "dales") (no_words Dales)
     ∷ row (codes "hills") (no_words Hills)
     ∷ row (codes "label") label_words

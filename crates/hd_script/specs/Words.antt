@@ -32,6 +32,26 @@ fitting whole.Outside = None
 abbrev pub side_of : List ℕ → Option SideName
 side_of word = if bytes_eq word (codes "D") then Some Dales else if bytes_eq word (codes "H") then Some Hills else None
 
+-- a letter, a digit, `_` or `-`
+abbrev pub is_name_byte : ℕ → Bool
+is_name_byte byte = is_ascii_alphanumeric byte || byte == 95 || byte == 45
+
+-- a name: 1 to 32 letters, digits, `_` and `-`
+abbrev pub name_of : List ℕ → Option (List ℕ)
+name_of word = if nat_le 1 (length word) && nat_le (length word) 32 && list_all is_name_byte word then Some word else None
+
+-- an entry within -4,294,967,295 and 4,294,967,295
+abbrev pub entry_within : ℤ → Option (Option ℤ)
+entry_within z = if int_le (negsuc 4294967294) z && int_le z (pos 4294967295) then Some (Some z) else None
+
+abbrev pub entry_of_number : Option ℤ → Option (Option ℤ)
+entry_of_number None = None
+entry_of_number (Some z) = entry_within z
+
+-- an entry of an element: `-` for none, or a number
+abbrev pub entry_of : List ℕ → Option (Option ℤ)
+entry_of word = if bytes_eq word (codes "-") then Some None else entry_of_number (fitting (whole_of word))
+
 abbrev pub count_word : ℕ → List ℕ → Result ℕ LineError
 count_word number word = read_or_bad number (count_of word)
 
@@ -41,6 +61,12 @@ whole_word number word = read_or_bad number (fitting (whole_of word))
 abbrev pub side_word : ℕ → List ℕ → Result SideName LineError
 side_word number word = read_or_bad number (side_of word)
 
+abbrev pub name_word : ℕ → List ℕ → Result (List ℕ) LineError
+name_word number word = read_or_bad number (name_of word)
+
+abbrev pub entry_word : ℕ → List ℕ → Result (Option ℤ) LineError
+entry_word number word = read_or_bad number (entry_of word)
+
 -- a column and a profile, the column being the word of the number
 abbrev pub position_words : ℕ → List ℕ → List ℕ → Result Pos LineError
 position_words number x y = and_then (count_word number x) (λ column. and_then (count_word (number + 1) y) (λ profile. Ok (record { x = column; y = profile })))
@@ -48,3 +74,8 @@ position_words number x y = and_then (count_word number x) (λ column. and_then 
 -- the two corners of a rectangle, the first column being word 2
 abbrev pub corner_words : List ℕ → List ℕ → List ℕ → List ℕ → Result (Pos × Pos) LineError
 corner_words x y x' y' = and_then (position_words 2 x y) (λ from. and_then (position_words 4 x' y') (λ to. Ok (from, to)))
+
+-- the entries, the first being the word of the number
+abbrev pub entry_words : ℕ → List (List ℕ) → Result (List (Option ℤ)) LineError
+entry_words number [] = Ok []
+entry_words number (word ∷ words) = and_then (entry_word number word) (λ entry. and_then (entry_words (number + 1) words) (λ entries. Ok (entry ∷ entries)))

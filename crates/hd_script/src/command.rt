@@ -2,7 +2,7 @@
 ghost use Rattle.std.specs.Prelude.{◌≡◌};
 ghost use Rattle.hd_script.specs.declared.command.LineError.TheVariants.{Memory as out_of_memory};
 
-use hd_base::Memory;
+use hd_base::{List, Memory};
 use hd_edit::Edit;
 use hd_map::{Pos, SideName};
 use thiserror::Error;
@@ -14,14 +14,30 @@ pub enum Command {
     Do(Edit),
     /// To go back over this many edits.
     Undo(u64),
+    /// To define the element of a name: its width and height, and its entries row by row.
+    Element {
+        name: List<u8>,
+        width: u32,
+        height: u32,
+        table: List<Option<i64>>,
+    },
+    /// The list of the elements.
+    Elements,
+    /// The size, the type, the heights and the scales.
+    Info,
     /// The list of the dales.
     Dales,
     /// The list of the hills.
     Hills,
     /// The pit in whose region of a side a point lies.
-    Label { side: SideName, at: Pos },
+    Label {
+        side: SideName,
+        at: Pos,
+    },
     /// The change tree of a side.
-    Tree { side: SideName },
+    Tree {
+        side: SideName,
+    },
 }
 
 /// Why a line was refused. `LineTooLong` is tried first, and then the others in the order in which

@@ -2,6 +2,8 @@
 #![tactic(auto)]
 
 mod command;
+mod element;
+mod filters;
 mod line;
 mod rows;
 #[cfg(test)]

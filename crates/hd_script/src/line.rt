@@ -1,9 +1,12 @@
 // The command of a line.
-ghost use Rattle.std.specs.Prelude.{◌≡◌, ◌⊎◌, Err, All, map};
+ghost use Rattle.std.specs.Prelude.{◌≡◌, ◌⊎◌, ◌<◌, ◌^◌, Err, All, IfOk, length, map};
 ghost use Rattle.hd_num.specs.Span.{IsPart, text_at};
 ghost use Rattle.hd_script.specs.Line.{is_comment, script_line, words_give};
 ghost use Rattle.hd_script.specs.Table.{commands, read_by};
+ghost use Rattle.hd_script.specs.Whole.{IsWhole, IsWholeIfAny};
 
+use crate::element::element_words;
+use crate::filters::{close_words, dilate_words, erode_words, open_words};
 use crate::rows::{
     add_words, bad_words, label_words, mask_words, no_words, set_words, tree_words, undo_words,
     unmask_words,
@@ -22,22 +25,26 @@ const LONGEST_LINE: usize = 4096;
 /// The refusals, of which the first is the answer: `LineTooLong` exactly where the line has more
 /// than 4,096 bytes, whatever they are; `UnknownCommand` exactly where the first word is no command
 /// of the table; `WordCount` exactly where the number of words is not that of the command;
-/// `BadWord` with the number of the first word that has not its form, the command being word 1.
+/// `BadWord` with the number of the first word that has not its form, the command being word 1. For
+/// `element` the name, the width and the height are read before the number of words is judged.
 /// `Memory` comes where the words are refused their memory.
 pub fn read_line(alloc: Global, line: &[u8]) -> Result<Option<Command>, LineError>
-    ensures { (result ≡ Err LineError.Memory) ⊎ (result ≡ script_line line.now) }
+    ensures value { (result ≡ Err LineError.Memory) ⊎ (result ≡ script_line line.now) }
+    ensures whole { IfOk result IsWholeIfAny }
 {
     if line.len() > LONGEST_LINE {
         return Err(LineError::LineTooLong);
     }
     let words = split_words(alloc, line)?;
-    read_words(line, words.as_slice())
+    read_words(alloc, line, words.as_slice())
 }
 
 // What the words of a line give.
-fn read_words(line: &[u8], words: &[Span]) -> Result<Option<Command>, LineError>
-    requires { All (IsPart line.now) words.now }
-    ensures { result ≡ words_give (map (text_at line.now) words.now) }
+fn read_words(alloc: Global, line: &[u8], words: &[Span]) -> Result<Option<Command>, LineError>
+    requires parts { All (IsPart line.now) words.now }
+    requires few { length words.now < 2 ^ 16 }
+    ensures value { (result ≡ Err LineError.Memory) ⊎ (result ≡ words_give (map (text_at line.now) words.now)) }
+    ensures whole { IfOk result IsWholeIfAny }
 {
     let [name, words @ ..] = words else {
         return Ok(None);
@@ -46,7 +53,7 @@ fn read_words(line: &[u8], words: &[Span]) -> Result<Option<Command>, LineError>
     if begins_comment(name) {
         return Ok(None);
     }
-    let command = read_command(name, line, words)?;
+    let command = read_command(alloc, name, line, words)?;
     Ok(Some(command))
 }
 
@@ -58,9 +65,16 @@ fn begins_comment(word: &[u8]) -> bool
 }
 
 // The command that the words after a name make.
-fn read_command(name: &[u8], line: &[u8], words: &[Span]) -> Result<Command, LineError>
-    requires { All (IsPart line.now) words.now }
-    ensures { result ≡ read_by commands name.now (map (text_at line.now) words.now) }
+fn read_command(
+    alloc: Global,
+    name: &[u8],
+    line: &[u8],
+    words: &[Span],
+) -> Result<Command, LineError>
+    requires parts { All (IsPart line.now) words.now }
+    requires few { length words.now < 2 ^ 16 }
+    ensures value { (result ≡ Err LineError.Memory) ⊎ (result ≡ read_by commands name.now (map (text_at line.now) words.now)) }
+    ensures whole { IfOk result IsWhole }
 {
     if name == b"set".as_slice() {
         set_words(line, words)
@@ -72,8 +86,22 @@ fn read_command(name: &[u8], line: &[u8], words: &[Span]) -> Result<Command, Lin
         mask_words(line, words)
     } else if name == b"unmask".as_slice() {
         unmask_words(line, words)
+    } else if name == b"dilate".as_slice() {
+        dilate_words(alloc, line, words)
+    } else if name == b"erode".as_slice() {
+        erode_words(alloc, line, words)
+    } else if name == b"open".as_slice() {
+        open_words(alloc, line, words)
+    } else if name == b"close".as_slice() {
+        close_words(alloc, line, words)
     } else if name == b"undo".as_slice() {
         undo_words(line, words)
+    } else if name == b"element".as_slice() {
+        element_words(alloc, line, words)
+    } else if name == b"elements".as_slice() {
+        no_words(line, words, Command::Elements)
+    } else if name == b"info".as_slice() {
+        no_words(line, words, Command::Info)
     } else if name == b"dales".as_slice() {
         no_words(line, words, Command::Dales)
     } else if name == b"hills".as_slice() {

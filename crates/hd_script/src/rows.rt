@@ -1,5 +1,6 @@
 // The commands that the words after each name make.
-ghost use Rattle.std.specs.Prelude.{◌≡◌, ◌∷◌, [], All, map};
+ghost use Rattle.std.specs.Prelude.{◌≡◌, ◌∷◌, [], All, IfOk, map};
+ghost use Rattle.hd_script.specs.Whole.{IsWhole};
 ghost use Rattle.hd_num.specs.Span.{IsPart, text_at};
 ghost use Rattle.hd_script.specs.Rows.{add_words, bad_words, label_words, mask_words, no_words, set_words, tree_words, undo_words, unmask_words};
 
@@ -10,7 +11,9 @@ use hd_num::Span;
 
 /// A command with no words after its name.
 pub fn no_words(line: &[u8], words: &[Span], command: Command) -> Result<Command, LineError>
-    ensures { result ≡ no_words command (map (text_at line.now) words.now) }
+    requires { IsWhole command }
+    ensures value { result ≡ no_words command (map (text_at line.now) words.now) }
+    ensures whole { IfOk result IsWhole }
 {
     if words.is_empty() {
         Ok(command)
@@ -22,7 +25,8 @@ pub fn no_words(line: &[u8], words: &[Span], command: Command) -> Result<Command
 /// `set X Y Z`.
 pub fn set_words(line: &[u8], words: &[Span]) -> Result<Command, LineError>
     requires { All (IsPart line.now) words.now }
-    ensures { result ≡ set_words (map (text_at line.now) words.now) }
+    ensures value { result ≡ set_words (map (text_at line.now) words.now) }
+    ensures whole { IfOk result IsWhole }
 {
     let [x, y, z] = words else {
         return Err(LineError::WordCount);
@@ -35,7 +39,8 @@ pub fn set_words(line: &[u8], words: &[Span]) -> Result<Command, LineError>
 /// `bad X Y`.
 pub fn bad_words(line: &[u8], words: &[Span]) -> Result<Command, LineError>
     requires { All (IsPart line.now) words.now }
-    ensures { result ≡ bad_words (map (text_at line.now) words.now) }
+    ensures value { result ≡ bad_words (map (text_at line.now) words.now) }
+    ensures whole { IfOk result IsWhole }
 {
     let [x, y] = words else {
         return Err(LineError::WordCount);
@@ -47,7 +52,8 @@ pub fn bad_words(line: &[u8], words: &[Span]) -> Result<Command, LineError>
 /// `add X0 Y0 X1 Y1 D`.
 pub fn add_words(line: &[u8], words: &[Span]) -> Result<Command, LineError>
     requires { All (IsPart line.now) words.now }
-    ensures { result ≡ add_words (map (text_at line.now) words.now) }
+    ensures value { result ≡ add_words (map (text_at line.now) words.now) }
+    ensures whole { IfOk result IsWhole }
 {
     let [x, y, other_x, other_y, delta] = words else {
         return Err(LineError::WordCount);
@@ -65,7 +71,8 @@ fn add_command(
     other_y: &[u8],
     delta: &[u8],
 ) -> Result<Command, LineError>
-    ensures { result ≡ add_words (x.now ∷ y.now ∷ other_x.now ∷ other_y.now ∷ delta.now ∷ []) }
+    ensures value { result ≡ add_words (x.now ∷ y.now ∷ other_x.now ∷ other_y.now ∷ delta.now ∷ []) }
+    ensures whole { IfOk result IsWhole }
 {
     let (from, to) = corner_words(x, y, other_x, other_y)?;
     let delta = whole_word(6, delta)?;
@@ -75,7 +82,8 @@ fn add_command(
 /// `mask X0 Y0 X1 Y1`.
 pub fn mask_words(line: &[u8], words: &[Span]) -> Result<Command, LineError>
     requires { All (IsPart line.now) words.now }
-    ensures { result ≡ mask_words (map (text_at line.now) words.now) }
+    ensures value { result ≡ mask_words (map (text_at line.now) words.now) }
+    ensures whole { IfOk result IsWhole }
 {
     let [x, y, other_x, other_y] = words else {
         return Err(LineError::WordCount);
@@ -89,7 +97,8 @@ pub fn mask_words(line: &[u8], words: &[Span]) -> Result<Command, LineError>
 /// `unmask X0 Y0 X1 Y1`.
 pub fn unmask_words(line: &[u8], words: &[Span]) -> Result<Command, LineError>
     requires { All (IsPart line.now) words.now }
-    ensures { result ≡ unmask_words (map (text_at line.now) words.now) }
+    ensures value { result ≡ unmask_words (map (text_at line.now) words.now) }
+    ensures whole { IfOk result IsWhole }
 {
     let [x, y, other_x, other_y] = words else {
         return Err(LineError::WordCount);
@@ -103,7 +112,8 @@ pub fn unmask_words(line: &[u8], words: &[Span]) -> Result<Command, LineError>
 /// `undo K`.
 pub fn undo_words(line: &[u8], words: &[Span]) -> Result<Command, LineError>
     requires { All (IsPart line.now) words.now }
-    ensures { result ≡ undo_words (map (text_at line.now) words.now) }
+    ensures value { result ≡ undo_words (map (text_at line.now) words.now) }
+    ensures whole { IfOk result IsWhole }
 {
     let [count] = words else {
         return Err(LineError::WordCount);
@@ -115,7 +125,8 @@ pub fn undo_words(line: &[u8], words: &[Span]) -> Result<Command, LineError>
 /// `label S X Y`.
 pub fn label_words(line: &[u8], words: &[Span]) -> Result<Command, LineError>
     requires { All (IsPart line.now) words.now }
-    ensures { result ≡ label_words (map (text_at line.now) words.now) }
+    ensures value { result ≡ label_words (map (text_at line.now) words.now) }
+    ensures whole { IfOk result IsWhole }
 {
     let [side, x, y] = words else {
         return Err(LineError::WordCount);
@@ -128,7 +139,8 @@ pub fn label_words(line: &[u8], words: &[Span]) -> Result<Command, LineError>
 /// `tree S`.
 pub fn tree_words(line: &[u8], words: &[Span]) -> Result<Command, LineError>
     requires { All (IsPart line.now) words.now }
-    ensures { result ≡ tree_words (map (text_at line.now) words.now) }
+    ensures value { result ≡ tree_words (map (text_at line.now) words.now) }
+    ensures whole { IfOk result IsWhole }
 {
     let [side] = words else {
         return Err(LineError::WordCount);

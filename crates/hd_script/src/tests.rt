@@ -87,6 +87,12 @@ fn reports(rt: HostRuntime) -> Result<(), Fail> {
     let read = read_line(rt.alloc(), b"\r\t dales\t");
     assert!(rt; matches!(read, Ok(Some(Command::Dales))));
     assert!(rt; matches!(read_line(rt.alloc(), b"hills"), Ok(Some(Command::Hills))));
+    assert!(rt;
+        matches!(
+            read_line(rt.alloc(), b"elements"),
+            Ok(Some(Command::Elements))
+        )
+    );
     let read = read_line(rt.alloc(), b"label H 2 0");
     assert!(rt;
         matches!(
@@ -106,6 +112,29 @@ fn reports(rt: HostRuntime) -> Result<(), Fail> {
             }))
         )
     );
+    Ok(())
+}
+
+#[test]
+fn an_element_has_a_name_and_a_table(rt: HostRuntime) -> Result<(), Fail> {
+    let read = read_line(rt.alloc(), b"element f_-9 3 1 -4294967295 - +4294967295");
+    let Ok(
+        Some(
+            Command::Element {
+                name,
+                width,
+                height,
+                table,
+            },
+        ),
+    ) = read
+    else {
+        return Err("no element".into());
+    };
+    assert_eq!(rt; name.as_slice(), b"f_-9".as_slice());
+    assert_eq!(rt; (width, height), (3, 1));
+    let entries = [Some(-4_294_967_295), None, Some(4_294_967_295)];
+    assert_eq!(rt; table.as_slice(), entries.as_slice());
     Ok(())
 }
 
@@ -130,7 +159,7 @@ fn lines_that_are_skipped(rt: HostRuntime) -> Result<(), Fail> {
 
 #[test]
 fn lines_that_are_refused(rt: HostRuntime) -> Result<(), Fail> {
-    let cases: [(&[u8], LineError); 39] = [
+    let cases: [(&[u8], LineError); 48] = [
         (b"run", LineError::UnknownCommand),
         (b"Dales", LineError::UnknownCommand),
         (b"SET 1 2 3", LineError::UnknownCommand),
@@ -170,6 +199,15 @@ fn lines_that_are_refused(rt: HostRuntime) -> Result<(), Fail> {
         (b"tree", LineError::WordCount),
         (b"tree DH", LineError::BadWord(2)),
         (b"undo -1", LineError::BadWord(2)),
+        (b"element f 1", LineError::WordCount),
+        (b"element f! 1 1 0", LineError::BadWord(2)),
+        (b"element f x y", LineError::BadWord(3)),
+        (b"element f 1 y", LineError::BadWord(4)),
+        (b"element f 3 1 0 0", LineError::WordCount),
+        (b"element f 3 1 x 0", LineError::WordCount),
+        (b"element f 3 1 0 x 0", LineError::BadWord(6)),
+        (b"element f 1 1 4294967296", LineError::BadWord(5)),
+        (b"element f 1 1 --", LineError::BadWord(5)),
     ];
     for (line, error) in &cases {
         assert_eq!(rt;

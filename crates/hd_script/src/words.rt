@@ -1,11 +1,18 @@
 // What the words of a line write.
-ghost use Rattle.std.specs.Prelude.{◌≡◌, ◌<◌, ◌^◌};
+ghost use Rattle.std.specs.Prelude.{◌≡◌, ◌⊎◌, ◌<◌, ◌^◌, ◌&&◌, Err, IfOk, length, nat_le};
+ghost use Rattle.hd_morph.specs.Element.{IsEntry};
 ghost use Rattle.hd_num.specs.Span.{IsPart, text_at};
-ghost use Rattle.hd_script.specs.Words.{corner_words, count_word, position_words, side_word, whole_word};
+ghost use Rattle.std.specs.List.{list_all};
+ghost use Rattle.hd_script.specs.Words.{corner_words, count_word, entry_word, is_name_byte, name_word, position_words, side_word, whole_word};
 
 use crate::LineError;
+use hd_base::List;
 use hd_map::{Pos, SideName};
 use hd_num::{Span, Whole, read_count, read_whole};
+use std::alloc::Global;
+
+// The greatest absolute value of an entry of an element.
+const GREATEST_ENTRY: i64 = 4_294_967_295;
 
 /// The bytes of a word.
 pub fn text(line: &[u8], word: Span) -> &[u8]
@@ -68,4 +75,53 @@ pub fn corner_words(
     let from = position_words(2, x, y)?;
     let to = position_words(4, other_x, other_y)?;
     Ok((from, to))
+}
+
+/// The name that the word of a number is: 1 to 32 letters, digits, `_` and `-`. `Memory` comes
+/// where its bytes are refused their memory.
+pub fn name_word(alloc: Global, number: u32, word: &[u8]) -> Result<List<u8>, LineError>
+    ensures { (result ≡ Err LineError.Memory) ⊎ (result ≡ name_word number word.now) }
+{
+    if !is_name(word) {
+        return Err(LineError::BadWord(number));
+    }
+    let mut name = List::new(alloc);
+    name.extend_from_slice(word)?;
+    Ok(name)
+}
+
+/// The entry of an element that the word of a number writes: `-` for none, or a whole number.
+pub fn entry_word(number: u32, word: &[u8]) -> Result<Option<i64>, LineError>
+    ensures value { result ≡ entry_word number word.now }
+    ensures entry { IfOk result IsEntry }
+{
+    if matches!(word, b"-") {
+        return Ok(None);
+    }
+    match read_whole(word) {
+        Whole::Is(z) if -GREATEST_ENTRY <= z && z <= GREATEST_ENTRY => Ok(Some(z)),
+        _ => Err(LineError::BadWord(number)),
+    }
+}
+
+// Whether a word is a name.
+fn is_name(word: &[u8]) -> bool
+    ensures { result ≡ nat_le 1 (length word.now) && nat_le (length word.now) 32 && list_all is_name_byte word.now }
+{
+    if word.is_empty() || 32 < word.len() {
+        return false;
+    }
+    'bytes: for byte in word {
+        if !is_name_byte(*byte) {
+            return false;
+        }
+    }
+    true
+}
+
+// Whether a byte may stand in a name.
+fn is_name_byte(byte: u8) -> bool
+    ensures { result ≡ is_name_byte byte }
+{
+    byte.is_ascii_alphanumeric() || byte == b'_' || byte == b'-'
 }

@@ -1,0 +1,54 @@
+// The command that defines an element, whose number of words its own words tell.
+ghost use Rattle.std.specs.Prelude.{◌≡◌, ◌⊎◌, ◌<◌, ◌^◌, Err, All, IfOk, length, map};
+ghost use Rattle.hd_morph.specs.Element.{IsEntry};
+ghost use Rattle.hd_num.specs.Span.{IsPart, text_at};
+ghost use Rattle.hd_script.specs.Rows.{element_words};
+ghost use Rattle.hd_script.specs.Whole.{IsWhole};
+ghost use Rattle.hd_script.specs.Words.{entry_words};
+
+use crate::words::{count_word, entry_word, name_word, text};
+use crate::{Command, LineError};
+use hd_base::List;
+use hd_num::Span;
+use std::alloc::Global;
+
+/// `element NAME W H` and W times H entries, row by row. The first three words are read before the
+/// number of the entries is judged.
+pub fn element_words(alloc: Global, line: &[u8], words: &[Span]) -> Result<Command, LineError>
+    requires parts { All (IsPart line.now) words.now }
+    requires few { length words.now < 2 ^ 16 }
+    ensures value { (result ≡ Err LineError.Memory) ⊎ (result ≡ element_words (map (text_at line.now) words.now)) }
+    ensures whole { IfOk result IsWhole }
+{
+    let [name, width, height, entries @ ..] = words else {
+        return Err(LineError::WordCount);
+    };
+    let name = name_word(alloc, 2, text(line, *name))?;
+    let width = count_word(3, text(line, *width))?;
+    let height = count_word(4, text(line, *height))?;
+    if entries.len() as u64 != u64::from(width) * u64::from(height) {
+        return Err(LineError::WordCount);
+    }
+    let table = entry_words(alloc, line, entries)?;
+    Ok(Command::Element {
+        name,
+        width,
+        height,
+        table,
+    })
+}
+
+// The entries of an element, the first being word 5.
+fn entry_words(alloc: Global, line: &[u8], words: &[Span]) -> Result<List<Option<i64>>, LineError>
+    requires parts { All (IsPart line.now) words.now }
+    requires few { length words.now < 2 ^ 16 }
+    ensures value { (result ≡ Err LineError.Memory) ⊎ (result ≡ entry_words 5 (map (text_at line.now) words.now)) }
+    ensures count { IfOk result (λ table. length table ≡ length words.now) }
+    ensures entries { IfOk result (All IsEntry) }
+{
+    let mut table = List::new(alloc);
+    'entries: for (index, word) in words.iter().enumerate() {
+        table.push(entry_word(index as u32 + 5, text(line, *word))?)?;
+    }
+    Ok(table)
+}
