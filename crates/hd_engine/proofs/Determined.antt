@@ -10,7 +10,9 @@ use Rattle.hd_map.specs.Region.{IsRoot, AreRegions}
 use Rattle.hd_map.proofs.Points.{same_point}
 use Rattle.hd_edit.specs.declared.edit.Edit.{Edit}
 use Rattle.hd_edit.specs.declared.edit.EditError.{EditError}
-use Rattle.hd_edit.specs.Board.{ElementTable, IsEdited}
+use Rattle.hd_morph.specs.declared.errors.ElementError.{ElementError}
+use Rattle.hd_morph.specs.Element.{ElementTable}
+use Rattle.hd_edit.specs.Board.{IsEdited}
 use Rattle.hd_script.specs.declared.command.Command.{Command}
 use Rattle.hd_script.specs.declared.command.Command.TheVariants as command
 use Rattle.hd_script.specs.declared.command.LineError.{LineError}
@@ -18,6 +20,8 @@ use Rattle.hd_script.specs.Line.{script_line}
 use Rattle.hd_engine.specs.declared.survey.Extent.{Extent}
 use Rattle.hd_engine.specs.Answers.{IsCommandAnswer, IsReadAnswer, IsAnswer, AreAnswers}
 use Rattle.hd_engine.specs.Edits.{IsOutcomeAnswer, IsEditAnswer, IsUndoAnswer}
+use Rattle.hd_engine.specs.Elements.{IsElementAnswer, IsMadeAnswer}
+use Rattle.hd_engine.proofs.Makes.{made_once}
 use Rattle.hd_engine.specs.Regions.{AreExtents, IsRegionsAnswer, IsLabelAnswer, TellsRoot, extent_of, pits_of, extents_text, label_text}
 use Rattle.hd_engine.specs.Reply.{Reply, Reports, Becomes, accepted_with}
 use Rattle.hd_engine.specs.State.{State, IsState}
@@ -83,6 +87,15 @@ module _ (one : Determine) (s : State) (number : ℕ) (a b : Reply) (s' s'' : St
   label-one side at (inr (inr x)) (inr (inl y)) = absurd (y.1 x.present)
   label-one side at (inr (inr x)) (inr (inr y)) = root-one side at x y
 
+  made-one : (made : Result ElementTable ElementError) → IsMadeAnswer s number made a s' → IsMadeAnswer s number made b s'' → Agrees a b s' s''
+  made-one (Ok element) x y = becomes-one number _ s' s'' a b x y
+  made-one (Err error) x y = reports-one s s' s'' _ a b x y
+
+  element-one : (table : ElementTable) → IsElementAnswer s number table a s' → IsElementAnswer s number table b s'' → Agrees a b s' s''
+  element-one table x y =
+      let same = made_once table y.made x.made y.makes x.makes in
+      made-one x.made x.answer (subst (λ made. IsMadeAnswer s number made b s'') same y.answer)
+
   tree-one : (side : SideName) → IsTreeAnswer s side a s' → IsTreeAnswer s side b s'' → Agrees a b s' s''
   tree-one side x y =
       let same : x.joins ≡ y.joins = one.trees s.map side x.joins y.joins x.tree y.tree in
@@ -91,6 +104,9 @@ module _ (one : Determine) (s : State) (number : ℕ) (a b : Reply) (s' s'' : St
   command-one : (asked : Command) → IsCommandAnswer s number asked a s' → IsCommandAnswer s number asked b s'' → Agrees a b s' s''
   command-one (command.Do edit) x y = edit-one edit x y
   command-one (command.Undo n) x y = undo-one n x y
+  command-one (command.Element name width height table) x y = element-one _ x y
+  command-one command.Elements x y = reports-one s s' s'' _ a b x y
+  command-one command.Info x y = reports-one s s' s'' _ a b x y
   command-one command.Dales x y = regions-one _ x y
   command-one command.Hills x y = regions-one _ x y
   command-one (command.Label side at) x y = label-one side at x y

@@ -4,13 +4,16 @@ use Rattle.std.specs.Prelude.{All}
 use Rattle.hd_map.specs.Map.{Map, IsMap}
 use Rattle.hd_edit.specs.declared.edit.Edit.{Edit}
 use Rattle.hd_edit.specs.declared.edit.EditError.{EditError}
-use Rattle.hd_edit.specs.Board.{ElementTable, IsEdited, kept_after, map_before, earlier_before}
+use Rattle.hd_morph.specs.declared.errors.ElementError.{ElementError}
+use Rattle.hd_morph.specs.Element.{ElementTable}
+use Rattle.hd_edit.specs.Board.{IsEdited, kept_after, map_before, earlier_before}
 use Rattle.hd_script.specs.declared.command.Command.{Command}
 use Rattle.hd_script.specs.declared.command.Command.TheVariants as command
 use Rattle.hd_script.specs.declared.command.LineError.{LineError}
 use Rattle.hd_script.specs.Line.{script_line}
 use Rattle.hd_engine.specs.Answers.{IsCommandAnswer, IsReadAnswer, IsAnswer}
 use Rattle.hd_engine.specs.Edits.{IsOutcomeAnswer, IsUndoAnswer, edited_state, undone_state}
+use Rattle.hd_engine.specs.Elements.{IsMadeAnswer}
 use Rattle.hd_engine.specs.Regions.{IsLabelAnswer}
 use Rattle.hd_engine.specs.Reply.{Reply, Reports}
 use Rattle.hd_engine.specs.State.{State, IsState}
@@ -37,6 +40,10 @@ module _ (keeps : KeepsMaps) (s : State) (number : ℕ) (reply : Reply) (after :
       subst IsState (sym is.state) (record { map = keeps.back n s.earlier s.map whole.earlier whole.map; earlier = keeps.left n s.earlier whole.earlier })
   undo-keeps n (inr (kept, is)) = stays s after _ reply whole is
 
+  made-keeps : (made : Result ElementTable ElementError) → IsMadeAnswer s number made reply after → IsState after
+  made-keeps (Ok element) is = subst IsState (sym is.state) (record { map = whole.map; earlier = whole.earlier })
+  made-keeps (Err error) is = stays s after _ reply whole is
+
   label-keeps : (side : _) (at : _) → IsLabelAnswer s number side at reply after → IsState after
   label-keeps side at (inl outside) = stays s after _ reply whole outside.1
   label-keeps side at (inr (inl absent)) = stays s after _ reply whole absent.2
@@ -45,6 +52,9 @@ module _ (keeps : KeepsMaps) (s : State) (number : ℕ) (reply : Reply) (after :
   command-keeps : (asked : Command) → IsCommandAnswer s number asked reply after → IsState after
   command-keeps (command.Do edit) is = outcome-keeps edit is.outcome is.edited is.answer
   command-keeps (command.Undo n) is = undo-keeps n is
+  command-keeps (command.Element name width height table) is = made-keeps is.made is.answer
+  command-keeps command.Elements is = stays s after _ reply whole is
+  command-keeps command.Info is = stays s after _ reply whole is
   command-keeps command.Dales is = stays s after _ reply whole is.answer
   command-keeps command.Hills is = stays s after _ reply whole is.answer
   command-keeps (command.Label side at) is = label-keeps side at is

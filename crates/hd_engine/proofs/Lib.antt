@@ -2,5 +2,10 @@ pub mod Pits
 pub mod Roots
 pub mod PitLows
 pub mod TreePoints
+pub mod EditAnswers
 pub mod Kept
+pub mod Makes
 pub mod Determined
+pub mod FileForms
+pub mod Presences
+pub mod CellCopies

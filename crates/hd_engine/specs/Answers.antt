@@ -6,7 +6,9 @@ use Rattle.hd_script.specs.declared.command.Command.TheVariants as command
 use Rattle.hd_script.specs.declared.command.LineError.{LineError}
 use Rattle.hd_script.specs.Line.{script_line}
 use Rattle.hd_engine.specs.Edits.{IsEditAnswer, IsUndoAnswer}
+use Rattle.hd_engine.specs.Elements.{IsElementAnswer, IsElementsAnswer}
 use Rattle.hd_engine.specs.Forms.{form_text}
+use Rattle.hd_engine.specs.Info.{IsInfoAnswer}
 use Rattle.hd_engine.specs.Regions.{IsRegionsAnswer, IsLabelAnswer}
 use Rattle.hd_engine.specs.Reply.{Reply, Reports, Refuses, accepted_with}
 use Rattle.hd_engine.specs.State.{State}
@@ -16,6 +18,10 @@ use Rattle.hd_engine.specs.Trees.{IsTreeAnswer}
 abbrev pub IsCommandAnswer : State → ℕ → Command → Reply → State → Type 0
 IsCommandAnswer s number (command.Do edit) reply after = IsEditAnswer s number edit reply after
 IsCommandAnswer s number (command.Undo n) reply after = IsUndoAnswer s number n reply after
+IsCommandAnswer s number (command.Element name width height table) reply after =
+    IsElementAnswer s number (record { name = name; width = width; height = height; table = table }) reply after
+IsCommandAnswer s number command.Elements reply after = IsElementsAnswer s reply after
+IsCommandAnswer s number command.Info reply after = IsInfoAnswer s reply after
 IsCommandAnswer s number command.Dales reply after = IsRegionsAnswer s side.Dales reply after
 IsCommandAnswer s number command.Hills reply after = IsRegionsAnswer s side.Hills reply after
 IsCommandAnswer s number (command.Label name at) reply after = IsLabelAnswer s number name at reply after

@@ -3,7 +3,7 @@ use Rattle.std.specs.Prelude.{◌≡◌, ◌≤◌, ◌<◌, ◌++◌, ◌⊎◌
 use Rattle.hd_map.specs.Map.{Map}
 use Rattle.hd_edit.specs.declared.edit.Edit.{Edit}
 use Rattle.hd_edit.specs.declared.edit.EditError.{EditError}
-use Rattle.hd_edit.specs.declared.edit.EditError.TheVariants.{Memory, Outside, HeightRange, EmptyRect}
+use Rattle.hd_edit.specs.declared.edit.EditError.TheVariants.{Memory, Outside, HeightRange, EmptyRect, NoElement}
 use Rattle.hd_edit.specs.Board.{IsEdited, kept_after, map_before, earlier_before}
 use Rattle.hd_engine.specs.Place.{place_text, outside_text}
 use Rattle.hd_engine.specs.Reply.{Reply, Becomes, Refuses}
@@ -15,6 +15,7 @@ edit_text Memory = []
 edit_text (Outside at) = outside_text at
 edit_text (HeightRange at) = codes "height out of range at " ++ place_text at
 edit_text EmptyRect = codes "empty rectangle"
+edit_text NoElement = codes "no element of this name"
 
 -- the state after an accepted edit
 abbrev pub edited_state : State → Map → State

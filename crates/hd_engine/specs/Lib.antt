@@ -1,8 +1,12 @@
 pub mod State
+pub mod Texts
 pub mod Reply
 pub mod Place
 pub mod Forms
 pub mod Edits
+pub mod Elements
 pub mod Regions
 pub mod Trees
+pub mod Info
+pub mod Presence
 pub mod Answers

@@ -12,13 +12,15 @@ use std::alloc::Global;
 
 /// The text of the cause for which an edit is refused. Want of memory is handed on.
 pub fn edit_cause(alloc: Global, error: EditError) -> Result<List<u8>, Memory>
-    ensures { IfOk result (λ text. text ≡ edit_text error) }
+    ensures known { IfOk result (λ text. error ≡ EditError.Memory → ⊥) }
+    ensures text { IfOk result (λ text. text ≡ edit_text error) }
 {
     match error {
         EditError::Memory => Err(Memory),
         EditError::Outside(at) => outside_cause(alloc, at),
         EditError::HeightRange(at) => range_cause(alloc, at),
         EditError::EmptyRect => plain_cause(alloc, b"empty rectangle".as_slice()),
+        EditError::NoElement => plain_cause(alloc, b"no element of this name".as_slice()),
     }
 }
 

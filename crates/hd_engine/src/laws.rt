@@ -1,11 +1,12 @@
 // What a line and a script determine.
 ghost use Rattle.std.specs.Prelude.{◌≡◌, ℕ, List};
-ghost use Rattle.hd_map.specs.Map.{Map, IsMap};
+ghost use Rattle.hd_map.specs.Map.{IsMap};
+ghost use Rattle.hd_sdf_read.specs.File.{File};
 ghost use Rattle.hd_engine.specs.Answers.{IsAnswer, AreAnswers};
 ghost use Rattle.hd_engine.specs.Reply.{Reply};
 ghost use Rattle.hd_engine.specs.State.{State, IsState, first_state};
 
-use hd_edit::{edits_keep_maps, logs_keep_maps, undos_keep_maps};
+use hd_edit::{edit_is_determined, edits_keep_maps, logs_keep_maps, undos_keep_maps};
 use hd_map::change_tree_is_determined;
 use hd_steep::{regions_are_determined, root_is_determined};
 
@@ -13,6 +14,7 @@ use hd_steep::{regions_are_determined, root_is_determined};
 pub fn answer_is_determined()
     ensures { (s : State) (number : ℕ) (line : List ℕ) (a b : Reply) (s' s'' : State) → IsState s → IsAnswer s number line a s' → IsAnswer s number line b s'' → (a ≡ b) × (s' ≡ s'') }
 {
+    edit_is_determined();
     regions_are_determined();
     root_is_determined();
     change_tree_is_determined();
@@ -29,7 +31,7 @@ pub fn answers_are_determined()
 /// A line leaves maps: the present one, and each earlier one.
 pub fn answer_keeps_a_state()
     ensures kept { (s : State) (number : ℕ) (line : List ℕ) (a : Reply) (s' : State) → IsState s → IsAnswer s number line a s' → IsState s' }
-    ensures first { (m : Map) → IsMap m → IsState (first_state m) }
+    ensures first { (file : File) → IsMap file.map → IsState (first_state file) }
 {
     edits_keep_maps();
     logs_keep_maps();

@@ -2,15 +2,20 @@
 #![tactic(auto)]
 
 mod answer;
+mod copies;
 mod edits;
+mod elements;
 mod forms;
+mod info;
 mod laws;
+mod parts;
 mod place;
 mod regions;
 mod session;
 mod survey;
 #[cfg(test)]
 mod tests;
+mod texts;
 mod trees;
 
 pub use answer::Answer;

@@ -1,25 +1,34 @@
 // A session on one surface.
 ghost use Rattle.std.specs.Prelude.{◌≡◌, ◌≤◌, ◌<◌, ◌+◌, [], IfOk, OnErr};
 ghost use Rattle.hd_map.specs.Map.{Present};
-ghost use Rattle.hd_map.specs.Surface.{map_of};
+ghost use Rattle.hd_script.specs.Whole.{IsTable, IsWhole};
+ghost use Rattle.hd_sdf_read.specs.FileOf.{file_of};
 ghost use Rattle.hd_engine.specs.Answers.{IsAnswer, IsCommandAnswer};
-ghost use Rattle.hd_engine.specs.Edits.{IsEditAnswer, IsUndoAnswer};
+ghost use Rattle.hd_engine.specs.Edits.{edit_text, IsEditAnswer, IsUndoAnswer};
+ghost use Rattle.hd_engine.specs.Elements.{IsElementAnswer, IsElementsAnswer};
 ghost use Rattle.hd_engine.specs.Forms.{form_text};
+ghost use Rattle.hd_engine.specs.Info.{IsInfoAnswer};
 ghost use Rattle.hd_engine.specs.Regions.{IsLabelAnswer, IsRegionsAnswer, TellsRoot};
 ghost use Rattle.hd_engine.specs.Reply.{refused_for, reply_of};
-ghost use Rattle.hd_engine.specs.State.{first_state};
+ghost use Rattle.hd_engine.specs.State.{first_state, saved_file};
 ghost use Rattle.hd_engine.specs.Trees.{IsTreeAnswer};
 
 use crate::Answer;
 use crate::edits::{edit_cause, kept_cause};
+use crate::elements::{element_cause, list_elements};
 use crate::forms::form_cause;
+use crate::info::tell_info;
+use crate::parts::{joined, parted};
 use crate::place::outside_cause;
 use crate::regions::{list_regions, not_present_cause, tell_label};
+use crate::texts::Texts;
 use crate::trees::list_tree;
 use hd_base::{List, Memory};
 use hd_edit::{Board, Edit, EditError};
 use hd_map::{Down, Heights, Pos, Side, SideName, Surface, Up, contains, is_present};
+use hd_morph::Element;
 use hd_script::{Command, LineError, read_line};
+use hd_sdf_read::SdfFile;
 use std::alloc::Global;
 use std::marker::Model;
 
@@ -28,6 +37,7 @@ use std::marker::Model;
 #[derive(Drop)]
 pub struct Session {
     alloc: Global,
+    texts: Texts,
     board: Board<Surface>,
     asked: u64,
     tile: u32,
@@ -37,31 +47,50 @@ impl Model for Session {
     ghost use Rattle.std.specs.Prelude.{◌≤◌};
     ghost use Rattle.hd_map.specs.Surface.{map_of};
     ghost use Rattle.hd_engine.specs.State.{SessionState};
+    ghost use Rattle.hd_engine.specs.Texts.{texts_view};
 
     ghost Value = { SessionState };
 
-    ghost view = { λ s. record { state = record { map = map_of s.board.grid; earlier = s.board.earlier; elements = s.board.elements }; asked = s.asked } };
+    ghost view = { λ s. record {
+      state = record {
+        read = texts_view s.texts;
+        map = map_of s.board.grid;
+        earlier = s.board.earlier;
+        elements = s.board.elements;
+      };
+      asked = s.asked;
+    } };
 
     ghost invariant = { λ s. (8 ≤ s.tile) × (s.tile ≤ 256) };
 }
 
 impl Session {
-    /// A session on a surface, with no line asked. The tile side, from 8 to 256 points, has no
-    /// effect on any answer.
+    /// A session on the surface of a file, with no line asked. The tile side, from 8 to 256 points,
+    /// has no effect on any answer.
     ///
     /// `Memory` comes where the session is refused its memory.
-    pub fn new(alloc: Global, surface: Surface, tile: u32) -> Result<Session, Memory>
+    pub fn new(alloc: Global, file: SdfFile, tile: u32) -> Result<Session, Memory>
         requires least { 8 ≤ tile }
         requires greatest { tile ≤ 256 }
-        ensures { IfOk result (λ s. (s.state ≡ first_state (map_of surface)) × (s.asked ≡ 0)) }
+        ensures { IfOk result (λ s. (s.state ≡ first_state (file_of file)) × (s.asked ≡ 0)) }
     {
+        let (texts, surface) = parted(file);
         let board = Board::new(alloc, surface)?;
         Ok(Session {
             alloc,
+            texts,
             board,
             asked: 0,
             tile,
         })
+    }
+
+    /// The file with the texts as they were read and all cells of the present map: masked points
+    /// keep their heights, and no mask is kept. `Memory` comes where the file is refused its memory.
+    pub fn file(&self) -> Result<SdfFile, Memory>
+        ensures { IfOk result (λ file. file_of file ≡ saved_file self.now.state) }
+    {
+        joined(self.alloc, &self.texts, self.board.grid())
     }
 
     /// The answer to a line without its LF, which counts as asked whatever comes of it. The number
@@ -94,6 +123,7 @@ impl Session {
 
     // The answer to a command.
     fn obey(&mut self, number: u64, command: Command) -> Result<Answer, Memory>
+        requires { IsWhole command }
         ensures ok { IfOk result (λ a. IsCommandAnswer self.old.state number command (reply_of a) self.new.state) }
         ensures memory { OnErr result (self.new.state ≡ self.old.state) }
         ensures asked { self.new.asked ≡ self.old.asked }
@@ -101,6 +131,14 @@ impl Session {
         match command {
             Command::Do(edit) => self.edit(number, &edit),
             Command::Undo(count) => self.undo(number, count),
+            Command::Element {
+                name,
+                width,
+                height,
+                table,
+            } => self.define(number, name, width, height, table),
+            Command::Elements => self.elements(),
+            Command::Info => self.info(),
             Command::Dales => self.list::<Down>(),
             Command::Hills => self.list::<Up>(),
             Command::Label { side, at } => self.label(number, side, at),
@@ -122,12 +160,17 @@ impl Session {
         let ok = Answer::ok(self.alloc, number)?;
         match self.board.apply(edit) {
             Ok(()) => Ok(ok),
-            Err(EditError::Memory) => Err(Memory),
-            Err(error) => {
-                let cause = edit_cause(self.alloc, error)?;
-                Answer::refused(self.alloc, number, cause.as_slice())
-            }
+            Err(error) => self.refuse_edit(number, error),
         }
+    }
+
+    // The answer to an edit that was refused.
+    fn refuse_edit(&self, number: u64, error: EditError) -> Result<Answer, Memory>
+        ensures known { IfOk result (λ a. error ≡ EditError.Memory → ⊥) }
+        ensures reply { IfOk result (λ a. reply_of a ≡ refused_for number (edit_text error)) }
+    {
+        let cause = edit_cause(self.alloc, error)?;
+        Answer::refused(self.alloc, number, cause.as_slice())
     }
 
     // Goes back over kept edits, once the memory for its answer is there.
@@ -144,6 +187,50 @@ impl Session {
                 Answer::refused(self.alloc, number, cause.as_slice())
             }
         }
+    }
+
+    // Defines an element, once the memory for its answer is there.
+    fn define(
+        &mut self,
+        number: u64,
+        name: List<u8>,
+        width: u32,
+        height: u32,
+        table: List<Option<i64>>,
+    ) -> Result<Answer, Memory>
+        requires { IsTable width height table }
+        ensures ok { IfOk result (λ a. IsElementAnswer self.old.state number (record { name = name; width = width; height = height; table = table }) (reply_of a) self.new.state) }
+        ensures memory { OnErr result (self.new.state ≡ self.old.state) }
+        ensures asked { self.new.asked ≡ self.old.asked }
+    {
+        let ok = Answer::ok(self.alloc, number)?;
+        match Element::new(name, width, height, table) {
+            Ok(element) => {
+                self.board.define(element)?;
+                Ok(ok)
+            }
+            Err(error) => {
+                let cause = element_cause(self.alloc, error)?;
+                Answer::refused(self.alloc, number, cause.as_slice())
+            }
+        }
+    }
+
+    // The answer that lists the elements.
+    fn elements(&self) -> Result<Answer, Memory>
+        ensures { IfOk result (λ a. IsElementsAnswer self.now.state (reply_of a) self.now.state) }
+    {
+        let lines = self.board.elements()?;
+        let text = list_elements(self.alloc, lines.as_slice())?;
+        Ok(Answer::with_text(text))
+    }
+
+    // The answer that tells the size, the type, the heights and the scales.
+    fn info(&self) -> Result<Answer, Memory>
+        ensures { IfOk result (λ a. IsInfoAnswer self.now.state (reply_of a) self.now.state) }
+    {
+        let text = tell_info(self.alloc, &self.texts, self.board.grid())?;
+        Ok(Answer::with_text(text))
     }
 
     // The answer that lists the regions of a side.

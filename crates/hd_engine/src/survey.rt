@@ -14,7 +14,7 @@ use hd_graph::{
     regions_are_basins,
 };
 use hd_map::{Heights, Rank, Side, position_of, rank_of};
-use hd_steep::{passes, regions};
+use hd_steep::{crossings, regions};
 use std::alloc::Global;
 
 /// A region of a map.
@@ -37,13 +37,13 @@ pub fn extents<S: Side, G: Heights>(alloc: Global, grid: &G) -> Result<List<Exte
     list_extents::<S, G>(alloc, grid, roots.as_slice(), points.as_slice())
 }
 
-/// The flood line of the pits of a map on a side. `Memory` comes where the regions, their passes or
+/// The flood line of the pits of a map on a side. `Memory` comes where the regions, their crossings or
 /// the line are refused their memory.
 pub fn flood_line<S: Side, G: Heights>(alloc: Global, grid: &G) -> Result<FloodLine<S>, Memory>
     ensures { IfOk result (TellsSaddles (G.map grid.now) S.NAME) }
 {
     let roots = regions::<S, G>(alloc, grid)?;
-    let passes = passes::<S, G>(alloc, grid, &roots)?;
+    let passes = crossings::<S, G>(alloc, grid, &roots)?;
     let lows = list_lows::<S, G>(alloc, grid, roots.as_slice())?;
     regions_are_basins();
     passes_of_basins_are_a_graph();

@@ -1,31 +1,50 @@
 // A session on a small surface, line by line.
-ghost use Rattle.std.specs.Prelude.{◌≡◌, ◌<◌, ◌≤◌, ◌+◌, IfOk, length};
+ghost use Rattle.std.specs.Prelude.{◌≡◌, ◌<◌, ◌+◌, IfOk};
 
 use crate::Session;
-use hd_base::List;
-use hd_map::{Cell, DataType, Grid, Pos, Size, Surface};
+use hd_map::{Heights, Pos, contains};
+use hd_sdf_read::{SdfFile, read_sdf};
 use std::alloc::Global;
 use std::test::Fail;
+
+const SMALL: &str = "aBCR-1.0
+NumPoints = 3
+NumProfiles = 1
+Xscale = 1e-6
+Yscale = 2e-6
+Zscale = 1e-9
+DataType = 0
+*
+0 5 1
+*
+made by hand
+";
+
+const NOT_MEASURED: &str = "aBCR-1.0
+NumPoints = 2
+NumProfiles = 1
+Xscale = 1e-6
+Yscale = 1e-6
+Zscale = 1e-9
+DataType = 5
+*
+BAD BAD
+*
+";
+
+// A session on the surface of a file.
+fn session_on(alloc: Global, text: &str) -> Result<Session, Fail>
+    ensures { IfOk result (λ session. session.asked ≡ 0) }
+{
+    let file = read_sdf(alloc, text.as_bytes())?;
+    Ok(Session::new(alloc, file, 64)?)
+}
 
 // A session on the heights 0 5 1, whose data type is U8.
 fn small(alloc: Global) -> Result<Session, Fail>
     ensures { IfOk result (λ session. session.asked ≡ 0) }
 {
-    let size = Size {
-        points: 3,
-        profiles: 1,
-    };
-    let cells = List::from_vec(vec![in alloc; Cell::Bad; 3]?);
-    let mut surface = Surface::new(alloc, size, DataType::U8, cells)
-        .ok()
-        .ok_or("no memory")?;
-    for (x, z) in [(0, 0), (1, 5), (2, 1)] {
-        surface
-            .set_cell(Pos { x, y: 0 }, Cell::Height(z))
-            .ok()
-            .ok_or("refused")?;
-    }
-    Ok(Session::new(alloc, surface, 64).ok().ok_or("no memory")?)
+    session_on(alloc, SMALL)
 }
 
 // Whether the line of this number has this answer.
@@ -94,5 +113,51 @@ fn lines_without_a_form_are_refused(rt: HostRuntime) -> Result<(), Fail> {
     assert!(rt; answers(&mut session, 8, "set 1 2", false, words));
     let form = "line 9 refused: word 2 has not its form\n";
     assert!(rt; answers(&mut session, 9, "bad x 0", false, form));
+    Ok(())
+}
+
+#[test]
+fn info_counts_present_points_and_tells_their_range(rt: HostRuntime) -> Result<(), Fail> {
+    let mut session = small(rt.alloc())?;
+    assert!(rt; answers(&mut session, 1, "mask 1 0 1 0", true, "line 1 ok\n"));
+    let masked = "info\nsize 3 1\ntype 0\npresent 2\nrange 0 1\nscales 1e-6 2e-6 1e-9\n";
+    assert!(rt; answers(&mut session, 2, "info", true, masked));
+    assert!(rt; answers(&mut session, 3, "undo 1", true, "line 3 ok\n"));
+    let whole = "info\nsize 3 1\ntype 0\npresent 3\nrange 0 5\nscales 1e-6 2e-6 1e-9\n";
+    assert!(rt; answers(&mut session, 4, "info", true, whole));
+    Ok(())
+}
+
+#[test]
+fn info_tells_no_range_where_nothing_is_present(rt: HostRuntime) -> Result<(), Fail> {
+    let mut session = session_on(rt.alloc(), NOT_MEASURED)?;
+    let none = "info\nsize 2 1\ntype 5\npresent 0\nrange none\nscales 1e-6 1e-6 1e-9\n";
+    assert!(rt; answers(&mut session, 1, "info", true, none));
+    Ok(())
+}
+
+// The height of a present point of a file's surface.
+fn height_in(file: &SdfFile, at: Pos) -> Option<i64> {
+    if contains(file.surface.size(), at) {
+        file.surface.height(at)
+    } else {
+        None
+    }
+}
+
+// The heights of the first two points in the file that a session gives back.
+fn first_heights(session: &Session) -> Option<(Option<i64>, Option<i64>)> {
+    let file = session.file().ok()?;
+    let first = height_in(&file, Pos { x: 0, y: 0 });
+    let second = height_in(&file, Pos { x: 1, y: 0 });
+    Some((first, second))
+}
+
+#[test]
+fn masked_points_keep_their_height_in_the_file(rt: HostRuntime) -> Result<(), Fail> {
+    let mut session = small(rt.alloc())?;
+    assert!(rt; answers(&mut session, 1, "set 0 0 7", true, "line 1 ok\n"));
+    assert!(rt; answers(&mut session, 2, "mask 1 0 1 0", true, "line 2 ok\n"));
+    assert_eq!(rt; first_heights(&session), Some((Some(7), Some(5))));
     Ok(())
 }

@@ -1,11 +1,10 @@
-use Rattle.std.proofs.Common.{◌∙◌, sym}
 use Rattle.hd_engine.proofs.Determined.{answer-one}
 use Rattle.hd_engine.proofs.laws.answer_is_determined.Goals as goal
 
 pub returns : goal.returns
 returns c = λ s number line a b s' s'' whole x y.
     answer-one (record {
-      edits = λ elements m edit outcome other map is is'. is ∙ sym is';
+      edits = c.edit_is_determined.ensures;
       regions = c.regions_are_determined.ensures;
       trees = c.change_tree_is_determined.ensures;
       roots = c.root_is_determined.ensures;

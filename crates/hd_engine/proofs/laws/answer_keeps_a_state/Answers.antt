@@ -1,11 +1,10 @@
-use Rattle.std.proofs.Common.{sym}
 use Rattle.hd_engine.proofs.Kept.{answer-keeps}
 use Rattle.hd_engine.proofs.laws.answer_keeps_a_state.Goals as goal
 
 pub returns-clause-kept : goal.returns-clause-kept
 returns-clause-kept c = λ s number line a s' whole is.
     answer-keeps (record {
-      edits = λ elements m new edit map edited. c.edits_keep_maps.ensures m new edit map (sym edited);
+      edits = c.edits_keep_maps.ensures;
       logs = c.logs_keep_maps.ensures.maps;
       back = c.undos_keep_maps.ensures.back;
       left = c.undos_keep_maps.ensures.left;

@@ -1,6 +1,5 @@
 use Rattle.std.proofs.Common.{List, sym, subst}
 use Rattle.hd_map.specs.declared.types.Pass.{Pass}
-use Rattle.hd_map.specs.Passes.{ArePassesUnder}
 use Rattle.hd_map.specs.Rank.{below_by}
 use Rattle.hd_graph.specs.declared.graph.Low.{Low}
 use Rattle.hd_graph.specs.Line.{IsFloodLine}
@@ -15,7 +14,8 @@ new-graph-requires g c =
     let passes = c.in_ok-passes.passes in
     let laws = c.regions_are_basins.ensures in
     let regions = c.in_ok-roots.ensures in
-    c.passes_of_basins_are_a_graph.ensures m side roots lows passes (laws.basins m side roots regions) c.in_ok-passes.ensures.passes
+    let crossings = c.in_ok-passes.ensures in
+    c.passes_of_basins_are_a_graph.ensures m side roots lows passes (laws.basins m side roots regions) crossings
     (laws.lows m side roots lows regions c.in_ok-lows.ensures.pits) c.in_ok-lows.ensures.different
 
 pub returns : goal.returns
@@ -27,8 +27,9 @@ returns g c =
     let passes = c.in_ok-passes.passes in
     let laws = c.regions_are_basins.ensures in
     let regions = c.in_ok-roots.ensures in
+    let crossings = c.in_ok-passes.ensures in
     let line = c.in_ok-line.line in
     let over_lows = subst (λ (xs : List Low). IsFloodLine (below_by side) xs c.new-graph.result.passes line) c.new-graph.ensures.lows c.in_ok-line.ensures in
     let over = subst (λ (ps : List Pass). IsFloodLine (below_by side) lows ps line) c.new-graph.ensures.passes over_lows in
-    c.flood_line_tells_the_saddles.ensures m side roots lows passes line (laws.basins m side roots regions) c.in_ok-passes.ensures.passes
+    c.flood_line_tells_the_saddles.ensures m side roots lows passes line (laws.basins m side roots regions) crossings
     (laws.lows m side roots lows regions c.in_ok-lows.ensures.pits) over

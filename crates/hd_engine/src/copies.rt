@@ -1,0 +1,55 @@
+// Copies of what a session keeps.
+ghost use Rattle.std.specs.Prelude.{◌≡◌, IfOk};
+ghost use Rattle.hd_map.specs.Surface.{map_of};
+
+use hd_base::{List, Memory};
+use hd_map::{Cell, Grid, Heights, Surface, position_of};
+use hd_num::Decimal;
+use hd_sdf_read::Extra;
+use std::alloc::Global;
+
+/// The cells of a surface by index, the masked ones too.
+pub(crate) fn cells_of(alloc: Global, surface: &Surface) -> Result<List<Cell>, Memory>
+    ensures { IfOk result (λ cells. cells ≡ (map_of surface.now).cells) }
+{
+    let size = surface.size();
+    let count = size.profiles * size.points;
+    let mut cells = List::with_capacity(alloc, count as usize)?;
+    'cells: for index in 0..count {
+        cells.push(surface.cell(position_of(size, index)))?;
+    }
+    Ok(cells)
+}
+
+/// A copy of a decimal.
+pub(crate) fn decimal(alloc: Global, number: &Decimal) -> Result<Decimal, Memory>
+    ensures { IfOk result (λ copy. copy ≡ number.now) }
+{
+    Ok(Decimal {
+        negative: number.negative,
+        digits: number.digits,
+        exponent: number.exponent,
+        literal: copied(alloc, &number.literal)?,
+    })
+}
+
+/// Copies of keys and their values.
+pub(crate) fn extras(alloc: Global, entries: &[Extra]) -> Result<List<Extra>, Memory>
+    ensures { IfOk result (λ copies. copies ≡ entries.now) }
+{
+    let mut copies = List::new(alloc);
+    'entries: for entry in entries {
+        copies.push(Extra {
+            key: copied(alloc, &entry.key)?,
+            value: copied(alloc, &entry.value)?,
+        })?;
+    }
+    Ok(copies)
+}
+
+/// A copy of a text.
+pub(crate) fn copied(alloc: Global, text: &List<u8>) -> Result<List<u8>, Memory>
+    ensures { IfOk result (λ copy. copy ≡ text.now) }
+{
+    Ok(List::from_vec(Vec::from_slice(alloc, text.as_slice())?))
+}
