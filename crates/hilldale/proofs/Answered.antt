@@ -94,6 +94,14 @@ every_start law s lines text reply last whole first all =
 pub no_answers : (s : State) (lines : List (List ℕ)) → AnswersFirst s lines []
 no_answers s lines = record { count = 0; accepted = true; after = s; answers = record { state = refl; reply = refl } }
 
+-- the answers to all lines are those to the first of them
+pub all_answers : (s : State) (lines : List (List ℕ)) (accepted : Bool) (text : List ℕ) (after : State) → AreAnswers s 1 lines (reply_of accepted text) after → AnswersFirst s lines text
+all_answers s lines accepted text after are =
+    record { count = length lines; accepted = accepted; after = after; answers = subst (λ (xs : List (List ℕ)). AreAnswers s 1 xs (reply_of accepted text) after) (sym (take_all lines)) are } where
+      take_all : (xs : List (List ℕ)) → take (length xs) xs ≡ xs
+      take_all [] = refl
+      take_all (x ∷ xs) = ap (λ ys. x ∷ ys) (take_all xs)
+
 -- the lines before the rest are answered, and their texts are written
 pub record AreAnswered (first : State) (all : List (List ℕ)) (s : State) (number : ℕ) (rest : List (List ℕ)) (accepted : Bool) (old new : Option (List ℕ)) : Type 0 where
   pub count : ℕ
@@ -135,7 +143,7 @@ module _ (start : State) (all : List (List ℕ)) (s : State) (number : ℕ) (lin
 
   -- a stop at the next line
   pub answered_stop : (stop : Stop) (after : State) (new : Option (List ℕ)) → WritesAnswer s number line (Err stop) after mid new
-      → AreAnswered start all s number (line ∷ rest) accepted old mid → WritesAnswers start all (Err stop) old new
+      → AreAnswered start all s number (line ∷ rest) accepted old mid → WritesAnswers start all (Err stop) after old new
   answered_stop Memory after new kept so_far =
       (so_far.text, record { count = so_far.count; accepted = accepted; after = s; answers = so_far.answers }, Appends-kept old mid new so_far.text so_far.written kept)
   answered_stop WriteFault after new (reply, is, part) so_far =
@@ -149,10 +157,10 @@ module _ (start : State) (all : List (List ℕ)) (s : State) (number : ℕ) (lin
 
 -- all lines are answered
 pub answered_all : (start : State) (all : List (List ℕ)) (s : State) (number : ℕ) (accepted : Bool) (old new : Option (List ℕ)) → AreAnswered start all s number [] accepted old new
-    → WritesAnswers start all (Ok accepted) old new
+    → WritesAnswers start all (Ok accepted) s old new
 answered_all start all s number accepted old new so_far =
     let whole : take so_far.count all ≡ all = sym (append-nil (take so_far.count all)) ∙ ap (λ xs. take so_far.count all ++ xs) (sym so_far.rest_is) ∙ take-append-drop so_far.count all in
-    (so_far.text, s, subst (λ (lines : List (List ℕ)). AreAnswers start 1 lines (reply_of accepted so_far.text) s) whole so_far.answers, so_far.written)
+    (so_far.text, subst (λ (lines : List (List ℕ)). AreAnswers start 1 lines (reply_of accepted so_far.text) s) whole so_far.answers, so_far.written)
 
 pub and-false : (a b c : Bool) → b ≡ false → c ≡ false → (a && b) ≡ c
 and-false true b c e f = e ∙ sym f

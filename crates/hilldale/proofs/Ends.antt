@@ -5,17 +5,18 @@ use Rattle.std.specs.Io.KnownBytes.{Appends, Keeps}
 use Rattle.std.proofs.KnownBytes.{Appends-trans, Appends-nil, Appends-kept, Keeps-trans}
 use Rattle.hd_base.specs.Told.{AppendsStart}
 use Rattle.hilldale.specs.declared.status.Status.{Status}
-use Rattle.hilldale.specs.declared.status.Status.TheVariants.{Usage, ReadFault, WriteFault, Memory}
+use Rattle.hilldale.specs.declared.status.Status.TheVariants.{Done, LineRefused, Usage, ReadFault, WriteFault, Memory}
 use Rattle.hilldale.specs.declared.stop.Refusal.{Refusal}
-use Rattle.hilldale.specs.declared.stop.Refusal.TheVariants.{SurfaceTooLong, NotPlain, ScriptTooLong}
+use Rattle.hilldale.specs.declared.stop.Refusal.TheVariants.{SurfaceTooLong, Surface, ScriptTooLong}
 use Rattle.hilldale.specs.declared.stop.Stop.{Stop}
 use Rattle.hilldale.specs.declared.stop.Stop.TheVariants as stop
 use Rattle.hilldale.specs.FaultCounts.{Count, RoseIn, Stays, HasStatusCause}
-use Rattle.hilldale.specs.Ending.{Completes, EndsAs, Finishes, EndsRun}
-use Rattle.hilldale.specs.Outcome.{Outcome, ComesTo, Inputs, IsOutcome, IsOutcomeOfRun, IsOutcomeOfInputs, inputs_of, status_of, TellsInputs}
+use Rattle.hilldale.specs.Ending.{Completes, IsTheOutcome, EndsAs, Finishes, EndsRun}
+use Rattle.hilldale.specs.Outcome.{Outcome, Inputs, IsOutcome, IsOutcomeOfRun, IsOutcomeOfInputs, inputs_of, status_of, tells}
 use Rattle.hilldale.specs.ReadOrder.{ScriptComesLast, ReadsInOrder}
 use Rattle.hilldale.specs.Refusals.{refusal_status, refusal_text}
-use Rattle.hilldale.specs.RunResult.{IsRun, HasRunStop}
+use Rattle.hilldale.specs.RunResult.{IsRun, IsDefined, HasRunStop}
+use Rattle.hilldale.specs.Saving.{Saving, IsSavedAs, SavesLast, SavesInTurn}
 use Rattle.hilldale.specs.Texts.{usage_text, read_fault_text}
 use Rattle.hilldale.specs.Words.{Request, form_of}
 use Rattle.hilldale.proofs.Answered.{AppendsStart-after}
@@ -34,31 +35,31 @@ kept_start old mid new text kept (got, begins, written) = (got, begins, kept_tex
 start_kept : (old mid new : Option (List ℕ)) (text : List ℕ) → AppendsStart old mid text → Keeps mid new → AppendsStart old new text
 start_kept old mid new text (got, begins, written) kept = (got, begins, Appends-kept old mid new got written kept)
 
-module _ (words : List (List ℕ)) (surface script : List ℕ) (failed : Type 0) where
-  -- of a text that is known, the first part is written, and then the last part whole or cut short
-  finish_ends : (done last : List ℕ) (wanted status : Status) (old mid new : Option (List ℕ)) (flushed : Bool) (faults : Count) → Appends old mid done
-      → IsOutcome words surface script (record { status = wanted; out = done ++ last }) → ((o : Outcome) → IsOutcome words surface script o → o.out ≡ done ++ last)
-      → (Completes words surface script wanted old new → EndsAs words surface script failed wanted old new)
-      → Finishes last wanted status mid new flushed faults → EndsAs words surface script failed status old new
-  finish_ends done last wanted status old mid new flushed faults begun is only same finish = elim finish [
-    | inl w ↦ subst (λ s. EndsAs words surface script failed s old new) (sym w.status_is) (same (done ++ last, is, Appends-trans old mid new done last begun w.written))
-    | inr cut ↦ subst (λ s. EndsAs words surface script failed s old new) (sym cut.status_is)
-        (inl (done ++ last, inl (record { status = wanted; is = is; only = only }), AppendsStart-after old mid new done last begun cut.written))
+module _ (words : List (List ℕ)) (surface script : List ℕ) (failed stays : Type 0) (s : Saving) where
+  -- of an outcome that is known, the first part is written, and then the last part whole or cut short
+  finish_ends : (done last : List ℕ) (o : Outcome) (wanted status : Status) (old mid new : Option (List ℕ)) (flushed : Bool) (faults : Count) → o.status ≡ wanted → o.out ≡ done ++ last → Appends old mid done
+      → IsTheOutcome words surface script o → IsSavedAs stays s o.saved → (Completes words surface script stays s wanted old new → EndsAs words surface script failed stays s wanted old new)
+      → Finishes last wanted status mid new flushed faults → EndsAs words surface script failed stays s status old new
+  finish_ends done last o wanted status old mid new flushed faults wanted_is out_is begun the saved same finish = elim finish [
+    | inl w ↦ subst (λ t. EndsAs words surface script failed stays s t old new) (sym w.status_is)
+        (same (o, the, wanted_is, subst (λ (xs : List ℕ). Appends old new xs) (sym out_is) (Appends-trans old mid new done last begun w.written), saved))
+    | inr cut ↦ subst (λ t. EndsAs words surface script failed stays s t old new) (sym cut.status_is)
+        (inr (inl (o, the, subst (λ (xs : List ℕ). AppendsStart old new xs) (sym out_is) (AppendsStart-after old mid new done last begun cut.written), saved)))
   ]
 
   -- words without their form
-  pub usage_ends : (got : List ℕ) (status : Status) (old new : Option (List ℕ)) (flushed : Bool) (faults : Count) → form_of words ≡ None → got ≡ usage_text
-      → Finishes got Usage status old new flushed faults → EndsAs words surface script failed status old new
-  usage_ends got status old new flushed faults none e finish =
-      let P : Outcome → Option Request → Type 0 = λ o form. MatchOption form (ComesTo o Usage usage_text) (λ request. IsOutcomeOfRun request surface script o) in
-      let o : Outcome = record { status = Usage; out = usage_text } in
-      finish_ends [] usage_text Usage status old old new flushed faults (Appends-nil old) (subst (P o) (sym none) (record { status_is = refl; out_is = refl }))
-      (λ o' h. let known : P o' None = subst (P o') none h in known.out_is) (λ h. h) (subst (λ xs. Finishes xs Usage status old new flushed faults) e finish)
+  pub usage_ends : (got : List ℕ) (status : Status) (old new : Option (List ℕ)) (flushed : Bool) (faults : Count) → form_of words ≡ None → got ≡ usage_text → stays
+      → Finishes got Usage status old new flushed faults → EndsAs words surface script failed stays s status old new
+  usage_ends got status old new flushed faults none e kept finish =
+      let P : Outcome → Option Request → Type 0 = λ o form. MatchOption form (o ≡ tells Usage usage_text) (λ request. IsOutcomeOfRun request surface script o) in
+      let o : Outcome = tells Usage usage_text in
+      finish_ends [] usage_text o Usage status old old new flushed faults refl refl (Appends-nil old) (record { is = subst (P o) (sym none) refl; only = λ o' h. subst (P o') none h })
+      kept (λ h. h) (subst (λ xs. Finishes xs Usage status old new flushed faults) e finish)
 
   module _ (request : Request) (named : form_of words ≡ Some request) where
     -- the outcome where the words have this form
     abbrev AtForm : Outcome → Option Request → Type 0
-    AtForm o form = MatchOption form (ComesTo o Usage usage_text) (λ r. IsOutcomeOfRun r surface script o)
+    AtForm o form = MatchOption form (o ≡ tells Usage usage_text) (λ r. IsOutcomeOfRun r surface script o)
 
     to_run : (o : Outcome) → IsOutcome words surface script o → IsOutcomeOfRun request surface script o
     to_run o h = subst (AtForm o) named h
@@ -66,45 +67,61 @@ module _ (words : List (List ℕ)) (surface script : List ℕ) (failed : Type 0)
     from_run : (o : Outcome) → IsOutcomeOfRun request surface script o → IsOutcome words surface script o
     from_run o h = subst (AtForm o) (sym named) h
 
+    the_run : (o : Outcome) → IsDefined request surface script o → IsTheOutcome words surface script o
+    the_run o defined = record { is = from_run o defined.is; only = λ other h. defined.only other (to_run other h) }
+
     -- all lines are answered
-    answered_ends : (accepted : Bool) (status : Status) (old mid new : Option (List ℕ)) (flushed : Bool) (faults : Count) → IsRun request surface script (Ok accepted) old mid
-        → (Completes words surface script (status_of accepted) old new → EndsAs words surface script failed (status_of accepted) old new)
-        → Finishes [] (status_of accepted) status mid new flushed faults → EndsAs words surface script failed status old new
-    answered_ends accepted status old mid new flushed faults (text, defined, written) same finish =
-        let whole : text ≡ text ++ [] = sym (append-nil text) in
-        finish_ends text [] (status_of accepted) status old mid new flushed faults written
-        (subst (λ xs. IsOutcome words surface script (record { status = status_of accepted; out = xs })) whole (from_run (record { status = status_of accepted; out = text }) defined.is))
-        (λ o h. defined.only o (to_run o h) ∙ whole) same finish
+    answered_ends : (accepted : Bool) (status : Status) (old mid new : Option (List ℕ)) (flushed : Bool) (faults : Count) → IsRun request surface script stays s (Ok accepted) old mid
+        → (Completes words surface script stays s (status_of accepted) old new → EndsAs words surface script failed stays s (status_of accepted) old new)
+        → Finishes [] (status_of accepted) status mid new flushed faults → EndsAs words surface script failed stays s status old new
+    answered_ends accepted status old mid new flushed faults (o, defined, wanted_is, written, saved) same finish =
+        finish_ends o.out [] o (status_of accepted) status old mid new flushed faults wanted_is (sym (append-nil o.out)) written (the_run o defined) saved same finish
 
     -- an input is refused
-    refused_ends : (refusal : Refusal) (status : Status) (old mid new : Option (List ℕ)) (flushed : Bool) (faults : Count) → IsRun request surface script (Err (stop.Refused refusal)) old mid
-        → (Completes words surface script (refusal_status refusal) old new → EndsAs words surface script failed (refusal_status refusal) old new)
-        → Finishes (refusal_text refusal) (refusal_status refusal) status mid new flushed faults → EndsAs words surface script failed status old new
-    refused_ends refusal status old mid new flushed faults (refused, kept) same finish =
-        let o : Outcome = record { status = refusal_status refusal; out = refusal_text refusal } in
-        let Q : Outcome → Result Inputs Refusal → Type 0 = λ o' r. IsOutcomeOfInputs r o' in
-        finish_ends [] (refusal_text refusal) (refusal_status refusal) status old mid new flushed faults (Appends-kept old old mid [] (Appends-nil old) kept)
-        (from_run o (subst (Q o) (sym refused) (record { status_is = refl; out_is = refl }))) (λ o' h. let known : Q o' (Err refusal) = subst (Q o') refused (to_run o' h) in known.out_is) same finish
+    refused_ends : (refusal : Refusal) (status : Status) (old mid new : Option (List ℕ)) (flushed : Bool) (faults : Count) → stays → IsRun request surface script stays s (Err (stop.Refused refusal)) old mid
+        → (Completes words surface script stays s (refusal_status refusal) old new → EndsAs words surface script failed stays s (refusal_status refusal) old new)
+        → Finishes (refusal_text refusal) (refusal_status refusal) status mid new flushed faults → EndsAs words surface script failed stays s status old new
+    refused_ends refusal status old mid new flushed faults unsaved (refused, kept) same finish =
+        let o : Outcome = tells (refusal_status refusal) (refusal_text refusal) in
+        let Q : Outcome → Result Inputs Refusal → Type 0 = λ o' r. IsOutcomeOfInputs request.save r o' in
+        finish_ends [] (refusal_text refusal) o (refusal_status refusal) status old mid new flushed faults refl refl (Appends-kept old old mid [] (Appends-nil old) kept)
+        (record { is = from_run o (subst (Q o) (sym refused) refl); only = λ o' h. subst (Q o') refused (to_run o' h) }) unsaved same finish
 
-    -- what `out` holds at the end, from what the run came to
+    -- the status of a refusal asks for all of the output
+    refused_as : (refusal : Refusal) (old new : Option (List ℕ)) → Completes words surface script stays s (refusal_status refusal) old new → EndsAs words surface script failed stays s (refusal_status refusal) old new
+    refused_as SurfaceTooLong old new h = h
+    refused_as (Surface error) old new h = h
+    refused_as ScriptTooLong old new h = h
+
+    -- what `out` and `saved` hold at the end, from what the run came to
     pub run_ends : (result : Result Bool Stop) (status : Status) (old mid new : Option (List ℕ)) (flushed : Bool) (faults : Count) → (result ≡ Err stop.ReadFault → failed)
-        → IsRun request surface script result old mid → EndsRun result status mid new flushed faults → EndsAs words surface script failed status old new
-    run_ends (Ok true) status old mid new flushed faults cause run finish = answered_ends true status old mid new flushed faults run (λ h. h) finish
-    run_ends (Ok false) status old mid new flushed faults cause run finish = answered_ends false status old mid new flushed faults run (λ h. h) finish
-    run_ends (Err stop.Memory) status old mid new flushed faults cause run end =
-        subst (λ s. EndsAs words surface script failed s old new) (sym end.status_is) (elim run [
-          | inl kept ↦ inl (Keeps-trans old mid new kept end.kept)
-          | inr more ↦ inr (more.0, (request, named, more.1), Appends-kept old mid new more.0 more.2 end.kept)
-        ])
-    run_ends (Err stop.WriteFault) status old mid new flushed faults cause (text, begun, part) end =
-        subst (λ s. EndsAs words surface script failed s old new) (sym end.status_is) (inl (text, inr (request, named, begun), start_kept old mid new text part end.kept))
-    run_ends (Err stop.ReadFault) status old mid new flushed faults cause kept finish = elim finish [
-      | inl w ↦ subst (λ s. EndsAs words surface script failed s old new) (sym w.status_is) (cause refl, kept_text old mid new read_fault_text kept w.written)
-      | inr cut ↦ subst (λ s. EndsAs words surface script failed s old new) (sym cut.status_is) (inr (cause refl, kept_start old mid new read_fault_text kept cut.written))
-    ]
-    run_ends (Err (stop.Refused SurfaceTooLong)) status old mid new flushed faults cause run finish = refused_ends SurfaceTooLong status old mid new flushed faults run (λ h. h) finish
-    run_ends (Err (stop.Refused NotPlain)) status old mid new flushed faults cause run finish = refused_ends NotPlain status old mid new flushed faults run (λ h. h) finish
-    run_ends (Err (stop.Refused ScriptTooLong)) status old mid new flushed faults cause run finish = refused_ends ScriptTooLong status old mid new flushed faults run (λ h. h) finish
+        → ((why : Stop) → result ≡ Err why → why ≢ stop.WriteFault → stays) → IsRun request surface script stays s result old mid → EndsRun result status mid new flushed faults → EndsAs words surface script failed stays s status old new
+    run_ends (Ok true) status old mid new flushed faults cause unsaved run finish = answered_ends true status old mid new flushed faults run (λ h. h) finish
+    run_ends (Ok false) status old mid new flushed faults cause unsaved run finish = answered_ends false status old mid new flushed faults run (λ h. h) finish
+    run_ends (Err stop.Memory) status old mid new flushed faults cause unsaved run end =
+        subst (λ t. EndsAs words surface script failed stays s t old new) (sym end.status_is) (
+          unsaved stop.Memory refl (λ e. cc),
+          elim run [
+            | inl kept ↦ inl (Keeps-trans old mid new kept end.kept)
+            | inr more ↦ inr (more.0, (request, named, more.1), Appends-kept old mid new more.0 more.2 end.kept)
+          ],
+        )
+    run_ends (Err stop.WriteFault) status old mid new flushed faults cause unsaved (inl (kept, text, begun, part)) end =
+        subst (λ t. EndsAs words surface script failed stays s t old new) (sym end.status_is) (inl (kept, inl (text, (request, named, begun), start_kept old mid new text part end.kept)))
+    run_ends (Err stop.WriteFault) status old mid new flushed faults cause unsaved (inr (o, defined, (text, is, some, written))) end =
+        subst (λ t. EndsAs words surface script failed stays s t old new) (sym end.status_is) (inr (inr (o, the_run o defined, (text, is, some, Appends-kept old mid new o.out written end.kept))))
+    run_ends (Err stop.ReadFault) status old mid new flushed faults cause unsaved kept finish =
+        let still = unsaved stop.ReadFault refl (λ e. cc) in
+        elim finish [
+          | inl w ↦ subst (λ t. EndsAs words surface script failed stays s t old new) (sym w.status_is) (cause refl, still, kept_text old mid new read_fault_text kept w.written)
+          | inr cut ↦ subst (λ t. EndsAs words surface script failed stays s t old new) (sym cut.status_is) (inl (still, inr (cause refl, kept_start old mid new read_fault_text kept cut.written)))
+        ]
+    run_ends (Err (stop.Refused refusal)) status old mid new flushed faults cause unsaved run end =
+        let still = unsaved (stop.Refused refusal) refl (λ e. cc) in
+        elim end [
+          | inl w ↦ subst (λ t. EndsAs words surface script failed stays s t old new) (sym w.status_is) (still, inl (Keeps-trans old mid new run.1 w.kept))
+          | inr finish ↦ refused_ends refusal status old mid new flushed faults still run (refused_as refusal old new) finish
+        ]
 
 -- a text that is to be written is written and flushed, or the sink failed
 finished : (bytes : List ℕ) (wanted status : Status) (old new : Option (List ℕ)) (flushed : Bool) (faults : Count) → Finishes bytes wanted status old new flushed faults → status ≢ WriteFault
@@ -114,6 +131,18 @@ finished bytes wanted status old new flushed faults finish fine = elim finish [
   | inr cut ↦ absurd (fine cut.status_is)
 ]
 
+-- a refusal is told by no other status
+refusal_is : (refusal : Refusal) → (refusal_status refusal ≢ ReadFault) × (refusal_status refusal ≢ WriteFault) × (refusal_status refusal ≢ Usage)
+refusal_is SurfaceTooLong = (λ e. cc, λ e. cc, λ e. cc)
+refusal_is (Surface error) = (λ e. cc, λ e. cc, λ e. cc)
+refusal_is ScriptTooLong = (λ e. cc, λ e. cc, λ e. cc)
+
+-- a refusal is told by neither of the statuses of all lines
+refusal_ends : (refusal : Refusal) {status : Status} → refusal_status refusal ≡ status → (status ≡ Done) ⊎ (status ≡ LineRefused) → ⊥
+refusal_ends SurfaceTooLong e is = elim is [ inl a ↦ cc | inr b ↦ cc ]
+refusal_ends (Surface error) e is = elim is [ inl a ↦ cc | inr b ↦ cc ]
+refusal_ends ScriptTooLong e is = elim is [ inl a ↦ cc | inr b ↦ cc ]
+
 module _ (status : Status) (old mid new : Option (List ℕ)) (flushed : Bool) where
   -- all is flushed but after a write fault and want of memory
   pub run_flushed : (result : Result Bool Stop) (faults : Count) → EndsRun result status mid new flushed faults → status ≢ WriteFault → status ≢ Memory → IsTrue flushed
@@ -121,7 +150,10 @@ module _ (status : Status) (old mid new : Option (List ℕ)) (flushed : Bool) wh
   run_flushed (Err stop.Memory) faults end fine kept = absurd (kept end.status_is)
   run_flushed (Err stop.WriteFault) faults end fine kept = absurd (fine end.status_is)
   run_flushed (Err stop.ReadFault) faults end fine kept = (finished read_fault_text ReadFault status mid new flushed faults end fine).2
-  run_flushed (Err (stop.Refused refusal)) faults end fine kept = (finished (refusal_text refusal) (refusal_status refusal) status mid new flushed faults end fine).2
+  run_flushed (Err (stop.Refused refusal)) faults end fine kept = elim end [
+    | inl w ↦ absurd (kept w.status_is)
+    | inr finish ↦ (finished (refusal_text refusal) (refusal_status refusal) status mid new flushed faults finish fine).2
+  ]
 
   -- the line of a read fault is written where the status is that
   pub run_read_fault : (result : Result Bool Stop) (faults : Count) → EndsRun result status mid new flushed faults → (result ≡ Err stop.ReadFault → Keeps old mid) → status ≡ ReadFault → Appends old new read_fault_text
@@ -130,11 +162,12 @@ module _ (status : Status) (old mid new : Option (List ℕ)) (flushed : Bool) wh
   run_read_fault (Err stop.Memory) faults end kept is = absurd (let e = end.status_is in cc)
   run_read_fault (Err stop.WriteFault) faults end kept is = absurd (let e = end.status_is in cc)
   run_read_fault (Err stop.ReadFault) faults end kept is = kept_text old mid new read_fault_text (kept refl) (finished read_fault_text ReadFault status mid new flushed faults end (λ w. cc)).1
-  run_read_fault (Err (stop.Refused SurfaceTooLong)) faults end kept is = absurd (let e = (finished (refusal_text SurfaceTooLong) (refusal_status SurfaceTooLong) status mid new flushed faults end (λ w. cc)).0 in cc)
-  run_read_fault (Err (stop.Refused NotPlain)) faults end kept is = absurd (let e = (finished (refusal_text NotPlain) (refusal_status NotPlain) status mid new flushed faults end (λ w. cc)).0 in cc)
-  run_read_fault (Err (stop.Refused ScriptTooLong)) faults end kept is = absurd (let e = (finished (refusal_text ScriptTooLong) (refusal_status ScriptTooLong) status mid new flushed faults end (λ w. cc)).0 in cc)
+  run_read_fault (Err (stop.Refused refusal)) faults end kept is = elim end [
+    | inl w ↦ absurd (let e = w.status_is in cc)
+    | inr finish ↦ absurd ((refusal_is refusal).0 (sym (finished (refusal_text refusal) (refusal_status refusal) status mid new flushed faults finish (λ w. cc)).0 ∙ is))
+  ]
 
-module _ (surface script saved : Count) (before mid now : ℕ) (kept : Stays saved) (status : Status) (old new : Option (List ℕ)) (flushed : Bool) where
+module _ (surface script saved : Count) (before mid now : ℕ) (status : Status) (old new : Option (List ℕ)) (flushed : Bool) where
   -- the sink failed at the last text
   cut_cause : mid ≡ before → status ≡ WriteFault → RoseIn (record { before = mid; now = now }) → HasStatusCause status surface script (record { before = before; now = now }) saved
   cut_cause same is rose = record {
@@ -143,35 +176,97 @@ module _ (surface script saved : Count) (before mid now : ℕ) (kept : Stays sav
     other = λ not_read not_write. absurd (not_write is);
   }
 
-  finish_cause : (bytes : List ℕ) (wanted : Status) → wanted ≢ ReadFault → wanted ≢ WriteFault → Stays surface × Stays script × Stays (record { before = before; now = mid })
+  finish_cause : (bytes : List ℕ) (wanted : Status) → wanted ≢ ReadFault → wanted ≢ WriteFault → Stays surface × Stays script × Stays (record { before = before; now = mid }) × Stays saved
       → Finishes bytes wanted status old new flushed (record { before = mid; now = now }) → HasStatusCause status surface script (record { before = before; now = now }) saved
-  finish_cause bytes wanted not_read not_write (s, r, o) finish = elim finish [
+  finish_cause bytes wanted not_read not_write (s, r, o, kept) finish = elim finish [
     | inl w ↦ record { read = λ e. absurd (not_read (sym w.status_is ∙ e)); write = λ e. absurd (not_write (sym w.status_is ∙ e)); other = λ _ _. (s, r, w.count ∙ o, kept) }
     | inr cut ↦ cut_cause o cut.status_is cut.count
   ]
 
   -- why a status comes, from why the run stopped
-  pub run_cause : (result : Result Bool Stop) → HasRunStop surface script (record { before = before; now = mid }) result → EndsRun result status old new flushed (record { before = mid; now = now })
+  pub run_cause : (result : Result Bool Stop) → HasRunStop surface script (record { before = before; now = mid }) saved result → EndsRun result status old new flushed (record { before = mid; now = now })
       → HasStatusCause status surface script (record { before = before; now = now }) saved
   run_cause (Ok true) run end = finish_cause [] (status_of true) (λ e. cc) (λ e. cc) (run.other (λ e. cc) (λ e. cc)) end
   run_cause (Ok false) run end = finish_cause [] (status_of false) (λ e. cc) (λ e. cc) (run.other (λ e. cc) (λ e. cc)) end
   run_cause (Err stop.Memory) run end =
       let stays = run.other (λ e. cc) (λ e. cc) in
       let is : status ≡ Memory = end.status_is in
-      record { read = λ e. absurd (cc); write = λ e. absurd (cc); other = λ _ _. (stays.0, stays.1, end.count ∙ stays.2, kept) }
+      record { read = λ e. absurd (cc); write = λ e. absurd (cc); other = λ _ _. (stays.0, stays.1, end.count ∙ stays.2, stays.3) }
   run_cause (Err stop.WriteFault) run end =
       let is : status ≡ WriteFault = end.status_is in
-      record { read = λ e. absurd (cc); write = λ e. inl (subst (λ n. RoseIn (record { before = before; now = n })) (sym end.count) (run.write refl)); other = λ _ not_write. absurd (not_write is) }
+      record {
+        read = λ e. absurd (cc);
+        write = λ e. elim (run.write refl) [ inl rose ↦ inl (subst (λ n. RoseIn (record { before = before; now = n })) (sym end.count) rose) | inr rose ↦ inr rose ];
+        other = λ _ not_write. absurd (not_write is);
+      }
   run_cause (Err stop.ReadFault) run finish = elim finish [
     | inl w ↦
         let is : status ≡ ReadFault = w.status_is in
         let why = run.read refl in
-        record { read = λ e. (why.0, w.count ∙ why.1, kept); write = λ e. absurd (cc); other = λ not_read _. absurd (not_read is) }
+        record { read = λ e. (why.0, w.count ∙ why.1, why.2); write = λ e. absurd (cc); other = λ not_read _. absurd (not_read is) }
     | inr cut ↦ cut_cause (run.read refl).1 cut.status_is cut.count
   ]
-  run_cause (Err (stop.Refused SurfaceTooLong)) run end = finish_cause (refusal_text SurfaceTooLong) (refusal_status SurfaceTooLong) (λ e. cc) (λ e. cc) (run.other (λ e. cc) (λ e. cc)) end
-  run_cause (Err (stop.Refused NotPlain)) run end = finish_cause (refusal_text NotPlain) (refusal_status NotPlain) (λ e. cc) (λ e. cc) (run.other (λ e. cc) (λ e. cc)) end
-  run_cause (Err (stop.Refused ScriptTooLong)) run end = finish_cause (refusal_text ScriptTooLong) (refusal_status ScriptTooLong) (λ e. cc) (λ e. cc) (run.other (λ e. cc) (λ e. cc)) end
+  run_cause (Err (stop.Refused refusal)) run end =
+      let stays = run.other (λ e. cc) (λ e. cc) in
+      let other = refusal_is refusal in
+      elim end [
+        | inl w ↦ let is : status ≡ Memory = w.status_is in record { read = λ e. absurd (cc); write = λ e. absurd (cc); other = λ _ _. (stays.0, stays.1, w.count ∙ stays.2, stays.3) }
+        | inr finish ↦ finish_cause (refusal_text refusal) (refusal_status refusal) other.0 other.1 stays finish
+      ]
+
+-- a run that ends with neither of the two statuses of all lines, nor with a write fault, stopped for another cause
+module _ (status : Status) (old new : Option (List ℕ)) (flushed : Bool) (faults : Count) where
+  stopped_early : {P : Type 0} (result : Result Bool Stop) → ((why : Stop) → result ≡ Err why → why ≢ stop.WriteFault → P) → EndsRun result status old new flushed faults → status ≢ Done → status ≢ LineRefused → status ≢ WriteFault → P
+  stopped_early (Ok true) known end a b d = absurd (a (finished [] (status_of true) status old new flushed faults end d).0)
+  stopped_early (Ok false) known end a b d = absurd (b (finished [] (status_of false) status old new flushed faults end d).0)
+  stopped_early (Err stop.WriteFault) known end a b d = absurd (d end.status_is)
+  stopped_early (Err stop.Memory) known end a b d = known stop.Memory refl (λ e. cc)
+  stopped_early (Err stop.ReadFault) known end a b d = known stop.ReadFault refl (λ e. cc)
+  stopped_early (Err (stop.Refused refusal)) known end a b d = known (stop.Refused refusal) refl (λ e. cc)
+
+  -- a run with one of these statuses answered all lines
+  all_done : {P : Type 0} (result : Result Bool Stop) → ((accepted : Bool) → result ≡ Ok accepted → P) → EndsRun result status old new flushed faults → (status ≡ Done) ⊎ (status ≡ LineRefused) → P
+  all_done (Ok accepted) known end is = known accepted refl
+  all_done (Err stop.Memory) known end is = let e = end.status_is in elim is [ inl a ↦ absurd (cc) | inr b ↦ absurd (cc) ]
+  all_done (Err stop.WriteFault) known end is = let e = end.status_is in elim is [ inl a ↦ absurd (cc) | inr b ↦ absurd (cc) ]
+  all_done (Err stop.ReadFault) known end is = elim end [
+    | inl w ↦ let e = w.status_is in elim is [ inl a ↦ absurd (cc) | inr b ↦ absurd (cc) ]
+    | inr cut ↦ let e = cut.status_is in elim is [ inl a ↦ absurd (cc) | inr b ↦ absurd (cc) ]
+  ]
+  all_done (Err (stop.Refused refusal)) known end is = elim end [
+    | inl w ↦ let e = w.status_is in elim is [ inl a ↦ absurd (cc) | inr b ↦ absurd (cc) ]
+    | inr finish ↦ elim finish [
+      | inl w ↦ absurd (refusal_ends refusal (sym w.status_is) is)
+      | inr cut ↦ let e = cut.status_is in elim is [ inl a ↦ absurd (cc) | inr b ↦ absurd (cc) ]
+    ]
+  ]
+
+  fault_count : (result : Result Bool Stop) → result ≡ Err stop.WriteFault → EndsRun result status old new flushed faults → Stays faults
+  fault_count result is end = let stopped : EndsRun (Err stop.WriteFault) status old new flushed faults = subst (λ (r : Result Bool Stop). EndsRun r status old new flushed faults) is end in stopped.count
+
+-- when `saved` is touched, from when the run touches it
+pub run_saves : (form : Option Request) (request : Request) (result : Result Bool Stop) (status : Status) (stays : Type 0) (surface script : Count) (before mid now : ℕ) (s : Saving) (old new : Option (List ℕ)) (flushed : Bool)
+    → form ≡ Some request → SavesLast request.save result stays surface script (record { before = before; now = mid }) s → EndsRun result status old new flushed (record { before = mid; now = now })
+    → SavesInTurn form status stays surface script (record { before = before; now = now }) s
+run_saves form request result status stays surface script before mid now s old new flushed named last end =
+    let faults : Count = record { before = mid; now = now } in record {
+      unasked = λ none. last.unasked (none request named);
+      stopped = λ a b d. stopped_early status old new flushed faults result last.stopped end a b d;
+      read = last.read;
+      failed = λ rose. let k = last.failed rose in fault_count status old new flushed faults result k.0 end ∙ k.1;
+      flushed_all = λ other name is asked done. let same : request ≡ other = cc in
+          all_done status old new flushed faults result (λ accepted ok. last.flushed_all accepted name ok (ap (λ (r : Request). r.save) same ∙ asked)) end done;
+    }
+
+-- words without their form save nothing
+pub unformed_saves : (form : Option Request) (status : Status) (stays : Type 0) (surface script out : Count) (s : Saving) → form ≡ None → stays → Stays s.faults → SavesInTurn form status stays surface script out s
+unformed_saves form status stays surface script out s none kept count = record {
+  unasked = λ _. kept;
+  stopped = λ _ _ _. kept;
+  read = λ _. kept;
+  failed = λ rose. absurd (rose count);
+  flushed_all = λ request name is asked done. absurd (cc);
+}
 
 -- no run ends with the usage text
 pub run_has_form : (result : Result Bool Stop) (status : Status) (old new : Option (List ℕ)) (flushed : Bool) (faults : Count) → EndsRun result status old new flushed faults → status ≢ Usage
@@ -180,9 +275,10 @@ run_has_form (Ok false) status old new flushed faults end is = let e = (finished
 run_has_form (Err stop.Memory) status old new flushed faults end is = let e = end.status_is in cc
 run_has_form (Err stop.WriteFault) status old new flushed faults end is = let e = end.status_is in cc
 run_has_form (Err stop.ReadFault) status old new flushed faults end is = let e = (finished read_fault_text ReadFault status old new flushed faults end (λ w. cc)).0 in cc
-run_has_form (Err (stop.Refused SurfaceTooLong)) status old new flushed faults end is = let e = (finished (refusal_text SurfaceTooLong) (refusal_status SurfaceTooLong) status old new flushed faults end (λ w. cc)).0 in cc
-run_has_form (Err (stop.Refused NotPlain)) status old new flushed faults end is = let e = (finished (refusal_text NotPlain) (refusal_status NotPlain) status old new flushed faults end (λ w. cc)).0 in cc
-run_has_form (Err (stop.Refused ScriptTooLong)) status old new flushed faults end is = let e = (finished (refusal_text ScriptTooLong) (refusal_status ScriptTooLong) status old new flushed faults end (λ w. cc)).0 in cc
+run_has_form (Err (stop.Refused refusal)) status old new flushed faults end is = elim end [
+  | inl w ↦ let e = w.status_is in cc
+  | inr finish ↦ (refusal_is refusal).2 (sym (finished (refusal_text refusal) (refusal_status refusal) status old new flushed faults finish (λ w. cc)).0 ∙ is)
+]
 
 -- no source is touched where the words have not their form
 pub unformed_in_order : {S R : Type 0} (form : Option Request) (files : List ℕ → Option (List ℕ)) (surfaces : Count) (surface : S) (script : R) → form ≡ None → ReadsInOrder form files surfaces surface surface script script

@@ -1,4 +1,5 @@
 pub mod Answered
 pub mod Runs
+pub mod Savings
 pub mod WordLemmas
 pub mod Ends

@@ -4,10 +4,10 @@ use Rattle.std.specs.Io.{StartsWith}
 use Rattle.std.proofs.KnownBytes.{Keeps-refl}
 use Rattle.std.proofs.lemmas.Bool.Decides.{nat_tests}
 use Rattle.hd_num.specs.Lines.{lines_of}
-use Rattle.hd_map.specs.Map.{Map, IsMap}
-use Rattle.hd_map.specs.declared.surface.Surface.{Surface}
 use Rattle.hd_engine.specs.Reply.{Reply}
-use Rattle.hd_engine.specs.State.{IsState, first_state}
+use Rattle.hd_engine.specs.State.{State, IsState, first_state}
+use Rattle.hd_engine.specs.Answers.{AreAnswers}
+use Rattle.hd_sdf_read.specs.File.{File}
 use Rattle.hilldale.specs.declared.limits.TheConstants.{SURFACE_LIMIT, SCRIPT_LIMIT}
 use Rattle.hilldale.specs.declared.stop.Refusal.{Refusal}
 use Rattle.hilldale.specs.declared.stop.Refusal.TheVariants.{SurfaceTooLong, ScriptTooLong}
@@ -16,10 +16,11 @@ use Rattle.hilldale.specs.declared.stop.Stop.TheVariants.{Memory, ReadFault, Wri
 use Rattle.hilldale.specs.FaultCounts.{Count, Stays}
 use Rattle.hilldale.specs.ReadOrder.{ScriptComesLast}
 use Rattle.hilldale.specs.Inputs.{IsSurfaceRead, IsScriptRead}
-use Rattle.hilldale.specs.Outcome.{Outcome, Inputs, surface_of, lines_to_answer, both_inputs, inputs_of, status_of, IsOutcomeOfInputs, IsOutcomeOfLines}
-use Rattle.hilldale.specs.RunResult.{IsRun, IsBegun, IsDefined}
+use Rattle.hilldale.specs.Outcome.{Outcome, Inputs, surface_of, lines_to_answer, both_inputs, inputs_of, answered, IsOutcomeOfRun, IsOutcomeOfInputs, IsOutcomeOfLines}
+use Rattle.hilldale.specs.RunResult.{IsRun, IsBegun, IsDefined, AnswersAndSaves}
+use Rattle.hilldale.specs.Saving.{Saving}
 use Rattle.hilldale.specs.Words.{Request}
-use Rattle.hilldale.specs.WrittenAnswers.{AnswersFirst, WritesAnswers}
+use Rattle.hilldale.specs.WrittenAnswers.{AnswersFirst, reply_of}
 use Rattle.hilldale.proofs.Answered.{AnswersAreDetermined, every_start}
 
 pub surface_of-long : (bytes : List ℕ) → SURFACE_LIMIT < length bytes → surface_of bytes ≡ Err SurfaceTooLong
@@ -30,9 +31,9 @@ pub script_untouched : {R : Type 0} (request : Request) (surface : Option (List 
 script_untouched request surface surfaces script = record { unnamed = λ none. refl; failed = λ rose. refl; refused = λ bytes refusal told no. refl }
 
 -- a script that is read once the surface is accepted
-pub script_after : {R : Type 0} (request : Request) (surface : Option (List ℕ)) (surfaces : Count) (script script' : R) (name : List ℕ) (m : Map) → request.script ≡ Some name → Stays surfaces
-    → ((bytes : List ℕ) → surface ≡ Some bytes → surface_of bytes ≡ Ok m) → ScriptComesLast request surface surfaces script script'
-script_after request surface surfaces script script' name m named stays accepted = record {
+pub script_after : {R : Type 0} (request : Request) (surface : Option (List ℕ)) (surfaces : Count) (script script' : R) (name : List ℕ) (file : File) → request.script ≡ Some name → Stays surfaces
+    → ((bytes : List ℕ) → surface ≡ Some bytes → surface_of bytes ≡ Ok file) → ScriptComesLast request surface surfaces script script'
+script_after request surface surfaces script script' name file named stays accepted = record {
   unnamed = λ none. absurd (cc);
   failed = λ rose. absurd (rose stays);
   refused = λ bytes refusal told no. absurd (let yes = accepted bytes told in cc);
@@ -48,60 +49,60 @@ pub lines_to_answer-fits : (script : Option (List ℕ)) (name bytes : List ℕ) 
 lines_to_answer-fits script name bytes is fits = let test : nat_lt SCRIPT_LIMIT (length bytes) ≡ false = grind (arith, nat_tests) in rw (is, test) refl
 
 module _ (request : Request) (surface script : List ℕ) where
-  pub inputs_of-ok : (m : Map) (lines : List (List ℕ)) → surface_of surface ≡ Ok m → lines_to_answer request.script script ≡ Ok lines → inputs_of request surface script ≡ Ok (record { map = m; lines = lines })
-  inputs_of-ok m lines read asks = ap (λ (s : Result Map Refusal). both_inputs s (lines_to_answer request.script script)) read ∙ ap (both_inputs (Ok m)) asks
+  pub inputs_of-ok : (file : File) (lines : List (List ℕ)) → surface_of surface ≡ Ok file → lines_to_answer request.script script ≡ Ok lines → inputs_of request surface script ≡ Ok (record { file = file; lines = lines })
+  inputs_of-ok file lines read asks = ap (λ (s : Result File Refusal). both_inputs s (lines_to_answer request.script script)) read ∙ ap (both_inputs (Ok file)) asks
 
   inputs_of-surface : (refusal : Refusal) → surface_of surface ≡ Err refusal → inputs_of request surface script ≡ Err refusal
-  inputs_of-surface refusal refused = ap (λ (s : Result Map Refusal). both_inputs s (lines_to_answer request.script script)) refused
+  inputs_of-surface refusal refused = ap (λ (s : Result File Refusal). both_inputs s (lines_to_answer request.script script)) refused
 
-  inputs_of-script : (m : Map) (refusal : Refusal) → surface_of surface ≡ Ok m → lines_to_answer request.script script ≡ Err refusal → inputs_of request surface script ≡ Err refusal
-  inputs_of-script m refusal read refused = ap (λ (s : Result Map Refusal). both_inputs s (lines_to_answer request.script script)) read ∙ ap (both_inputs (Ok m)) refused
+  inputs_of-script : (file : File) (refusal : Refusal) → surface_of surface ≡ Ok file → lines_to_answer request.script script ≡ Err refusal → inputs_of request surface script ≡ Err refusal
+  inputs_of-script file refusal read refused = ap (λ (s : Result File Refusal). both_inputs s (lines_to_answer request.script script)) read ∙ ap (both_inputs (Ok file)) refused
 
-  -- a surface that is not read stops a run
-  pub surface_stops : (stop : Stop) (told : Option (List ℕ)) → IsSurfaceRead surface (Err stop) → IsRun request surface script (Err stop) told told
-  surface_stops Memory told h = inl (Keeps-refl told)
-  surface_stops ReadFault told h = Keeps-refl told
-  surface_stops WriteFault told h = absurd h
-  surface_stops (Refused refusal) told h = (inputs_of-surface refusal h, Keeps-refl told)
+  module _ (stays : Type 0) (s : Saving) where
+    -- a surface that is not read stops a run
+    pub surface_stops : (stop : Stop) (told : Option (List ℕ)) → IsSurfaceRead surface (Err stop) → IsRun request surface script stays s (Err stop) told told
+    surface_stops Memory told h = inl (Keeps-refl told)
+    surface_stops ReadFault told h = Keeps-refl told
+    surface_stops WriteFault told h = absurd h
+    surface_stops (Refused refusal) told h = (inputs_of-surface refusal h, Keeps-refl told)
 
-  -- a script that is not read stops a run
-  pub script_stops : (name : List ℕ) (m : Map) (stop : Stop) (told : Option (List ℕ)) → surface_of surface ≡ Ok m → request.script ≡ Some name → IsScriptRead script (Err stop)
-      → IsRun request surface script (Err stop) told told
-  script_stops name m Memory told read named h = inl (Keeps-refl told)
-  script_stops name m ReadFault told read named h = Keeps-refl told
-  script_stops name m WriteFault told read named h = absurd h
-  script_stops name m (Refused refusal) told read named h =
-      (inputs_of-script m refusal read (lines_to_answer-long request.script name script named h.0 ∙ ap Err (sym h.1)), Keeps-refl told)
+    -- a script that is not read stops a run
+    pub script_stops : (name : List ℕ) (file : File) (stop : Stop) (told : Option (List ℕ)) → surface_of surface ≡ Ok file → request.script ≡ Some name → IsScriptRead script (Err stop)
+        → IsRun request surface script stays s (Err stop) told told
+    script_stops name file Memory told read named h = inl (Keeps-refl told)
+    script_stops name file ReadFault told read named h = Keeps-refl told
+    script_stops name file WriteFault told read named h = absurd h
+    script_stops name file (Refused refusal) told read named h =
+        (inputs_of-script file refusal read (lines_to_answer-long request.script name script named h.0 ∙ ap Err (sym h.1)), Keeps-refl told)
 
-  module _ (law : AnswersAreDetermined) (inputs : Inputs) (whole : IsMap inputs.map) (accepted : inputs_of request surface script ≡ Ok inputs) where
-    starts : IsState (first_state inputs.map)
-    starts = record { map = whole; earlier = λ k d below. absurd (omega (arith, below)) }
+  module _ (law : AnswersAreDetermined) (inputs : Inputs) (whole : IsState (first_state inputs.file)) (accepted : inputs_of request surface script ≡ Ok inputs) where
+    lines_of_outcome : (o : Outcome) → IsOutcomeOfRun request surface script o → IsOutcomeOfLines request.save inputs o
+    lines_of_outcome o h = subst (λ (r : Result Inputs Refusal). IsOutcomeOfInputs request.save r o) accepted h
 
-    lines_of_outcome : (o : Outcome) → IsOutcomeOfInputs (inputs_of request surface script) o → IsOutcomeOfLines inputs o
-    lines_of_outcome o h = subst (λ (r : Result Inputs Refusal). IsOutcomeOfInputs r o) accepted h
-
-    is_begun : (text : List ℕ) → AnswersFirst (first_state inputs.map) inputs.lines text → IsBegun request surface script text
+    is_begun : (text : List ℕ) → AnswersFirst (first_state inputs.file) inputs.lines text → IsBegun request surface script text
     is_begun text first = record {
       inputs = inputs;
       accepted = accepted;
       answers = first;
       every = λ o h. let k = lines_of_outcome o h in
-          subst (λ (t : List ℕ). StartsWith t text) (sym k.3.out_is) (every_start law (first_state inputs.map) inputs.lines text k.0 k.1 starts first k.2);
+          subst (λ (t : List ℕ). StartsWith t text) (sym (ap (λ (p : Outcome). p.out) k.3)) (every_start law (first_state inputs.file) inputs.lines text k.0 k.1 whole first k.2);
     }
 
-    -- the answers to the lines are those of a run
-    pub run_answered : (result : Result Bool Stop) (old new : Option (List ℕ)) → WritesAnswers (first_state inputs.map) inputs.lines result old new → IsRun request surface script result old new
-    run_answered (Ok all_accepted) old new (text, after, answers, written) =
-        let o : Outcome = record { status = status_of all_accepted; out = text } in
-        let reply : Reply = record { accepted = all_accepted; text = text } in (
-          text,
-          record {
-            is = subst (λ (r : Result Inputs Refusal). IsOutcomeOfInputs r o) (sym accepted) (reply, after, answers, record { status_is = refl; out_is = refl });
-            only = λ other h. let k = lines_of_outcome other h in k.3.out_is ∙ ap (λ (r : Reply). r.text) (law (first_state inputs.map) 1 inputs.lines k.0 reply k.1 after starts k.2 answers).0;
-          },
-          written,
-        )
-    run_answered (Err Memory) old new (text, first, written) = inr (text, is_begun text first, written)
-    run_answered (Err WriteFault) old new (text, first, part) = (text, is_begun text first, part)
-    run_answered (Err ReadFault) old new h = absurd h
-    run_answered (Err (Refused refusal)) old new h = absurd h
+    -- the answers to all lines, and the file that they leave, are the outcome
+    is_defined : (reply : Reply) (after : State) → AreAnswers (first_state inputs.file) 1 inputs.lines reply after → IsDefined request surface script (answered request.save reply after)
+    is_defined reply after are = record {
+      is = subst (λ (r : Result Inputs Refusal). IsOutcomeOfInputs request.save r (answered request.save reply after)) (sym accepted) (reply, after, are, refl);
+      only = λ other h. let k = lines_of_outcome other h in let same = law (first_state inputs.file) 1 inputs.lines k.0 reply k.1 after whole k.2 are in
+          k.3 ∙ ap (λ (r : Reply). answered request.save r k.1) same.0 ∙ ap (λ (t : State). answered request.save reply t) same.1;
+    }
+
+    -- the answers to the lines, and the saving of the file that they leave, are those of a run
+    pub run_answered : (stays : Type 0) (s : Saving) (result : Result Bool Stop) (old new : Option (List ℕ)) → AnswersAndSaves request.save (first_state inputs.file) inputs.lines stays s result old new
+        → IsRun request surface script stays s result old new
+    run_answered stays s (Ok all_accepted) old new (text, after, are, written, saved) = (answered request.save (reply_of all_accepted text) after, is_defined (reply_of all_accepted text) after are, refl, written, saved)
+    run_answered stays s (Err Memory) old new (text, first, written) = inr (text, is_begun text first, written)
+    run_answered stays s (Err WriteFault) old new (inl (kept, text, first, part)) = inl (kept, text, is_begun text first, part)
+    run_answered stays s (Err WriteFault) old new (inr (all_accepted, text, after, are, written, saved, is, some)) =
+        inr (answered request.save (reply_of all_accepted text) after, is_defined (reply_of all_accepted text) after are, (saved, is, some, written))
+    run_answered stays s (Err ReadFault) old new h = absurd h
+    run_answered stays s (Err (Refused refusal)) old new h = absurd h

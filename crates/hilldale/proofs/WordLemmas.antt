@@ -1,56 +1,111 @@
 -- Steps of the reading of the words.
-use Rattle.std.proofs.Common.{◌≡◌, ◌∙◌, ◌<◌, ℕ, suc, map, get_or, drop-cons, Bool, true, false, List, [], ◌∷◌, ◌++◌, length, drop, Option, Some, None, IfNone, codes, nat_eq, Bor, refl, sym, ap, append_assoc, arith, if◌then◌else◌}
+use Rattle.std.proofs.Common.{◌≡◌, ◌≢◌, ◌∙◌, ◌<◌, ◌+◌, ℕ, suc, map, get_or, drop-cons, Bool, true, false, List, [], ◌∷◌, ◌++◌, length, drop, Option, Some, None, IfNone, MatchOption, codes, nat_eq, Bor, refl, sym, ap, append_assoc, arith, if◌then◌else◌}
 use Rattle.std.specs.List.{starts_with}
-use Rattle.std.specs.Option.{option_copied}
-use Rattle.std.specs.Str.{bytes_eq}
-use Rattle.hilldale.specs.Words.{Given, given_of, with_name, with_tile, begins_with_dash, dales_names, run_names}
-use Rattle.hilldale.specs.WordSteps.{HasNoForm, followed_by}
-use Rattle.hilldale.specs.declared.words.Stage.TheVariants.{Options, TileValue}
+use Rattle.std.specs.Option.{option_copied, option_and_then}
+use Rattle.std.specs.Str.{bytes_eq, IsCharBoundary}
+use Rattle.std.specs.Prelude.{Decides}
+use Rattle.std.proofs.lemmas.Bool.Decides.{nat_tests}
+use Rattle.std.proofs.lemmas.Slice.Eq.{starts_is}
+use Rattle.hilldale.specs.Words.{Given, given_of, with_name, with_tile, with_save, begins_with_dash, dales_names, run_names, tile_of}
+use Rattle.hilldale.specs.WordSteps.{HasNoForm, IsNoOptionAlone, followed_by}
+use Rattle.hilldale.specs.declared.words.Stage.TheVariants.{Options, TileValue, SaveValue}
 
-two_tiles-dales : (names : List (List ℕ)) (first second : List ℕ) (more : List (List ℕ)) → dales_names names (first ∷ (second ∷ more)) ≡ None
-two_tiles-dales [] first second more = refl
-two_tiles-dales (name ∷ []) first second more = refl
-two_tiles-dales (name ∷ (other ∷ names)) first second more = refl
+two_tiles-dales : (names saves : List (List ℕ)) (first second : List ℕ) (more : List (List ℕ)) → dales_names names (first ∷ (second ∷ more)) saves ≡ None
+two_tiles-dales [] saves first second more = refl
+two_tiles-dales (name ∷ []) saves first second more = refl
+two_tiles-dales (name ∷ (other ∷ names)) saves first second more = refl
 
-two_tiles-run : (names : List (List ℕ)) (first second : List ℕ) (more : List (List ℕ)) → run_names names (first ∷ (second ∷ more)) ≡ None
-two_tiles-run [] first second more = refl
-two_tiles-run (name ∷ []) first second more = refl
-two_tiles-run ([] ∷ (script ∷ [])) first second more = refl
-two_tiles-run ((byte ∷ bytes) ∷ ([] ∷ [])) first second more = refl
-two_tiles-run ((byte ∷ bytes) ∷ ((letter ∷ letters) ∷ [])) first second more = refl
-two_tiles-run (name ∷ (script ∷ (other ∷ names))) first second more = refl
+two_tiles-run : (names saves : List (List ℕ)) (first second : List ℕ) (more : List (List ℕ)) → run_names names (first ∷ (second ∷ more)) saves ≡ None
+two_tiles-run [] saves first second more = refl
+two_tiles-run (name ∷ []) saves first second more = refl
+two_tiles-run ([] ∷ (script ∷ [])) saves first second more = refl
+two_tiles-run ((byte ∷ bytes) ∷ ([] ∷ [])) saves first second more = refl
+two_tiles-run ((byte ∷ bytes) ∷ ((letter ∷ letters) ∷ [])) saves first second more = refl
+two_tiles-run (name ∷ (script ∷ (other ∷ names))) saves first second more = refl
+
+two_saves-dales : (names tiles : List (List ℕ)) (first second : List ℕ) (more : List (List ℕ)) → dales_names names tiles (first ∷ (second ∷ more)) ≡ None
+two_saves-dales [] tiles first second more = refl
+two_saves-dales (name ∷ []) [] first second more = refl
+two_saves-dales (name ∷ []) (tile ∷ tiles) first second more = refl
+two_saves-dales (name ∷ (other ∷ names)) tiles first second more = refl
+
+none_then : {X Y : Type 0} (r : Option X) (f : X → Option Y) → ((x : X) → f x ≡ None) → option_and_then f r ≡ None
+none_then None f h = refl
+none_then (Some x) f h = h x
+
+two_saves-run : (names tiles : List (List ℕ)) (first second : List ℕ) (more : List (List ℕ)) → run_names names tiles (first ∷ (second ∷ more)) ≡ None
+two_saves-run [] tiles first second more = refl
+two_saves-run (name ∷ []) tiles first second more = refl
+two_saves-run ([] ∷ (script ∷ [])) tiles first second more = refl
+two_saves-run ((byte ∷ bytes) ∷ ([] ∷ [])) tiles first second more = refl
+two_saves-run ((byte ∷ bytes) ∷ ((letter ∷ letters) ∷ [])) tiles first second more = none_then (tile_of tiles) _ (λ side. refl)
+two_saves-run (name ∷ (script ∷ (other ∷ names))) tiles first second more = refl
 
 -- a second value of `--tile` has neither form
-pub full_tiles : (names : List (List ℕ)) (first value : List ℕ) (later : Option Given) → HasNoForm (followed_by (record { names = names; tiles = first ∷ [] }) (with_tile value later))
-full_tiles names first value None = record { dales = refl; run = refl }
-full_tiles names first value (Some g) = record { dales = two_tiles-dales (names ++ g.names) first value g.tiles; run = two_tiles-run (names ++ g.names) first value g.tiles }
+pub full_tiles : (names saves : List (List ℕ)) (first value : List ℕ) (later : Option Given) → HasNoForm (followed_by (record { names = names; tiles = first ∷ []; saves = saves }) (with_tile value later))
+full_tiles names saves first value None = record { dales = refl; run = refl }
+full_tiles names saves first value (Some g) = record { dales = two_tiles-dales (names ++ g.names) (saves ++ g.saves) first value g.tiles; run = two_tiles-run (names ++ g.names) (saves ++ g.saves) first value g.tiles }
 
-pub first_tile : (names : List (List ℕ)) (value : List ℕ) (later : Option Given) → followed_by (record { names = names; tiles = [] }) (with_tile value later) ≡ followed_by (record { names = names; tiles = value ∷ [] }) later
-first_tile names value None = refl
-first_tile names value (Some g) = refl
+-- a second value of `--save` has neither form
+pub full_saves : (names tiles : List (List ℕ)) (first value : List ℕ) (later : Option Given) → HasNoForm (followed_by (record { names = names; tiles = tiles; saves = first ∷ [] }) (with_save value later))
+full_saves names tiles first value None = record { dales = refl; run = refl }
+full_saves names tiles first value (Some g) = record { dales = two_saves-dales (names ++ g.names) (tiles ++ g.tiles) first value g.saves; run = two_saves-run (names ++ g.names) (tiles ++ g.tiles) first value g.saves }
 
-three_names : (names tiles : List (List ℕ)) (name : List ℕ) (later : Option Given) → length names ≡ 2 → HasNoForm (followed_by (record { names = names; tiles = tiles }) (with_name name later))
-three_names names tiles name None two = record { dales = refl; run = refl }
-three_names [] tiles name (Some g) two = absurd (omega arith)
-three_names (first ∷ []) tiles name (Some g) two = absurd (omega arith)
-three_names (first ∷ (second ∷ [])) tiles name (Some g) two = record { dales = refl; run = refl }
-three_names (first ∷ (second ∷ (third ∷ names))) tiles name (Some g) two = absurd (omega arith)
+pub first_tile : (names saves : List (List ℕ)) (value : List ℕ) (later : Option Given) → followed_by (record { names = names; tiles = []; saves = saves }) (with_tile value later) ≡ followed_by (record { names = names; tiles = value ∷ []; saves = saves }) later
+first_tile names saves value None = refl
+first_tile names saves value (Some g) = refl
+
+pub first_save : (names tiles : List (List ℕ)) (value : List ℕ) (later : Option Given) → followed_by (record { names = names; tiles = tiles; saves = [] }) (with_save value later) ≡ followed_by (record { names = names; tiles = tiles; saves = value ∷ [] }) later
+first_save names tiles value None = refl
+first_save names tiles value (Some g) = refl
+
+three_names : (names tiles saves : List (List ℕ)) (name : List ℕ) (later : Option Given) → length names ≡ 2 → HasNoForm (followed_by (record { names = names; tiles = tiles; saves = saves }) (with_name name later))
+three_names names tiles saves name None two = record { dales = refl; run = refl }
+three_names [] tiles saves name (Some g) two = absurd (omega arith)
+three_names (first ∷ []) tiles saves name (Some g) two = absurd (omega arith)
+three_names (first ∷ (second ∷ [])) tiles saves name (Some g) two = record { dales = refl; run = refl }
+three_names (first ∷ (second ∷ (third ∷ names))) tiles saves name (Some g) two = absurd (omega arith)
 
 -- a third name has neither form
 pub full_names : (before : Given) (name : List ℕ) (later : Option Given) → length before.names ≡ 2 → HasNoForm (followed_by before (with_name name later))
-full_names before name later two = three_names before.names before.tiles name later two
+full_names before name later two = three_names before.names before.tiles before.saves name later two
 
-pub one_name : (before : Given) (name : List ℕ) (later : Option Given) → followed_by before (with_name name later) ≡ followed_by (record { names = before.names ++ (name ∷ []); tiles = before.tiles }) later
+pub one_name : (before : Given) (name : List ℕ) (later : Option Given) → followed_by before (with_name name later) ≡ followed_by (record { names = before.names ++ (name ∷ []); tiles = before.tiles; saves = before.saves }) later
 one_name before name None = refl
 one_name before name (Some g) = rw (append_assoc before.names (name ∷ []) g.names) refl
 
 -- a word that is no option
-pub plain_word : (word : List ℕ) (words : List (List ℕ)) → bytes_eq word (codes "--") ≡ false → bytes_eq word (codes "--tile") ≡ false → starts_with nat_eq word (codes "--tile=") ≡ false → begins_with_dash word ≡ false → given_of Options (word ∷ words) ≡ with_name word (given_of Options words)
-plain_word word words a b d e = rw (a, b, d, e) refl
+pub plain_word : (word : List ℕ) (words : List (List ℕ)) → IsNoOptionAlone word → starts_with nat_eq word (codes "--tile=") ≡ false → starts_with nat_eq word (codes "--save=") ≡ false → begins_with_dash word ≡ false
+    → given_of Options (word ∷ words) ≡ with_name word (given_of Options words)
+plain_word word words alone tile save dash = rw (alone.ends, alone.tile, alone.save, tile, save, dash) refl
 
 -- a word `--tile=VALUE`
-joined_word : (word : List ℕ) (words : List (List ℕ)) → bytes_eq word (codes "--") ≡ false → bytes_eq word (codes "--tile") ≡ false → starts_with nat_eq word (codes "--tile=") ≡ true → given_of Options (word ∷ words) ≡ with_tile (drop 7 word) (given_of Options words)
-joined_word word words a b d = rw (a, b, d) refl
+pub joined_tile : (word value : List ℕ) (words : List (List ℕ)) → IsNoOptionAlone word → starts_with nat_eq word (codes "--tile=") ≡ true → value ≡ drop 7 word → given_of Options (word ∷ words) ≡ given_of TileValue (value ∷ words)
+joined_tile word value words alone tile is = rw (alone.ends, alone.tile, alone.save, tile, is) refl
+
+-- a word `--save=VALUE`
+pub joined_save : (word value : List ℕ) (words : List (List ℕ)) → IsNoOptionAlone word → starts_with nat_eq word (codes "--tile=") ≡ false → starts_with nat_eq word (codes "--save=") ≡ true → value ≡ drop 7 word
+    → given_of Options (word ∷ words) ≡ given_of SaveValue (value ∷ words)
+joined_save word value words alone tile save is = rw (alone.ends, alone.tile, alone.save, tile, save, is) refl
+
+none_if : (test : Bool) (value : List ℕ) → (test ≡ true → ⊥) → None ≡ (if test then Some value else None)
+none_if true value wrong = absurd (wrong refl)
+none_if false value wrong = refl
+
+some_if : (test : Bool) (x value : List ℕ) → test ≡ true → x ≡ value → Some x ≡ (if test then Some value else None)
+some_if true x value holds is = ap (λ xs. Some xs) is
+some_if false x value holds is = absurd (cc)
+
+same_byte : (a b : ℕ) → Decides (nat_eq a b) (a ≡ b)
+same_byte a b = (λ t. grind (arith, nat_tests), λ e. grind (arith, nat_tests))
+
+-- a word without the text that it begins with
+pub strips : (word front : List ℕ) (r : Option (Bor (List ℕ)))
+    → MatchOption r ((rest : List ℕ) → drop 0 word ≢ front ++ rest) (λ x. (n : ℕ) × ((n ≡ length front) × (word ≡ front ++ drop n word) × IsCharBoundary word (length front)) × (x.now ≡ drop n word) × (length x.now + n ≡ length word))
+    → option_copied r ≡ (if starts_with nat_eq word front then Some (drop (length front) word) else None)
+strips word front None lacks = none_if (starts_with nat_eq word front) (drop (length front) word) (λ holds. lacks (drop (length front) word) ((starts_is same_byte word front (starts_with nat_eq word front) refl).0 holds))
+strips word front (Some x) (n, found, is, len) =
+    some_if (starts_with nat_eq word front) x.now (drop (length front) word) ((starts_is same_byte word front (starts_with nat_eq word front) refl).1 (drop n word) found.1) (is ∙ ap (λ k. drop k word) found.0)
 
 pub absent-false : (test : Bool) (value : List ℕ) (r : Option (Bor (List ℕ))) → option_copied r ≡ (if test then Some value else None) → r ≡ None → test ≡ false
 absent-false true value r e is = let wrong : None ≡ Some value = rw is at e in cc
@@ -60,15 +115,15 @@ pub present-true : (test : Bool) (value : List ℕ) (r : Option (Bor (List ℕ))
 present-true true value r x e is = let same : Some x.now ≡ Some value = rw is at e in (refl, cc)
 present-true false value r x e is = let wrong : Some x.now ≡ None = rw is at e in cc
 
--- where the word begins with `--tile=`, `--tile` and the rest are as good
-pub joined_tile : (before : Given) (word value : List ℕ) (words : List (List ℕ)) → bytes_eq word (codes "--") ≡ false → bytes_eq word (codes "--tile") ≡ false → starts_with nat_eq word (codes "--tile=") ≡ true → value ≡ drop 7 word → HasNoForm (followed_by before (given_of TileValue (value ∷ words))) → HasNoForm (followed_by before (given_of Options (word ∷ words)))
-joined_tile before word value words a b d e h = rw (joined_word word words a b d, sym e) h
+-- words that give the same have as little form
+pub same_refused : (before : Given) (later other : Option Given) → later ≡ other → HasNoForm (followed_by before other) → HasNoForm (followed_by before later)
+same_refused before later other same h = rw same h
 
 pub none_more : {X P Q : Type 0} (r : Option X) → (P → Q) → IfNone r P → IfNone r Q
 none_more None more h = more h
 none_more (Some x) more h = h
 
-pub none_before : (given : Option Given) → given ≡ followed_by (record { names = []; tiles = [] }) given
+pub none_before : (given : Option Given) → given ≡ followed_by (record { names = []; tiles = []; saves = [] }) given
 none_before None = refl
 none_before (Some g) = refl
 

@@ -1,4 +1,4 @@
--- How a run ends, and what `out` holds then.
+-- How a run ends, and what `out` and `saved` hold then.
 use Rattle.std.specs.Prelude.{◌≡◌, ◌⊎◌, ℕ, Bool, List, [], Some, Result, Ok, Err, IsTrue}
 use Rattle.std.specs.Io.KnownBytes.{Appends, Keeps}
 use Rattle.hd_base.specs.Told.{Told, AppendsStart}
@@ -9,39 +9,50 @@ use Rattle.hilldale.specs.declared.stop.Stop.TheVariants as stop
 use Rattle.hilldale.specs.FaultCounts.{Count, RoseIn, Stays}
 use Rattle.hilldale.specs.Outcome.{Outcome, status_of, IsOutcome}
 use Rattle.hilldale.specs.Refusals.{refusal_status, refusal_text}
-use Rattle.hilldale.specs.RunResult.{IsBegun}
+use Rattle.hilldale.specs.RunResult.{IsBegun, StopsSaving}
+use Rattle.hilldale.specs.Saving.{Saving, IsSavedAs}
 use Rattle.hilldale.specs.Texts.{read_fault_text}
 use Rattle.hilldale.specs.Words.{Request, form_of}
 
--- all of the defined output was written
-abbrev pub Completes : List (List ℕ) → List ℕ → List ℕ → Status → Told → Told → Type 0
-Completes words surface script status old new = (text : List ℕ)
-    × IsOutcome words surface script (record { status = status; out = text }) × Appends old new text
+-- this is the outcome, and there is no other
+pub record IsTheOutcome (words : List (List ℕ)) (surface script : List ℕ) (o : Outcome) : Type 0 where
+  pub is : IsOutcome words surface script o
+  pub only : (other : Outcome) → IsOutcome words surface script other → other ≡ o
+
+-- all of the defined output was written, and all that is to be saved
+abbrev pub Completes : List (List ℕ) → List ℕ → List ℕ → Type 0 → Saving → Status → Told → Told → Type 0
+Completes words surface script stays s status old new = (o : Outcome) × IsTheOutcome words surface script o
+    × (o.status ≡ status) × Appends old new o.out × IsSavedAs stays s o.saved
 
 -- the words have their form, and this is the text of the answers to the first few lines
 abbrev pub AnswersSome : List (List ℕ) → List ℕ → List ℕ → List ℕ → Type 0
 AnswersSome words surface script text =
     (request : Request) × (form_of words ≡ Some request) × IsBegun request surface script text
 
--- this is the text of an outcome, and so of each
-pub record IsWholeText (words : List (List ℕ)) (surface script text : List ℕ) : Type 0 where
-  pub status : Status
-  pub is : IsOutcome words surface script (record { status = status; out = text })
-  pub only : (o : Outcome) → IsOutcome words surface script o → o.out ≡ text
+-- some first bytes are written of the answers to the first few lines
+abbrev pub WritesSome : List (List ℕ) → List ℕ → List ℕ → Told → Told → Type 0
+WritesSome words surface script old new =
+    (text : List ℕ) × AnswersSome words surface script text × AppendsStart old new text
 
--- some first bytes are written of the defined output, or of the answers to the first few lines
-abbrev pub WritesStart : List (List ℕ) → List ℕ → List ℕ → Told → Told → Type 0
-WritesStart words surface script old new = (text : List ℕ)
-    × (IsWholeText words surface script text ⊎ AnswersSome words surface script text) × AppendsStart old new text
+-- some first bytes are written of the defined output, before which all that is to be saved was saved
+abbrev pub WritesStart : List (List ℕ) → List ℕ → List ℕ → Type 0 → Saving → Told → Told → Type 0
+WritesStart words surface script stays s old new = (o : Outcome) × IsTheOutcome words surface script o
+    × AppendsStart old new o.out × IsSavedAs stays s o.saved
 
--- what `out` holds at the end, by the status; `failed` says that a source failed
-abbrev pub EndsAs : List (List ℕ) → List ℕ → List ℕ → Type 0 → Status → Told → Told → Type 0
-EndsAs words surface script failed ReadFault old new = failed × Appends old new read_fault_text
-EndsAs words surface script failed WriteFault old new =
-    WritesStart words surface script old new ⊎ (failed × AppendsStart old new read_fault_text)
-EndsAs words surface script failed Memory old new =
-    Keeps old new ⊎ ((text : List ℕ) × AnswersSome words surface script text × Appends old new text)
-EndsAs words surface script failed status old new = Completes words surface script status old new
+-- `saved` failed, before which all of the defined output was written
+abbrev pub SavesStart : List (List ℕ) → List ℕ → List ℕ → Saving → Told → Told → Type 0
+SavesStart words surface script s old new = (o : Outcome) × IsTheOutcome words surface script o × StopsSaving o s old new
+
+-- what `out` and `saved` hold at the end, by the status; `failed` says that a source failed, `stays` that `saved` is
+-- as it was
+abbrev pub EndsAs : List (List ℕ) → List ℕ → List ℕ → Type 0 → Type 0 → Saving → Status → Told → Told → Type 0
+EndsAs words surface script failed stays s ReadFault old new = failed × stays × Appends old new read_fault_text
+EndsAs words surface script failed stays s WriteFault old new =
+    (stays × (WritesSome words surface script old new ⊎ (failed × AppendsStart old new read_fault_text)))
+    ⊎ (WritesStart words surface script stays s old new ⊎ SavesStart words surface script s old new)
+EndsAs words surface script failed stays s Memory old new =
+    stays × (Keeps old new ⊎ ((text : List ℕ) × AnswersSome words surface script text × Appends old new text))
+EndsAs words surface script failed stays s status old new = Completes words surface script stays s status old new
 
 -- the last bytes are all written and flushed, and the status is the one that was wanted
 pub record IsWhole (bytes : List ℕ) (wanted status : Status) (old new : Told) (flushed : Bool) (faults : Count) :
@@ -76,4 +87,5 @@ EndsRun (Err stop.WriteFault) status old new flushed faults = StopsAt WriteFault
 EndsRun (Err stop.ReadFault) status old new flushed faults =
     Finishes read_fault_text ReadFault status old new flushed faults
 EndsRun (Err (stop.Refused refusal)) status old new flushed faults =
-    Finishes (refusal_text refusal) (refusal_status refusal) status old new flushed faults
+    StopsAt Memory status old new faults
+    ⊎ Finishes (refusal_text refusal) (refusal_status refusal) status old new flushed faults

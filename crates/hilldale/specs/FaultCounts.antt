@@ -1,7 +1,7 @@
 -- Counts of faults over a run, and the statuses that they explain.
 use Rattle.std.specs.Prelude.{◌≡◌, ◌≢◌, ◌⊎◌, ℕ, Result, Ok}
 use Rattle.hd_base.specs.Causes.{Rose}
-use Rattle.hd_map.specs.Map.{Map}
+use Rattle.hd_sdf_read.specs.File.{File}
 use Rattle.hilldale.specs.declared.status.Status.{Status}
 use Rattle.hilldale.specs.declared.status.Status.TheVariants.{ReadFault, WriteFault}
 use Rattle.hilldale.specs.declared.stop.Refusal.{Refusal}
@@ -22,9 +22,9 @@ abbrev pub Stays : Count → Type 0
 Stays count = count.now ≡ count.before
 
 -- a source failed: that of the surface, or, once the surface is accepted, that of the script
-abbrev pub SourceFailed : Result Map Refusal → Count → Count → Type 0
+abbrev pub SourceFailed : Result File Refusal → Count → Count → Type 0
 SourceFailed surface surfaces scripts =
-    RoseIn surfaces ⊎ ((map : Map) × (surface ≡ Ok map) × RoseIn scripts)
+    RoseIn surfaces ⊎ ((file : File) × (surface ≡ Ok file) × RoseIn scripts)
 
 -- a read fault comes only where a source failed and no sink, a write fault only where a sink failed, and each
 -- other status only where none failed

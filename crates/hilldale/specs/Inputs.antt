@@ -1,8 +1,8 @@
 -- What the reading of the two inputs tells.
 use Rattle.std.specs.Prelude.{◌≡◌, ◌≢◌, ◌<◌, ◌≤◌, ℕ, List, length, Result, Ok, Err, ⊤}
 use Rattle.hd_base.specs.Causes.{Rose}
-use Rattle.hd_map.specs.declared.surface.Surface.{Surface}
-use Rattle.hd_map.specs.Surface.{map_of}
+use Rattle.hd_sdf_read.specs.declared.file.SdfFile.{SdfFile}
+use Rattle.hd_sdf_read.specs.FileOf.{file_of}
 use Rattle.hilldale.specs.declared.limits.TheConstants.{SCRIPT_LIMIT}
 use Rattle.hilldale.specs.declared.stop.Refusal.{Refusal}
 use Rattle.hilldale.specs.declared.stop.Refusal.TheVariants.{ScriptTooLong}
@@ -11,8 +11,8 @@ use Rattle.hilldale.specs.declared.stop.Stop.TheVariants.{Memory, ReadFault, Wri
 use Rattle.hilldale.specs.Outcome.{surface_of}
 
 -- what the answer tells of the surface's bytes
-abbrev pub IsSurfaceRead : List ℕ → Result Surface Stop → Type 0
-IsSurfaceRead bytes (Ok surface) = surface_of bytes ≡ Ok (map_of surface)
+abbrev pub IsSurfaceRead : List ℕ → Result SdfFile Stop → Type 0
+IsSurfaceRead bytes (Ok file) = surface_of bytes ≡ Ok (file_of file)
 IsSurfaceRead bytes (Err (Refused refusal)) = surface_of bytes ≡ Err refusal
 IsSurfaceRead bytes (Err Memory) = ⊤
 IsSurfaceRead bytes (Err ReadFault) = ⊤

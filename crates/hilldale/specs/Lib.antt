@@ -5,6 +5,7 @@ pub mod Texts
 pub mod Refusals
 pub mod Outcome
 pub mod FaultCounts
+pub mod Saving
 pub mod ReadOrder
 pub mod Inputs
 pub mod WrittenAnswers

@@ -1,36 +1,43 @@
 -- What the words and the bytes of the two inputs come to.
 use Rattle.std.specs.Prelude.{◌≡◌, ℕ, Bool, List, [], ◌∷◌, length, Option, Some, None, Result, Ok, Err, MatchResult, MatchOption, codes, nat_lt, if◌then◌else◌}
-use Rattle.std.specs.Option.{ok_or}
+use Rattle.std.specs.Option.{option_map}
 use Rattle.hd_base.specs.Told.{Told}
 use Rattle.hd_num.specs.Lines.{lines_of}
-use Rattle.hd_map.specs.Map.{Map}
-use Rattle.hd_sdf_read.specs.Plain.{plain_map}
-use Rattle.hd_engine.specs.State.{State, first_state}
+use Rattle.hd_sdf_read.specs.declared.error.SdfError.{SdfError}
+use Rattle.hd_sdf_read.specs.File.{File}
+use Rattle.hd_sdf_read.specs.Grammar.{file_in}
+use Rattle.hd_sdf_write.specs.Canonical.{canonical}
+use Rattle.hd_engine.specs.State.{State, first_state, saved_file}
 use Rattle.hd_engine.specs.Answers.{AreAnswers}
 use Rattle.hd_engine.specs.Reply.{Reply}
 use Rattle.hilldale.specs.declared.limits.TheConstants.{SURFACE_LIMIT, SCRIPT_LIMIT}
 use Rattle.hilldale.specs.declared.status.Status.{Status}
 use Rattle.hilldale.specs.declared.status.Status.TheVariants.{Done, LineRefused, Usage}
 use Rattle.hilldale.specs.declared.stop.Refusal.{Refusal}
-use Rattle.hilldale.specs.declared.stop.Refusal.TheVariants.{SurfaceTooLong, NotPlain, ScriptTooLong}
+use Rattle.hilldale.specs.declared.stop.Refusal.TheVariants.{SurfaceTooLong, Surface, ScriptTooLong}
 use Rattle.hilldale.specs.Refusals.{refusal_status, refusal_text}
 use Rattle.hilldale.specs.Words.{Request, form_of}
 use Rattle.hilldale.specs.Texts.{usage_text}
 
--- a status and the bytes that `out` gets
+-- a status, the bytes that `out` gets, and those that `saved` gets where it is opened
 pub record Outcome : Type 0 where
   pub status : Status
   pub out : List ℕ
+  pub saved : Option (List ℕ)
 
--- an outcome with this status and this text
-pub record ComesTo (o : Outcome) (status : Status) (text : List ℕ) : Type 0 where
-  pub status_is : o.status ≡ status
-  pub out_is : o.out ≡ text
+-- an outcome in which `saved` is not opened
+abbrev pub tells : Status → List ℕ → Outcome
+tells status text = record { status = status; out = text; saved = None }
 
--- the map that the surface's bytes hold, or why they are refused
-abbrev pub surface_of : List ℕ → Result Map Refusal
+-- the file, or why the program refuses it
+abbrev pub judged : Result File SdfError → Result File Refusal
+judged (Ok file) = Ok file
+judged (Err error) = Err (Surface error)
+
+-- the file that the surface's bytes hold, or why they are refused
+abbrev pub surface_of : List ℕ → Result File Refusal
 surface_of bytes =
-    if nat_lt SURFACE_LIMIT (length bytes) then Err SurfaceTooLong else ok_or (plain_map bytes) NotPlain
+    if nat_lt SURFACE_LIMIT (length bytes) then Err SurfaceTooLong else judged (file_in bytes)
 
 -- the lines to answer: those of the script, if it is not too long; without a script the one line `dales`
 abbrev pub lines_to_answer : Option (List ℕ) → List ℕ → Result (List (List ℕ)) Refusal
@@ -38,16 +45,16 @@ lines_to_answer None script = Ok (codes "dales" ∷ [])
 lines_to_answer (Some name) script =
     if nat_lt SCRIPT_LIMIT (length script) then Err ScriptTooLong else Ok (lines_of script)
 
--- a map, and the lines to answer on it
+-- a file, and the lines to answer on its surface
 pub record Inputs : Type 0 where
-  pub map : Map
+  pub file : File
   pub lines : List (List ℕ)
 
 -- both inputs, or the first refusal: the surface is judged before the script
-abbrev pub both_inputs : Result Map Refusal → Result (List (List ℕ)) Refusal → Result Inputs Refusal
+abbrev pub both_inputs : Result File Refusal → Result (List (List ℕ)) Refusal → Result Inputs Refusal
 both_inputs (Err refusal) lines = Err refusal
-both_inputs (Ok map) (Err refusal) = Err refusal
-both_inputs (Ok map) (Ok lines) = Ok (record { map = map; lines = lines })
+both_inputs (Ok file) (Err refusal) = Err refusal
+both_inputs (Ok file) (Ok lines) = Ok (record { file = file; lines = lines })
 
 -- what the bytes of the surface and the script hold for a request
 abbrev pub inputs_of : Request → List ℕ → List ℕ → Result Inputs Refusal
@@ -57,24 +64,34 @@ inputs_of request surface script = both_inputs (surface_of surface) (lines_to_an
 abbrev pub status_of : Bool → Status
 status_of accepted = if accepted then Done else LineRefused
 
--- the answers to the lines in order, each on the state after the lines before it
-abbrev pub IsOutcomeOfLines : Inputs → Outcome → Type 0
-IsOutcomeOfLines inputs o = (reply : Reply) × (after : State)
-    × AreAnswers (first_state inputs.map) 1 inputs.lines reply after × ComesTo o (status_of reply.accepted) reply.text
+-- the canonical text of the file of a state, where the words name a file to save
+abbrev pub saved_of : Option (List ℕ) → State → Option (List ℕ)
+saved_of save s = option_map (λ name. canonical (saved_file s)) save
+
+-- the answers to the lines, and the text of the file that they leave
+abbrev pub answered : Option (List ℕ) → Reply → State → Outcome
+answered save reply after =
+    record { status = status_of reply.accepted; out = reply.text; saved = saved_of save after }
+
+-- the answers to the lines in order, each on the state after the lines before it, and then the file of the last
+-- state, where it is saved
+abbrev pub IsOutcomeOfLines : Option (List ℕ) → Inputs → Outcome → Type 0
+IsOutcomeOfLines save inputs o = (reply : Reply) × (after : State)
+    × AreAnswers (first_state inputs.file) 1 inputs.lines reply after × (o ≡ answered save reply after)
 
 -- the answers on both inputs, or the refusal of one of them
-abbrev pub IsOutcomeOfInputs : Result Inputs Refusal → Outcome → Type 0
-IsOutcomeOfInputs inputs o = MatchResult inputs (λ both. IsOutcomeOfLines both o)
-    (λ refusal. ComesTo o (refusal_status refusal) (refusal_text refusal))
+abbrev pub IsOutcomeOfInputs : Option (List ℕ) → Result Inputs Refusal → Outcome → Type 0
+IsOutcomeOfInputs save inputs o = MatchResult inputs (λ both. IsOutcomeOfLines save both o)
+    (λ refusal. o ≡ tells (refusal_status refusal) (refusal_text refusal))
 
 -- what a request comes to
 abbrev pub IsOutcomeOfRun : Request → List ℕ → List ℕ → Outcome → Type 0
-IsOutcomeOfRun request surface script o = IsOutcomeOfInputs (inputs_of request surface script) o
+IsOutcomeOfRun request surface script o = IsOutcomeOfInputs request.save (inputs_of request surface script) o
 
 -- the outcome for these words, and for the bytes of the surface and the script that they name
 abbrev pub IsOutcome : List (List ℕ) → List ℕ → List ℕ → Outcome → Type 0
 IsOutcome words surface script o =
-    MatchOption (form_of words) (ComesTo o Usage usage_text) (λ request. IsOutcomeOfRun request surface script o)
+    MatchOption (form_of words) (o ≡ tells Usage usage_text) (λ request. IsOutcomeOfRun request surface script o)
 
 -- the bytes are told of the surface and of the script that the words name
 abbrev pub TellsInputs : List (List ℕ) → (List ℕ → Told) → (List ℕ → Told) → List ℕ → List ℕ → Type 0

@@ -15,9 +15,6 @@ usage_text =
 unfoldable pub too_long_text : List ℕ
 too_long_text = line (codes "surface refused: file too long")
 
-unfoldable pub not_plain_text : List ℕ
-not_plain_text = line (codes "surface refused: not a plain file")
-
 unfoldable pub read_fault_text : List ℕ
 read_fault_text = line (codes "read fault")
 

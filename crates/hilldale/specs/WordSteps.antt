@@ -1,5 +1,5 @@
 -- The words after the command, read one by one.
-use Rattle.std.specs.Prelude.{◌≡◌, ◌++◌, ℕ, List, [], ◌∷◌, Option, None}
+use Rattle.std.specs.Prelude.{◌≡◌, ◌++◌, ℕ, false, codes, bytes_eq, List, [], ◌∷◌, Option, None}
 use Rattle.std.specs.Option.{option_copied, option_to_list, option_map, option_and_then}
 use Rattle.hilldale.specs.Words.{Given, given_of, dales_form, run_form}
 use Rattle.hilldale.specs.declared.words.Found.{Found}
@@ -14,15 +14,25 @@ names_in Zero = []
 names_in (One first) = first.now ∷ []
 names_in (Two first second) = first.now ∷ second.now ∷ []
 
--- what was found, as names and values of `--tile`
+-- what was found, as names and values of `--tile` and of `--save`
 abbrev pub found_so_far : Found → Given
-found_so_far found =
-    record { names = names_in found.names; tiles = option_to_list (option_copied found.tile) }
+found_so_far found = record {
+  names = names_in found.names;
+  tiles = option_to_list (option_copied found.tile);
+  saves = option_to_list (option_copied found.save);
+}
+
+-- what was given before and later
+abbrev pub both_given : Given → Given → Given
+both_given before later = record {
+  names = before.names ++ later.names;
+  tiles = before.tiles ++ later.tiles;
+  saves = before.saves ++ later.saves;
+}
 
 -- what was given before, and then what the later words give
 abbrev pub followed_by : Given → Option Given → Option Given
-followed_by before later =
-    option_map (λ more. record { names = before.names ++ more.names; tiles = before.tiles ++ more.tiles }) later
+followed_by before later = option_map (both_given before) later
 
 -- at a stage, with what was found
 abbrev pub at_stage : Stage → Found → Progress
@@ -31,6 +41,12 @@ at_stage stage found = record { stage = stage; found = found }
 -- what was found, and then what the words that are left give
 abbrev pub given_after : Progress → List (List ℕ) → Option Given
 given_after progress words = followed_by (found_so_far progress.found) (given_of progress.stage words)
+
+-- the word is no option that stands alone, and does not end the options
+pub record IsNoOptionAlone (word : List ℕ) : Type 0 where
+  pub ends : bytes_eq word (codes "--") ≡ false
+  pub tile : bytes_eq word (codes "--tile") ≡ false
+  pub save : bytes_eq word (codes "--save") ≡ false
 
 -- neither form has such words
 pub record HasNoForm (given : Option Given) : Type 0 where

@@ -31,13 +31,14 @@ pub record AnswersFirst (s : State) (lines : List (List ℕ)) (text : List ℕ) 
 
 -- the answers to all lines are written; after want of memory those to the first few of them, and after a write
 -- fault some first bytes of such
-abbrev pub WritesAnswers : State → List (List ℕ) → Result Bool Stop → Told → Told → Type 0
-WritesAnswers s lines (Ok accepted) old new =
-    (text : List ℕ) × (after : State) × AreAnswers s 1 lines (reply_of accepted text) after × Appends old new text
-WritesAnswers s lines (Err Memory) old new = (text : List ℕ) × AnswersFirst s lines text × Appends old new text
-WritesAnswers s lines (Err WriteFault) old new =
+abbrev pub WritesAnswers : State → List (List ℕ) → Result Bool Stop → State → Told → Told → Type 0
+WritesAnswers s lines (Ok accepted) after old new =
+    (text : List ℕ) × AreAnswers s 1 lines (reply_of accepted text) after × Appends old new text
+WritesAnswers s lines (Err Memory) after old new =
+    (text : List ℕ) × AnswersFirst s lines text × Appends old new text
+WritesAnswers s lines (Err WriteFault) after old new =
     (text : List ℕ) × AnswersFirst s lines text × AppendsStart old new text
-WritesAnswers s lines (Err stop) old new = ⊥
+WritesAnswers s lines (Err stop) after old new = ⊥
 
 -- a write fault comes only where the count rose, and each other answer leaves the count
 pub record HasWriteStop {T : Type 0} (before now : ℕ) (result : Result T Stop) : Type 0 where

@@ -21,7 +21,7 @@ pub fn answer_lines<W: Sink>(
     requires few { length script.now ≤ SCRIPT_LIMIT }
     requires fresh { session.old.asked ≡ 0 }
     ensures open { IsTrue (W.is_open out.new) }
-    ensures answers { WritesAnswers session.old.state (lines_of script.now) result
+    ensures answers { WritesAnswers session.old.state (lines_of script.now) result session.new.state
         (W.written out.old) (W.written out.new) }
     ensures cause { HasWriteStop (W.faults out.old) (W.faults out.new) result }
 {

@@ -5,12 +5,11 @@ ghost use Rattle.hilldale.specs.Inputs.{IsSurfaceRead, IsScriptRead, HasReadStop
 use crate::limits::{SCRIPT_LIMIT, SURFACE_LIMIT};
 use crate::stop::{Refusal, Stop};
 use hd_base::{List, ReadError, Source, read_all};
-use hd_map::Surface;
-use hd_sdf_read::{PlainError, read_plain};
+use hd_sdf_read::{SdfError, SdfFile, read_sdf};
 use std::alloc::Global;
 
-/// The surface under this name. Its bytes are read whole, or to one past the limit, and let go.
-pub fn read_surface<S: Source>(alloc: Global, source: &mut S, name: &str) -> Result<Surface, Stop>
+/// The surface file under this name. Its bytes are read whole, or to one past the limit, and let go.
+pub fn read_surface<S: Source>(alloc: Global, source: &mut S, name: &str) -> Result<SdfFile, Stop>
     requires { IsTrue (S.allows source.old name.now) }
     ensures told { (bytes : Items ℕ) → S.files source.old name.now ≡ Some bytes → IsSurfaceRead bytes result }
     ensures cause { HasReadStop (S.faults source.old) (S.faults source.new) result }
@@ -21,10 +20,10 @@ pub fn read_surface<S: Source>(alloc: Global, source: &mut S, name: &str) -> Res
         Err(ReadError::ReadFault) => return Err(Stop::ReadFault),
         Err(ReadError::TooLong(_)) => return Err(Stop::Refused(Refusal::SurfaceTooLong)),
     };
-    match read_plain(alloc, bytes.as_slice()) {
-        Ok(surface) => Ok(surface),
-        Err(PlainError::Memory) => Err(Stop::Memory),
-        Err(PlainError::NotPlain) => Err(Stop::Refused(Refusal::NotPlain)),
+    match read_sdf(alloc, bytes.as_slice()) {
+        Ok(file) => Ok(file),
+        Err(SdfError::Memory) => Err(Stop::Memory),
+        Err(error) => Err(Stop::Refused(Refusal::Surface(error))),
     }
 }
 

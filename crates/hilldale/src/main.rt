@@ -3,9 +3,11 @@
 #![tactic(auto)]
 
 mod answers;
+mod causes;
 mod inputs;
 mod limits;
 mod run;
+mod save;
 mod status;
 mod stop;
 #[cfg(test)]
@@ -14,7 +16,7 @@ mod texts;
 mod top;
 mod words;
 
-use hd_base::{FileSource, List, MemSink, Memory, StdoutSink};
+use hd_base::{FileSink, FileSource, Memory, StdoutSink};
 pub use status::Status;
 use std::env;
 use std::io::ErrorKind;
@@ -36,7 +38,7 @@ fn status_of_run(rt: &HostRuntime) -> Status {
     };
     let mut surface = FileSource::new(rt);
     let mut script = FileSource::new(rt);
-    let mut saved = MemSink::new(rt.alloc(), List::new(rt.alloc()), 1);
+    let mut saved = FileSink::new(rt);
     top(
         rt.alloc(),
         words.as_slice(),

@@ -3,42 +3,48 @@ ghost use Rattle.std.specs.Prelude.{◌≡◌, ◌≤◌, ℕ, List as Items, le
 ghost use Rattle.std.specs.Option.{option_copied, ForSome};
 ghost use Rattle.std.specs.Io.KnownBytes.{Keeps};
 ghost use Rattle.hd_num.specs.Lines.{lines_of};
-ghost use Rattle.hd_map.specs.Surface.{map_of};
-ghost use Rattle.hilldale.specs.WrittenAnswers.{WritesAnswers, HasWriteStop};
-ghost use Rattle.hilldale.specs.FaultCounts.{SourceFailed, over};
+ghost use Rattle.hd_sdf_read.specs.FileOf.{file_of};
 ghost use Rattle.hd_engine.specs.State.{first_state};
+ghost use Rattle.hilldale.specs.FaultCounts.{Count, SourceFailed, Stays, over};
 ghost use Rattle.hilldale.specs.Outcome.{surface_of};
 ghost use Rattle.hilldale.specs.ReadOrder.{ScriptComesLast};
+ghost use Rattle.hilldale.specs.RunResult.{AnswersAndSaves, HasRunStop, HasSinkStop, IsRun};
+ghost use Rattle.hilldale.specs.Saving.{SavesLast, saving};
 ghost use Rattle.hilldale.specs.Words.{request_of};
-ghost use Rattle.hilldale.specs.RunResult.{IsRun, HasRunStop};
 
 use crate::answers::answer_lines;
 use crate::inputs::{read_script, read_surface};
 use crate::limits::{GREATEST_TILE, LEAST_TILE, SCRIPT_LIMIT};
+use crate::save::save_file;
 use crate::stop::Stop;
 use crate::words::Job;
 use hd_base::{Sink, Source};
-use hd_engine::{Session, answers_are_determined};
-use hd_map::Surface;
+use hd_engine::{Session, answer_keeps_a_state, answers_are_determined};
+use hd_sdf_read::SdfFile;
 use std::alloc::Global;
 
-/// Reads the surface, then the script, and answers its lines; without a script, the one line
-/// `dales`. Tells whether all lines were accepted.
-pub fn run<S: Source, R: Source, W: Sink>(
+/// Reads the surface, then the script, answers its lines, and saves the file that they leave, where
+/// the words name one; without a script, the one line `dales`. Tells whether all lines were
+/// accepted.
+pub fn run<S: Source, R: Source, W: Sink, V: Sink>(
     alloc: Global,
     job: &Job<'_>,
     surface: &mut S,
     script: &mut R,
     out: &mut W,
+    saved: &mut V,
 ) -> Result<bool, Stop>
     requires open { IsTrue (W.is_open out.old) }
     requires tile { (LEAST_TILE ≤ job.now.tile) × (job.now.tile ≤ GREATEST_TILE) }
     requires surface { IsTrue (S.allows surface.old job.now.surface.now) }
     requires script { ForSome (option_copied job.now.script) (λ name. IsTrue (R.allows script.old name)) }
+    requires saved { ForSome (option_copied job.now.save) (λ name. IsTrue (V.allows saved.old name)) }
     ensures open { IsTrue (W.is_open out.new) }
     ensures told { (bytes second : Items ℕ) → S.files surface.old job.now.surface.now ≡ Some bytes
         → ((name : Items ℕ) → option_copied job.now.script ≡ Some name → R.files script.old name ≡ Some second)
-        → IsRun (request_of job.now) bytes second result (W.written out.old) (W.written out.new) }
+        → IsRun (request_of job.now) bytes second (saved.new ≡ saved.old)
+        (saving (V.written saved.old) (V.written saved.new) (V.flushed saved.new) (over (V.faults saved.old) (V.faults saved.new)))
+        result (W.written out.old) (W.written out.new) }
     ensures unwritten { result ≡ Err Stop.ReadFault → Keeps (W.written out.old) (W.written out.new) }
     ensures order { ScriptComesLast (request_of job.now) (S.files surface.old job.now.surface.now)
         (over (S.faults surface.old) (S.faults surface.new)) script.old script.new }
@@ -47,42 +53,66 @@ pub fn run<S: Source, R: Source, W: Sink>(
         → SourceFailed (surface_of bytes) (over (S.faults surface.old) (S.faults surface.new))
         (over (R.faults script.old) (R.faults script.new)) }
     ensures cause { HasRunStop (over (S.faults surface.old) (S.faults surface.new))
-        (over (R.faults script.old) (R.faults script.new)) (over (W.faults out.old) (W.faults out.new)) result }
+        (over (R.faults script.old) (R.faults script.new)) (over (W.faults out.old) (W.faults out.new))
+        (over (V.faults saved.old) (V.faults saved.new)) result }
+    ensures saved { SavesLast (option_copied job.now.save) result (saved.new ≡ saved.old)
+        (over (S.faults surface.old) (S.faults surface.new)) (over (R.faults script.old) (R.faults script.new))
+        (over (W.faults out.old) (W.faults out.new))
+        (saving (V.written saved.old) (V.written saved.new) (V.flushed saved.new) (over (V.faults saved.old) (V.faults saved.new))) }
 {
     answers_are_determined();
-    let map = match read_surface(alloc, surface, job.surface) {
-        Ok(map) => map,
+    answer_keeps_a_state();
+    let file = match read_surface(alloc, surface, job.surface) {
+        Ok(file) => file,
         Err(stop) => return Err(stop),
     };
     let Some(name) = job.script else {
-        return answer_all(alloc, map, job.tile, b"dales".as_slice(), out);
+        return answer_all(alloc, file, job, b"dales".as_slice(), out, saved);
     };
     let lines = match read_script(alloc, script, name) {
         Ok(lines) => lines,
         Err(stop) => return Err(stop),
     };
-    answer_all(alloc, map, job.tile, lines.as_slice(), out)
+    answer_all(alloc, file, job, lines.as_slice(), out, saved)
 }
 
-// Answers the lines on a surface.
-fn answer_all<W: Sink>(
+// Answers the lines on the surface of a file, and saves the file that they leave, where the words
+// name one.
+fn answer_all<W: Sink, V: Sink>(
     alloc: Global,
-    surface: Surface,
-    tile: u32,
+    file: SdfFile,
+    job: &Job<'_>,
     script: &[u8],
     out: &mut W,
+    saved: &mut V,
 ) -> Result<bool, Stop>
     requires open { IsTrue (W.is_open out.old) }
     requires few { length script.now ≤ SCRIPT_LIMIT }
-    requires least { LEAST_TILE ≤ tile }
-    requires greatest { tile ≤ GREATEST_TILE }
+    requires tile { (LEAST_TILE ≤ job.now.tile) × (job.now.tile ≤ GREATEST_TILE) }
+    requires saved { ForSome (option_copied job.now.save) (λ name. IsTrue (V.allows saved.old name)) }
     ensures open { IsTrue (W.is_open out.new) }
-    ensures answers { WritesAnswers (first_state (map_of surface)) (lines_of script.now) result
-        (W.written out.old) (W.written out.new) }
-    ensures cause { HasWriteStop (W.faults out.old) (W.faults out.new) result }
+    ensures answers { AnswersAndSaves (option_copied job.now.save) (first_state (file_of file)) (lines_of script.now)
+        (saved.new ≡ saved.old)
+        (saving (V.written saved.old) (V.written saved.new) (V.flushed saved.new) (over (V.faults saved.old) (V.faults saved.new)))
+        result (W.written out.old) (W.written out.new) }
+    ensures cause { HasSinkStop (over (W.faults out.old) (W.faults out.new)) (over (V.faults saved.old) (V.faults saved.new)) result }
+    ensures saved { (surface script : Count) → Stays surface → Stays script → SavesLast (option_copied job.now.save) result (saved.new ≡ saved.old) surface script
+        (over (W.faults out.old) (W.faults out.new))
+        (saving (V.written saved.old) (V.written saved.new) (V.flushed saved.new) (over (V.faults saved.old) (V.faults saved.new))) }
 {
-    let Ok(mut session) = Session::new(alloc, surface, tile) else {
+    let Ok(mut session) = Session::new(alloc, file, job.tile) else {
         return Err(Stop::Memory);
     };
-    answer_lines(&mut session, script, out)
+    let accepted = match answer_lines(&mut session, script, out) {
+        Ok(accepted) => accepted,
+        Err(stop) => return Err(stop),
+    };
+    let Some(name) = job.save else {
+        return Ok(accepted);
+    };
+    match save_file(alloc, &session, name, saved) {
+        Ok(()) => {}
+        Err(stop) => return Err(stop),
+    }
+    Ok(accepted)
 }

@@ -11,7 +11,7 @@ pub enum Status {
     LineRefused,
     /// The words have not their form.
     Usage,
-    /// The surface's bytes are no plain file, or too many.
+    /// The surface's bytes are no file of the grammar, or too many.
     SurfaceRefused,
     /// The certificate has no reading, or one of the rules fails.
     CertificateRefused,

@@ -1,9 +1,13 @@
 // Why a run stops before all lines are answered.
-ghost use Rattle.std.specs.Prelude.{◌≡◌};
+ghost use Rattle.std.specs.Prelude.{◌≡◌, IfOk};
 ghost use Rattle.hilldale.specs.Refusals.{refusal_status, refusal_text};
 
+use crate::causes::surface_line;
 use crate::status::Status;
-use crate::texts::{NOT_PLAIN, SECOND_TOO_LONG, SURFACE_TOO_LONG};
+use crate::texts::{SECOND_TOO_LONG, SURFACE_TOO_LONG};
+use hd_base::{List, Memory};
+use hd_sdf_read::SdfError;
+use std::alloc::Global;
 
 /// Why a run stops before all lines are answered.
 #[derive(Clone, Copy, Debug, PartialEq, Eq)]
@@ -12,7 +16,7 @@ pub enum Stop {
     Memory,
     /// A source failed.
     ReadFault,
-    /// The sink failed.
+    /// A sink failed.
     WriteFault,
     /// An input is refused.
     Refused(Refusal),
@@ -23,8 +27,8 @@ pub enum Stop {
 pub enum Refusal {
     /// The surface file has more bytes than its limit.
     SurfaceTooLong,
-    /// The surface's bytes are no plain file.
-    NotPlain,
+    /// The surface's bytes are no file of the grammar.
+    Surface(SdfError),
     /// The script has more bytes than its limit.
     ScriptTooLong,
 }
@@ -35,19 +39,27 @@ impl Refusal {
         ensures { result ≡ refusal_status self }
     {
         match self {
-            Refusal::SurfaceTooLong | Refusal::NotPlain => Status::SurfaceRefused,
+            Refusal::SurfaceTooLong | Refusal::Surface(_) => Status::SurfaceRefused,
             Refusal::ScriptTooLong => Status::TooLong,
         }
     }
 
-    /// The line that tells it.
-    pub fn text(self) -> &'static [u8]
-        ensures { result.now ≡ refusal_text self }
+    /// The line that tells it, or `Memory` where the line is refused its memory.
+    #[tactic(auto, unfolding(crate::specs::Texts::too_long_text, crate::specs::Texts::second_too_long_text))]
+    pub fn text(self, alloc: Global) -> Result<List<u8>, Memory>
+        ensures { IfOk result (λ text. text ≡ refusal_text self) }
     {
         match self {
-            Refusal::SurfaceTooLong => SURFACE_TOO_LONG.as_bytes(),
-            Refusal::NotPlain => NOT_PLAIN.as_bytes(),
-            Refusal::ScriptTooLong => SECOND_TOO_LONG.as_bytes(),
+            Refusal::SurfaceTooLong => copied(alloc, SURFACE_TOO_LONG.as_bytes()),
+            Refusal::Surface(error) => surface_line(alloc, error),
+            Refusal::ScriptTooLong => copied(alloc, SECOND_TOO_LONG.as_bytes()),
         }
     }
+}
+
+// A copy of a text.
+fn copied(alloc: Global, text: &[u8]) -> Result<List<u8>, Memory>
+    ensures { IfOk result (λ copy. copy ≡ text.now) }
+{
+    Ok(List::from_vec(Vec::from_slice(alloc, text)?))
 }

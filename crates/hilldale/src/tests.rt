@@ -1,6 +1,6 @@
 // What runs of the program write, over sources and sinks in memory.
 use crate::{Status, top};
-use hd_base::{List, MemSink, MemSource};
+use hd_base::{List, MemSink, MemSource, write_all};
 use std::alloc::Global;
 use std::process::Abort;
 use std::test::Fail;
@@ -26,7 +26,7 @@ usage: hilldale demo W H NUMBER EDITS [--tile N]
 
 const PROFILE_DALES: &str = "dales 2\ndale 0 0 0 2\ndale 2 0 1 1\n";
 
-// A plain file of this type with these data.
+// A file of this type with these data.
 fn file(alloc: Global, points: u32, profiles: u32, code: u32, data: &str) -> Result<String, Fail> {
     Ok(format!(in alloc;
         "{HEADER}NumPoints = {points}\nNumProfiles = {profiles}\n{SCALES}DataType = {code}\nCheckType = 0\n*\n{data}\n*\n"
@@ -96,20 +96,23 @@ fn sink_of(alloc: Global, fails: &[u64], piece: usize) -> Result<MemSink, Fail> 
 
 // The status and the output of a run.
 fn run(alloc: Global, words: &[&str], feed: &Feed) -> Result<(Status, String), Fail> {
+    let mut saved = MemSink::new(alloc, List::new(alloc), 1);
+    run_saving(alloc, words, feed, &mut saved)
+}
+
+// The status and the output of a run that may save to a sink.
+fn run_saving(
+    alloc: Global,
+    words: &[&str],
+    feed: &Feed,
+    saved: &mut MemSink,
+) -> Result<(Status, String), Fail> {
     let given = words_of(alloc, words)?;
     let mut surface = source_of(alloc, "A", feed.surface, feed.surface_fails, feed.piece)?;
     let mut script = source_of(alloc, "B", feed.script, feed.script_fails, feed.piece)?;
     let mut out = sink_of(alloc, feed.sink_fails, feed.piece)?;
-    let mut saved = MemSink::new(alloc, List::new(alloc), 1);
     let words = given.as_slice();
-    let status = top(
-        alloc,
-        words,
-        &mut surface,
-        &mut script,
-        &mut out,
-        &mut saved,
-    );
+    let status = top(alloc, words, &mut surface, &mut script, &mut out, saved);
     let text = String::from_utf8(out.bytes().to_vec(alloc)?);
     Ok((status, text.ok().ok_or("no text")?))
 }
@@ -208,7 +211,7 @@ fn lines_of_a_script_are_answered_in_order(rt: HostRuntime) -> Result<(), Fail> 
 #[test]
 fn words_without_their_form_are_told_the_usage(rt: HostRuntime) -> Result<(), Fail> {
     let surface = profile(rt.alloc(), 5)?;
-    let cases: [&[&str]; 22] = [
+    let cases: [&[&str]; 27] = [
         &[],
         &["dales"],
         &["dales", "-x"],
@@ -227,7 +230,12 @@ fn words_without_their_form_are_told_the_usage(rt: HostRuntime) -> Result<(), Fa
         &["run", "A", "B", "--tile=0064"],
         &["run", "A", "B", "--tile"],
         &["run", "A", "B", "--tile", "8", "--tile", "8"],
-        &["run", "A", "B", "--save", "C"],
+        &["run", "A", "B", "--save"],
+        &["run", "A", "B", "--save", ""],
+        &["run", "A", "B", "--save="],
+        &["run", "A", "B", "--save", "-"],
+        &["run", "A", "B", "--save=C", "--save", "C"],
+        &["dales", "A", "--save", "C"],
         &["check", "A", "B"],
         &["demo", "3", "1", "7", "1"],
         &["--help"],
@@ -257,19 +265,55 @@ fn options_and_their_end_may_stand_between_the_names(rt: HostRuntime) -> Result<
     Ok(())
 }
 
+// Compares the refusal of a surface, before which no script is opened.
+fn expect_refused(rt: &(impl Abort + AllocGlobal), surface: &str, cause: &str) -> Result<(), Fail> {
+    let refused = format!(in rt.alloc(); "surface refused: {cause}\n")?;
+    let feed = whole(surface, "dales");
+    expect(
+        rt,
+        &["run", "A", "C"],
+        &feed,
+        Status::SurfaceRefused,
+        refused.as_str(),
+    )
+}
+
 #[test]
-fn a_file_that_is_not_plain_is_refused(rt: HostRuntime) -> Result<(), Fail> {
+fn a_header_outside_the_grammar_is_refused(rt: HostRuntime) -> Result<(), Fail> {
     let decimal = profile(rt.alloc(), 3)?;
-    for surface in [decimal.as_str(), ""] {
-        let feed = whole(surface, "dales");
-        let refused = "surface refused: not a plain file\n";
-        expect(
-            &rt,
-            &["run", "A", "C"],
-            &feed,
-            Status::SurfaceRefused,
-            refused,
-        )?;
+    let large = file(rt.alloc(), 65535, 65, 5, "")?;
+    let twice = format!(in rt.alloc(); "{HEADER}NumPoints = 3\nnumpoints = 3\n")?;
+    let cases = [
+        ("", "line 1: bad version"),
+        ("aISO-1.0\n=\n", "line 2: bad header line"),
+        ("aISO-1.0\nNumPoints = x\n", "line 2: bad value"),
+        ("aISO-1.0\nCompression = 1\n", "line 2: not supported"),
+        ("aISO-1.0\n;\n", "the header does not end"),
+        (
+            "aISO-1.0\nNumPoints=3\nNumProfiles=1\nXscale=1\nYscale=1\nDataType=5\n*\n0 5 1\n",
+            "key Zscale is missing",
+        ),
+        (decimal.as_str(), "line 12: not supported"),
+        (large.as_str(), "too many points"),
+        (twice.as_str(), "line 6: key twice"),
+    ];
+    for (surface, cause) in cases {
+        expect_refused(&rt, surface, cause)?;
+    }
+    Ok(())
+}
+
+#[test]
+fn data_outside_the_grammar_are_refused(rt: HostRuntime) -> Result<(), Fail> {
+    let cases = [
+        ("0 5", "only 2 data"),
+        ("0 5 1 9", "datum 4 is one too many"),
+        ("0 12.5 1", "datum 2 is not whole or BAD"),
+        ("0 40000 1", "datum 2 is out of range"),
+    ];
+    for (data, cause) in cases {
+        let surface = file(rt.alloc(), 3, 1, 5, data)?;
+        expect_refused(&rt, surface.as_str(), cause)?;
     }
     Ok(())
 }
@@ -409,5 +453,121 @@ fn a_read_fault_that_cannot_be_told_is_a_write_fault(rt: HostRuntime) -> Result<
     let (status, text) = run_in_pieces(rt.alloc(), 4, &[0], &[], &[1])?;
     assert_eq!(rt; status, Status::WriteFault);
     assert_eq!(rt; text.as_str(), "read");
+    Ok(())
+}
+
+const MEASURED: &str = "aBCR-1.0\r
+ManufacID   = Lab 7\r
+CreateDate  = 010120261230\r
+ModDate     = 010120261230\r
+NumPoints   = 4\r
+NumProfiles = 2\r
+Xscale      = 1.0E-006\r
+Yscale      = 1.0E-006\r
+Zscale      = 1.0E-009\r
+Zresolution = -1\r
+Compression = 0\r
+DataType    = 6\r
+CheckType   = 0\r
+; exported\r
+Objective = 50x\r
+*\r
+12 13\r
+BAD 15 16 17 18\r
+19\r
+*\r
+Operator: A. N.\r
+";
+
+const SAVED: &str = "aBCR-1.0
+ManufacID = Lab 7
+CreateDate = 010120261230
+ModDate = 010120261230
+NumPoints = 4
+NumProfiles = 2
+Xscale = 1.0E-006
+Yscale = 1.0E-006
+Zscale = 1.0E-009
+Zresolution = -1
+Compression = 0
+DataType = 6
+CheckType = 0
+Objective = 50x
+*
+12 13 BAD 15
+16 17 18 19
+*
+Operator: A. N.
+";
+
+const MEASURED_DALES: &str = "dales 2\ndale 0 0 12 5\ndale 3 0 15 2\n";
+
+#[test]
+fn a_measured_file_is_saved_in_the_canonical_text(rt: HostRuntime) -> Result<(), Fail> {
+    let cases: [&[&str]; 3] = [
+        &["run", "A", "B", "--save", "C"],
+        &["run", "--save=C", "A", "B"],
+        &["run", "A", "--save", "C", "--tile=8", "--", "B"],
+    ];
+    for surface in [MEASURED, SAVED] {
+        for words in cases {
+            let mut saved = sink_of(rt.alloc(), &[], 4096)?;
+            let feed = whole(surface, "dales");
+            let (status, text) = run_saving(rt.alloc(), words, &feed, &mut saved)?;
+            assert_eq!(rt; status, Status::Done);
+            assert_eq!(rt; text.as_str(), MEASURED_DALES);
+            assert_eq!(rt; saved.bytes(), SAVED.as_bytes());
+        }
+    }
+    Ok(())
+}
+
+// A run that saves to a sink that takes 100 bytes a write and fails at this call. Before it the sink
+// holds a byte. The calls are an open, a write for each piece of the 281 bytes, and a flush.
+fn expect_saved(
+    rt: &(impl Abort + AllocGlobal),
+    call: u64,
+    wanted: Status,
+    bytes: &[u8],
+) -> Result<(), Fail> {
+    let mut saved = sink_of(rt.alloc(), &[call.saturating_add(1)], 100)?;
+    write_all(&mut saved, b"x".as_slice())?;
+    let feed = whole(MEASURED, "dales");
+    let words = ["run", "A", "B", "--save", "C"];
+    let (status, text) = run_saving(rt.alloc(), &words, &feed, &mut saved)?;
+    assert_eq!(rt; status, wanted, "at {call}");
+    assert_eq!(rt; text.as_str(), MEASURED_DALES);
+    assert_eq!(rt; saved.bytes(), bytes);
+    Ok(())
+}
+
+#[test]
+fn each_call_of_saving_that_fails_is_a_write_fault(rt: HostRuntime) -> Result<(), Fail> {
+    let text = SAVED.as_bytes();
+    expect_saved(&rt, 0, Status::WriteFault, b"x".as_slice())?;
+    for (call, count) in [(1, 0), (2, 100), (3, 200), (4, 281)] {
+        expect_saved(
+            &rt,
+            call,
+            Status::WriteFault,
+            text.get(..count).unwrap_or(text),
+        )?;
+    }
+    expect_saved(&rt, 5, Status::Done, text)
+}
+
+#[test]
+fn a_run_that_stops_before_the_end_saves_nothing(rt: HostRuntime) -> Result<(), Fail> {
+    let cases = [
+        ("", "A", Status::SurfaceRefused),
+        (MEASURED, "D", Status::ReadFault),
+    ];
+    for (surface, name, wanted) in cases {
+        let mut saved = sink_of(rt.alloc(), &[0], 100)?;
+        let feed = whole(surface, "dales");
+        let words = ["run", name, "B", "--save", "C"];
+        let (status, _) = run_saving(rt.alloc(), &words, &feed, &mut saved)?;
+        assert_eq!(rt; status, wanted);
+    }
     Ok(())
 }

@@ -10,9 +10,6 @@ usage: hilldale demo W H NUMBER EDITS [--tile N]
 /// A surface file with more bytes than the limit.
 pub const SURFACE_TOO_LONG: &str = "surface refused: file too long\n";
 
-/// A surface file that is not plain.
-pub const NOT_PLAIN: &str = "surface refused: not a plain file\n";
-
 /// A source that failed.
 pub const READ_FAULT: &str = "read fault\n";
 

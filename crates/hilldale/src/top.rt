@@ -8,6 +8,7 @@ ghost use Rattle.hilldale.specs.Outcome.{TellsInputs, surface_of};
 ghost use Rattle.hilldale.specs.FaultCounts.{HasStatusCause, SourceFailed, over};
 ghost use Rattle.hilldale.specs.ReadOrder.{ReadsInOrder};
 ghost use Rattle.hilldale.specs.Ending.{EndsAs, EndsRun, Finishes};
+ghost use Rattle.hilldale.specs.Saving.{SavesInTurn, saving};
 ghost use Rattle.hilldale.specs.Texts.{read_fault_text};
 
 use crate::run::run;
@@ -19,11 +20,13 @@ use hd_base::{Sink, Source, write_all};
 use std::alloc::Global;
 
 /// Runs the program by the words after its name. The surface is read from `surface`, the script
-/// from `script`, and answers go to `out`, which is handed in open; `saved` is not touched yet.
+/// from `script`, and answers go to `out`, which is handed in open. The file that the lines leave is
+/// saved to `saved`, where the words name one; the words decide the name, and no other is opened.
 ///
 /// The first step that fails decides the status: the words, reading the surface, judging it, reading
-/// the script, each line's answer and its writing, the flush of `out`. The text of a status is
-/// written and flushed; where this fails, the status is `WriteFault`.
+/// the script, each line's answer and its writing, opening, writing and flushing `saved`, the flush
+/// of `out`. The text of a status is written and flushed; where this fails, the status is
+/// `WriteFault`.
 pub fn top<S: Source, R: Source, W: Sink, V: Sink>(
     alloc: Global,
     words: &[String],
@@ -37,13 +40,17 @@ pub fn top<S: Source, R: Source, W: Sink, V: Sink>(
         (λ request. IsTrue (S.allows surface.old request.surface)) }
     requires script { ForSome (form_of (map string_bytes words.now))
         (λ request. ForSome request.script (λ name. IsTrue (R.allows script.old name))) }
+    requires saved { ForSome (form_of (map string_bytes words.now))
+        (λ request. ForSome request.save (λ name. IsTrue (V.allows saved.old name))) }
 
-    // What the words and the told bytes of both inputs come to is what was written.
+    // What the words and the told bytes of both inputs come to is what was written and saved.
     ensures outcome { (bytes second : Items ℕ)
         → TellsInputs (map string_bytes words.now) (S.files surface.old) (R.files script.old) bytes second
         → EndsAs (map string_bytes words.now) bytes second
         (SourceFailed (surface_of bytes) (over (S.faults surface.old) (S.faults surface.new))
         (over (R.faults script.old) (R.faults script.new)))
+        (saved.new ≡ saved.old)
+        (saving (V.written saved.old) (V.written saved.new) (V.flushed saved.new) (over (V.faults saved.old) (V.faults saved.new)))
         result (W.written out.old) (W.written out.new) }
     ensures usage { result ≡ Status.Usage → form_of (map string_bytes words.now) ≡ None }
     ensures unformed { form_of (map string_bytes words.now) ≡ None
@@ -61,17 +68,22 @@ pub fn top<S: Source, R: Source, W: Sink, V: Sink>(
         → Appends (W.written out.old) (W.written out.new) read_fault_text }
     ensures flushed { OnTold (W.written out.old)
         (result ≢ Status.WriteFault → result ≢ Status.Memory → IsTrue (W.flushed out.new)) }
-    ensures saved { saved.new ≡ saved.old }
+
+    // `saved` is touched only where the words name a file, and only once all lines are answered.
+    ensures saved { SavesInTurn (form_of (map string_bytes words.now)) result (saved.new ≡ saved.old)
+        (over (S.faults surface.old) (S.faults surface.new)) (over (R.faults script.old) (R.faults script.new))
+        (over (W.faults out.old) (W.faults out.new))
+        (saving (V.written saved.old) (V.written saved.new) (V.flushed saved.new) (over (V.faults saved.old) (V.faults saved.new))) }
 {
     let Some(job) = job_of(words) else {
         return finish(out, USAGE.as_bytes(), Status::Usage);
     };
-    let ran = run(alloc, &job, surface, script, out);
-    end_run(out, ran)
+    let ran = run(alloc, &job, surface, script, out, saved);
+    end_run(alloc, out, ran)
 }
 
 // Ends a run by what it came to.
-fn end_run<W: Sink>(out: &mut W, ran: Result<bool, Stop>) -> Status
+fn end_run<W: Sink>(alloc: Global, out: &mut W, ran: Result<bool, Stop>) -> Status
     requires { IsTrue (W.is_open out.old) }
     ensures { EndsRun ran result (W.written out.old) (W.written out.new) (W.flushed out.new)
         (over (W.faults out.old) (W.faults out.new)) }
@@ -82,7 +94,10 @@ fn end_run<W: Sink>(out: &mut W, ran: Result<bool, Stop>) -> Status
         Err(Stop::Memory) => Status::Memory,
         Err(Stop::WriteFault) => Status::WriteFault,
         Err(Stop::ReadFault) => finish(out, READ_FAULT.as_bytes(), Status::ReadFault),
-        Err(Stop::Refused(refusal)) => finish(out, refusal.text(), refusal.status()),
+        Err(Stop::Refused(refusal)) => match refusal.text(alloc) {
+            Ok(text) => finish(out, text.as_slice(), refusal.status()),
+            Err(_) => Status::Memory,
+        },
     }
 }
 

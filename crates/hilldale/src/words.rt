@@ -2,13 +2,14 @@
 ghost use Rattle.std.specs.Prelude.{◌≡◌, ◌≤◌, [], ◌∷◌, ◌++◌, length, drop, map, codes, nat_eq, string_bytes, IfNone, IfSome, if◌then◌else◌};
 ghost use Rattle.std.specs.List.{starts_with};
 ghost use Rattle.std.specs.Option.{option_copied, option_map, option_to_list};
-ghost use Rattle.hilldale.specs.Words.{begins_with_dash, dales_form, filled, form_of, given_of, request_of, run_form, tile_of};
-ghost use Rattle.hilldale.specs.WordSteps.{HasNoForm, IsRefused, LeadsTo, at_stage, found_so_far};
+ghost use Rattle.hilldale.specs.Words.{begins_with_dash, dales_form, filled, form_of, given_of, request_of, run_form, save_of, savable, tile_of};
+ghost use Rattle.hilldale.specs.WordSteps.{HasNoForm, IsNoOptionAlone, IsRefused, LeadsTo, at_stage, found_so_far};
 
 use crate::limits::{GREATEST_TILE, LEAST_TILE, USUAL_TILE};
 use hd_num::read_count;
 
-/// What the words ask for: a surface, the script to run or none, and the side of a tile.
+/// What the words ask for: a surface, the script to run or none, the side of a tile, and the name to
+/// save under or none.
 #[derive(Clone, Copy, Debug)]
 pub struct Job<'a> {
     /// The name of the surface.
@@ -17,13 +18,17 @@ pub struct Job<'a> {
     pub script: Option<&'a str>,
     /// The side of a tile, in points.
     pub tile: u32,
+    /// The name under which the file is saved, where it is.
+    pub save: Option<&'a str>,
 }
 
-// What the next word may be: an option or a name, the value of `--tile`, or a name alone.
+// What the next word may be: an option or a name, the value of `--tile` or of `--save`, or a name
+// alone.
 #[derive(Clone, Copy)]
 enum Stage {
     Options,
     TileValue,
+    SaveValue,
     Names,
 }
 
@@ -39,7 +44,8 @@ enum FoundNames<'a> {
 #[derive(Clone, Copy)]
 struct Found<'a> {
     names: FoundNames<'a>,
-    tile: Option<&'a [u8]>,
+    tile: Option<&'a str>,
+    save: Option<&'a str>,
 }
 
 // How far the words are read.
@@ -50,8 +56,8 @@ struct Progress<'a> {
 }
 
 /// What the words ask for: `dales SURFACE`, or `run SURFACE SCRIPT`, which may have `--tile SIDE`
-/// or `--tile=SIDE`. The word `--` ends the options. None comes exactly where the words have
-/// neither form.
+/// or `--tile=SIDE`, and `--save NAME` or `--save=NAME`, each at most once. The word `--` ends the
+/// options. None comes exactly where the words have neither form.
 pub fn job_of(words: &[String]) -> Option<Job<'_>>
     ensures form { option_map request_of result ≡ form_of (map string_bytes words.now) }
     ensures tile { IfSome result (λ job. LEAST_TILE ≤ job.tile × job.tile ≤ GREATEST_TILE) }
@@ -78,6 +84,7 @@ fn found_in(words: &[String]) -> Option<Found<'_>>
         found: Found {
             names: FoundNames::Zero,
             tile: None,
+            save: None,
         },
     };
     for word in words {
@@ -85,7 +92,7 @@ fn found_in(words: &[String]) -> Option<Found<'_>>
     }
     match progress.stage {
         Stage::Options | Stage::Names => Some(progress.found),
-        Stage::TileValue => None,
+        Stage::TileValue | Stage::SaveValue => None,
     }
 }
 
@@ -96,7 +103,8 @@ fn after_word<'a>(progress: Progress<'a>, word: &'a str) -> Option<Progress<'a>>
 {
     match progress.stage {
         Stage::Options => after_option(progress.found, word),
-        Stage::TileValue => with_tile(progress.found, word.as_bytes()),
+        Stage::TileValue => with_tile(progress.found, word),
+        Stage::SaveValue => with_save(progress.found, word),
         Stage::Names => Some(Progress {
             stage: Stage::Names,
             found: with_name(progress.found, word)?,
@@ -119,8 +127,26 @@ fn after_option<'a>(found: Found<'a>, word: &'a str) -> Option<Progress<'a>>
             stage: Stage::TileValue,
             found,
         })
-    } else if let Some(value) = joined_tile(word) {
+    } else if word == "--save" {
+        Some(Progress {
+            stage: Stage::SaveValue,
+            found,
+        })
+    } else {
+        after_joined(found, word)
+    }
+}
+
+// Reads the next word where it is an option with its value, or a name.
+fn after_joined<'a>(found: Found<'a>, word: &'a str) -> Option<Progress<'a>>
+    requires { IsNoOptionAlone word.now }
+    ensures none { IfNone result (IsRefused (at_stage Stage.Options found.entry) word.now) }
+    ensures some { IfSome result (λ next. LeadsTo (at_stage Stage.Options found.entry) word.now next) }
+{
+    if let Some(value) = joined_value(word, "--tile=") {
         with_tile(found, value)
+    } else if let Some(value) = joined_value(word, "--save=") {
+        with_save(found, value)
     } else if is_option(word) {
         None
     } else {
@@ -131,12 +157,12 @@ fn after_option<'a>(found: Found<'a>, word: &'a str) -> Option<Progress<'a>>
     }
 }
 
-// The value in `--tile=VALUE`.
-fn joined_tile(word: &str) -> Option<&[u8]>
+// The value in a word such as `--tile=VALUE`, which begins with this text.
+fn joined_value<'a>(word: &'a str, option: &str) -> Option<&'a str>
     ensures { option_copied result
-        ≡ (if starts_with nat_eq word.now (codes "--tile=") then Some (drop 7 word.now) else None) }
+        ≡ (if starts_with nat_eq word.now option.now then Some (drop (length option.now) word.now) else None) }
 {
-    word.as_bytes().strip_prefix(b"--tile=")
+    word.strip_prefix(option)
 }
 
 // Whether a word begins with `-`.
@@ -147,7 +173,7 @@ fn is_option(word: &str) -> bool
 }
 
 // One more value of `--tile`, where it is the first.
-fn with_tile<'a>(found: Found<'a>, value: &'a [u8]) -> Option<Progress<'a>>
+fn with_tile<'a>(found: Found<'a>, value: &'a str) -> Option<Progress<'a>>
     ensures none { IfNone result (IsRefused (at_stage Stage.TileValue found.entry) value.now) }
     ensures some { IfSome result (λ next. LeadsTo (at_stage Stage.TileValue found.entry) value.now next) }
 {
@@ -158,6 +184,25 @@ fn with_tile<'a>(found: Found<'a>, value: &'a [u8]) -> Option<Progress<'a>>
             found: Found {
                 names: found.names,
                 tile: Some(value),
+                save: found.save,
+            },
+        }),
+    }
+}
+
+// One more value of `--save`, where it is the first.
+fn with_save<'a>(found: Found<'a>, value: &'a str) -> Option<Progress<'a>>
+    ensures none { IfNone result (IsRefused (at_stage Stage.SaveValue found.entry) value.now) }
+    ensures some { IfSome result (λ next. LeadsTo (at_stage Stage.SaveValue found.entry) value.now next) }
+{
+    match found.save {
+        Some(_) => None,
+        None => Some(Progress {
+            stage: Stage::Options,
+            found: Found {
+                names: found.names,
+                tile: found.tile,
+                save: Some(value),
             },
         }),
     }
@@ -169,6 +214,7 @@ fn with_name<'a>(found: Found<'a>, name: &'a str) -> Option<Found<'a>>
     ensures some { IfSome result (λ more. found_so_far more ≡ record {
       names = (found_so_far found.entry).names ++ (name.now ∷ []);
       tiles = (found_so_far found.entry).tiles;
+      saves = (found_so_far found.entry).saves;
     }) }
 {
     let names = match found.names {
@@ -179,6 +225,7 @@ fn with_name<'a>(found: Found<'a>, name: &'a str) -> Option<Found<'a>>
     Some(Found {
         names,
         tile: found.tile,
+        save: found.save,
     })
 }
 
@@ -187,11 +234,12 @@ fn dales_job(found: Found<'_>) -> Option<Job<'_>>
     ensures form { option_map request_of result ≡ dales_form (found_so_far found.entry) }
     ensures tile { IfSome result (λ job. LEAST_TILE ≤ job.tile × job.tile ≤ GREATEST_TILE) }
 {
-    match (found.names, found.tile) {
-        (FoundNames::One(surface), None) => Some(Job {
+    match (found.names, found.tile, found.save) {
+        (FoundNames::One(surface), None, None) => Some(Job {
             surface: filled_name(surface)?,
             script: None,
             tile: USUAL_TILE,
+            save: None,
         }),
         _ => None,
     }
@@ -207,6 +255,7 @@ fn run_job(found: Found<'_>) -> Option<Job<'_>>
             surface: filled_name(surface)?,
             script: Some(filled_name(script)?),
             tile: tile_side(found.tile)?,
+            save: save_name(found.save)?,
         }),
         _ => None,
     }
@@ -219,14 +268,35 @@ fn filled_name(name: &str) -> Option<&str>
     if name.is_empty() { None } else { Some(name) }
 }
 
+// The name to save under, or none where none is given. It is not empty and begins with no `-`.
+fn save_name(value: Option<&str>) -> Option<Option<&str>>
+    ensures { option_map option_copied result ≡ save_of (option_to_list (option_copied value.entry)) }
+{
+    match value {
+        None => Some(None),
+        Some(name) => Some(Some(savable_name(name)?)),
+    }
+}
+
+// A name to save under that is given.
+fn savable_name(name: &str) -> Option<&str>
+    ensures { option_copied result ≡ savable name.now }
+{
+    if is_option(name) {
+        None
+    } else {
+        filled_name(name)
+    }
+}
+
 // The side of a tile: the usual one where none is given, else a number of one to three digits.
-fn tile_side(value: Option<&[u8]>) -> Option<u32>
+fn tile_side(value: Option<&str>) -> Option<u32>
     ensures form { result ≡ tile_of (option_to_list (option_copied value.entry)) }
     ensures bounds { IfSome result (λ side. LEAST_TILE ≤ side × side ≤ GREATEST_TILE) }
 {
     match value {
         None => Some(USUAL_TILE),
-        Some(digits) => given_side(digits),
+        Some(digits) => given_side(digits.as_bytes()),
     }
 }
 
