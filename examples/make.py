@@ -22,8 +22,8 @@ CheckType = 0
 """
 
 
-def write_plain(name, maker, scales, code, points, profiles, rows):
-    """Writes a plain file: rows of heights, None for a point that was not measured."""
+def write_surface(name, maker, scales, code, points, profiles, rows):
+    """Writes a surface file: rows of heights, None for a point that was not measured."""
     with open(name, 'w') as out:
         out.write(HEADER.format(name=maker, points=points, profiles=profiles, x=scales[0], y=scales[1], code=code))
         for row in rows:
@@ -78,7 +78,7 @@ def main():
     for make in (profile, turned, ground, dimples, plateau):
         rows = make(random.Random(2026))
         scales = {'profile': ('1e-6', '1e-6'), 'turned': ('5e-6', '9e-6')}.get(make.__name__, ('2e-6', '2e-6'))
-        write_plain(folder / f'{make.__name__}.sdf', make.__name__, scales, 5, len(rows[0]), len(rows), rows)
+        write_surface(folder / f'{make.__name__}.sdf', make.__name__, scales, 5, len(rows[0]), len(rows), rows)
 
 
 if __name__ == '__main__':
