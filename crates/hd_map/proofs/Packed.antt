@@ -1,13 +1,13 @@
--- What is packed is read again, and a point that is set keeps the others.
-use Rattle.std.proofs.Common.{◌≡◌, ◌≢◌, ◌<◌, ◌≤ℤ◌, ◌<ℤ◌, ◌+◌, ◌+ℤ◌, ◌++◌, ℕ, ℤ, zero, suc, pos, Bool, false, List, [], ◌∷◌, length, get_or, set, take, map, replicate, None, inl, inr, ap, sym, subst, refl, ◌∙◌, arith}
+-- What is packed is read again, and a point that is set or added keeps the others.
+use Rattle.std.proofs.Common.{◌≡◌, ◌≢◌, ◌<◌, ◌≤ℤ◌, ◌<ℤ◌, ◌+◌, ◌+ℤ◌, ◌-◌, ◌++◌, ℕ, ℤ, zero, suc, pos, Bool, false, List, [], ◌∷◌, length, get_or, set, take, map, replicate, None, inl, inr, ap, sym, refl, ◌∙◌, arith}
 use Rattle.std.specs.Simd.Lanes.{zip2}
 use Rattle.std.proofs.Math.ListN.{length-set}
-use Rattle.std.proofs.Math.Seq.{map-set_same}
+use Rattle.std.proofs.Math.Seq.{map-set_same, take-append_seam}
 use Rattle.std.proofs.lemmas.Int.{ints}
-use Rattle.std.proofs.lemmas.Bool.{cases_eq}
+use Rattle.std.proofs.lemmas.Bool.{cases_eq, cases_lt}
 use Rattle.std.proofs.lemmas.Grind.{get_or-set_at}
-use Rattle.std.proofs.lemmas.List.{get_or_default, length-replicate, length-map, map-append, map-set, get_or-map, get_or-set_other, replicate_more, take_more, take_all, length_push}
-use Rattle.std.proofs.lemmas.Simd.{get_or-zip2}
+use Rattle.std.proofs.lemmas.List.{length-replicate, length-map, map-append, map-set, get_or-map, get_or-set_other, get_or_append_left, get_or_push, replicate_more, take_more_set, take_all, length_push}
+use Rattle.std.proofs.lemmas.Simd.{get_or-zip2, length-zip2}
 use Rattle.hd_map.specs.declared.types.Pos.{Pos}
 use Rattle.hd_map.specs.declared.types.Size.{Size}
 use Rattle.hd_map.specs.declared.types.Cell.{Cell}
@@ -17,8 +17,8 @@ use Rattle.hd_map.specs.declared.types.DataType.TheVariants.{U8, U16, U32, I8, I
 use Rattle.hd_map.specs.declared.packing.Mark.{Mark}
 use Rattle.hd_map.specs.declared.packing.Mark.TheVariants.{Shown, Masked, Unmeasured, MaskedUnmeasured}
 use Rattle.hd_map.specs.Map.{Map, IsMap, IsSize, IsCellOf, AreCellsOf, least_height, greatest_height, cell_count, place_of, cell_at, mask_at, shown_height}
-use Rattle.hd_map.specs.Sets.{with_cell, with_mask}
-use Rattle.hd_map.specs.Packing.{measures, masks, cell_from, packed_map}
+use Rattle.hd_map.specs.Sets.{with_cell, with_mask, unmasked}
+use Rattle.hd_map.specs.Packing.{measures, masks, cell_from, packed_cells, packed_map}
 
 -- each height of a data type is less than 2 ^ 32 over the least one
 pub in_four_bytes : (t : DataType) (h : ℤ) → h ≤ℤ greatest_height t → h <ℤ (least_height t +ℤ pos 4294967296)
@@ -114,41 +114,81 @@ module _ (s : Size) (t : DataType) (heights : List ℕ) (marks : List Mark) (pai
       ap (λ cells. with_lists s t cells (map masks (set marks k new))) (zip2-set_same (cell_from t) heights marks k new mark (λ over. rw (stays ∙ ap measures is) refl))
       ∙ ap (λ covers. with_lists s t kept.cells covers) (map-set masks marks k new ∙ ap (λ m. set kept.masks k m) covers ∙ ap (λ (i : ℕ). set kept.masks i masked) here)
 
--- the first cells, none of them masked, are packed
-pub record ArePacked (t : DataType) (cells : List Cell) (count : ℕ) (heights : List ℕ) (marks : List Mark) : Type 0 where
-  pub height_count : length heights ≡ count
-  pub mark_count : length marks ≡ count
-  pub are_cells : zip2 (cell_from t) heights marks ≡ take count cells
-  pub no_masks : map masks marks ≡ replicate count false
+-- the last number that was added is taken again
+pub popped : (xs zs : List ℕ) (x count : ℕ) → count ≡ length xs + 1 → zs ≡ take (count - 1) (xs ++ x ∷ []) → zs ≡ xs
+popped xs zs x count one_more is = is ∙ ap (λ n. take n (xs ++ x ∷ [])) (let last : count - 1 ≡ length xs = omega (arith, one_more) in last) ∙ take-append_seam xs (x ∷ [])
 
--- none are packed at the start
-pub none_packed : (t : DataType) (cells : List Cell) (heights : List ℕ) (marks : List Mark) → heights ≡ [] → marks ≡ [] → ArePacked t cells 0 heights marks
-none_packed t cells heights marks no_height no_mark = rw (no_height, no_mark) (record { height_count = refl; mark_count = refl; are_cells = refl; no_masks = refl })
+-- cells of a data type, with one more
+are_cells_push : (t : DataType) (cells : List Cell) (cell : Cell) → AreCellsOf t cells → IsCellOf t cell → AreCellsOf t (cells ++ cell ∷ [])
+are_cells_push t cells cell before last = λ k inside.
+    let count : length (cells ++ cell ∷ []) ≡ length cells + 1 = length_push cells cell in
+    elim (cases_lt k (length cells)) [
+      | inl earlier ↦ rw (get_or_append_left cells (cell ∷ []) Bad k earlier) (before k earlier)
+      | inr not ↦ let at_end : length cells ≡ k = omega arith in rw (get_or_push cells cell Bad k at_end) last
+    ]
 
--- one more is packed
-pub more_packed : (t : DataType) (cells : List Cell) (count over : ℕ) (heights : List ℕ) (marks : List Mark) (mark : Mark) → ArePacked t cells count heights marks → count < length cells
-    → cell_from t over mark ≡ get_or cells count Bad → masks mark ≡ false → ArePacked t cells (count + 1) (heights ++ over ∷ []) (marks ++ mark ∷ [])
-more_packed t cells count over heights marks mark before below is clear = record {
-  height_count = length_push heights over ∙ ap (λ n. n + 1) before.height_count;
-  mark_count = length_push marks mark ∙ ap (λ n. n + 1) before.mark_count;
-  are_cells = zip2-push (cell_from t) heights marks over mark (before.height_count ∙ sym before.mark_count) ∙ ap (λ xs. xs ++ cell_from t over mark ∷ []) before.are_cells
-      ∙ ap (λ c. take count cells ++ c ∷ []) is ∙ sym (take_more cells count Bad below);
-  no_masks = map-append masks marks (mark ∷ []) ∙ ap (λ ms. ms ++ masks mark ∷ []) before.no_masks ∙ ap (λ m. replicate count false ++ m ∷ []) clear ∙ replicate_more count false;
+-- a height and a mark that are added to the kept ones
+module _ (t : DataType) (heights : List ℕ) (marks : List Mark) (paired : length heights ≡ length marks) (over : ℕ) (mark : Mark) where
+  -- they are as many as before, each with one more
+  pub paired_push : length (heights ++ over ∷ []) ≡ length (marks ++ mark ∷ [])
+  paired_push = length_push heights over ∙ ap (λ n. n + 1) paired ∙ sym (length_push marks mark)
+
+  -- their cell comes after the others
+  pub cells_push : packed_cells t (heights ++ over ∷ []) (marks ++ mark ∷ []) ≡ packed_cells t heights marks ++ cell_from t over mark ∷ []
+  cells_push = zip2-push (cell_from t) heights marks over mark paired
+
+  -- each cell is of the data type
+  pub of_type_push : AreCellsOf t (packed_cells t heights marks) → IsCellOf t (cell_from t over mark) → AreCellsOf t (packed_cells t (heights ++ over ∷ []) (marks ++ mark ∷ []))
+  of_type_push before last = rw cells_push (are_cells_push t (packed_cells t heights marks) (cell_from t over mark) before last)
+
+-- no mask is set, with one more
+pub unmasked_push : (marks : List Mark) (mark : Mark) → map masks marks ≡ replicate (length marks) false → masks mark ≡ false → map masks (marks ++ mark ∷ []) ≡ replicate (length (marks ++ mark ∷ [])) false
+unmasked_push marks mark before clear =
+    map-append masks marks (mark ∷ []) ∙ ap (λ ms. ms ++ masks mark ∷ []) before ∙ ap (λ m. replicate (length marks) false ++ m ∷ []) clear
+    ∙ replicate_more (length marks) false ∙ ap (λ n. replicate n false) (sym (length_push marks mark))
+
+-- as many cells of a data type as a size says, none of them masked
+module _ (s : Size) (t : DataType) (heights : List ℕ) (marks : List Mark) (paired : length heights ≡ length marks) (clear : map masks marks ≡ replicate (length marks) false)
+    (sized : length (packed_cells t heights marks) ≡ cell_count s) where
+  -- no mask of the map is set
+  pub fresh_map : packed_map s t heights marks ≡ with_lists s t (packed_cells t heights marks) (replicate (cell_count s) false)
+  fresh_map =
+      let count : length marks ≡ cell_count s = sym paired ∙ sym (length-zip2 (cell_from t) heights marks paired) ∙ sized in
+      ap (λ covers. with_lists s t (packed_cells t heights marks) covers) (clear ∙ ap (λ n. replicate n false) count)
+
+  -- they make a map
+  pub fresh_whole : IsSize s → AreCellsOf t (packed_cells t heights marks) → IsMap (packed_map s t heights marks)
+  fresh_whole limits of_type = rw fresh_map (record { size = limits; cells = sized; masks = length-replicate (cell_count s) false; heights = of_type })
+
+-- the first marks have no mask, and the cells are the kept ones
+pub record AreCleared (t : DataType) (heights : List ℕ) (before : List Mark) (count : ℕ) (marks : List Mark) : Type 0 where
+  pub same_count : length marks ≡ length before
+  pub same_cells : packed_cells t heights marks ≡ packed_cells t heights before
+  pub no_masks : take count (map masks marks) ≡ replicate count false
+
+-- one more has no mask
+pub more_cleared : (t : DataType) (heights : List ℕ) (before : List Mark) (count : ℕ) (marks : List Mark) (mark new : Mark) → AreCleared t heights before count marks → count < length marks
+    → mark ≡ get_or marks count mark → measures new ≡ measures mark → masks new ≡ false → AreCleared t heights before (count + 1) (set marks count new)
+more_cleared t heights before count marks mark new cleared below is stays clear = record {
+  same_count = length-set marks count new ∙ cleared.same_count;
+  same_cells = zip2-set_same (cell_from t) heights marks count new mark (λ over. rw (stays ∙ ap measures is) refl) ∙ cleared.same_cells;
+  no_masks = ap (λ ms. take (count + 1) ms) (map-set masks marks count new) ∙ take_more_set (map masks marks) count (masks new) (rw (length-map marks masks) below)
+      ∙ ap (λ ms. ms ++ masks new ∷ []) cleared.no_masks ∙ ap (λ m. replicate count false ++ m ∷ []) clear ∙ replicate_more count false;
 }
 
--- a cell that the loop reads
-pub cell_in_turn : (cells counted read : List Cell) (k : ℕ) (d : Cell) → counted ≡ cells → read ≡ cells → k < length counted → (k < length cells) × (get_or read k d ≡ get_or cells k Bad)
-cell_in_turn cells counted read k d one other below =
-    let inside : k < length cells = subst (λ (xs : List Cell). k < length xs) one below in
-    (inside, ap (λ (xs : List Cell). get_or xs k d) other ∙ get_or_default cells k d Bad inside)
+-- a kept map whose masks are all cleared
+module _ (s : Size) (t : DataType) (heights : List ℕ) (before : List Mark) (whole : IsMap (packed_map s t heights before)) (count : ℕ) (all : count ≡ length before)
+    (marks : List Mark) (cleared : AreCleared t heights before count marks) where
+  no_masks : map masks marks ≡ replicate (cell_count s) false
+  no_masks =
+      let sized : count ≡ cell_count s = all ∙ sym (length-map before masks) ∙ whole.masks in
+      let long : length (map masks marks) ≡ count = length-map marks masks ∙ cleared.same_count ∙ sym all in
+      sym (take_all count (map masks marks) (omega (arith, long))) ∙ cleared.no_masks ∙ ap (λ n. replicate n false) sized
 
--- all are packed at the end
-pub all_packed : (s : Size) (t : DataType) (cells : List Cell) (count : ℕ) (heights : List ℕ) (marks : List Mark) → ArePacked t cells count heights marks → length cells ≡ cell_count s → count ≡ cell_count s
-    → packed_map s t heights marks ≡ record { size = s; data_type = t; cells = cells; masks = replicate (cell_count s) false }
-all_packed s t cells count heights marks packed all sized =
-    ap (λ c. with_lists s t c (map masks marks)) (packed.are_cells ∙ take_all count cells (omega (arith, all, sized)))
-    ∙ ap (λ m. with_lists s t cells m) (packed.no_masks ∙ ap (λ n. replicate n false) sized)
+  -- it is the map without its masks
+  pub unmasked_map : packed_map s t heights marks ≡ unmasked (packed_map s t heights before)
+  unmasked_map = ap (λ covers. with_lists s t (packed_cells t heights marks) covers) no_masks ∙ ap (λ cells. with_lists s t cells (replicate (cell_count s) false)) cleared.same_cells
 
--- as many cells of a data type as a size says make a map
-pub fresh_map : (s : Size) (t : DataType) (cells : List Cell) → IsSize s → length cells ≡ cell_count s → AreCellsOf t cells → IsMap (record { size = s; data_type = t; cells = cells; masks = replicate (cell_count s) false })
-fresh_map s t cells limits all of_type = record { size = limits; cells = all; masks = length-replicate (cell_count s) false; heights = of_type }
+  -- it is a map
+  pub unmasked_whole : IsMap (packed_map s t heights marks)
+  unmasked_whole = rw unmasked_map (record { size = whole.size; cells = whole.cells; masks = length-replicate (cell_count s) false; heights = whole.heights })

@@ -11,6 +11,7 @@ pub mod Passes
 pub mod Sets
 pub mod Packing
 pub mod Surface
+pub mod Cells
 pub mod NearestSaddle
 pub mod Pruning
 pub mod Undercut

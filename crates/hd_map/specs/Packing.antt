@@ -27,6 +27,10 @@ masks MaskedUnmeasured = true
 abbrev pub cell_from : DataType → ℕ → Mark → Cell
 cell_from t over mark = if measures mark then Height (least_height t +ℤ pos over) else Bad
 
+-- the cells that are kept as these heights and marks
+abbrev pub packed_cells : DataType → List ℕ → List Mark → List Cell
+packed_cells t heights marks = zip2 (cell_from t) heights marks
+
 -- the map that is kept as these heights and marks
 abbrev pub packed_map : Size → DataType → List ℕ → List Mark → Map
-packed_map s t heights marks = record { size = s; data_type = t; cells = zip2 (cell_from t) heights marks; masks = map masks marks }
+packed_map s t heights marks = record { size = s; data_type = t; cells = packed_cells t heights marks; masks = map masks marks }

@@ -1,10 +1,10 @@
--- A map with one cell or one mask set, and why a set is refused.
-use Rattle.std.specs.Prelude.{◌≡◌, ◌≤◌, ◌+◌, ℕ, Bool, Result, MatchResult, slice_set}
+-- A map with one cell or one mask set or with no masks, and why a set is refused.
+use Rattle.std.specs.Prelude.{◌≡◌, ◌≤◌, ◌+◌, ℕ, Bool, false, Result, MatchResult, replicate, slice_set}
 use Rattle.hd_map.specs.declared.types.Pos.{Pos}
 use Rattle.hd_map.specs.declared.types.Cell.{Cell}
 use Rattle.hd_map.specs.declared.types.MapError.{MapError}
 use Rattle.hd_map.specs.declared.types.MapError.TheVariants.{Outside, HeightRange}
-use Rattle.hd_map.specs.Map.{Map, InGrid, IsCellOf, place_of}
+use Rattle.hd_map.specs.Map.{Map, InGrid, IsCellOf, cell_count, place_of}
 
 -- the map with this cell at the position
 abbrev pub with_cell : Map → Pos → Cell → Map
@@ -13,6 +13,10 @@ with_cell m p cell = record m { cells = slice_set m.cells (place_of m.size p) ce
 -- the map with this mask at the position
 abbrev pub with_mask : Map → Pos → Bool → Map
 with_mask m p masked = record m { masks = slice_set m.masks (place_of m.size p) masked }
+
+-- the map without its masks
+abbrev pub unmasked : Map → Map
+unmasked m = record m { masks = replicate (cell_count m.size) false }
 
 -- why this cell cannot stand at the position: it is not in the grid; else the height is not of the type
 abbrev pub IsCellRefusal : Map → Pos → Cell → MapError → Type 0

@@ -2,6 +2,7 @@
 //! and the definitions that everything above rests on (specs/).
 #![tactic(auto)]
 
+mod cells;
 mod grid;
 mod laws;
 mod near;
@@ -14,6 +15,7 @@ mod surface;
 mod tests;
 mod types;
 
+pub use cells::Cells;
 pub use grid::{
     Grid, Heights, contains, height, index_of, is_present, position_after, position_of, rank_of,
 };

@@ -1,5 +1,5 @@
 // A cell and its mask as a surface keeps them, in five bytes.
-ghost use Rattle.std.specs.Prelude.{◌≡◌, ◌≤ℤ◌, ◌<ℤ◌, ◌+ℤ◌, pos};
+ghost use Rattle.std.specs.Prelude.{◌≡◌, ◌≤ℤ◌, ◌<ℤ◌, ◌+ℤ◌, pos, false};
 ghost use Rattle.hd_map.specs.Map.{IsCellOf};
 ghost use Rattle.hd_map.specs.Packing.{cell_from, masks, measures};
 
@@ -53,6 +53,17 @@ impl Mark {
             Mark::Shown | Mark::Unmeasured => false,
         }
     }
+
+    /// The same without the mask.
+    pub fn unmasked(self) -> Mark
+        ensures measured { measures result ≡ measures self }
+        ensures masked { masks result ≡ false }
+    {
+        match self {
+            Mark::Shown | Mark::Masked => Mark::Shown,
+            Mark::Unmeasured | Mark::MaskedUnmeasured => Mark::Unmeasured,
+        }
+    }
 }
 
 /// A cell and its mask as a surface keeps them.
@@ -83,8 +94,9 @@ pub fn pack(data_type: DataType, cell: Cell, masked: bool) -> Packed
     }
 }
 
-// How far a height is over the least one.
-fn over(least: i64, height: i64) -> u32
+/// How far a height is over the least one.
+#[inline]
+pub fn over(least: i64, height: i64) -> u32
     requires from { least ≤ℤ height }
     requires to { height <ℤ (least +ℤ pos 4294967296) }
     ensures { least +ℤ pos result ≡ height }

@@ -38,7 +38,7 @@ impl Side for Down {
 
     #[inline]
     fn below(a: Rank, b: Rank) -> bool {
-        a.height < b.height || (a.height == b.height && a.index < b.index)
+        (a.height < b.height) | ((a.height == b.height) & (a.index < b.index))
     }
 
     ghost order = { below_by-order Dales };
@@ -57,7 +57,7 @@ impl Side for Up {
 
     #[inline]
     fn below(a: Rank, b: Rank) -> bool {
-        b.height < a.height || (a.height == b.height && b.index < a.index)
+        (b.height < a.height) | ((a.height == b.height) & (b.index < a.index))
     }
 
     ghost order = { below_by-order Hills };

@@ -1,13 +1,13 @@
-// A surface as it was read: its cells, and masks over them.
+// A surface: its cells, and masks over them.
 ghost use Rattle.std.specs.Prelude.{◌≡◌, IfOk, length, replicate, false};
-ghost use Rattle.hd_map.specs.Map.{IsSize, IsMap, AreCellsOf, cell_count, least_height};
+ghost use Rattle.hd_map.specs.Map.{IsSize, IsMap, cell_count, least_height};
 ghost use Rattle.hd_map.specs.Packing.{packed_map};
 
 use crate::packing::{Mark, pack};
 use crate::{
-    Cell, DataType, Grid, Heights, MapError, Pos, Size, contains, index_of, is_cell_of, least_of,
+    Cell, Cells, DataType, Grid, Heights, MapError, Pos, Size, contains, index_of, is_cell_of,
 };
-use hd_base::{List, Memory};
+use hd_base::Memory;
 use std::alloc::Global;
 
 /// A measured surface in memory: four bytes a point for its height and one for its mark.
@@ -24,36 +24,48 @@ pub struct Surface {
 }
 
 impl Surface {
+    ghost use Rattle.hd_map.specs.Cells.{cells_in};
+    ghost use Rattle.hd_map.specs.Sets.{unmasked};
     ghost use Rattle.hd_map.specs.Surface.{map_of};
 
-    /// A surface with these cells by index, none of them masked.
+    /// A surface with these cells, none of them masked.
     ///
-    /// Both sizes are from 1 to 65,535 with at most 4,194,304 cells, there are as many cells as the
-    /// size says, and each height is in the range of the type. `Memory` comes where the five bytes a
-    /// point are refused.
-    pub fn new(
-        alloc: Global,
-        size: Size,
-        data_type: DataType,
-        cells: List<Cell>,
-    ) -> Result<Surface, Memory>
+    /// Both sizes are from 1 to 65,535 with at most 4,194,304 cells, and there are as many cells as
+    /// the size says.
+    pub fn new(size: Size, cells: Cells) -> Surface
         requires limits { IsSize size }
-        requires whole { length cells ≡ cell_count size }
-        requires heights { AreCellsOf data_type cells }
-        ensures { IfOk result (λ s. map_of s ≡ record { size = size; data_type = data_type; cells = cells; masks = replicate (cell_count size) false }) }
+        requires whole { length (cells_in cells) ≡ cell_count size }
+        ensures { map_of result ≡ record { size = size; data_type = cells.data_type; cells = cells_in cells; masks = replicate (cell_count size) false } }
     {
-        let count = cells.as_slice().len();
-        let mut heights = Vec::with_capacity(alloc, count)?;
-        let mut marks = Vec::with_capacity(alloc, count)?;
-        for index in 0..count {
-            let packed = pack(data_type, cells.as_slice()[index], false);
-            heights.push(packed.over)?;
-            marks.push(packed.mark)?;
-        }
-        Ok(Surface {
+        let Cells {
+            data_type,
+            least,
+            heights,
+            marks,
+        } = cells;
+        Surface {
             size,
             data_type,
-            least: least_of(data_type),
+            least,
+            heights,
+            marks,
+        }
+    }
+
+    /// A copy with the same cells, none of them masked. `Memory` comes where its five bytes a point
+    /// are refused.
+    pub fn without_masks(&self, alloc: Global) -> Result<Surface, Memory>
+        ensures { IfOk result (λ s. map_of s ≡ unmasked (map_of self.now)) }
+    {
+        let heights = Vec::from_slice(alloc, self.heights.as_slice())?;
+        let mut marks = Vec::from_slice(alloc, self.marks.as_slice())?;
+        for index in 0..marks.len() {
+            marks[index] = marks[index].unmasked();
+        }
+        Ok(Surface {
+            size: self.size,
+            data_type: self.data_type,
+            least: self.least,
             heights,
             marks,
         })

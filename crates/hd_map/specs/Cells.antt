@@ -1,0 +1,9 @@
+-- The cells that are read for a surface.
+use Rattle.std.specs.Prelude.{List}
+use Rattle.hd_map.specs.declared.cells.Cells.{Cells}
+use Rattle.hd_map.specs.declared.types.Cell.{Cell}
+use Rattle.hd_map.specs.Packing.{packed_cells}
+
+-- the cells, by index
+abbrev pub cells_in : Cells → List Cell
+cells_in c = packed_cells c.data_type c.heights.items c.marks.items

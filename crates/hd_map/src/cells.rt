@@ -1,0 +1,89 @@
+// The cells of a surface as they are read.
+ghost use Rattle.std.specs.Prelude.{◌≡◌, ◌∷◌, ◌++◌, [], length, map, replicate, false, IfOk, OnOk, OnErr};
+ghost use Rattle.hd_map.specs.Map.{AreCellsOf, IsCellOf, least_height};
+ghost use Rattle.hd_map.specs.Packing.{cell_from, masks, packed_cells};
+
+use crate::packing::{Mark, over};
+use crate::{Cell, DataType, least_of};
+use hd_base::Memory;
+use std::alloc::Global;
+
+/// The cells of a surface as they are read, by index, in five bytes each. Each is of the data type.
+#[derive(Debug, Drop)]
+pub struct Cells {
+    pub(crate) data_type: DataType,
+    pub(crate) least: i64,
+    pub(crate) heights: Vec<u32>,
+    pub(crate) marks: Vec<Mark>,
+    ghost is_least: { least ≡ least_height data_type },
+    ghost paired: { length heights.items ≡ length marks.items },
+    ghost unmasked: { map masks marks.items ≡ replicate (length marks.items) false },
+    ghost of_type: { AreCellsOf data_type (packed_cells data_type heights.items marks.items) },
+}
+
+impl Cells {
+    ghost use Rattle.hd_map.specs.Cells.{cells_in};
+
+    /// No cells, and the memory for this many. `Memory` comes where it is refused.
+    pub fn with_capacity(
+        alloc: Global,
+        data_type: DataType,
+        capacity: usize,
+    ) -> Result<Cells, Memory>
+        ensures data_type { IfOk result (λ cells. cells.data_type ≡ data_type) }
+        ensures none { IfOk result (λ cells. cells_in cells ≡ []) }
+    {
+        Ok(Cells {
+            data_type,
+            least: least_of(data_type),
+            heights: Vec::with_capacity(alloc, capacity)?,
+            marks: Vec::with_capacity(alloc, capacity)?,
+        })
+    }
+
+    /// The data type of the cells.
+    pub fn data_type(&self) -> DataType
+        ensures { result ≡ self.now.data_type }
+    {
+        self.data_type
+    }
+
+    /// How many cells there are.
+    pub fn len(&self) -> usize
+        ensures { result ≡ length (cells_in self.now) }
+    {
+        self.heights.len()
+    }
+
+    /// Adds a cell of the data type at the end. Where memory is refused, the cells stay as they were.
+    #[inline]
+    #[tactic(auto, using(crate::proofs::Packed::in_four_bytes))]
+    pub fn push(&mut self, cell: Cell) -> Result<(), Memory>
+        requires { IsCellOf self.old.data_type cell }
+        ensures data_type { self.new.data_type ≡ self.old.data_type }
+        ensures ok { OnOk result (cells_in self.new ≡ cells_in self.old ++ cell ∷ []) }
+        ensures err { OnErr result (cells_in self.new ≡ cells_in self.old) }
+    {
+        match cell {
+            Cell::Height(height) => self.push_packed(over(self.least, height), Mark::Shown),
+            Cell::Bad => self.push_packed(0, Mark::Unmeasured),
+        }
+    }
+
+    // Adds the cell that is kept so.
+    #[inline]
+    fn push_packed(&mut self, over: u32, mark: Mark) -> Result<(), Memory>
+        requires of_type { IsCellOf self.old.data_type (cell_from self.old.data_type over mark) }
+        requires unmasked { masks mark ≡ false }
+        ensures data_type { self.new.data_type ≡ self.old.data_type }
+        ensures ok { OnOk result (cells_in self.new ≡ cells_in self.old ++ cell_from self.old.data_type over mark ∷ []) }
+        ensures err { OnErr result (cells_in self.new ≡ cells_in self.old) }
+    {
+        self.heights.push(over)?;
+        if self.marks.push(mark).is_err() {
+            self.heights.pop();
+            return Err(Memory);
+        }
+        Ok(())
+    }
+}
