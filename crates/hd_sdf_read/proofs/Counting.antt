@@ -3,8 +3,7 @@ use Rattle.std.proofs.Common.{◌≡◌, ◌+◌, ◌-◌, ◌<◌, ◌≤◌, �
 use Rattle.std.specs.Prelude.{bytes_eq, codes, int_le}
 use Rattle.std.proofs.lemmas.Bool.{and_parts, cases_Bool}
 use Rattle.std.proofs.lemmas.Int.{ints}
-use Rattle.std.proofs.lemmas.List.Elements.{All-from_get_or, All-get_or, All-push}
-use Rattle.hd_map.specs.Map.{AreCellsOf, IsCellOf, greatest_height, least_height}
+use Rattle.hd_map.specs.Map.{IsCellOf, greatest_height, least_height}
 use Rattle.hd_map.specs.declared.types.DataType.{DataType}
 use Rattle.hd_map.specs.declared.types.Cell.TheVariants.{Bad, Height}
 use Rattle.hd_map.specs.declared.types.Cell.{Cell}
@@ -86,7 +85,3 @@ datum_fits t least greatest read text cell low high e = elim (cases_Bool (eqb (l
         | inr good ↦ height_fits t (read + 1) (whole_of (token_of text)) cell (rw (low, high, good) at found)
       ]
 ]
-
--- one more cell of the type
-pub cells_push : (t : DataType) (cells : List Cell) (cell : Cell) → AreCellsOf t cells → IsCellOf t cell → AreCellsOf t (cells ++ cell ∷ [])
-cells_push t cells cell before fits k inside = All-get_or (IsCellOf t) (cells ++ cell ∷ []) k Bad inside (All-push (IsCellOf t) cells cell (All-from_get_or (IsCellOf t) cells Bad before) fits)

@@ -2,8 +2,10 @@
 use Rattle.std.specs.Prelude.{◌≡◌, ◌≤◌, ◌==◌, ℕ, ℤ, int_le, true, false, List, [], length, take, drop, Some, Result, Ok, Err}
 use Rattle.std.specs.List.{position_or_len}
 use denote.Bor.{Bor}
+use Rattle.hd_map.specs.declared.cells.Cells as packed
 use Rattle.hd_map.specs.declared.types.Cell.{Cell}
 use Rattle.hd_map.specs.declared.types.Cell.TheVariants.{Height}
+use Rattle.hd_map.specs.Cells.{cells_in}
 use Rattle.hd_num.specs.Whole.{whole_of}
 use Rattle.hd_num.specs.declared.whole.Whole.TheVariants.{Is}
 use Rattle.hd_num.specs.Decimal.{decimal_of}
@@ -60,8 +62,8 @@ frame_view f = record {
 }
 
 -- the cells of data and the text after them, without where they lie in memory
-abbrev pub cells_view : List Cell × Bor (List ℕ) → Cells
-cells_view parts = record { cells = parts.0; rest = parts.1.now }
+abbrev pub cells_view : packed.Cells × Bor (List ℕ) → Cells
+cells_view parts = record { cells = cells_in parts.0; rest = parts.1.now }
 
 -- the cell of the next datum after so many, and the text after it, or why there is none
 abbrev pub DatumGiven : ℤ → ℤ → ℕ → List ℕ → Result (Cell × Bor (List ℕ)) SdfError → Type 0

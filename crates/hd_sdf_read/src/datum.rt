@@ -1,6 +1,7 @@
 // The data of a file.
 ghost use Rattle.std.specs.Prelude.{◌≡◌, ◌<◌, ◌+◌, ◌^◌, IfOk, IfSome, IsTrue, length, slice_index, true};
-ghost use Rattle.hd_map.specs.Map.{AreCellsOf, greatest_height, least_height};
+ghost use Rattle.hd_map.specs.Cells.{cells_in};
+ghost use Rattle.hd_map.specs.Map.{greatest_height, least_height};
 ghost use Rattle.hd_num.specs.Whole.{signed_number};
 ghost use Rattle.hd_sdf_read.specs.File.{is_gap};
 ghost use Rattle.hd_sdf_read.specs.Grammar.{cell_of, cells_from};
@@ -9,8 +10,7 @@ ghost use Rattle.hd_sdf_read.specs.Reads.{Gives};
 
 use crate::SdfError;
 use crate::token::{is_gap, next_token, skip_gaps};
-use hd_base::List;
-use hd_map::{Cell, DataType, greatest_of, least_of};
+use hd_map::{Cell, Cells, DataType, greatest_of, least_of};
 use hd_num::{Whole, is_negative, leading_digits, read_whole, unsigned_part};
 use std::alloc::Global;
 
@@ -20,16 +20,16 @@ pub fn read_cells(
     data_type: DataType,
     count: usize,
     text: &[u8],
-) -> Result<(List<Cell>, &[u8]), SdfError>
+) -> Result<(Cells, &[u8]), SdfError>
     ensures cells { Gives cells_view result (cells_from (least_height data_type) (greatest_height data_type) 0 count text.now) }
-    ensures whole { IfOk result (λ parts. length parts.0 ≡ count) }
-    ensures heights { IfOk result (λ parts. AreCellsOf data_type parts.0) }
+    ensures whole { IfOk result (λ parts. length (cells_in parts.0) ≡ count) }
+    ensures data_type { IfOk result (λ parts. parts.0.data_type ≡ data_type) }
 {
     let least = least_of(data_type);
     let greatest = greatest_of(data_type);
     // A datum and the gap after it take two bytes at least.
     let room = count.min(text.len() / 2 + 1);
-    let mut cells = List::with_capacity(alloc, room)?;
+    let mut cells = Cells::with_capacity(alloc, data_type, room)?;
     let mut rest = text;
     'data: for read in 0..count {
         let (cell, after) = match next_datum(least, greatest, read as u64, rest) {

@@ -1,6 +1,7 @@
 // A whole file.
 ghost use Rattle.std.specs.Prelude.{◌≡◌, ◌<◌, ◌^◌, IfOk, length, true};
-ghost use Rattle.hd_map.specs.Map.{AreCellsOf, IsSize, cell_count};
+ghost use Rattle.hd_map.specs.Cells.{cells_in};
+ghost use Rattle.hd_map.specs.Map.{IsSize, cell_count};
 ghost use Rattle.hd_sdf_read.specs.Entries.{extra_entries, text_of};
 ghost use Rattle.hd_sdf_read.specs.File.{AreGood, is_trailer};
 ghost use Rattle.hd_sdf_read.specs.FileOf.{file_of};
@@ -16,7 +17,7 @@ use crate::keys::form_of;
 use crate::token::{next_token, trim_gaps};
 use crate::{Extra, SdfError, SdfFile, Version};
 use hd_base::{List, Memory};
-use hd_map::{Cell, Surface};
+use hd_map::{Cells, Surface};
 use hd_num::Decimal;
 use std::alloc::Global;
 
@@ -79,16 +80,16 @@ fn build(
     version: Version,
     entries: &[Entry],
     frame: Frame,
-    cells: List<Cell>,
+    cells: Cells,
     trailer: List<u8>,
 ) -> Result<SdfFile, Memory>
     requires limits { IsSize frame.size }
-    requires whole { length cells ≡ cell_count frame.size }
-    requires heights { AreCellsOf frame.data_type cells }
+    requires whole { length (cells_in cells) ≡ cell_count frame.size }
+    requires data_type { cells.data_type ≡ frame.data_type }
     requires entries { AreGood (extras_of entries.now) }
     requires decimals { HasDecimals (frame_view frame) }
     requires trailer { is_trailer trailer ≡ true }
-    ensures { IfOk result (λ f. file_of f ≡ file_with version (extras_of entries.now) (frame_view frame) cells trailer) }
+    ensures { IfOk result (λ f. file_of f ≡ file_with version (extras_of entries.now) (frame_view frame) (cells_in cells) trailer) }
 {
     let manufac_id = text_of(alloc, entries, b"ManufacID")?;
     let create_date = text_of(alloc, entries, b"CreateDate")?;
@@ -97,12 +98,12 @@ fn build(
     let extra = extra_entries(alloc, entries)?;
     let Frame {
         size,
-        data_type,
+        data_type: _,
         x_scale,
         y_scale,
         z_scale,
     } = frame;
-    let surface = Surface::new(alloc, size, data_type, cells)?;
+    let surface = Surface::new(size, cells);
     Ok(SdfFile {
         version,
         manufac_id,
