@@ -1,5 +1,6 @@
 -- A map whose cells before an index are new.
-use Rattle.std.proofs.Common.{◌≡◌, ◌<◌, ◌≤◌, ◌+◌, ℕ, List, [], ◌∷◌, ◌++◌, All, map, length, get_or, set, sym, ap, subst, ◌∙◌, arith}
+use Rattle.std.proofs.Common.{◌≡◌, ◌<◌, ◌≤◌, ◌+◌, ℕ, ℤ, Option, None, List, [], ◌∷◌, ◌++◌, All, map, length, get_or, set, sym, ap, subst, ◌∙◌, arith}
+use Rattle.std.specs.Prelude.{slice_index_or}
 use Rattle.std.specs.List.{range_with_len}
 use Rattle.std.proofs.lemmas.List.FromFn.{get_or-map-range_with_len, fill_by_all}
 use Rattle.std.proofs.lemmas.List.{set-get_or, length_push, get_or_default}
@@ -13,10 +14,12 @@ use Rattle.hd_map.specs.Map.{Map, IsMap, InGrid, IsCellOf, AreCellsOf, cell_at, 
 use Rattle.hd_map.specs.Sets.{with_cell}
 use Rattle.hd_map.proofs.Points.{inside_place}
 use Rattle.hd_morph.specs.Answer.{with_cells}
+use Rattle.hd_morph.specs.NewHeights.{cell_with, cells_after}
+use Rattle.hd_morph.proofs.Listing.{get_or_cells_after, length_cells_after}
 use Rattle.hd_edit.specs.declared.change.Change.{Change}
 use Rattle.hd_edit.specs.declared.change.Was.{Was}
-use Rattle.hd_edit.specs.Change.{was_cell, IsChange, before_changes}
-use Rattle.hd_edit.proofs.Changes.{before-cell, was_cell-of, cell_of}
+use Rattle.hd_edit.specs.Change.{IsCellThatWas, IsChange, before_changes}
+use Rattle.hd_edit.proofs.Changes.{before-cell, was-of, cell_of}
 use Rattle.hd_edit.proofs.Strokes.{mix, mix-before, mix-from, mix-other, set_fill}
 
 -- a position goes through the grid by its index
@@ -88,14 +91,27 @@ module _ (m : Map) (cells : List Cell) where
         few = omega (arith, so.few);
       }
 
-      pub noted_more : (whole : IsMap m) (at_inside : InGrid m.size at) (notes' : List Change) (cell : Cell) (w : Was) → notes' ≡ notes ++ record { index = n; was = w } ∷ [] → w ≡ was_cell cell → cell ≡ cell_at m at → Noted (n + 1) notes'
+      pub noted_more : (whole : IsMap m) (at_inside : InGrid m.size at) (notes' : List Change) (cell : Cell) (w : Was) → notes' ≡ notes ++ record { index = n; was = w } ∷ [] → IsCellThatWas m.data_type w cell → cell ≡ cell_at m at → Noted (n + 1) notes'
       noted_more whole at_inside notes' cell w pushed is here =
           let one : Change = record { index = n; was = w } in record {
             before = before-cell (partly_new n) (partly_new (n + 1)) notes notes' at n cell (get_or cells n d) w pushed (sym place) is (here ∙ sym new-here) new-more ∙ so.before;
-            each = rw pushed (All-push (IsChange m) notes one so.each (record { inside = inside; height = rw (is, here) (was_cell-of m.data_type (cell_at m at) (cell_of m whole at at_inside)) }));
+            each = rw pushed (All-push (IsChange m) notes one so.each (record { inside = inside; height = was-of m.data_type w cell is (rw here (cell_of m whole at at_inside)) }));
             few = rw pushed (let len = length_push notes one in omega (arith, so.few, len));
           }
 
 -- a cell of the list is of the type, with each default
 pub read_cell : (t : DataType) (cells : List Cell) (n : ℕ) (d : Cell) → n < length cells → AreCellsOf t cells → IsCellOf t (get_or cells n d)
 read_cell t cells n d room are = subst (λ (c : Cell). IsCellOf t c) (get_or_default cells n Bad d room) (are n room)
+
+-- the new cell at a position is that of its index
+pub new-read : (m : Map) (heights : List (Option ℤ)) (n : ℕ) (at : Pos) (old d : Cell) → place_of m.size at ≡ n → n < cell_count m.size → old ≡ cell_at m at → cell_with (slice_index_or heights n None) old ≡ get_or (cells_after m heights) n d
+new-read m heights n at old d place inside is =
+    ap (cell_with (slice_index_or heights n None)) (is ∙ ap (λ (k : ℕ). get_or m.cells k Bad) place) ∙ sym (get_or_cells_after m heights n d inside)
+
+-- so is the new cell of what stands there while the cells before the index are new
+pub new-put : (m now : Map) (heights : List (Option ℤ)) (n : ℕ) (at : Pos) (old new : Cell) → place_of m.size at ≡ n → n < cell_count m.size → now ≡ partly_new m (cells_after m heights) n → old ≡ cell_at now at
+    → new ≡ cell_with (slice_index_or heights n None) old → new ≡ get_or (cells_after m heights) n Bad
+new-put m now heights n at old new place inside so here is =
+    let room : n < length (cells_after m heights) = rw (length_cells_after m heights) inside in
+    let same : old ≡ cell_at m at = here ∙ ap (λ (s : Map). cell_at s at) so ∙ new-here m (cells_after m heights) n at place inside Bad room in
+    is ∙ new-read m heights n at old Bad place inside same

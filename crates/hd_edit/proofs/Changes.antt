@@ -1,18 +1,20 @@
 -- The map before changes.
-use Rattle.std.proofs.Common.{◌≡◌, ℕ, Bool, false, List, [], ◌∷◌, ◌++◌, set, All, refl, sym, ap, subst, ◌∙◌}
+use Rattle.std.proofs.Common.{◌≡◌, ◌≤ℤ◌, ◌<ℤ◌, ◌+ℤ◌, ℕ, ℤ, pos, neg_ℤ, Bool, false, List, [], ◌∷◌, ◌++◌, set, All, refl, sym, ap, subst, ◌∙◌, arith}
+use Rattle.std.proofs.lemmas.Int.{ints}
 use Rattle.std.proofs.lemmas.List.{set-set, set-get_or}
 use Rattle.hd_map.specs.declared.types.Pos.{Pos}
 use Rattle.hd_map.specs.declared.types.Size.{Size}
 use Rattle.hd_map.specs.declared.types.Cell.{Cell}
-use Rattle.hd_map.specs.declared.types.Cell.TheVariants.{Height, Bad}
+use Rattle.hd_map.specs.declared.types.Cell.TheVariants.{Bad}
 use Rattle.hd_map.specs.declared.types.DataType.{DataType}
-use Rattle.hd_map.specs.Map.{Map, IsMap, InGrid, IsCellOf, cell_at, mask_at, place_of}
+use Rattle.hd_map.specs.declared.types.DataType.TheVariants.{U8, U16, U32, I8, I16, I32}
+use Rattle.hd_map.specs.Map.{Map, IsMap, InGrid, IsCellOf, cell_at, mask_at, place_of, least_height, greatest_height}
 use Rattle.hd_map.proofs.Points.{place_inside}
 use Rattle.hd_map.specs.Sets.{with_cell, with_mask}
 use Rattle.hd_edit.specs.declared.change.Change.{Change}
 use Rattle.hd_edit.specs.declared.change.Was.{Was}
 use Rattle.hd_edit.specs.declared.change.Was.TheVariants as was
-use Rattle.hd_edit.specs.Change.{was_cell, with_was, before_changes, IsWasOf, IsChange}
+use Rattle.hd_edit.specs.Change.{IsCellThatWas, with_was, before_changes, IsWasOf, IsChange}
 
 -- the last change is undone first
 pub before-push : (cs : List Change) (c : Change) (m : Map) → before_changes (cs ++ c ∷ []) m ≡ before_changes cs (with_was c.was c.index m)
@@ -20,15 +22,16 @@ before-push [] c m = refl
 before-push (e ∷ cs) c m = ap (with_was e.was e.index) (before-push cs c m)
 
 -- a cell put back
-with_was-cell : (cell : Cell) (k : ℕ) (m : Map) → with_was (was_cell cell) k m ≡ record m { cells = set m.cells k cell }
-with_was-cell (Height z) k m = refl
-with_was-cell Bad k m = refl
+with_was-cell : (w : Was) (cell : Cell) (k : ℕ) (m : Map) → IsCellThatWas m.data_type w cell → with_was w k m ≡ record m { cells = set m.cells k cell }
+with_was-cell (was.Height over) cell k m is = ap (λ (c : Cell). record m { cells = set m.cells k c }) (sym is)
+with_was-cell was.Bad cell k m is = ap (λ (c : Cell). record m { cells = set m.cells k c }) (sym is)
+with_was-cell (was.Mask masked) cell k m is = absurd is
 
 -- a cell that was set and put back
-cell_back : (m : Map) (at : Pos) (new : Cell) → with_was (was_cell (cell_at m at)) (place_of m.size at) (with_cell m at new) ≡ m
-cell_back m at new =
+cell_back : (m : Map) (at : Pos) (w : Was) (new : Cell) → IsCellThatWas m.data_type w (cell_at m at) → with_was w (place_of m.size at) (with_cell m at new) ≡ m
+cell_back m at w new is =
     let k = place_of m.size at in
-    with_was-cell (cell_at m at) k (with_cell m at new) ∙ ap (λ (cells : List Cell). record m { cells = cells }) (set-set m.cells k new (cell_at m at) ∙ set-get_or m.cells k Bad)
+    with_was-cell w (cell_at m at) k (with_cell m at new) is ∙ ap (λ (cells : List Cell). record m { cells = cells }) (set-set m.cells k new (cell_at m at) ∙ set-get_or m.cells k Bad)
 
 -- a mask that was set and put back
 mask_back : (m : Map) (at : Pos) (new : Bool) → with_was (was.Mask (mask_at m at)) (place_of m.size at) (with_mask m at new) ≡ m
@@ -38,11 +41,11 @@ mask_back m at new =
 
 -- a noted change of a cell leaves the map before all changes
 pub before-cell : (m m' : Map) (notes notes' : List Change) (at : Pos) (index : ℕ) (cell new : Cell) (w : Was)
-    → notes' ≡ notes ++ (record { index = index; was = w }) ∷ [] → index ≡ place_of m.size at → w ≡ was_cell cell → cell ≡ cell_at m at → m' ≡ with_cell m at new
+    → notes' ≡ notes ++ (record { index = index; was = w }) ∷ [] → index ≡ place_of m.size at → IsCellThatWas m.data_type w cell → cell ≡ cell_at m at → m' ≡ with_cell m at new
     → before_changes notes' m' ≡ before_changes notes m
 before-cell m m' notes notes' at index cell new w pushed place is here set =
     ap (λ ns. before_changes ns m') pushed ∙ before-push notes (record { index = index; was = w }) m'
-    ∙ ap (before_changes notes) (ap (λ i. with_was w i m') place ∙ ap (λ v. with_was v (place_of m.size at) m') (is ∙ ap was_cell here) ∙ ap (with_was (was_cell (cell_at m at)) (place_of m.size at)) set ∙ cell_back m at new)
+    ∙ ap (before_changes notes) (ap (λ i. with_was w i m') place ∙ ap (with_was w (place_of m.size at)) set ∙ cell_back m at w new (subst (λ (c : Cell). IsCellThatWas m.data_type w c) here is))
 
 -- a noted change of a mask leaves the map before all changes
 pub before-mask : (m m' : Map) (notes notes' : List Change) (at : Pos) (index : ℕ) (masked new : Bool)
@@ -52,10 +55,29 @@ before-mask m m' notes notes' at index masked new pushed place here set =
     ap (λ ns. before_changes ns m') pushed ∙ before-push notes (record { index = index; was = was.Mask masked }) m'
     ∙ ap (before_changes notes) (ap (λ i. with_was (was.Mask masked) i m') place ∙ ap (λ v. with_was (was.Mask v) (place_of m.size at) m') here ∙ ap (with_was (was.Mask (mask_at m at)) (place_of m.size at)) set ∙ mask_back m at new)
 
--- what a cell of the data type was
-pub was_cell-of : (t : DataType) (cell : Cell) → IsCellOf t cell → IsWasOf t (was_cell cell)
-was_cell-of t (Height z) is = is
-was_cell-of t Bad is = tt
+-- what was a cell of the data type is one
+pub was-of : (t : DataType) (w : Was) (cell : Cell) → IsCellThatWas t w cell → IsCellOf t cell → IsWasOf t w
+was-of t (was.Height over) cell that is = subst (λ (c : Cell). IsCellOf t c) that is
+was-of t was.Bad cell that is = tt
+was-of t (was.Mask masked) cell that is = tt
+
+-- each height of a data type is less than 2 ^ 32 over the least one
+pub in_four_bytes : (t : DataType) (h : ℤ) → h ≤ℤ greatest_height t → h <ℤ (least_height t +ℤ pos 4294967296)
+in_four_bytes U8 h below = omega (arith, ints, below)
+in_four_bytes U16 h below = omega (arith, ints, below)
+in_four_bytes U32 h below = omega (arith, ints, below)
+in_four_bytes I8 h below = omega (arith, ints, below)
+in_four_bytes I16 h below = omega (arith, ints, below)
+in_four_bytes I32 h below = omega (arith, ints, below)
+
+-- the least height of a data type is from -(2 ^ 31) to 0
+pub least_within : (t : DataType) → (neg_ℤ (pos 2147483648) ≤ℤ least_height t) × (least_height t ≤ℤ pos 0)
+least_within U8 = (omega (arith, ints), omega (arith, ints))
+least_within U16 = (omega (arith, ints), omega (arith, ints))
+least_within U32 = (omega (arith, ints), omega (arith, ints))
+least_within I8 = (omega (arith, ints), omega (arith, ints))
+least_within I16 = (omega (arith, ints), omega (arith, ints))
+least_within I32 = (omega (arith, ints), omega (arith, ints))
 
 -- a cell of a map is of the data type
 pub cell_of : (m : Map) → IsMap m → (p : Pos) → InGrid m.size p → IsCellOf m.data_type (cell_at m p)
@@ -63,7 +85,7 @@ cell_of m whole p inside = whole.heights (place_of m.size p) (rw whole.cells (pl
 
 -- the size and the type stay
 same_kind : (m : Map) (w : Was) (k : ℕ) (cs : List Change) → All (IsChange m) cs → All (IsChange (with_was w k m)) cs
-same_kind m (was.Height z) k cs are = are
+same_kind m (was.Height over) k cs are = are
 same_kind m was.Bad k cs are = are
 same_kind m (was.Mask masked) k cs are = are
 
@@ -73,7 +95,7 @@ still_changes m m' w k cs is are = subst (λ (n : Map). All (IsChange n) cs) (sy
 
 -- the map before changes has the size and the type of the map after them
 kind_of_was : (P : Size → DataType → Type 0) (w : Was) (k : ℕ) (m : Map) → P m.size m.data_type → P (with_was w k m).size (with_was w k m).data_type
-kind_of_was P (was.Height z) k m p = p
+kind_of_was P (was.Height over) k m p = p
 kind_of_was P was.Bad k m p = p
 kind_of_was P (was.Mask masked) k m p = p
 

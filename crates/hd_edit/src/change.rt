@@ -1,25 +1,26 @@
 // What a cell or a mask was before it was changed.
-ghost use Rattle.std.specs.Prelude.{◌≡◌, ◌<◌, ◌≤◌, ◌+◌, ◌^◌, length};
+ghost use Rattle.std.specs.Prelude.{◌≡◌, ◌<◌, ◌≤◌, ◌+◌, ◌^◌, ◌≤ℤ◌, ◌<ℤ◌, ◌+ℤ◌, pos, length};
+ghost use Rattle.hd_map.specs.declared.types.Cell.TheVariants.{Height};
 ghost use Rattle.hd_map.specs.Map.{InGrid, IsCellOf};
 ghost use Rattle.hd_map.specs.Sets.{with_cell, with_mask};
 ghost use Rattle.hd_edit.specs.Board.{RisesUpTo};
-ghost use Rattle.hd_edit.specs.Change.{was_cell, IsChange, AreChanges, with_was, before_changes};
+ghost use Rattle.hd_edit.specs.Change.{height_over, IsCellThatWas, IsChange, AreChanges, with_was, before_changes};
 
 use hd_base::List;
-use hd_map::{Cell, Grid, Heights, Pos, position_of};
+use hd_map::{Cell, DataType, Grid, Heights, Pos, least_of, position_of};
 
 /// What stood at a point before it was changed.
 #[derive(Clone, Copy, Debug)]
 pub enum Was {
-    /// The cell was this height.
-    Height(i64),
+    /// The cell was the height that is this much over the least one of the data type.
+    Height(u32),
     /// The cell was not measured.
     Bad,
     /// The mask was this one.
     Mask(bool),
 }
 
-/// A change of one cell or mask, by what it was. It takes 24 bytes.
+/// A change of one cell or mask, by what it was. It takes 12 bytes.
 #[derive(Clone, Copy, Debug)]
 pub struct Change {
     /// The index of the point.
@@ -28,16 +29,36 @@ pub struct Change {
     pub was: Was,
 }
 
-const _: () = prove!(size_of::<Change>() <= 24);
+const _: () = prove!(size_of::<Change>() <= 12);
 
-/// What a cell was.
-pub fn was_of(cell: Cell) -> Was
-    ensures { result ≡ was_cell cell }
+/// What a cell of the data type was.
+#[tactic(auto, using(crate::proofs::Changes::in_four_bytes))]
+pub fn was_of(data_type: DataType, cell: Cell) -> Was
+    requires { IsCellOf data_type cell }
+    ensures { IsCellThatWas data_type result cell }
 {
     match cell {
-        Cell::Height(height) => Was::Height(height),
+        Cell::Height(height) => Was::Height(over(least_of(data_type), height)),
         Cell::Bad => Was::Bad,
     }
+}
+
+// How far a height is over the least one.
+#[inline]
+fn over(least: i64, height: i64) -> u32
+    requires from { least ≤ℤ height }
+    requires to { height <ℤ (least +ℤ pos 4294967296) }
+    ensures { least +ℤ pos result ≡ height }
+{
+    (height - least) as u32
+}
+
+// The cell of the height that is this much over the least one.
+#[tactic(auto, using(crate::proofs::Changes::least_within))]
+fn cell_over(data_type: DataType, over: u32) -> Cell
+    ensures { result ≡ Height (height_over data_type over) }
+{
+    Cell::Height(least_of(data_type) + i64::from(over))
 }
 
 // Sets a cell that the grid can have.
@@ -73,7 +94,10 @@ fn put_was<G: Grid>(grid: &mut G, change: Change)
 {
     let at = position_of(grid.size(), change.index);
     match change.was {
-        Was::Height(height) => put_cell(grid, at, Cell::Height(height)),
+        Was::Height(over) => {
+            let cell = cell_over(grid.data_type(), over);
+            put_cell(grid, at, cell);
+        }
         Was::Bad => put_cell(grid, at, Cell::Bad),
         Was::Mask(masked) => put_mask(grid, at, masked),
     }

@@ -8,7 +8,7 @@ ghost use Rattle.hd_edit.specs.Stroke.{IsRectangle, IsStroked, stroke_parts};
 
 use crate::change::Change;
 use crate::elements::Elements;
-use crate::filter::{changed_cells, filtered, put_cells};
+use crate::filter::{changed_cells, filtered, put_heights};
 use crate::paint::{count_changes, stroke_points};
 use crate::stroke::Stroke;
 use crate::{Edit, EditError};
@@ -97,9 +97,9 @@ fn filter_grid<G: Grid>(
     ensures origin { G.comes_from grid.old grid.new }
     ensures count { RisesUpTo (cell_count (G.map grid.old).size) (G.changes grid.old) (G.changes grid.new) }
 {
-    let cells = filtered(alloc, grid, elements, edit)?;
-    let changes = changed_cells(alloc, grid, cells.as_slice())?;
-    put_cells(grid, cells.as_slice());
+    let heights = filtered(alloc, grid, elements, edit)?;
+    let changes = changed_cells(alloc, grid, &heights)?;
+    put_heights(grid, &heights);
     Ok(changes)
 }
 

@@ -93,7 +93,7 @@ fn touch_point<G: Grid>(grid: &mut G, at: Pos, stroke: Stroke, notes: &mut Vec<C
     let index = index_of(grid.size(), at);
     match touch_of(stroke, grid.data_type(), cell, masked) {
         Some(Touch::Cell(new)) => {
-            let was = was_of(cell);
+            let was = was_of(grid.data_type(), cell);
             notes.push_reserved(Change { index, was });
             put_cell(grid, at, new);
         }

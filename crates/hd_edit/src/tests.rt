@@ -8,7 +8,8 @@ ghost use Rattle.hd_map.specs.Map.{IsCellOf};
 use crate::{Board, Edit, EditError, LogEnds};
 use hd_base::List;
 use hd_map::{
-    Cell, DataType, Grid, Heights, MapError, Pos, Size, Surface, contains, height, is_cell_of,
+    Cell, Cells, DataType, Grid, Heights, MapError, Pos, Size, Surface, contains, height,
+    is_cell_of,
 };
 use hd_morph::Element;
 use std::alloc::Global;
@@ -97,17 +98,20 @@ const SIZE: Size = Size {
 
 // A board of 3 by 2 points of heights 1 2 3 over 4 5 250.
 fn six(alloc: Global) -> Result<Board<Surface>, Fail> {
-    let cells = vec![in alloc;
-        Cell::Height(1),
-        Cell::Height(2),
-        Cell::Height(3),
-        Cell::Height(4),
-        Cell::Height(5),
-        Cell::Height(250),
-    ]?;
-    let surface = Surface::new(alloc, SIZE, DataType::U8, List::from_vec(cells))
+    let mut cells = Cells::with_capacity(alloc, DataType::U8, 6)
         .ok()
         .ok_or("no memory")?;
+    for height in [1, 2, 3, 4, 5, 250] {
+        let cell = Cell::Height(height);
+        if !is_cell_of(cells.data_type(), cell) {
+            return Err("a height out of range".into());
+        }
+        cells.push(cell).ok().ok_or("no memory")?;
+    }
+    if cells.len() != 6 {
+        return Err("not six cells".into());
+    }
+    let surface = Surface::new(SIZE, cells);
     Ok(Board::new(alloc, surface).ok().ok_or("no memory")?)
 }
 

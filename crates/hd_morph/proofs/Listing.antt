@@ -1,9 +1,11 @@
--- Heights and cells of a map, listed one after another.
-use Rattle.std.proofs.Common.{◌≡◌, ◌<◌, ◌≤◌, ◌+◌, ◌≤ℤ◌, ◌<ℤ◌, ℕ, ℤ, pos, neg_ℤ, List, [], ◌∷◌, ◌++◌, length, get_or, slice_set, length-set, get_or-set_other, get_or-set_same, Bool, true, false, Option, Some, None, Result, Ok, Err, MatchOption, inl, inr, refl, ap, subst, sym, ◌∙◌, arith}
+-- Heights of a map, listed one after another, and the cells that new heights make.
+use Rattle.std.proofs.Common.{◌≡◌, ◌<◌, ◌≤◌, ◌+◌, ◌≤ℤ◌, ◌<ℤ◌, ℕ, ℤ, pos, neg_ℤ, List, [], ◌∷◌, ◌++◌, length, map, get_or, slice_set, length-set, get_or-set_other, get_or-set_same, below_more, Bool, true, false, Option, Some, None, Result, Ok, Err, inl, inr, refl, ap, subst, sym, ◌∙◌, arith}
+use Rattle.std.specs.Prelude.{slice_index_or}
 use Rattle.std.proofs.lemmas.Int.{ints}
 use Rattle.std.proofs.lemmas.Bool.{cases_lt}
-use Rattle.std.proofs.lemmas.List.{length_push, get_or_append_left, get_or_past}
-use Rattle.std.proofs.Math.Seq.{get_or-append_seam}
+use Rattle.std.proofs.lemmas.List.{get_or-map, get_or_past, length-map}
+use Rattle.std.proofs.lemmas.List.FromFn.{length-map-range_with_len, get_or-map-range_with_len, map-range_with_len_more}
+use Rattle.std.specs.List.{range_with_len}
 use Rattle.hd_map.specs.declared.types.Pos.{Pos}
 use Rattle.hd_map.specs.declared.types.Size.{Size}
 use Rattle.hd_map.specs.declared.types.Cell.{Cell}
@@ -16,10 +18,11 @@ use Rattle.hd_morph.specs.declared.errors.MorphError.{MorphError}
 use Rattle.hd_morph.specs.declared.errors.MorphError.TheVariants.{Memory, HeightRange}
 use Rattle.hd_morph.specs.Element.{ElementTable}
 use Rattle.hd_morph.specs.Filter.{Filter, relief_of}
-use Rattle.hd_morph.specs.Answer.{AreCellsWith, IsFirstOutside, FiltersMap}
+use Rattle.hd_morph.specs.Answer.{AreCellsWith, IsFirstOutside}
 use Rattle.hd_morph.specs.Plain.{missing, floor, shown, plain_at, value_at, relief, IsPlainNumber}
 use Rattle.hd_morph.specs.Raised.{ArePlainlyFiltered}
-use Rattle.hd_morph.specs.Listed.{IsPlainHeight, AreHeightsOf, IsNewCell, IsOutside, MakesCells}
+use Rattle.hd_morph.specs.Listed.{IsPlainHeight, AreHeightsOf, AreOfType, MakesHeights}
+use Rattle.hd_morph.specs.NewHeights.{cell_with, cell_after, cells_after, MakesNewHeights}
 use Rattle.hd_morph.proofs.PlainLemmas.{shown_above, shown_below}
 use Rattle.hd_morph.proofs.Determined.{filtered_of_same}
 
@@ -131,71 +134,106 @@ heights_all m index at heights some all was = record {
   each = λ p inside. (was.each p inside (omega (arith, place_inside m.size p inside))).is;
 }
 
+-- how many cells there are
+pub length_cells_after : (m : Map) (heights : List (Option ℤ)) → length (cells_after m heights) ≡ cell_count m.size
+length_cells_after m heights = length-map-range_with_len (cell_after m heights) 0 (cell_count m.size)
+
+-- the cell at an index
+pub get_or_cells_after : (m : Map) (heights : List (Option ℤ)) (k : ℕ) (d : Cell) → k < cell_count m.size → get_or (cells_after m heights) k d ≡ cell_after m heights k
+get_or_cells_after m heights k d below = get_or-map-range_with_len (cell_after m heights) 0 (cell_count m.size) k k d below (omega arith)
+
 -- the cells before an index are listed
-pub record CellsBefore (m : Map) (heights : List ℤ) (index : ℕ) (at : Pos) (cells : List Cell) : Type 0 where
+pub record CellsBefore (m : Map) (heights : List (Option ℤ)) (index : ℕ) (at : Pos) (cells : List Cell) : Type 0 where
   pub column : at.x < m.size.points
   pub place : place_of m.size at ≡ index
-  pub whole : length cells ≡ index
-  pub each : (p : Pos) → InGrid m.size p → place_of m.size p < index → IsNewCell m p (relief m.size heights p) (get_or cells (place_of m.size p) Bad)
+  pub are : cells ≡ map (cell_after m heights) (range_with_len 0 index)
 
-pub cells_none : (m : Map) (heights : List ℤ) (at : Pos) (cells : List Cell) → at.x ≡ 0 → at.y ≡ 0 → 1 ≤ m.size.points → cells ≡ [] → CellsBefore m heights 0 at cells
-cells_none m heights at cells x y some empty = record { column = omega arith; place = rw (y, x) (omega arith); whole = rw empty refl; each = λ p inside below. absurd (omega arith) }
+pub cells_none : (m : Map) (heights : List (Option ℤ)) (at : Pos) (cells : List Cell) → at.x ≡ 0 → at.y ≡ 0 → 1 ≤ m.size.points → cells ≡ [] → CellsBefore m heights 0 at cells
+cells_none m heights at cells x y some empty = record { column = omega arith; place = rw (y, x) (omega arith); are = empty }
 
-pub cells_more : (m : Map) (heights : List ℤ) (index : ℕ) (at next : Pos) (cells : List Cell) (cell : Cell) → InGrid m.size at → IsNewCell m at (value_at heights index) cell
-    → next.x < m.size.points → place_of m.size next ≡ place_of m.size at + 1 → CellsBefore m heights index at cells → CellsBefore m heights (index + 1) next (cells ++ cell ∷ [])
-cells_more m heights index at next cells cell inside is column onward was = record {
+pub cells_more : (m : Map) (heights : List (Option ℤ)) (index : ℕ) (at next : Pos) (cells cells' : List Cell)
+    → next.x < m.size.points → place_of m.size next ≡ place_of m.size at + 1 → cells' ≡ cells ++ cell_with (slice_index_or heights index None) (cell_at m at) ∷ [] → CellsBefore m heights index at cells → CellsBefore m heights (index + 1) next cells'
+cells_more m heights index at next cells cells' column onward pushed was = record {
   column = column;
   place = omega (arith, was.place);
-  whole = rw length_push (omega (arith, was.whole));
-  each = λ p within below. elim (cases_lt (place_of m.size p) index) [
-    | inl before ↦ rw (get_or_append_left cells (cell ∷ []) Bad (place_of m.size p) (omega (arith, was.whole))) (was.each p within before)
-    | inr not ↦
-        let last : place_of m.size p ≡ length cells = omega (arith, was.whole) in
-        let one : at ≡ p = same_place m.size at p inside within (was.place ∙ sym was.whole ∙ sym last) in
-        let there : get_or (cells ++ cell ∷ []) (place_of m.size p) Bad ≡ cell = ap (λ k. get_or (cells ++ cell ∷ []) k Bad) last ∙ get_or-append_seam cells cell [] Bad in
-        rw there (subst (λ (q : Pos). IsNewCell m q (relief m.size heights q) cell) one (rw was.place is))
-  ];
+  are =
+      let same : cell_with (slice_index_or heights index None) (cell_at m at) ≡ cell_after m heights index = ap (λ k. cell_with (slice_index_or heights index None) (slice_index_or m.cells k Bad)) was.place in
+      pushed ∙ ap (λ (c : Cell). cells ++ c ∷ []) same ∙ ap (λ (cs : List Cell). cs ++ cell_after m heights index ∷ []) was.are ∙ sym (map-range_with_len_more (cell_after m heights) 0 index index (omega arith));
 }
 
-some_new : (v : Option ℤ) (c d : Cell) (z : ℤ) → v ≡ Some z → MatchOption v (c ≡ d) (λ y. c ≡ Height y) → c ≡ Height z
-some_new (Some y) c d z e h = let same : y ≡ z = cc in h ∙ ap Height same
-some_new None c d z e h = cc
+-- a new height or an old cell of the type
+cell_with_of_type : (t : DataType) (height : Option ℤ) (old : Cell) → ((z : ℤ) → height ≡ Some z → IsCellOf t (Height z)) → IsCellOf t old → IsCellOf t (cell_with height old)
+cell_with_of_type t (Some z) old new is = new z refl
+cell_with_of_type t None old new is = is
 
-none_new : (v : Option ℤ) (c d : Cell) → v ≡ None → MatchOption v (c ≡ d) (λ y. c ≡ Height y) → c ≡ d
-none_new (Some y) c d e h = cc
-none_new None c d e h = h
-
-pub cells_all : (m : Map) (heights : List ℤ) (index : ℕ) (at : Pos) (cells : List Cell) → 1 ≤ m.size.points → index ≡ cell_count m.size → CellsBefore m heights index at cells → AreCellsWith m (relief m.size heights) cells
-cells_all m heights index at cells some all was =
-    let new : (p : Pos) → InGrid m.size p → IsNewCell m p (relief m.size heights p) (get_or cells (place_of m.size p) Bad) = λ p inside. was.each p inside (omega (arith, place_inside m.size p inside)) in
+-- the cells with the heights that numbers stand for
+cells_of_heights : (m : Map) (numbers : List ℤ) → IsMap m → length numbers ≡ cell_count m.size → AreOfType m (relief m.size numbers) → AreCellsWith m (relief m.size numbers) (cells_after m (map shown numbers))
+cells_of_heights m numbers is whole of_type =
+    let new : (p : Pos) → InGrid m.size p → get_or (cells_after m (map shown numbers)) (place_of m.size p) Bad ≡ cell_with (relief m.size numbers p) (cell_at m p) = λ p inside.
+    let below = place_inside m.size p inside in
+    get_or_cells_after m (map shown numbers) (place_of m.size p) Bad below
+    ∙ ap (λ (v : Option ℤ). cell_with v (cell_at m p)) (get_or-map shown numbers (place_of m.size p) missing None (omega (arith, whole))) in
     record {
-      whole = was.whole ∙ all;
-      present = λ p inside z is. some_new (relief m.size heights p) (get_or cells (place_of m.size p) Bad) (cell_at m p) z is (new p inside).is;
-      absent = λ p inside none. none_new (relief m.size heights p) (get_or cells (place_of m.size p) Bad) (cell_at m p) none (new p inside).is;
+      whole = length_cells_after m (map shown numbers);
+      present = λ p inside z there. new p inside ∙ ap (λ (v : Option ℤ). cell_with v (cell_at m p)) there;
+      absent = λ p inside none. new p inside ∙ ap (λ (v : Option ℤ). cell_with v (cell_at m p)) none;
       of_type = λ k below.
           let p : Pos = position_at m.size k in
+          let some = is.size.some_points in
           let place : place_of m.size p ≡ k = position_at-place m.size k some in
-          let inside : InGrid m.size p = position_at-inside m.size k some (omega (arith, was.whole)) in
-          rw place at ((new p inside).of_type);
+          let inside : InGrid m.size p = position_at-inside m.size k some (omega (arith, length_cells_after m (map shown numbers))) in
+          let typed : IsCellOf m.data_type (get_or (cells_after m (map shown numbers)) (place_of m.size p) Bad) =
+          rw (new p inside) (cell_with_of_type m.data_type (relief m.size numbers p) (cell_at m p) (of_type p inside) (cell_of_type m p is inside)) in
+          rw place at typed;
     }
 
--- the first position that is outside the type
-pub first_outside : (m : Map) (heights : List ℤ) (index : ℕ) (at : Pos) (cells : List Cell) → InGrid m.size at → IsOutside m.data_type (value_at heights index) → CellsBefore m heights index at cells
-    → IsFirstOutside m (relief m.size heights) at
-first_outside m heights index at cells inside out was = record {
-  in_grid = inside;
-  height = out.height;
-  is_height = rw was.place out.is_height;
-  outside = out.outside;
-  first = λ q within less z is.
-      let new = was.each q within (omega (arith, was.place)) in
-      subst (λ (c : Cell). IsCellOf m.data_type c) (some_new (relief m.size heights q) (get_or cells (place_of m.size q) Bad) (cell_at m q) z is new.is) new.of_type;
-}
-
--- cells that are made of the filtered heights are those of the filtered map, and so is the refusal
-pub filters_map : (filter : Filter) (m : Map) (e : ElementTable) (old new : List ℤ) (result : Result (List Cell) MorphError) → AreHeightsOf m old → ArePlainlyFiltered filter m.size e old new
-    → MakesCells m (relief m.size new) result → FiltersMap filter m e result
-filters_map filter m e old new (Ok cells) are made makes = record { heights = relief m.size new; filtered = filtered_of_same filter m.size e (relief m.size old) (relief_of m) (relief m.size new) are.each made.filtered; are_cells = makes }
-filters_map filter m e old new (Err Memory) are made makes = tt
-filters_map filter m e old new (Err (HeightRange p)) are made makes =
+-- new heights that are those of the filtered map, and so is the refusal
+pub filters_heights : (filter : Filter) (m : Map) (e : ElementTable) (old new : List ℤ) (result : Result (List (Option ℤ)) MorphError) → IsMap m → AreHeightsOf m old → ArePlainlyFiltered filter m.size e old new
+    → MakesHeights m new result → MakesNewHeights filter m e result
+filters_heights filter m e old new (Ok heights) is are made makes = rw makes.is (record {
+  whole = length-map new shown ∙ made.whole;
+  filtered = record {
+    heights = relief m.size new;
+    filtered = filtered_of_same filter m.size e (relief m.size old) (relief_of m) (relief m.size new) are.each made.filtered;
+    are_cells = cells_of_heights m new is made.whole makes.of_type;
+  };
+})
+filters_heights filter m e old new (Err Memory) is are made makes = tt
+filters_heights filter m e old new (Err (HeightRange p)) is are made makes =
     record { heights = relief m.size new; filtered = filtered_of_same filter m.size e (relief m.size old) (relief_of m) (relief m.size new) are.each made.filtered; first_outside = makes }
+
+-- each value before an index is from a least to a greatest number
+pub record BetweenBefore (least greatest : ℤ) (numbers : List ℤ) (index : ℕ) : Type 0 where
+  pub each : (k : ℕ) → k < index → (z : ℤ) → value_at numbers k ≡ Some z → (least ≤ℤ z) × (z ≤ℤ greatest)
+
+pub between_none : (least greatest : ℤ) (numbers : List ℤ) → BetweenBefore least greatest numbers 0
+between_none least greatest numbers = record { each = λ k below. absurd (omega arith) }
+
+pub between_more : (least greatest : ℤ) (numbers : List ℤ) (index : ℕ) → ((z : ℤ) → value_at numbers index ≡ Some z → (least ≤ℤ z) × (z ≤ℤ greatest)) → BetweenBefore least greatest numbers index → BetweenBefore least greatest numbers (index + 1)
+between_more least greatest numbers index one was = record { each = below_more _ _ was.each one }
+
+-- a height between the limits is of the type
+type_between : (t : DataType) (z : ℤ) → (least_height t ≤ℤ z) × (z ≤ℤ greatest_height t) → IsCellOf t (Height z)
+type_between t z within h e = let same : z ≡ h = cc in rw same at within
+
+pub between_all : (m : Map) (numbers : List ℤ) (index : ℕ) → cell_count m.size ≤ index → BetweenBefore (least_height m.data_type) (greatest_height m.data_type) numbers index → AreOfType m (relief m.size numbers)
+between_all m numbers index all was p inside z is = type_between m.data_type z (was.each (place_of m.size p) (omega (arith, place_inside m.size p inside)) z is)
+
+-- a value that is not between is a number
+not_between : (value : Option ℤ) (least greatest : ℤ) → (((z : ℤ) → value ≡ Some z → (least ≤ℤ z) × (z ≤ℤ greatest)) → ⊥) → (z : ℤ) × (value ≡ Some z) × ((least ≤ℤ z) × (z ≤ℤ greatest) → ⊥)
+not_between (Some z) least greatest never = (z, refl, λ within. never (λ y e. let same : z ≡ y = cc in rw same at within))
+not_between None least greatest never = absurd (never (λ y e. let e' : None ≡ Some y = e in cc))
+
+-- the first position that is outside the type
+pub outside_first : (m : Map) (numbers : List ℤ) (index : ℕ) (at : Pos) → InGrid m.size at → place_of m.size at ≡ index
+    → (((z : ℤ) → value_at numbers index ≡ Some z → (least_height m.data_type ≤ℤ z) × (z ≤ℤ greatest_height m.data_type)) → ⊥)
+    → BetweenBefore (least_height m.data_type) (greatest_height m.data_type) numbers index → IsFirstOutside m (relief m.size numbers) at
+outside_first m numbers index at inside place never was =
+    let out = not_between (value_at numbers index) (least_height m.data_type) (greatest_height m.data_type) never in
+    record {
+      in_grid = inside;
+      height = out.0;
+      is_height = rw place out.1;
+      outside = λ of_type. out.2 (of_type out.0 refl);
+      first = λ q within less z is. type_between m.data_type z (was.each (place_of m.size q) (omega (arith, place)) z is);
+    }

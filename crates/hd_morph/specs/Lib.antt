@@ -2,6 +2,7 @@ pub mod Element
 pub mod Greatest
 pub mod Filter
 pub mod Answer
+pub mod NewHeights
 pub mod Compare
 pub mod Plain
 pub mod Window

@@ -16,10 +16,11 @@ use hd_base::Memory;
 use hd_map::Size;
 use std::alloc::Global;
 
-/// The dilation of heights. An element that has one and the same number everywhere takes time in
-/// proportion to the points, times the logarithm of its size.
+/// The dilation of heights, in the memory of `room` where that suffices. An element that has one and
+/// the same number everywhere takes time in proportion to the points, times the logarithm of its
+/// size.
 pub fn dilated(
-    alloc: Global,
+    room: Vec<i64>,
     heights: &[i64],
     size: Size,
     element: &Element,
@@ -30,11 +31,11 @@ pub fn dilated(
     ensures element { IsElement element.now }
 {
     let Some(number) = flat_number(element) else {
-        return dilate_by_offsets(alloc, heights, size, element);
+        return dilate_by_offsets(room, heights, size, element);
     };
     let across = (element.width() / 2) as usize;
     let down = (element.height() / 2) as usize;
-    let dilated = dilate_flat(alloc, heights, size, across, down, number)?;
+    let dilated = dilate_flat(room, heights, size, across, down, number)?;
     Ok(dilated)
 }
 
@@ -56,21 +57,23 @@ fn flat_number(element: &Element) -> Option<i64>
     Some(first)
 }
 
-/// The erosion of heights: the negative of the dilation of the negatives by the turned element.
+/// The erosion of heights, in the memory of `room` where that suffices: the negative of the dilation
+/// of the negatives by the turned element. The heights are left negated.
 pub fn eroded(
     alloc: Global,
-    heights: Vec<i64>,
+    room: Vec<i64>,
+    heights: &mut [i64],
     size: Size,
     element: &Element,
 ) -> Result<Vec<i64>, Memory>
     requires size { IsSize size }
-    requires heights { ArePlain size 8589934590 heights.items }
-    ensures erosion { IfOk result (λ w. ArePlainlyFiltered Erosion size element.now heights.items w.items) }
+    requires heights { ArePlain size 8589934590 heights.old }
+    ensures erosion { IfOk result (λ w. ArePlainlyFiltered Erosion size element.now heights.old w.items) }
     ensures element { IsElement element.now }
 {
     let turned = turned(alloc, element)?;
-    let negatives = all_negated(heights);
-    let lowered = dilated(alloc, &negatives, size, &turned)?;
+    negate(heights);
+    let lowered = dilated(room, heights, size, &turned)?;
     Ok(all_negated(lowered))
 }
 
@@ -84,7 +87,7 @@ fn all_negated(heights: Vec<i64>) -> Vec<i64>
     heights
 }
 
-/// The opening of heights: an erosion, and then a dilation.
+/// The opening of heights: an erosion, and then a dilation. It takes the memory of one more list.
 pub fn opened(
     alloc: Global,
     heights: Vec<i64>,
@@ -95,11 +98,12 @@ pub fn opened(
     requires heights { ArePlain size 4294967295 heights.items }
     ensures { IfOk result (λ g. ArePlainlyFiltered Opening size element.now heights.items g.items) }
 {
-    let between = eroded(alloc, heights, size, element)?;
-    dilated(alloc, &between, size, element)
+    let mut room = heights;
+    let between = eroded(alloc, Vec::new(alloc), &mut room, size, element)?;
+    dilated(room, &between, size, element)
 }
 
-/// The closing of heights: a dilation, and then an erosion.
+/// The closing of heights: a dilation, and then an erosion. It takes the memory of one more list.
 pub fn closed(
     alloc: Global,
     heights: Vec<i64>,
@@ -110,6 +114,6 @@ pub fn closed(
     requires heights { ArePlain size 4294967295 heights.items }
     ensures { IfOk result (λ g. ArePlainlyFiltered Closing size element.now heights.items g.items) }
 {
-    let between = dilated(alloc, &heights, size, element)?;
-    eroded(alloc, between, size, element)
+    let mut between = dilated(Vec::new(alloc), &heights, size, element)?;
+    eroded(alloc, heights, &mut between, size, element)
 }

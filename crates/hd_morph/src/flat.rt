@@ -8,12 +8,11 @@ use crate::plain::settle;
 use crate::round::spread_round;
 use hd_base::Memory;
 use hd_map::Size;
-use std::alloc::Global;
 
 /// The dilation by each element of `2 * across + 1` columns and `2 * down + 1` rows that has this
-/// number everywhere. It takes the memory of one more list.
+/// number everywhere, in the memory of `room` where that suffices.
 pub fn dilate_flat(
-    alloc: Global,
+    room: Vec<i64>,
     heights: &[i64],
     size: Size,
     across: usize,
@@ -28,7 +27,8 @@ pub fn dilate_flat(
     requires greatest { number ≤ℤ pos 4294967295 }
     ensures { IfOk result (λ d. AreFlatlyDilated size across down number heights.now d.items) }
 {
-    let mut tops = Vec::new(alloc);
+    let mut tops = room;
+    tops.clear();
     tops.extend_from_slice(heights)?;
     raise_flat(&mut tops, heights, size, across, down, number);
     Ok(tops)

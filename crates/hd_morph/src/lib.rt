@@ -11,6 +11,7 @@ mod element;
 mod errors;
 mod filter;
 mod flat;
+mod heights;
 mod laws;
 mod offsets;
 mod plain;
@@ -22,6 +23,7 @@ mod window;
 pub use cells::{close, dilate, erode, open};
 pub use element::Element;
 pub use errors::{ElementError, MorphError};
+pub use heights::{NewHeights, closed_heights, dilated_heights, eroded_heights, opened_heights};
 pub use laws::{
     accepted_cells_make_a_map, dilation_and_erosion_are_adjoint, filter_is_determined,
     filtered_again_is_the_same,

@@ -10,12 +10,11 @@ use crate::Element;
 use crate::plain::{MISSING, larger_of, settle};
 use hd_base::Memory;
 use hd_map::{Pos, Size};
-use std::alloc::Global;
 
-/// The dilation of heights by an element. It takes the memory of one more list, and time in
-/// proportion to the places times the numbers of the element.
+/// The dilation of heights by an element, in the memory of `room` where that suffices. It takes time
+/// in proportion to the places times the numbers of the element.
 pub fn dilate_by_offsets(
-    alloc: Global,
+    room: Vec<i64>,
     heights: &[i64],
     size: Size,
     element: &Element,
@@ -25,7 +24,10 @@ pub fn dilate_by_offsets(
     requires element { IsElement element.now }
     ensures { IfOk result (λ d. ArePlainlyFiltered Dilation size element.now heights.now d.items) }
 {
-    let mut tops = vec![in alloc; MISSING; heights.len()]?;
+    let mut tops = room;
+    tops.clear();
+    tops.extend_from_slice(heights)?;
+    tops.fill(MISSING);
     raise_and_settle(&mut tops, heights, size, element);
     Ok(tops)
 }

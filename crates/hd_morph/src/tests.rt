@@ -5,7 +5,7 @@ ghost use Rattle.hd_morph.specs.Element.{IsEntry};
 
 use crate::{Element, MorphError, close, dilate, erode, open};
 use hd_base::List;
-use hd_map::{Cell, DataType, Grid, Pos, Size, Surface};
+use hd_map::{Cell, Cells, DataType, Grid, Pos, Size, Surface, is_cell_of};
 use std::alloc::Global;
 use std::test::Fail;
 
@@ -14,7 +14,7 @@ const ROW: Size = Size {
     profiles: 1,
 };
 
-// A surface with these heights by index; none is measured where none is given.
+// A surface with these heights by index.
 fn surface(
     alloc: Global,
     size: Size,
@@ -23,23 +23,23 @@ fn surface(
 ) -> Result<Surface, Fail>
     requires { IsSize size }
 {
-    let count = (size.profiles * size.points) as usize;
-    let cells = List::from_vec(vec![in alloc; Cell::Bad; count]?);
-    let mut surface = Surface::new(alloc, size, data_type, cells)
+    let mut cells = Cells::with_capacity(alloc, data_type, heights.len())
         .ok()
         .ok_or("no memory")?;
-    let mut index = 0;
     for height in heights {
-        let at = Pos {
-            x: index % size.points,
-            y: index / size.points,
+        let cell = match *height {
+            Some(z) => Cell::Height(z),
+            None => Cell::Bad,
         };
-        if let Some(z) = *height {
-            surface.set_cell(at, Cell::Height(z)).ok().ok_or("refused")?;
+        if !is_cell_of(cells.data_type(), cell) {
+            return Err("a height out of range".into());
         }
-        index = index.wrapping_add(1);
+        cells.push(cell).ok().ok_or("no memory")?;
     }
-    Ok(surface)
+    if cells.len() != (size.profiles * size.points) as usize {
+        return Err("not as many heights as points".into());
+    }
+    Ok(Surface::new(size, cells))
 }
 
 // The surface of one profile with the heights 0 5 1.

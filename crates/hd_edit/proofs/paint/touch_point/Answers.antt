@@ -1,9 +1,9 @@
 use Rattle.std.proofs.Common.{ap, ◌∙◌, ◌≡◌}
 use Rattle.std.proofs.lemmas.List.Elements.{All-push}
-use Rattle.hd_map.specs.Map.{cell_at, place_of}
+use Rattle.hd_map.specs.Map.{place_of}
 use Rattle.hd_map.specs.declared.types.Size.{Size}
 use Rattle.hd_edit.specs.Change.{IsChange}
-use Rattle.hd_edit.proofs.Changes.{before-cell, before-mask, was_cell-of, cell_of}
+use Rattle.hd_edit.proofs.Changes.{before-cell, before-mask, was-of, cell_of}
 use Rattle.hd_edit.proofs.paint.touch_point.Goals as goal
 
 pub returns-in-Some-Cell-clause-before : goal.returns-in-Some-Cell-clause-before
@@ -11,7 +11,7 @@ returns-in-Some-Cell-clause-before g c =
     let m = g.G.Heights.map c.args.grid.now in
     let place : c.index_of-index.result ≡ place_of m.size c.args.at = c.index_of-index.ensures.value ∙ ap (λ (s : Size). place_of s c.args.at) c.size.ensures in
     before-cell m (g.G.Heights.map c.put_cell.new.grid) c.args.notes.now.items c.push_reserved.new.self.items c.args.at c.index_of-index.result c.cell-cell.result c.in-Some-Cell.new c.was_of-was.result
-    c.push_reserved.ensures.items place c.was_of-was.ensures c.cell-cell.ensures c.put_cell.ensures.map
+    c.push_reserved.ensures.items place (rw c.data_type-in-Some-Cell.ensures at c.was_of-was.ensures) c.cell-cell.ensures c.put_cell.ensures.map
 
 pub returns-in-Some-Cell-clause-notes : goal.returns-in-Some-Cell-clause-notes
 returns-in-Some-Cell-clause-notes g c =
@@ -19,7 +19,7 @@ returns-in-Some-Cell-clause-notes g c =
     let whole = g.met.G.Heights.whole c.args.grid.now in
     rw c.push_reserved.ensures.items (All-push (IsChange m) c.args.notes.now.items (record { index = c.index_of-index.result; was = c.was_of-was.result }) c.requires.notes (record {
       inside = rw (← c.size.ensures) c.index_of-index.ensures.in_map;
-      height = rw (c.was_of-was.ensures, c.cell-cell.ensures) (was_cell-of m.data_type (cell_at m c.args.at) (cell_of m whole c.args.at c.requires.in_grid));
+      height = was-of m.data_type c.was_of-was.result c.cell-cell.result (rw c.data_type-in-Some-Cell.ensures at c.was_of-was.ensures) (rw c.cell-cell.ensures (cell_of m whole c.args.at c.requires.in_grid));
     }))
 
 pub returns-in-Some-Mask-clause-before : goal.returns-in-Some-Mask-clause-before

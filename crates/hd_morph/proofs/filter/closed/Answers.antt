@@ -7,5 +7,5 @@ dilated-requires-clause-heights c = rw c.deref.ensures.value (plain_more c.args.
 
 pub eroded-requires-clause-heights : goal.eroded-requires-clause-heights
 eroded-requires-clause-heights c =
-    dilated_plain c.args.size c.args.element.now 4294967295 c.args.heights.items c.in_ok-between.between.items c.requires.size.some_points c.in_ok-between.ensures.element c.requires.heights
-    (rw c.deref.ensures.value at c.in_ok-between.ensures.dilation)
+    rw c.deref_mut.ensures.value (dilated_plain c.args.size c.args.element.now 4294967295 c.args.heights.items c.in_ok-between.between.items c.requires.size.some_points c.in_ok-between.ensures.element c.requires.heights
+    (rw c.deref.ensures.value at c.in_ok-between.ensures.dilation))

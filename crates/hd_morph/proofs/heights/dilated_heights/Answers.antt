@@ -2,8 +2,8 @@ use Rattle.std.proofs.Common.{arith}
 use Rattle.hd_morph.specs.Filter.{Dilation}
 use Rattle.hd_morph.specs.Raised.{ArePlainlyFiltered}
 use Rattle.hd_morph.proofs.Settling.{plain_more}
-use Rattle.hd_morph.proofs.Listing.{filters_map}
-use Rattle.hd_morph.proofs.cells.dilate.Goals as goal
+use Rattle.hd_morph.proofs.Listing.{filters_heights}
+use Rattle.hd_morph.proofs.heights.dilated_heights.Goals as goal
 
 pub dilated-requires-clause-heights : goal.dilated-requires-clause-heights
 dilated-requires-clause-heights g c =
@@ -14,4 +14,4 @@ pub returns : goal.returns
 returns g c =
     let m = g.G.Heights.map c.args.grid.now in
     let made : ArePlainlyFiltered Dilation m.size c.args.element.now c.in_ok-heights.heights.items c.in_ok-dilated.dilated.items = rw (c.deref.ensures.value, c.size.ensures) at c.in_ok-dilated.ensures.dilation in
-    filters_map Dilation m c.args.element.now c.in_ok-heights.heights.items c.in_ok-dilated.dilated.items c.cells_with.result c.in_ok-heights.ensures made (rw c.deref-2.ensures.value at c.cells_with.ensures)
+    filters_heights Dilation m c.args.element.now c.in_ok-heights.heights.items c.in_ok-dilated.dilated.items c.checked.result (g.met.G.Heights.whole c.args.grid.now) c.in_ok-heights.ensures made c.checked.ensures

@@ -1,5 +1,5 @@
 use Rattle.hd_morph.proofs.Listing.{HeightsBefore}
-use Rattle.hd_morph.proofs.cells.heights_of.Given as goal
+use Rattle.hd_morph.proofs.heights.heights_of.Given as goal
 
 abbrev pub invariant-loop-index : goal.invariant-loop-index
 invariant-loop-index g l = HeightsBefore (g.G.Heights.map l.grid) l.index l.at l.heights.items

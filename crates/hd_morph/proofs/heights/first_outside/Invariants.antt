@@ -1,0 +1,5 @@
+use Rattle.hd_morph.proofs.Listing.{BetweenBefore}
+use Rattle.hd_morph.proofs.heights.first_outside.Given as goal
+
+abbrev pub invariant-loop-index : goal.invariant-loop-index
+invariant-loop-index g l = BetweenBefore l.least l.greatest l.numbers l.index
