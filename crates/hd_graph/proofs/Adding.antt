@@ -4,7 +4,7 @@ use Rattle.hd_map.specs.declared.types.Rank.{Rank}
 use Rattle.hd_graph.specs.declared.parts.Part.{Part}
 use Rattle.hd_graph.specs.declared.trees.Join.{Join}
 use Rattle.hd_map.specs.ChangeTree.{Joining}
-use Rattle.hd_graph.specs.Parts.{join_of, grown, with_part}
+use Rattle.hd_graph.specs.Parts.{join_of, grown, with_low, with_part}
 use Rattle.hd_graph.specs.Tells.{joins_of}
 
 pub joins_of-push : (xs : List Join) (x : Join) → joins_of (xs ++ x ∷ []) ≡ joins_of xs ++ record { saddle = x.saddle; parts = x.parts } ∷ []
@@ -12,12 +12,12 @@ joins_of-push [] x = refl
 joins_of-push (y ∷ ys) x = ap (λ zs. record { saddle = y.saddle; parts = y.parts } ∷ zs) (joins_of-push ys x)
 
 module _ (below : Rank → Rank → Bool) (e : Part) where
-  with_part-last : (front : List Joining) (x : Joining) → with_part below e (front ++ x ∷ []) ≡ front ++ cond (below x.saddle e.saddle) (x ∷ join_of e ∷ []) (grown x e ∷ [])
+  with_part-last : (front : List Joining) (x : Joining) → with_part below e (front ++ x ∷ []) ≡ front ++ cond (below x.saddle e.saddle) (x ∷ join_of e ∷ []) (grown below x e ∷ [])
   with_part-last [] x = refl
   with_part-last (y ∷ []) x = refl
   with_part-last (y ∷ z ∷ zs) x = ap (λ ys. y ∷ ys) (with_part-last (z ∷ zs) x)
 
-  pub with_part-grows : (front : List Joining) (x : Joining) → below x.saddle e.saddle ≡ false → with_part below e (front ++ x ∷ []) ≡ front ++ grown x e ∷ []
+  pub with_part-grows : (front : List Joining) (x : Joining) → below x.saddle e.saddle ≡ false → with_part below e (front ++ x ∷ []) ≡ front ++ grown below x e ∷ []
   with_part-grows front x h = with_part-last front x ∙ rw h refl
 
   push_twice : {X : Type 0} (xs : List X) (x y : X) → xs ++ x ∷ y ∷ [] ≡ (xs ++ x ∷ []) ++ y ∷ []
@@ -27,7 +27,7 @@ module _ (below : Rank → Rank → Bool) (e : Part) where
   pub with_part-adds : (front : List Joining) (x : Joining) → below x.saddle e.saddle ≡ true → with_part below e (front ++ x ∷ []) ≡ (front ++ x ∷ []) ++ join_of e ∷ []
   with_part-adds front x h = with_part-last front x ∙ rw h (push_twice front x (join_of e))
 
-  pub part-grows : (old rest new : List Join) (last grew : Join) → old ≡ rest ++ last ∷ [] → new ≡ rest ++ grew ∷ [] → grew.saddle ≡ last.saddle → grew.parts ≡ last.parts ++ e.low ∷ [] →
+  pub part-grows : (old rest new : List Join) (last grew : Join) → old ≡ rest ++ last ∷ [] → new ≡ rest ++ grew ∷ [] → grew.saddle ≡ last.saddle → grew.parts ≡ with_low below e.low last.parts →
       below last.saddle e.saddle ≡ false → joins_of new ≡ with_part below e (joins_of old)
   part-grows old rest new last grew was is same grows h =
       ap joins_of is ∙ joins_of-push rest grew

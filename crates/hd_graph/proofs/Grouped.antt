@@ -1,96 +1,96 @@
 -- The parts, sorted, and those of one saddle put together.
-use Rattle.std.proofs.Common.{◌≡◌, ℕ, zero, suc, ◌+◌, ◌<◌, ◌⊎◌, inl, inr, Bool, true, false, List, [], ◌∷◌, ◌++◌, length, get_or, take, ◌-◌, Some, refl, sym, ◌∙◌, ap, subst, arith}
-use Rattle.std.specs.Prelude.{Contains, AllPairs, ◌&&◌, ◌||◌, not}
+use Rattle.std.proofs.Common.{◌≡◌, ℕ, zero, suc, ◌+◌, ◌<◌, ◌⊎◌, inl, inr, Bool, true, false, List, [], ◌∷◌, ◌++◌, length, get_or, take, Some, cond, slice_get, refl, sym, ◌∙◌, ap, subst, arith}
+use Rattle.std.specs.Prelude.{Contains, AllPairs, insert}
 use Rattle.std.specs.Cmp.{IsStrictWeakOrder}
 use Rattle.std.specs.List.Sorted.{IsSortedBy}
 use Rattle.std.proofs.lemmas.List.{take_more}
 use Rattle.std.proofs.lemmas.List.Elements.{Contains-append_left, Contains-push, Contains-push_cases, Contains-get_or}
 use Rattle.std.proofs.lemmas.List.Quantifiers.{all_pairs_push}
 use Rattle.std.proofs.lemmas.List.Kept.{AllPairs-cons}
-use Rattle.std.proofs.lemmas.Option.{slice_get-get_or, get_or_from_slice_get}
+use Rattle.std.proofs.lemmas.Option.{same_Some}
 use Rattle.std.proofs.lemmas.List.Sorted.{sorted_far}
 use Rattle.hd_map.specs.Order.{IsStrictOrder}
 use Rattle.hd_map.proofs.Sides.{below-not_above, not_above-trans}
 use Rattle.hd_map.specs.declared.types.Rank.{Rank}
-use Rattle.hd_graph.proofs.Orders.{compare, not_above-along}
+use Rattle.hd_graph.proofs.Orders.{compare}
 use Rattle.hd_map.proofs.Levels.{Contains-head, Contains-cases, Contains-none, Contains-tail}
 use Rattle.hd_graph.specs.declared.parts.Part.{Part}
+use Rattle.hd_graph.specs.declared.parts.Rise.{Rise}
+use Rattle.hd_graph.proofs.LeftParts.{from-sides}
+use Rattle.hd_graph.proofs.Places.{same_number}
 use Rattle.hd_map.specs.ChangeTree.{Joining}
 use Rattle.hd_map.proofs.Trees.{AllPairs-first, AllPairs-tail}
-use Rattle.hd_graph.specs.Parts.{AreGrouped, IsListed, comes_before, join_of, grown, with_part}
+use Rattle.hd_graph.specs.Parts.{AreGrouped, IsListed, comes_before, join_of, grown, left_of, right_of, sides_of, with_low, with_part}
 use Rattle.hd_graph.proofs.Adding.{with_part-grows, with_part-adds}
 
 module _ (below : Rank → Rank → Bool) (order : IsStrictOrder below) where
-  -- a before b in words
-  abbrev pub GoesBefore : Part → Part → Type 0
-  GoesBefore a b = (below a.saddle b.saddle ≡ true) ⊎ ((a.saddle ≡ b.saddle) × (below a.low b.low ≡ true))
-
-  to_before : (a b : Part) → GoesBefore a b → comes_before below a b ≡ true
-  to_before a b (inl h) = rw h refl
-  to_before a b (inr h) =
-      let f : below a.saddle b.saddle ≡ false = subst (λ s. below a.saddle s ≡ false) h.0 (order.irreflexive a.saddle) in
-      let g : below b.saddle a.saddle ≡ false = subst (λ s. below b.saddle s ≡ false) (sym h.0) (order.irreflexive b.saddle) in
-      let p : below a.low b.low ≡ true = h.1 in
-      rw (f, g, p) refl
-
-  pub from_before : (a b : Part) → comes_before below a b ≡ true → GoesBefore a b
-  from_before a b h = elim (compare below order a.saddle b.saddle) [
-    | inl l ↦ inl l
-    | inr r ↦ elim r [
-      | inl m ↦ absurd (let f : below a.saddle b.saddle ≡ false = below-not_above below order b.saddle a.saddle m in not_more (below a.saddle b.saddle) (below b.saddle a.saddle) (below a.low b.low) f m h)
-      | inr e ↦ (let f : below a.saddle b.saddle ≡ false = subst (λ s. below a.saddle s ≡ false) e (order.irreflexive a.saddle) in
-          inr (e, then_pit (below a.saddle b.saddle) (below b.saddle a.saddle) (below a.low b.low) f h))
-    ]
-  ]
-    where
-      not_more : (u v w : Bool) → u ≡ false → v ≡ true → (u || (not v && w)) ≡ true → ⊥
-      not_more true v w e f h = cc
-      not_more false true w e f h = cc
-      not_more false false w e f h = cc
-
-      then_pit : (u v w : Bool) → u ≡ false → (u || (not v && w)) ≡ true → w ≡ true
-      then_pit true v w e h = absurd cc
-      then_pit false true w e h = absurd cc
-      then_pit false false w e h = h
-
-  part-irreflexive : (a : Part) → comes_before below a a ≡ false
-  part-irreflexive a = (let f = order.irreflexive a.saddle in let g = order.irreflexive a.low in rw (f, g) refl)
-
-  part-transitive : (a b c : Part) → comes_before below a b ≡ true → comes_before below b c ≡ true → comes_before below a c ≡ true
-  part-transitive a b c h k = to_before a c (elim (from_before a b h) [
-    | inl l ↦ elim (from_before b c k) [
-      | inl m ↦ inl (order.transitive a.saddle b.saddle c.saddle l m)
-      | inr m ↦ inl (subst (λ s. below a.saddle s ≡ true) m.0 l)
-    ]
-    | inr l ↦ elim (from_before b c k) [
-      | inl m ↦ inl (subst (λ s. below s c.saddle ≡ true) (sym l.0) m)
-      | inr m ↦ inr (l.0 ∙ m.0, order.transitive a.low b.low c.low l.1 m.1)
-    ]
-  ])
-
   same_part : (a b : Part) → a.saddle ≡ b.saddle → a.low ≡ b.low → a ≡ b
   same_part a b e f = ap (λ s. record { saddle = s; low = a.low }) e ∙ ap (λ p. record { saddle = b.saddle; low = p }) f
 
-  part-total : (a b : Part) → comes_before below a b ≡ false → comes_before below b a ≡ false → a ≡ b
-  part-total a b h k = elim (compare below order a.saddle b.saddle) [
-    | inl l ↦ absurd (let t = to_before a b (inl l) in cc)
-    | inr r ↦ elim r [
-      | inl m ↦ absurd (let t = to_before b a (inl m) in cc)
-      | inr e ↦ elim (compare below order a.low b.low) [
-        | inl l ↦ absurd (let t = to_before a b (inr (e, l)) in cc)
-        | inr s ↦ elim s [ inl m ↦ absurd (let t = to_before b a (inr (sym e, m)) in cc) | inr f ↦ same_part a b e f ]
-      ]
-    ]
-  ]
-
-  pub part-order : IsStrictOrder (comes_before below)
-  part-order = record { irreflexive = part-irreflexive; transitive = part-transitive; total = part-total }
-
   pub before-weak : IsStrictWeakOrder (comes_before below)
   before-weak = record {
-    one_way = λ x y h. below-not_above (comes_before below) part-order x y h;
-    chain = λ x y z h k. not_above-trans (comes_before below) part-order z y x k h;
+    one_way = λ x y h. below-not_above below order x.saddle y.saddle h;
+    chain = λ x y z h k. not_above-trans below order z.saddle y.saddle x.saddle k h;
   }
+
+  -- a low more is among the lows, in order
+  module _ (low : Rank) where
+    pub with_low-new : (xs : List Rank) → Contains (with_low below low xs) low
+    with_low-new [] = Contains-head low []
+    with_low-new (x ∷ xs) = elim (below x low) as (λ v. below x low ≡ v → Contains (cond v (x ∷ with_low below low xs) (cond (below low x) (low ∷ x ∷ xs) (x ∷ xs))) low) [
+      | true ↦ λ e. Contains-tail x low (with_low below low xs) (with_low-new xs)
+      | false ↦ λ e. elim (below low x) as (λ v. below low x ≡ v → Contains (cond v (low ∷ x ∷ xs) (x ∷ xs)) low) [
+        | true ↦ λ f. Contains-head low (x ∷ xs)
+        | false ↦ λ f. subst (λ y. Contains (x ∷ xs) y) (order.total x low e f) (Contains-head x xs)
+      ] refl
+    ] refl
+
+    pub with_low-old : (xs : List Rank) (y : Rank) → Contains xs y → Contains (with_low below low xs) y
+    with_low-old [] y h = absurd (Contains-none y h)
+    with_low-old (x ∷ xs) y h = elim (below x low) as (λ v. Contains (cond v (x ∷ with_low below low xs) (cond (below low x) (low ∷ x ∷ xs) (x ∷ xs))) y) [
+      | true ↦ elim (Contains-cases x y xs h) [
+        | inl e ↦ subst (λ z. Contains (x ∷ with_low below low xs) z) (sym e) (Contains-head x (with_low below low xs))
+        | inr later ↦ Contains-tail x y (with_low below low xs) (with_low-old xs y later)
+      ]
+      | false ↦ elim (below low x) as (λ v. Contains (cond v (low ∷ x ∷ xs) (x ∷ xs)) y) [ true ↦ Contains-tail low y (x ∷ xs) h | false ↦ h ]
+    ]
+
+    pub with_low-cases : (xs : List Rank) (y : Rank) → Contains (with_low below low xs) y → Contains xs y ⊎ (low ≡ y)
+    with_low-cases [] y = λ h. elim (Contains-cases low y [] h) [ inl e ↦ inr (sym e) | inr later ↦ inl later ]
+    with_low-cases (x ∷ xs) y = elim (below x low) as (λ v. Contains (cond v (x ∷ with_low below low xs) (cond (below low x) (low ∷ x ∷ xs) (x ∷ xs))) y → Contains (x ∷ xs) y ⊎ (low ≡ y)) [
+      | true ↦ λ h. elim (Contains-cases x y (with_low below low xs) h) [
+        | inl e ↦ inl (subst (λ z. Contains (x ∷ xs) z) (sym e) (Contains-head x xs))
+        | inr later ↦ elim (with_low-cases xs y later) [ inl was ↦ inl (Contains-tail x y xs was) | inr new ↦ inr new ]
+      ]
+      | false ↦ elim (below low x) as (λ v. Contains (cond v (low ∷ x ∷ xs) (x ∷ xs)) y → Contains (x ∷ xs) y ⊎ (low ≡ y)) [
+        | true ↦ λ h. elim (Contains-cases low y (x ∷ xs) h) [ inl e ↦ inr (sym e) | inr later ↦ inl later ]
+        | false ↦ λ h. inl h
+      ]
+    ]
+
+    with_low-after : (x : Rank) (xs : List Rank) → AllPairs (λ a b. below a b ≡ true) (x ∷ xs) → below x low ≡ true → (y : Rank) → Contains (with_low below low xs) y → below x y ≡ true
+    with_low-after x xs ordered less y h = elim (with_low-cases xs y h) [
+      | inl was ↦ AllPairs-first (λ a b. below a b ≡ true) x y xs ordered was
+      | inr new ↦ subst (λ z. below x z ≡ true) new less
+    ]
+
+    with_low-before : (x : Rank) (xs : List Rank) → AllPairs (λ a b. below a b ≡ true) (x ∷ xs) → below low x ≡ true → (y : Rank) → Contains (x ∷ xs) y → below low y ≡ true
+    with_low-before x xs ordered less y h = elim (Contains-cases x y xs h) [
+      | inl e ↦ subst (λ z. below low z ≡ true) (sym e) less
+      | inr later ↦ order.transitive low x y less (AllPairs-first (λ a b. below a b ≡ true) x y xs ordered later)
+    ]
+
+    pub with_low-ordered : (xs : List Rank) → AllPairs (λ a b. below a b ≡ true) xs → AllPairs (λ a b. below a b ≡ true) (with_low below low xs)
+    with_low-ordered [] h = λ i j d lt len. absurd (omega arith)
+    with_low-ordered (x ∷ xs) h = elim (below x low) as (λ v. below x low ≡ v → AllPairs (λ a b. below a b ≡ true) (cond v (x ∷ with_low below low xs) (cond (below low x) (low ∷ x ∷ xs) (x ∷ xs)))) [
+      | true ↦ λ e. AllPairs-cons (λ a b. below a b ≡ true) x (with_low below low xs)
+          (λ k d lt. with_low-after x xs h e (get_or (with_low below low xs) k d) (Contains-get_or (with_low below low xs) k d lt))
+          (with_low-ordered xs (AllPairs-tail (λ a b. below a b ≡ true) x xs h))
+      | false ↦ λ e. elim (below low x) as (λ v. below low x ≡ v → AllPairs (λ a b. below a b ≡ true) (cond v (low ∷ x ∷ xs) (x ∷ xs))) [
+        | true ↦ λ f. AllPairs-cons (λ a b. below a b ≡ true) low (x ∷ xs) (λ k d lt. with_low-before x xs h f (get_or (x ∷ xs) k d) (Contains-get_or (x ∷ xs) k d lt)) h
+        | false ↦ λ f. h
+      ] refl
+    ] refl
 
   pub grouped-none : AreGrouped below [] []
   grouped-none = record {
@@ -100,28 +100,19 @@ module _ (below : Rank → Rank → Bool) (order : IsStrictOrder below) where
     parts_in_order = λ x h. absurd (Contains-none x h);
   }
 
-  -- a part that is there already
-  pub grouped-same : (es : List Part) (e : Part) (joins : List Joining) → AreGrouped below es joins → Contains es e → AreGrouped below (es ++ e ∷ []) joins
-  grouped-same es e joins so at = record {
-    listed = λ f. (
-      λ h. elim (Contains-push_cases es e f h) [ inl was ↦ (so.listed f).0 was | inr new ↦ (so.listed f).0 (subst (λ z. Contains es z) new at) ],
-      λ h. Contains-append_left es (e ∷ []) f ((so.listed f).1 h),
-    );
-    filled = so.filled;
-    in_order = so.in_order;
-    parts_in_order = so.parts_in_order;
-  }
-
   one_alone : (p : Rank) → AllPairs (λ a b. below a b ≡ true) (p ∷ [])
   one_alone p = λ i j d lt len. absurd (omega arith)
 
   -- the saddle of a join is not above the next part's, and below it where they differ
-  module _ (es : List Part) (e : Part) (joins : List Joining) (so : AreGrouped below es joins) (after : (f : Part) → Contains es f → comes_before below f e ≡ true) where
-    before_join : (x : Joining) → Contains joins x → (r : Rank) → Contains x.parts r → GoesBefore (record { saddle = x.saddle; low = r }) e
-    before_join x at r atr = from_before (record { saddle = x.saddle; low = r }) e (after (record { saddle = x.saddle; low = r }) ((so.listed (record { saddle = x.saddle; low = r })).1 (x, at, refl, atr)))
-
+  module _ (es : List Part) (e : Part) (joins : List Joining) (so : AreGrouped below es joins) (after : (f : Part) → Contains es f → below e.saddle f.saddle ≡ false) where
     low_or_same : (x : Joining) → Contains joins x → (below x.saddle e.saddle ≡ true) ⊎ (x.saddle ≡ e.saddle)
-    low_or_same x at = (let f = so.filled x at in elim (before_join x at f.0 f.1) [ inl l ↦ inl l | inr s ↦ inr s.0 ])
+    low_or_same x at =
+        let f = so.filled x at in
+        let n : below e.saddle x.saddle ≡ false = after (record { saddle = x.saddle; low = f.0 }) ((so.listed (record { saddle = x.saddle; low = f.0 })).1 (x, at, refl, f.1)) in
+        elim (compare below order x.saddle e.saddle) [
+          | inl l ↦ inl l
+          | inr r ↦ elim r [ inl m ↦ absurd cc | inr s ↦ inr s ]
+        ]
 
     -- a join of its own
     grouped-alone : ((x : Joining) → Contains joins x → below x.saddle e.saddle ≡ true) → AreGrouped below (es ++ e ∷ []) (joins ++ join_of e ∷ [])
@@ -175,49 +166,43 @@ module _ (below : Rank → Rank → Bool) (order : IsStrictOrder below) where
       ordered = subst (λ js. AllPairs (λ (a : Joining) (b : Joining). below a.saddle b.saddle ≡ true) js) is so.in_order
 
       -- with the last join
-      grouped-grown : x.saddle ≡ e.saddle → AreGrouped below (es ++ e ∷ []) (front ++ grown x e ∷ [])
+      grouped-grown : x.saddle ≡ e.saddle → AreGrouped below (es ++ e ∷ []) (front ++ grown below x e ∷ [])
       grouped-grown same = record {
         listed = λ f. (
           λ h. elim (Contains-push_cases es e f h) [
             | inl was ↦ (let l = (so.listed f).0 was in elim (Contains-push_cases front x l.0 (subst (λ js. Contains js l.0) is l.1)) [
-              | inl old ↦ (l.0, Contains-append_left front (grown x e ∷ []) l.0 old, l.2, l.3)
+              | inl old ↦ (l.0, Contains-append_left front (grown below x e ∷ []) l.0 old, l.2, l.3)
               | inr last ↦ (
-                grown x e,
-                Contains-push front (grown x e),
+                grown below x e,
+                Contains-push front (grown below x e),
                 ap (λ (z : Joining). z.saddle) last ∙ l.2,
-                Contains-append_left x.parts (e.low ∷ []) f.low (subst (λ (z : Joining). Contains z.parts f.low) (sym last) l.3),
+                with_low-old e.low x.parts f.low (subst (λ (z : Joining). Contains z.parts f.low) (sym last) l.3),
               )
             ])
-            | inr new ↦ subst (λ z. IsListed (front ++ grown x e ∷ []) z) new (grown x e, Contains-push front (grown x e), same, Contains-push x.parts e.low)
+            | inr new ↦ subst (λ z. IsListed (front ++ grown below x e ∷ []) z) new (grown below x e, Contains-push front (grown below x e), same, with_low-new e.low x.parts)
           ],
-          λ h. elim (Contains-push_cases front (grown x e) h.0 h.1) [
+          λ h. elim (Contains-push_cases front (grown below x e) h.0 h.1) [
             | inl old ↦ Contains-append_left es (e ∷ []) f ((so.listed f).1 (h.0, in_joins h.0 (Contains-append_left front (x ∷ []) h.0 old), h.2, h.3))
             | inr last ↦ (let s : x.saddle ≡ f.saddle = ap (λ (z : Joining). z.saddle) last ∙ h.2 in
-                let p : Contains (x.parts ++ e.low ∷ []) f.low = subst (λ (z : Joining). Contains z.parts f.low) (sym last) h.3 in
-                elim (Contains-push_cases x.parts e.low f.low p) [
+                let p : Contains (with_low below e.low x.parts) f.low = subst (λ (z : Joining). Contains z.parts f.low) (sym last) h.3 in
+                elim (with_low-cases e.low x.parts f.low p) [
                   | inl was ↦ Contains-append_left es (e ∷ []) f ((so.listed f).1 (x, last_in, s, was))
                   | inr new ↦ subst (λ z. Contains (es ++ e ∷ []) z) (same_part e f (sym same ∙ s) new) (Contains-push es e)
                 ])
           ],
         );
-        filled = λ y h. elim (Contains-push_cases front (grown x e) y h) [
+        filled = λ y h. elim (Contains-push_cases front (grown below x e) y h) [
           | inl old ↦ so.filled y (in_joins y (Contains-append_left front (x ∷ []) y old))
-          | inr last ↦ subst (λ (z : Joining). (r : Rank) × Contains z.parts r) last (e.low, Contains-push x.parts e.low)
+          | inr last ↦ subst (λ (z : Joining). (r : Rank) × Contains z.parts r) last (e.low, with_low-new e.low x.parts)
         ];
-        in_order = all_pairs_push (λ (a : Joining) (b : Joining). below a.saddle b.saddle ≡ true) front (grown x e) (front-pairs (λ (a : Joining) (b : Joining). below a.saddle b.saddle ≡ true) front x ordered)
+        in_order = all_pairs_push (λ (a : Joining) (b : Joining). below a.saddle b.saddle ≡ true) front (grown below x e) (front-pairs (λ (a : Joining) (b : Joining). below a.saddle b.saddle ≡ true) front x ordered)
             (λ k d lt. last-pairs (λ (a : Joining) (b : Joining). below a.saddle b.saddle ≡ true) front x (get_or front k d) ordered (Contains-get_or front k d lt));
-        parts_in_order = λ y h. elim (Contains-push_cases front (grown x e) y h) [
+        parts_in_order = λ y h. elim (Contains-push_cases front (grown below x e) y h) [
           | inl old ↦ so.parts_in_order y (in_joins y (Contains-append_left front (x ∷ []) y old))
           | inr last ↦ subst (λ (z : Joining). AllPairs (λ a b. below a b ≡ true) z.parts) last
-              (all_pairs_push (λ a b. below a b ≡ true) x.parts e.low (so.parts_in_order x last_in) (λ k d lt. later (get_or x.parts k d) (Contains-get_or x.parts k d lt)))
+              (with_low-ordered e.low x.parts (so.parts_in_order x last_in))
         ];
       }
-        where
-          later : (r : Rank) → Contains x.parts r → below r e.low ≡ true
-          later r at = elim (before_join x last_in r at) [
-            | inl l ↦ absurd (let i = order.irreflexive e.saddle in let l' : below e.saddle e.saddle ≡ true = subst (λ s. below s e.saddle ≡ true) same l in cc)
-            | inr s ↦ s.1
-          ]
 
       grouped-last : AreGrouped below (es ++ e ∷ []) (with_part below e (front ++ x ∷ []))
       grouped-last = elim (below x.saddle e.saddle) as (λ v. below x.saddle e.saddle ≡ v → AreGrouped below (es ++ e ∷ []) (with_part below e (front ++ x ∷ []))) [
@@ -254,50 +239,86 @@ module _ (below : Rank → Rank → Bool) (order : IsStrictOrder below) where
     | inr later ↦ (let r = from_take xs n y d later in let a = r.1 in let b = r.2 in (suc r.0, omega arith, omega arith, r.3))
   ]
 
-  to_take : {X : Type 0} (xs : List X) (n k : ℕ) (d : X) → k < n → k < length xs → Contains (take n xs) (get_or xs k d)
-  to_take xs zero k d a b = absurd (omega arith)
-  to_take [] (suc n) k d a b = absurd (omega arith)
-  to_take (x ∷ xs) (suc n) zero d a b = Contains-head x (take n xs)
-  to_take (x ∷ xs) (suc n) (suc k) d a b = Contains-tail x (get_or xs k d) (take n xs) (to_take xs n k d (omega arith) (omega arith))
+  pub sides_of-push : (xs : List Rise) (x : Rise) → sides_of (xs ++ x ∷ []) ≡ (sides_of xs ++ left_of x ∷ []) ++ right_of x ∷ []
+  sides_of-push [] x = refl
+  sides_of-push (y ∷ ys) x = ap (λ (ps : List Part). left_of y ∷ right_of y ∷ ps) (sides_of-push ys x)
 
-  module _ (es : List Part) (sorted : IsSortedBy (comes_before below) es) (n : ℕ) (d : Part) (inside : n < length es) (joins : List Joining) (so : AreGrouped below (take n es) joins) where
-    next : take (n + 1) es ≡ take n es ++ get_or es n d ∷ []
-    next = take_more es n d inside
+  -- both parts of the next rise
+  pub grouped-more : (rises : List Rise) → IsSortedBy (comes_before below) rises → (n : ℕ) (d : Rise) → n < length rises → (joins : List Joining) → AreGrouped below (sides_of (take n rises)) joins →
+      AreGrouped below (sides_of (take (n + 1) rises)) (with_part below (right_of (get_or rises n d)) (with_part below (left_of (get_or rises n d)) joins))
+  grouped-more rises sorted n d inside joins so =
+      subst (λ ps. AreGrouped below ps (with_part below (right_of x) (with_part below (left_of x) joins))) (sym next)
+      (grouped-with (before ++ left_of x ∷ []) (right_of x) (with_part below (left_of x) joins) (grouped-with before (left_of x) joins so after) (λ f at. elim (Contains-push_cases before (left_of x) f at) [
+        | inl was ↦ after f was
+        | inr new ↦ subst (λ (g : Part). below x.saddle g.saddle ≡ false) new (order.irreflexive x.saddle)
+      ]))
+    where
+      x : Rise
+      x = get_or rises n d
 
-    -- a part that comes after the one before it
-    pub grouped-more : (n ≡ 0) ⊎ (comes_before below (get_or es (n - 1) d) (get_or es n d) ≡ true) → AreGrouped below (take (n + 1) es) (with_part below (get_or es n d) joins)
-    grouped-more new = subst (λ ps. AreGrouped below ps (with_part below (get_or es n d) joins)) (sym next) (grouped-with (take n es) (get_or es n d) joins so (λ f at.
-        let r = from_take es n f d at in
-        let lt = r.1 in
-        elim new [
-          | inl none ↦ absurd (omega arith)
-          | inr after ↦ subst (λ g. comes_before below g (get_or es n d) ≡ true) r.3
-              (not_above-along (comes_before below) part-order (get_or es r.0 d) (get_or es (n - 1) d) (get_or es n d) (sorted_far (comes_before below) before-weak es sorted r.0 (n - 1) d (omega arith) (omega arith)) after)
-        ]))
+      before : List Part
+      before = sides_of (take n rises)
 
-    -- a part that is the one before it
-    pub grouped-past : 0 < n → comes_before below (get_or es (n - 1) d) (get_or es n d) ≡ false → AreGrouped below (take (n + 1) es) joins
-    grouped-past pos same =
-        let e : get_or es (n - 1) d ≡ get_or es n d = part-total (get_or es (n - 1) d) (get_or es n d) same (sorted_far (comes_before below) before-weak es sorted (n - 1) n d (omega arith) inside) in
-        subst (λ ps. AreGrouped below ps joins) (sym next) (grouped-same (take n es) (get_or es n d) joins so (subst (λ f. Contains (take n es) f) e (to_take es n (n - 1) d (omega arith) (omega arith))))
+      next : sides_of (take (n + 1) rises) ≡ (before ++ left_of x ∷ []) ++ right_of x ∷ []
+      next = ap sides_of (take_more rises n d inside) ∙ sides_of-push (take n rises) x
 
--- an item that was read, whatever the default
-read : {X : Type 0} (xs : List X) (k : ℕ) (x d : X) → k < length xs → x ≡ get_or xs k x → get_or xs k d ≡ x
-read xs k x d lt e = get_or_from_slice_get xs k x d (slice_get-get_or xs k x lt ∙ ap Some (sym e))
+      not_above : (y : Rise) → Contains (take n rises) y → below x.saddle y.saddle ≡ false
+      not_above y at =
+          let r = from_take rises n y d at in
+          subst (λ (z : Rise). below x.saddle z.saddle ≡ false) r.3 (sorted_far (comes_before below) before-weak rises sorted r.0 n d (let lt = r.1 in omega arith) inside)
 
-module _ (below : Rank → Rank → Bool) (order : IsStrictOrder below) (es : List Part) (sorted : IsSortedBy (comes_before below) es) (n : ℕ) (inside : n < length es) (joins : List Joining) (so : AreGrouped below (take n es) joins) (e : Part) (is : e ≡ get_or es n e) where
-  pub step-first : (joins' : List Joining) → joins' ≡ with_part below e joins → n ≡ 0 → AreGrouped below (take (n + 1) es) joins'
-  step-first joins' adds none =
-      subst (λ js. AreGrouped below (take (n + 1) es) js) (sym adds) (subst (λ f. AreGrouped below (take (n + 1) es) (with_part below f joins)) (sym is) (grouped-more below order es sorted n e inside joins so (inl none)))
+      after : (f : Part) → Contains before f → below x.saddle f.saddle ≡ false
+      after f at = (let r = from-sides (take n rises) f at in elim r.2 [
+        | inl is ↦ subst (λ (g : Part). below x.saddle g.saddle ≡ false) is (not_above r.0 r.1)
+        | inr is ↦ subst (λ (g : Part). below x.saddle g.saddle ≡ false) is (not_above r.0 r.1)
+      ])
 
-  pub step-new : (joins' : List Joining) → joins' ≡ with_part below e joins → (f e' : Part) → f ≡ get_or es (n - 1) f → e' ≡ get_or es n e' → comes_before below f e' ≡ true → AreGrouped below (take (n + 1) es) joins'
-  step-new joins' adds f e' was again after =
-      let a : get_or es (n - 1) e ≡ f = read es (n - 1) f e (omega arith) was in
-      let b : get_or es n e ≡ e' = read es n e' e inside again in
-      subst (λ js. AreGrouped below (take (n + 1) es) js) (sym adds) (subst (λ g. AreGrouped below (take (n + 1) es) (with_part below g joins)) (sym is) (grouped-more below order es sorted n e inside joins so
-      (inr (subst (λ g. comes_before below g (get_or es n e) ≡ true) (sym a) (subst (λ g. comes_before below f g ≡ true) (sym b) after)))))
+-- where the low goes among the lows
+module _ (below : Rank → Rank → Bool) (low : Rank) where
+  -- the lows before the place are below it
+  abbrev pub AreBelow : List Rank → ℕ → Type 0
+  AreBelow xs n = (k : ℕ) (y : Rank) → k < n → slice_get xs k ≡ Some y → below y low ≡ true
 
-  pub step-past : (f : Part) → 0 < n → f ≡ get_or es (n - 1) f → comes_before below f e ≡ false → AreGrouped below (take (n + 1) es) joins
-  step-past f pos was same =
-      let a : get_or es (n - 1) e ≡ f = read es (n - 1) f e (omega arith) was in
-      grouped-past below order es sorted n e inside joins so pos (subst (λ g. comes_before below g (get_or es n e) ≡ false) (sym a) (subst (λ g. comes_before below f g ≡ false) is same))
+  pub below-more : (xs : List Rank) (n : ℕ) (x : Rank) → slice_get xs n ≡ Some x → below x low ≡ true → AreBelow xs n → AreBelow xs (n + 1)
+  below-more xs n x at less so k y lt aty = elim (same_number k n) [
+    | inl same ↦ subst (λ z. below z low ≡ true) (same_Some x y (sym at ∙ ap (λ i. slice_get xs i) (sym same) ∙ aty)) less
+    | inr apart ↦ so k y (omega arith) aty
+  ]
+
+  below-tail : (x : Rank) (xs : List Rank) (n : ℕ) → AreBelow (x ∷ xs) (suc n) → AreBelow xs n
+  below-tail x xs n so k y lt aty = so (suc k) y (omega arith) aty
+
+  -- at the end
+  pub with_low-last : (xs : List Rank) (n : ℕ) → n ≡ length xs → AreBelow xs n → with_low below low xs ≡ insert xs n low
+  with_low-last [] n end so = (let e : n ≡ 0 = end in rw e refl)
+  with_low-last (x ∷ xs) zero end so = absurd (omega arith)
+  with_low-last (x ∷ xs) (suc n) end so =
+      let less : below x low ≡ true = so 0 x (omega arith) refl in
+      let later = with_low-last xs n (omega arith) (below-tail x xs n so) in
+      rw less (ap (λ ys. x ∷ ys) later)
+
+  -- before one that it is below
+  pub with_low-inside : (xs : List Rank) (n : ℕ) (x : Rank) → slice_get xs n ≡ Some x → below x low ≡ false → below low x ≡ true → AreBelow xs n → with_low below low xs ≡ insert xs n low
+  with_low-inside [] n x at high less so = absurd cc
+  with_low-inside (y ∷ ys) zero x at high less so =
+      let e : x ≡ y = sym (same_Some y x at) in
+      let f : below y low ≡ false = subst (λ z. below z low ≡ false) e high in
+      let g : below low y ≡ true = subst (λ z. below low z ≡ true) e less in
+      rw (f, g) refl
+  with_low-inside (y ∷ ys) (suc n) x at high less so =
+      let first : below y low ≡ true = so 0 y (omega arith) refl in
+      let later = with_low-inside ys n x at high less (below-tail y ys n so) in
+      rw first (ap (λ zs. y ∷ zs) later)
+
+  -- and where it stands already
+  pub with_low-there : (xs : List Rank) (n : ℕ) (x : Rank) → slice_get xs n ≡ Some x → below x low ≡ false → below low x ≡ false → AreBelow xs n → with_low below low xs ≡ xs
+  with_low-there [] n x at high less so = absurd cc
+  with_low-there (y ∷ ys) zero x at high less so =
+      let e : x ≡ y = sym (same_Some y x at) in
+      let f : below y low ≡ false = subst (λ z. below z low ≡ false) e high in
+      let g : below low y ≡ false = subst (λ z. below low z ≡ false) e less in
+      rw (f, g) refl
+  with_low-there (y ∷ ys) (suc n) x at high less so =
+      let first : below y low ≡ true = so 0 y (omega arith) refl in
+      let later = with_low-there ys n x at high less (below-tail y ys n so) in
+      rw first (ap (λ zs. y ∷ zs) later)

@@ -8,7 +8,6 @@ use Rattle.std.proofs.lemmas.List.{length-set}
 use Rattle.std.proofs.lemmas.List.Elements.{All-contains, All-from_recursion}
 use Rattle.std.proofs.lemmas.List.Sorted.{Contains-permutation, IsPermutation-sym}
 use Rattle.std.proofs.lemmas.Option.{same_Some}
-use Rattle.hd_map.specs.declared.types.Pass.{Pass}
 use Rattle.hd_map.specs.declared.types.Rank.{Rank}
 use Rattle.hd_map.specs.Order.{IsNotAbove, IsStrictOrder}
 use Rattle.hd_map.proofs.Levels.{Contains-head, Contains-tail, Contains-cases}
@@ -16,10 +15,10 @@ use Rattle.hd_map.proofs.Sides.{not_above-trans, not_above-refl, below-not_above
 use Rattle.hd_graph.specs.declared.candidate.Candidate.{Candidate}
 use Rattle.hd_graph.specs.declared.ways.Way.{Way}
 use Rattle.hd_graph.specs.declared.ways.Ways.{Ways}
-use Rattle.hd_graph.specs.Candidates.{pass_of}
+use Rattle.hd_graph.specs.Candidates.{pass_of, over_of}
 use Rattle.hd_graph.specs.Flood.{HasWay, AreGrouped, Holds, HoldsLows, HasLowest, IsReached, Lowers, Offers, Spreads, Takes, below_lowest, lows_of}
 use Rattle.hd_graph.specs.Lower.{lower_first}
-use Rattle.hd_graph.proofs.Places.{get-set_same, get-set_other, item_at, same_number}
+use Rattle.hd_graph.proofs.Places.{get-set_same, get-set_other, same_number}
 
 -- a mark is set or clear
 pub marked : (done : List Bool) (v : ℕ) → v < length done → (slice_get done v ≡ Some true) ⊎ (slice_get done v ≡ Some false)
@@ -32,12 +31,11 @@ not_lower : (a b : Bool) → is_lt (cond a Less (cond b Greater Equal)) ≡ fals
 not_lower true b e = cc
 not_lower false b e = refl
 
--- a way that stands among those of a low is over a pass, and leads to a low
+-- a way that stands among those of a low leads to a low
 pub way-goes : (ways : Ways) → AreGrouped ways → (low place start stop : ℕ) (x : Way) → slice_get ways.starts.items low ≡ Some start → slice_get ways.starts.items (low + 1) ≡ Some stop → start ≤ place → place < stop → slice_get ways.all.items place ≡ Some x →
-    (p : Pass) × (slice_get ways.passes.now x.pass ≡ Some p) × (x.to < lows_of ways)
+    x.to < lows_of ways
 way-goes ways grouped low place start stop x starts_at stops_at from_start before_stop atx =
-    let p = item_at ways.passes.now x.pass (grouped.passes place x atx) in
-    (p.0, p.1, grouped.inside low x.to (p.0).at (record { place = place; start = start; stop = stop; way = x; pass = p.0; starts_at = starts_at; stops_at = stops_at; from_start = from_start; before_stop = before_stop; at_place = atx; leads_to = refl; of_pass = p.1; over = refl }))
+    grouped.inside low x.to (over_of x) (record { place = place; start = start; stop = stop; way = x; starts_at = starts_at; stops_at = stops_at; from_start = from_start; before_stop = before_stop; at_place = atx; leads_to = refl; over = refl })
 
 module _ {S : Type 0} where
   -- the heap holds nothing
@@ -135,15 +133,15 @@ module _ {S : Type 0} where
     pub record SpreadsTo (ways : Ways) (low : ℕ) (done : List Bool) (start place : ℕ) (lowest lowest' : List (Option Rank)) (old new : List (Candidate S)) : Type 0 where
       pub lowers : Lowers below lowest lowest' old new
       pub only : (to : ℕ) (at : Rank) → Holds new to at → Holds old to at ⊎ HasWay ways low to at
-      pub reached : (k : ℕ) (x : Way) (p : Pass) → start ≤ k → k < place → slice_get ways.all.items k ≡ Some x → slice_get ways.passes.now x.pass ≡ Some p
-          → slice_get done x.to ≡ Some false → IsReached below lowest' x.to p.at
+      pub reached : (k : ℕ) (x : Way) → start ≤ k → k < place → slice_get ways.all.items k ≡ Some x
+          → slice_get done x.to ≡ Some false → IsReached below lowest' x.to (over_of x)
 
     module _ (ways : Ways) (low : ℕ) (done : List Bool) (start : ℕ) (lowest : List (Option Rank)) (old : List (Candidate S)) where
       pub spreads-none : SpreadsTo ways low done start start lowest lowest old old
       spreads-none = record {
         lowers = lowers-none lowest old;
         only = λ to at h. inl h;
-        reached = λ k x p le less atx atp undone. absurd (omega arith);
+        reached = λ k x le less atx undone. absurd (omega arith);
       }
 
       pub spreads-all : (place stop : ℕ) → slice_get ways.starts.items low ≡ Some start → slice_get ways.starts.items (low + 1) ≡ Some stop → stop ≤ place → (lowest' : List (Option Rank)) (new : List (Candidate S)) →
@@ -153,31 +151,29 @@ module _ {S : Type 0} where
         only = h.only;
         reached = λ to at way undone.
             let x : Way = way.way in
-            let p : Pass = way.pass in
             let first : way.start ≡ start = same_Some way.start start (sym way.starts_at ∙ starts_at) in
             let last : way.stop ≡ stop = same_Some way.stop stop (sym way.stops_at ∙ stops_at) in
             let le = way.from_start in
             let less = way.before_stop in
-            let r : IsReached below lowest' x.to p.at = h.reached way.place x p (omega arith) (omega arith) way.at_place way.of_pass (subst (λ v. slice_get done v ≡ Some false) (sym way.leads_to) undone) in
+            let r : IsReached below lowest' x.to (over_of x) = h.reached way.place x (omega arith) (omega arith) way.at_place (subst (λ v. slice_get done v ≡ Some false) (sym way.leads_to) undone) in
             subst (λ v. IsReached below lowest' v at) way.leads_to (subst (λ v. IsReached below lowest' x.to v) way.over r);
       }
 
       -- at the next way, which is offered
-      pub spreads-step : (place stop : ℕ) (x : Way) (p : Pass) → slice_get ways.starts.items low ≡ Some start → slice_get ways.starts.items (low + 1) ≡ Some stop → start ≤ place → place < stop → slice_get ways.all.items place ≡ Some x → slice_get ways.passes.now x.pass ≡ Some p →
-          (mid last : List (Option Rank)) (heap new : List (Candidate S)) → SpreadsTo ways low done start place lowest mid old heap → Offers below x.to p.at done mid last heap new → SpreadsTo ways low done start (place + 1) lowest last old new
-      spreads-step place stop x p starts_at stops_at from_start before_stop atx atp mid last heap new so offers = record {
+      pub spreads-step : (place stop : ℕ) (x : Way) → slice_get ways.starts.items low ≡ Some start → slice_get ways.starts.items (low + 1) ≡ Some stop → start ≤ place → place < stop → slice_get ways.all.items place ≡ Some x →
+          (mid last : List (Option Rank)) (heap new : List (Candidate S)) → SpreadsTo ways low done start place lowest mid old heap → Offers below x.to (over_of x) done mid last heap new → SpreadsTo ways low done start (place + 1) lowest last old new
+      spreads-step place stop x starts_at stops_at from_start before_stop atx mid last heap new so offers = record {
         lowers = lowers-trans lowest mid last old heap new so.lowers offers.lowers;
         only = λ to at h. elim (offers.only to at h) [
           | inl was ↦ so.only to at was
-          | inr e ↦ inr (record { place = place; start = start; stop = stop; way = x; pass = p; starts_at = starts_at; stops_at = stops_at; from_start = from_start; before_stop = before_stop; at_place = atx; leads_to = e.0; of_pass = atp; over = e.1 })
+          | inr e ↦ inr (record { place = place; start = start; stop = stop; way = x; starts_at = starts_at; stops_at = stops_at; from_start = from_start; before_stop = before_stop; at_place = atx; leads_to = e.0; over = e.1 })
         ];
-        reached = λ k y q le less aty atq undone. elim (same_number k place) [
+        reached = λ k y le less aty undone. elim (same_number k place) [
           | inl same ↦ (
               let y_is : x ≡ y = same_Some x y (sym atx ∙ ap (λ i. slice_get ways.all.items i) (sym same) ∙ aty) in
-              let q_is : p ≡ q = same_Some p q (sym atp ∙ ap (λ (z : Way). slice_get ways.passes.now z.pass) y_is ∙ atq) in
-              let r : IsReached below last x.to p.at = offers.reached (subst (λ (z : Way). slice_get done z.to ≡ Some false) (sym y_is) undone) in
-              subst (λ (z : Way). IsReached below last z.to q.at) y_is (subst (λ (z : Pass). IsReached below last x.to z.at) q_is r))
-          | inr apart ↦ reached-falls mid last heap new offers.lowers y.to q.at (so.reached k y q le (omega arith) aty atq undone)
+              let r : IsReached below last x.to (over_of x) = offers.reached (subst (λ (z : Way). slice_get done z.to ≡ Some false) (sym y_is) undone) in
+              subst (λ (z : Way). IsReached below last z.to (over_of z)) y_is r)
+          | inr apart ↦ reached-falls mid last heap new offers.lowers y.to (over_of y) (so.reached k y le (omega arith) aty undone)
         ];
       }
 

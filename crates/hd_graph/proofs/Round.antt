@@ -31,7 +31,7 @@ slice_get-turned [] k x at = absurd (cc at)
 slice_get-turned (y ∷ ys) zero x at = ap (λ (z : Stop). Some (record { low = z.low; pit = z.pit; rise = first_rise ys })) (same_Some y x at)
 slice_get-turned (y ∷ ys) (suc k) x at = slice_get-turned ys k x at
 
-first_rise-drop : (n : ℕ) (xs : List Stop) (z : Stop) → slice_get xs n ≡ Some z → first_rise (drop n xs) ≡ z.rise
+pub first_rise-drop : (n : ℕ) (xs : List Stop) (z : Stop) → slice_get xs n ≡ Some z → first_rise (drop n xs) ≡ z.rise
 first_rise-drop n [] z at = absurd (cc at)
 first_rise-drop zero (x ∷ xs) z at = ap (λ (y : Stop). y.rise) (same_Some x z at)
 first_rise-drop (suc n) (x ∷ xs) z at = first_rise-drop n xs z at
@@ -40,7 +40,7 @@ module _ (line : List Stop) where
   pub length-round : length (turned_round line) ≡ length line
   length-round = length-reverse (turned line) ∙ length-turned line
 
-  round-at : (k m : ℕ) (x : Stop) → k + m + 1 ≡ length line → slice_get line k ≡ Some x → slice_get (turned_round line) m ≡ Some (record { low = x.low; pit = x.pit; rise = first_rise (drop (suc k) line) })
+  pub round-at : (k m : ℕ) (x : Stop) → k + m + 1 ≡ length line → slice_get line k ≡ Some x → slice_get (turned_round line) m ≡ Some (record { low = x.low; pit = x.pit; rise = first_rise (drop (suc k) line) })
   round-at k m x e at = slice_get-reverse (turned line) k m (record { low = x.low; pit = x.pit; rise = first_rise (drop (suc k) line) }) (e ∙ sym (length-turned line)) (slice_get-turned line k x at)
 
   -- the same pit stands at the place from the other end

@@ -10,7 +10,7 @@ use Rattle.hd_graph.specs.declared.graph.Low.{Low}
 use Rattle.hd_graph.specs.declared.line.Stop.{Stop}
 use Rattle.hd_graph.specs.declared.ways.Way.{Way}
 use Rattle.hd_graph.specs.declared.ways.Ways.{Ways}
-use Rattle.hd_graph.specs.Candidates.{pass_of}
+use Rattle.hd_graph.specs.Candidates.{pass_of, over_of}
 use Rattle.hd_graph.specs.Lower.{lower_first}
 use Rattle.hd_map.specs.Walks.{HasPass}
 
@@ -29,25 +29,22 @@ pub record HasWay (ways : Ways) (a b : ℕ) (w : Rank) : Type 0 where
   pub start : ℕ
   pub stop : ℕ
   pub way : Way
-  pub pass : Pass
   pub starts_at : slice_get ways.starts.items a ≡ Some start
   pub stops_at : slice_get ways.starts.items (a + 1) ≡ Some stop
   pub from_start : start ≤ place
   pub before_stop : place < stop
   pub at_place : slice_get ways.all.items place ≡ Some way
   pub leads_to : way.to ≡ b
-  pub of_pass : slice_get ways.passes.now way.pass ≡ Some pass
-  pub over : pass.at ≡ w
+  pub over : over_of way ≡ w
 
 -- how many lows the ways lead between
 abbrev pub lows_of : Ways → ℕ
 lows_of ways = length ways.starts.items - 1
 
--- the ways of each low stand among all; each is over a pass, and leads to a low
+-- the ways of each low stand among all; each leads to a low
 pub record AreGrouped (ways : Ways) : Type 0 where
   pub some : 0 < length ways.starts.items
   pub stops : (v k : ℕ) → slice_get ways.starts.items v ≡ Some k → k ≤ length ways.all.items
-  pub passes : (k : ℕ) (x : Way) → slice_get ways.all.items k ≡ Some x → x.pass < length ways.passes.now
   pub inside : (a b : ℕ) (w : Rank) → HasWay ways a b w → b < lows_of ways
 
 -- it leads from number to number over just the passes between their lows, in both directions

@@ -1,9 +1,10 @@
 -- The lowest lows on the two sides of the rises of a line, which name the classes that a saddle joins.
-use Rattle.std.specs.Prelude.{◌≡◌, ◌⊎◌, ◌↔◌, ◌&&◌, ◌||◌, ℕ, Bool, true, false, not, if◌then◌else◌, List, [], ◌∷◌, ◌++◌, map, reverse, take, slice_get, Option, Some, None, Contains, AllPairs}
+use Rattle.std.specs.Prelude.{◌≡◌, ◌⊎◌, ◌↔◌, ◌<◌, ◌-◌, ℕ, Bool, true, false, if◌then◌else◌, List, [], ◌∷◌, length, map, reverse, take, slice_get, Option, Some, None, Contains, AllPairs}
 use Rattle.hd_map.specs.declared.types.Rank.{Rank}
 use Rattle.hd_map.specs.ChangeTree.{Joining}
 use Rattle.hd_graph.specs.declared.line.Stop.{Stop}
 use Rattle.hd_graph.specs.declared.parts.Part.{Part}
+use Rattle.hd_graph.specs.declared.parts.Rise.{Rise}
 use Rattle.hd_graph.specs.Line.{higher_rise}
 
 -- the lower of two lows, and the one that is there where the other is none
@@ -44,15 +45,6 @@ lowest_to below s (x ∷ xs) = if rise_below below x.rise s then lower below (So
 abbrev pub LookAlike : (Rank → Rank → Bool) → List Stop → List Stop → Type 0
 LookAlike below xs ys = (s : Rank) → lowest_to below s xs ≡ lowest_to below s ys
 
--- the part behind a rise, where there is one
-abbrev pub part_of : Rank → Option Rank → List Part
-part_of s None = []
-part_of s (Some p) = record { saddle = s; low = p } ∷ []
-
-abbrev pub part_behind : (Rank → Rank → Bool) → Option Rank → List Stop → List Part
-part_behind below None xs = []
-part_behind below (Some s) xs = part_of s (lowest_to below s xs)
-
 -- e is the part to the left of a rise of the line
 pub record IsLeftPart (below : Rank → Rank → Bool) (line : List Stop) (e : Part) : Type 0 where
   pub place : ℕ
@@ -65,22 +57,53 @@ pub record IsLeftPart (below : Rank → Rank → Bool) (line : List Stop) (e : P
 abbrev pub IsSidePart : (Rank → Rank → Bool) → List Stop → Part → Type 0
 IsSidePart below line e = IsLeftPart below line e ⊎ IsLeftPart below (turned_round line) e
 
--- whether a comes before b: by saddle, and then by low
-abbrev pub comes_before : (Rank → Rank → Bool) → Part → Part → Bool
-comes_before below a b = below a.saddle b.saddle || (not (below b.saddle a.saddle) && below a.low b.low)
+-- by place, the low of the part to the left of the rise, where there is one
+abbrev pub AreLeftLows : (Rank → Rank → Bool) → List Stop → List Rank → Type 0
+AreLeftLows below line lows = (e : Part) (h : IsLeftPart below line e) → slice_get lows h.place ≡ Some e.low
+
+-- x is a rise of the line, with what the two lists have at its place, the second from the other end
+pub record IsRiseOf (line : List Stop) (lefts rights : List Rank) (x : Rise) : Type 0 where
+  pub place : ℕ
+  pub stop : Stop
+  pub later : 0 < place
+  pub at : slice_get line place ≡ Some stop
+  pub rise_is : stop.rise ≡ Some x.saddle
+  pub left_is : slice_get lefts place ≡ Some x.left
+  pub right_is : slice_get rights (length line - place) ≡ Some x.right
+
+-- the parts on the two sides of a rise
+abbrev pub left_of : Rise → Part
+left_of x = record { saddle = x.saddle; low = x.left }
+
+abbrev pub right_of : Rise → Part
+right_of x = record { saddle = x.saddle; low = x.right }
+
+-- the parts on the two sides of all rises
+abbrev pub sides_of : List Rise → List Part
+sides_of [] = []
+sides_of (x ∷ xs) = left_of x ∷ right_of x ∷ sides_of xs
+
+-- whether a rise is below another
+abbrev pub comes_before : (Rank → Rank → Bool) → Rise → Rise → Bool
+comes_before below a b = below a.saddle b.saddle
+
+-- the lows with one more, in order and each once
+abbrev pub with_low : (Rank → Rank → Bool) → Rank → List Rank → List Rank
+with_low below r [] = r ∷ []
+with_low below r (x ∷ xs) = if below x r then (x ∷ with_low below r xs) else (if below r x then (r ∷ x ∷ xs) else (x ∷ xs))
 
 -- the join of one part
 abbrev pub join_of : Part → Joining
 join_of e = record { saddle = e.saddle; parts = e.low ∷ [] }
 
 -- the join with one part more
-abbrev pub grown : Joining → Part → Joining
-grown x e = record { saddle = x.saddle; parts = x.parts ++ e.low ∷ [] }
+abbrev pub grown : (Rank → Rank → Bool) → Joining → Part → Joining
+grown below x e = record { saddle = x.saddle; parts = with_low below e.low x.parts }
 
 -- the part goes to the last join, where that is not below its saddle, and else becomes a join of its own
 abbrev pub with_part : (Rank → Rank → Bool) → Part → List Joining → List Joining
 with_part below e [] = join_of e ∷ []
-with_part below e (x ∷ []) = if below x.saddle e.saddle then (x ∷ join_of e ∷ []) else (grown x e ∷ [])
+with_part below e (x ∷ []) = if below x.saddle e.saddle then (x ∷ join_of e ∷ []) else (grown below x e ∷ [])
 with_part below e (x ∷ y ∷ ys) = x ∷ with_part below e (y ∷ ys)
 
 -- the rise over what was passed since the last pit, if anything was

@@ -1,10 +1,10 @@
 // The order in which rising water reaches the lows.
 ghost use Rattle.std.specs.Prelude.{◌≡◌, ◌≢◌, ◌<◌, ◌+◌, ℕ, IfOk, OnOk, Some, None, MatchOption, ⊤, [], ◌∷◌, ◌++◌, true, false, length, slice_get, slice_set};
 ghost use Rattle.std.specs.BinaryHeap.{heap_items, heap_len};
-ghost use Rattle.hd_map.specs.declared.types.Pass.{Pass};
 ghost use Rattle.hd_map.specs.declared.types.Rank.{Rank};
 ghost use Rattle.hd_map.specs.Rank.{below_by};
 ghost use Rattle.hd_graph.specs.declared.line.Stop.{Stop};
+ghost use Rattle.hd_graph.specs.Candidates.{over_of};
 ghost use Rattle.hd_graph.specs.Flood.{AreGrouped, IsLowestFirst, Holds, HoldsLows, Offers, Spreads, Takes, IsFlooded, ArePrim, IsVisited, IsStopOf, below_lowest, lows_of};
 ghost use Rattle.hd_graph.specs.Line.{IsFloodLine};
 
@@ -13,7 +13,7 @@ use crate::graph::{Graph, Low};
 use crate::line::{FloodLine, Stop};
 use crate::ways::{Way, Ways, ways_between};
 use hd_base::{List, Memory};
-use hd_map::{Pass, Rank, Side};
+use hd_map::{Rank, Side};
 use std::alloc::Global;
 use std::collections::BinaryHeap;
 
@@ -42,7 +42,7 @@ pub fn flood<S: Side>(alloc: Global, graph: &Graph<S>) -> Result<FloodLine<S>, M
 }
 
 // Visits all lows, each once.
-fn visit_all<S: Side>(alloc: Global, ways: &Ways<'_>) -> Result<Vec<Visit>, Memory>
+fn visit_all<S: Side>(alloc: Global, ways: &Ways) -> Result<Vec<Visit>, Memory>
     requires { AreGrouped ways.now }
     ensures prim { IfOk result (λ visits. ArePrim (below_by S.NAME) ways.now visits.items) }
     ensures all { IfOk result (λ visits. (v : ℕ) → v < lows_of ways.now → IsVisited visits.items v) }
@@ -62,7 +62,7 @@ fn visit_all<S: Side>(alloc: Global, ways: &Ways<'_>) -> Result<Vec<Visit>, Memo
 
 // Visits all lows that can be reached from one, where that one is not done.
 fn visit_part<S: Side>(
-    ways: &Ways<'_>,
+    ways: &Ways,
     start: usize,
     done: &mut [bool],
     lowest: &mut [Option<Rank>],
@@ -102,7 +102,7 @@ fn visit_part<S: Side>(
 
 // Visits a low, and puts its ways into the heap.
 fn make_visit<S: Side>(
-    ways: &Ways<'_>,
+    ways: &Ways,
     low: usize,
     rise: Option<Rank>,
     done: &mut [bool],
@@ -127,7 +127,7 @@ fn make_visit<S: Side>(
 
 // Puts the ways of a low into the heap, as far as they may lead on.
 fn spread<S: Side>(
-    ways: &Ways<'_>,
+    ways: &Ways,
     low: usize,
     done: &[bool],
     lowest: &mut [Option<Rank>],
@@ -144,7 +144,7 @@ fn spread<S: Side>(
     let start = ways.starts[low];
     let stop = ways.starts[low + 1];
     for place in start..stop {
-        offer(ways.all[place as usize], ways.passes, done, lowest, heap)?;
+        offer(ways.all[place as usize], done, lowest, heap)?;
     }
     Ok(())
 }
@@ -152,24 +152,21 @@ fn spread<S: Side>(
 // Puts a way into the heap, unless its low is done or has a candidate that is not above it.
 fn offer<S: Side>(
     way: Way,
-    passes: &[Pass],
     done: &[bool],
     lowest: &mut [Option<Rank>],
     heap: &mut BinaryHeap<Candidate<S>>,
 ) -> Result<(), Memory>
     requires within { way.to < length done.now }
-    requires passes { way.pass < length passes.now }
     requires long { length lowest.old ≡ length done.now }
     requires heap { IsLowestFirst (below_by S.NAME) (heap_items heap.old) }
-    ensures offers { OnOk result ((p : Pass) → slice_get passes.now way.pass ≡ Some p
-        → Offers (below_by S.NAME) way.to p.at done.now lowest.old lowest.new (heap_items heap.old) (heap_items heap.new)) }
+    ensures offers { OnOk result (Offers (below_by S.NAME) way.to (over_of way) done.now lowest.old lowest.new (heap_items heap.old) (heap_items heap.new)) }
     ensures heap { OnOk result (IsLowestFirst (below_by S.NAME) (heap_items heap.new)) }
 {
     let to = way.to as usize;
     if done[to] {
         return Ok(());
     }
-    let at = passes[way.pass as usize].at;
+    let at = way.at();
     if !is_lower::<S>(at, lowest[to]) {
         return Ok(());
     }

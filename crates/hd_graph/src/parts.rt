@@ -1,9 +1,9 @@
 // The parts that the saddles of a line join, found in one pass each way with a stack.
-ghost use Rattle.std.specs.Prelude.{◌≡◌, ◌++◌, ◌∷◌, [], ◌⊎◌, ◌↔◌, Some, None, Contains, reverse, IfOk, OnOk};
+ghost use Rattle.std.specs.Prelude.{◌≡◌, ◌∷◌, ◌↔◌, Some, None, Contains, length, reverse, IfOk, OnOk};
 ghost use Rattle.hd_map.specs.declared.types.Rank.{Rank};
 ghost use Rattle.hd_map.specs.Order.{IsNotAbove};
 ghost use Rattle.hd_map.specs.Rank.{below_by};
-ghost use Rattle.hd_graph.specs.Parts.{over, only_pits, lower, rise_below, lowest_to, LookAlike, part_behind, IsLeftPart, IsSidePart, turned_round};
+ghost use Rattle.hd_graph.specs.Parts.{over, only_pits, lower, rise_below, lowest_to, LookAlike, AreLeftLows, IsRiseOf, IsSidePart, sides_of, turned_round};
 
 use crate::line::{Stop, higher_of};
 use hd_base::Memory;
@@ -19,11 +19,22 @@ pub struct Part {
     pub low: Rank,
 }
 
+/// A saddle on a line of pits, and the lowest pits of the classes on its two sides.
+#[derive(Clone, Copy)]
+pub struct Rise {
+    /// The saddle.
+    pub saddle: Rank,
+    /// The lowest pit of the class before it.
+    pub left: Rank,
+    /// The lowest pit of the class behind it.
+    pub right: Rank,
+}
+
 /// The line of the pits alone, each with the highest rise since the pit before it.
 pub fn pits_line<S: Side>(alloc: Global, line: &[Stop]) -> Result<Vec<Stop>, Memory>
     ensures { IfOk result (λ pits. pits.items ≡ only_pits (below_by S.NAME) None line.now) }
 {
-    let mut pits = Vec::new(alloc);
+    let mut pits = Vec::with_capacity(alloc, line.len())?;
     let mut passed = None;
     for stop in line {
         let rise = rise_over::<S>(passed, stop.rise);
@@ -41,16 +52,15 @@ pub fn pits_line<S: Side>(alloc: Global, line: &[Stop]) -> Result<Vec<Stop>, Mem
     Ok(pits)
 }
 
-/// The parts on both sides of the rises of a line of pits, some of them twice, in no order.
-pub fn side_parts<S: Side>(alloc: Global, line: &[Stop]) -> Result<Vec<Part>, Memory>
-    ensures { IfOk result (λ parts. (e : Part) → Contains parts.items e
+/// The rises of a line of pits, in order, each with the lowest pits on its two sides.
+pub fn rises_of<S: Side>(alloc: Global, line: &[Stop]) -> Result<Vec<Rise>, Memory>
+    ensures { IfOk result (λ rises. (e : Part) → Contains (sides_of rises.items) e
         ↔ IsSidePart (below_by S.NAME) line.now e) }
 {
-    let mut parts = Vec::new(alloc);
-    add_left_parts::<S>(alloc, &mut parts, line)?;
-    let turned = turn(alloc, line)?;
-    add_left_parts::<S>(alloc, &mut parts, &turned)?;
-    Ok(parts)
+    let lefts = left_lows::<S>(alloc, line)?;
+    let rights = right_lows::<S>(alloc, line)?;
+    let rises = with_sides(alloc, line, &lefts, &rights)?;
+    Ok(rises)
 }
 
 // The rise over what was passed since the last pit, if anything was.
@@ -64,57 +74,83 @@ fn rise_over<S: Side>(passed: Option<Option<Rank>>, rise: Option<Rank>) -> Optio
     }
 }
 
-// The line from its other end.
-fn turn(alloc: Global, line: &[Stop]) -> Result<Vec<Stop>, Memory>
-    ensures { IfOk result (λ turned. turned.items ≡ turned_round line.now) }
+// By place, the lowest low to the left of the rise, as far as the rises are below it.
+fn left_lows<S: Side>(alloc: Global, line: &[Stop]) -> Result<Vec<Rank>, Memory>
+    ensures long { IfOk result (λ lows. length lows.items ≡ length line.now) }
+    ensures each { IfOk result (λ lows. AreLeftLows (below_by S.NAME) line.now lows.items) }
 {
-    let mut turned = Vec::with_capacity(alloc, line.len())?;
+    let mut lows = Vec::with_capacity(alloc, line.len())?;
+    let mut stack = Vec::new(alloc);
+    for stop in line {
+        let low = see::<S>(&mut stack, *stop)?;
+        lows.push(low)?;
+    }
+    Ok(lows)
+}
+
+// The same for the line from its other end, where each rise comes with the stop before it.
+fn right_lows<S: Side>(alloc: Global, line: &[Stop]) -> Result<Vec<Rank>, Memory>
+    ensures long { IfOk result (λ lows. length lows.items ≡ length line.now) }
+    ensures each { IfOk result (λ lows. AreLeftLows (below_by S.NAME) (turned_round line.now) lows.items) }
+{
+    let mut lows = Vec::with_capacity(alloc, line.len())?;
+    let mut stack = Vec::new(alloc);
     let mut rise = None;
     for i in (0..line.len()).rev() {
         let stop = line[i];
-        turned.push(Stop {
+        let turned = Stop {
             low: stop.low,
             pit: stop.pit,
             rise,
-        })?;
+        };
+        let low = see::<S>(&mut stack, turned)?;
+        lows.push(low)?;
         rise = stop.rise;
     }
-    Ok(turned)
+    Ok(lows)
 }
 
-// Adds the parts to the left of the rises.
-fn add_left_parts<S: Side>(
-    alloc: Global,
-    parts: &mut Vec<Part>,
-    line: &[Stop],
-) -> Result<(), Memory>
-    ensures { OnOk result ((e : Part) → Contains parts.new.items e
-        ↔ (Contains parts.old.items e ⊎ IsLeftPart (below_by S.NAME) line.now e)) }
-{
-    let mut stack = Vec::new(alloc);
-    for stop in line {
-        see::<S>(parts, &mut stack, *stop)?;
-    }
-    Ok(())
-}
-
-// Adds the part behind the rise of the stop, where there is one. The stop goes onto the stack.
-fn see<S: Side>(parts: &mut Vec<Part>, stack: &mut Vec<Stop>, stop: Stop) -> Result<(), Memory>
-    ensures parts { OnOk result (parts.new.items ≡ parts.old.items
-        ++ part_behind (below_by S.NAME) stop.rise (reverse stack.old.items)) }
+// The lowest low behind the rise of the stop, where there is one. The stop goes onto the stack.
+fn see<S: Side>(stack: &mut Vec<Stop>, stop: Stop) -> Result<Rank, Memory>
+    ensures lowest { IfOk result (λ low. (s r : Rank) → stop.rise ≡ Some s
+        → lowest_to (below_by S.NAME) s (reverse stack.old.items) ≡ Some r → low ≡ r) }
     ensures looks { OnOk result (LookAlike (below_by S.NAME) (reverse stack.new.items) (stop ∷ reverse stack.old.items)) }
 {
     if let Some(saddle) = stop.rise {
-        if let Some(low) = gather::<S>(stack, saddle)? {
-            parts.push(Part { saddle, low })?;
-            stack.push(stop)?;
-            return Ok(());
-        }
+        let behind = gather::<S>(stack, saddle)?;
         stack.push(stop)?;
-        return Ok(());
+        return Ok(behind.unwrap_or(stop.low));
     }
     stack.push(stop)?;
-    Ok(())
+    Ok(stop.low)
+}
+
+// The rises, with the lows on their left, and those on their right from the other end.
+fn with_sides(
+    alloc: Global,
+    line: &[Stop],
+    lefts: &[Rank],
+    rights: &[Rank],
+) -> Result<Vec<Rise>, Memory>
+    requires left { length lefts.now ≡ length line.now }
+    requires right { length rights.now ≡ length line.now }
+    ensures { IfOk result (λ rises. (x : Rise) → Contains rises.items x
+        ↔ IsRiseOf line.now lefts.now rights.now x) }
+{
+    let mut rises = Vec::with_capacity(alloc, line.len())?;
+    for place in 1..line.len() {
+        let stop = line[place];
+        if let Some(saddle) = stop.rise {
+            let left = lefts[place];
+            let right = rights[line.len() - place];
+            rises.push(Rise {
+                saddle,
+                left,
+                right,
+            })?;
+        }
+    }
+    Ok(rises)
 }
 
 // The lowest low of the stack from its end on, as far as the rises are below the saddle. These stops

@@ -5,11 +5,11 @@ ghost use Rattle.std.specs.Ordering.{is_lt};
 ghost use Rattle.hd_map.specs.ChangeTree.{IsTree, IsChangeTree};
 ghost use Rattle.hd_map.specs.Map.{Map};
 ghost use Rattle.hd_map.specs.Rank.{below_by};
-ghost use Rattle.hd_graph.specs.Parts.{AreGrouped, comes_before, join_of, with_part};
+ghost use Rattle.hd_graph.specs.Parts.{AreGrouped, comes_before, join_of, sides_of, with_low, with_part};
 ghost use Rattle.hd_graph.specs.Tells.{IsPitOn, IsSaddleOn, TellsSaddles, joins_of};
 
 use crate::line::FloodLine;
-use crate::parts::{Part, pits_line, side_parts};
+use crate::parts::{Part, Rise, pits_line, rises_of};
 use hd_base::{List, Memory};
 use hd_map::{Rank, Side};
 use std::alloc::Global;
@@ -41,24 +41,26 @@ pub fn tree<S: Side>(alloc: Global, line: &FloodLine<S>) -> Result<ChangeTree, M
         → IsChangeTree m S.NAME (joins_of tree.joins)) }
 {
     let pits = pits_line::<S>(alloc, line.stops())?;
-    let mut parts = side_parts::<S>(alloc, &pits)?;
-    parts.sort_unstable_by(|a, b| compare::<S>(a, b));
-    let joins = group::<S>(alloc, &parts)?;
+    let mut rises = rises_of::<S>(alloc, &pits)?;
+    rises.sort_unstable_by(|a, b| compare::<S>(a, b));
+    let joins = group::<S>(alloc, &rises)?;
     Ok(ChangeTree {
         joins: List::from_vec(joins),
     })
 }
 
-// The sorted parts, those of one saddle put together, each once.
-fn group<S: Side>(alloc: Global, parts: &[Part]) -> Result<Vec<Join>, Memory>
-    requires { IsSortedBy (comes_before (below_by S.NAME)) parts.now }
-    ensures { IfOk result (λ joins. AreGrouped (below_by S.NAME) parts.now (joins_of joins.items)) }
+// The parts on the sides of the sorted rises, those of one saddle put together, each once.
+fn group<S: Side>(alloc: Global, rises: &[Rise]) -> Result<Vec<Join>, Memory>
+    requires { IsSortedBy (comes_before (below_by S.NAME)) rises.now }
+    ensures { IfOk result (λ joins. AreGrouped (below_by S.NAME) (sides_of rises.now) (joins_of joins.items)) }
 {
-    let mut joins = Vec::new(alloc);
-    for i in 0..parts.len() {
-        if i == 0 || is_before::<S>(parts[i - 1], parts[i]) {
-            add_part::<S>(alloc, &mut joins, parts[i])?;
-        }
+    let mut joins = Vec::with_capacity(alloc, rises.len())?;
+    for rise in rises {
+        let saddle = rise.saddle;
+        let low = rise.left;
+        add_part::<S>(alloc, &mut joins, Part { saddle, low })?;
+        let low = rise.right;
+        add_part::<S>(alloc, &mut joins, Part { saddle, low })?;
     }
     Ok(joins)
 }
@@ -69,8 +71,8 @@ fn add_part<S: Side>(alloc: Global, joins: &mut Vec<Join>, part: Part) -> Result
 {
     if let Some(last) = joins.pop() {
         if !S::below(last.saddle, part.saddle) {
-            let Join { saddle, mut parts } = last;
-            parts.push(part.low)?;
+            let Join { saddle, parts } = last;
+            let parts = add_low::<S>(parts, part.low)?;
             joins.push(Join { saddle, parts })?;
             return Ok(());
         }
@@ -95,20 +97,29 @@ fn add_join(alloc: Global, joins: &mut Vec<Join>, part: Part) -> Result<(), Memo
     Ok(())
 }
 
-// Which of two parts comes first.
-fn compare<S: Side>(a: &Part, b: &Part) -> Ordering
+// The lows with one more, in order and each once.
+fn add_low<S: Side>(lows: List<Rank>, low: Rank) -> Result<List<Rank>, Memory>
+    ensures { IfOk result (λ more. more ≡ with_low (below_by S.NAME) low lows) }
+{
+    let mut lows = lows.into_vec();
+    let mut at = 0;
+    while at < lows.len() && S::below(lows[at], low) {
+        at += 1;
+    }
+    if at < lows.len() && !S::below(low, lows[at]) {
+        return Ok(List::from_vec(lows));
+    }
+    lows.insert(at, low)?;
+    Ok(List::from_vec(lows))
+}
+
+// Which of two rises comes first.
+fn compare<S: Side>(a: &Rise, b: &Rise) -> Ordering
     ensures { is_lt result ≡ comes_before (below_by S.NAME) a.now b.now }
 {
-    if is_before::<S>(*a, *b) {
+    if S::below(a.saddle, b.saddle) {
         Ordering::Less
     } else {
         Ordering::Greater
     }
-}
-
-// Whether a part comes before another: by saddle, and then by low.
-fn is_before<S: Side>(a: Part, b: Part) -> bool
-    ensures { result ≡ comes_before (below_by S.NAME) a b }
-{
-    S::below(a.saddle, b.saddle) || (!S::below(b.saddle, a.saddle) && S::below(a.low, b.low))
 }

@@ -13,7 +13,7 @@ pub mod Passing
 pub mod Labelled
 pub mod Ring
 pub mod Around
+pub mod Heights
 pub mod Enough
 pub mod Crossed
 pub mod Served
-pub mod Unmeasured

@@ -15,11 +15,12 @@ use Rattle.hd_map.specs.Region.{LowerNeighbour, IsNext, IsRoot, AreRegions}
 use Rattle.hd_map.proofs.Gather.{same_pos}
 use Rattle.hd_steep.specs.Lowest.{missing}
 use Rattle.hd_steep.specs.Rows.{past_end, rank_in}
-use Rattle.hd_steep.specs.Ring.{ring_of, are_lower, is_marked, firsts_of, IsOneAtMost}
+use Rattle.hd_steep.specs.Ring.{ring_of, are_lower, are_lower_heights, is_marked, firsts_of, IsOneAtMost}
 use Rattle.hd_steep.specs.Crossed.{AreRowsRound, Extends, IsCrossed, IsServed, Gathers}
 use Rattle.hd_steep.specs.declared.rolling.Rows.{Rows}
 use Rattle.hd_steep.proofs.Lows.{point_apart}
 use Rattle.hd_steep.proofs.Around.{own_low, own_is, first_lower, served_crossed, served_alone}
+use Rattle.hd_steep.proofs.Heights.{heights_tell}
 use Rattle.hd_steep.proofs.Crossed.{gathers_none, extends_none}
 
 -- a point with a lower neighbour has a next
@@ -33,10 +34,6 @@ heights_same h k e = grind (arith, ints, nat_tests)
 
 heights_apart : (h k : ℤ) → int_eq h k ≡ false → h ≡ k → ⊥
 heights_apart h k e same = grind (arith, ints, nat_tests)
-
--- the first ones of what is read
-pub firsts_at : (side : SideName) (own middle : Rank) (around : List Rank) (lower first : List Bool) → own ≡ middle → lower ≡ are_lower side own around → first ≡ firsts_of lower → first ≡ firsts_of (are_lower side middle around)
-firsts_at side own middle around lower first own_is lower_is first_is = first_is ∙ ap firsts_of (lower_is ∙ ap (λ (r : Rank). are_lower side r around) own_is)
 
 module _ (m : Map) (side : SideName) (whole : IsMap m) (rows : Rows) (at : Pos) (inside : InGrid m.size at) (round : AreRowsRound m side at.y rows) where
   abbrev above : List Rank
@@ -75,6 +72,13 @@ module _ (m : Map) (side : SideName) (whole : IsMap m) (rows : Rows) (at : Pos) 
             let same : one.at ≡ at = same_pos one.at at (let a = there.place in omega (arith, a)) (let a = there.profile in omega (arith, a)) in
             subst (λ (p : Pos). Present m p) same one.present
       ]
+
+  -- the first ones of what is read
+  pub firsts_at : (own : Rank) (lower first : List Bool) → Present m at → own ≡ middle → lower ≡ are_lower_heights side own around → first ≡ firsts_of lower → first ≡ firsts_of (are_lower side middle around)
+  firsts_at own lower first here read lower_is first_is =
+      let is : middle ≡ rank m at = own_is m side whole above level below at.x at.y inside.column round.above round.level round.below at here refl refl in
+      first_is ∙ ap firsts_of (lower_is ∙ ap (λ (r : Rank). are_lower_heights side r around) (read ∙ is) ∙ heights_tell m side whole at here above level below round.above round.level round.below
+      ∙ ap (λ (r : Rank). are_lower side r around) (sym is))
 
   -- what is read and told of a present point
   pub record IsLooked (own : Rank) (ring : List Rank) (first : List Bool) : Type 0 where

@@ -19,6 +19,10 @@ missing Hills = record { height = negsuc 9223372036854775807; index = 4294967295
 abbrev pub later_below : SideName → Rank → Rank → Bool
 later_below side later earlier = below_by side (record { height = later.height; index = 1 }) (record { height = earlier.height; index = 0 })
 
+-- whether a rank is below another one of a greater index
+abbrev pub earlier_below : SideName → Rank → Rank → Bool
+earlier_below side earlier later = below_by side (record { height = earlier.height; index = 0 }) (record { height = later.height; index = 1 })
+
 -- the lower of two ranks, of which the second has the greater index
 abbrev pub lower_of : SideName → Rank → Rank → Rank
 lower_of side a b = if later_below side b a then b else a

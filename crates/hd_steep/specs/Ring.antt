@@ -3,6 +3,7 @@ use Rattle.std.specs.Prelude.{◌≡◌, ◌+◌, ◌&&◌, not, ℕ, Bool, true
 use Rattle.hd_map.specs.declared.types.Rank.{Rank}
 use Rattle.hd_map.specs.declared.types.SideName.{SideName}
 use Rattle.hd_map.specs.Rank.{below_by}
+use Rattle.hd_steep.specs.Lowest.{earlier_below, later_below}
 use Rattle.hd_steep.specs.Rows.{rank_in}
 
 -- the ranks round the place x + 1 of the row level
@@ -16,6 +17,12 @@ abbrev pub are_lower : SideName → Rank → List Rank → List Bool
 are_lower side own ring =
     below_by side (rank_in ring 0) own ∷ below_by side (rank_in ring 1) own ∷ below_by side (rank_in ring 2) own ∷ below_by side (rank_in ring 3) own
     ∷ below_by side (rank_in ring 4) own ∷ below_by side (rank_in ring 5) own ∷ below_by side (rank_in ring 6) own ∷ below_by side (rank_in ring 7) own ∷ []
+
+-- the same by heights alone, where the ranks above the own one and left of it have lesser indexes, and the others greater ones
+abbrev pub are_lower_heights : SideName → Rank → List Rank → List Bool
+are_lower_heights side own ring =
+    earlier_below side (rank_in ring 0) own ∷ earlier_below side (rank_in ring 1) own ∷ later_below side (rank_in ring 2) own ∷ later_below side (rank_in ring 3) own
+    ∷ later_below side (rank_in ring 4) own ∷ later_below side (rank_in ring 5) own ∷ earlier_below side (rank_in ring 6) own ∷ earlier_below side (rank_in ring 7) own ∷ []
 
 -- whether a place is marked
 abbrev pub is_marked : List Bool → ℕ → Bool

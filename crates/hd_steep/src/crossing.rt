@@ -21,8 +21,8 @@ use std::alloc::Global;
 ///
 /// The labels are those that `regions` gives for this grid and side. There may be several passes
 /// for two regions, or none; `passes` gives one for each two that meet. It takes time in proportion
-/// to the points, and memory for the passes and 48 bytes a column. `Memory` comes where that is
-/// refused.
+/// to the points, and memory for the passes, at first for one of three points, and 48 bytes a
+/// column. `Memory` comes where that is refused.
 pub fn crossings<S: Side, G: Heights>(
     alloc: Global,
     grid: &G,
@@ -45,7 +45,8 @@ fn gather<S: Side, G: Heights>(
     ensures { IfOk result (λ passes. Gathers (G.map grid.now) S.NAME (λ u. u.y < (G.map grid.now).size.profiles) [] passes.items) }
 {
     let mut rows = Rows::new::<S, G>(alloc, grid)?;
-    let mut passes = Vec::new(alloc);
+    // heights without any order have about one pass for three points
+    let mut passes = Vec::with_capacity(alloc, labels.len() / 3)?;
     'profiles: for y in 0..grid.size().profiles {
         rows.advance::<S, G>(grid, y);
         gather_profile::<S, G>(grid, labels, &rows, y, &mut passes)?;

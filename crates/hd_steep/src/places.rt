@@ -2,7 +2,8 @@
 // where they follow each other, and so are the one above and the one to the right, and so on.
 ghost use Rattle.std.specs.Prelude.{◌≡◌, ◌<◌, ◌+◌, length};
 ghost use Rattle.std.specs.Bool.{OnFalse};
-ghost use Rattle.hd_steep.specs.Ring.{ring_of, are_lower, firsts_of, IsOneAtMost};
+ghost use Rattle.hd_steep.specs.Lowest.{earlier_below, later_below};
+ghost use Rattle.hd_steep.specs.Ring.{ring_of, are_lower_heights, firsts_of, IsOneAtMost};
 
 use hd_map::{Rank, Side};
 
@@ -26,7 +27,8 @@ pub fn ring_at(above: &[Rank], level: &[Rank], below: &[Rank], x: usize) -> [Ran
     ]
 }
 
-/// Which of the ranks round a place of the middle row are below the one that stands there.
+/// Which of the ranks round a place of the middle row are below the one that stands there, by heights
+/// alone: those before it have lesser indexes, and those after it greater ones.
 #[inline]
 pub fn lower_at<S: Side>(
     above: &[Rank],
@@ -38,18 +40,50 @@ pub fn lower_at<S: Side>(
     requires above { x + 2 < length above.now }
     requires level { x + 2 < length level.now }
     requires below { x + 2 < length below.now }
-    ensures { result ≡ are_lower S.NAME own (ring_of above.now level.now below.now x) }
+    ensures { result ≡ are_lower_heights S.NAME own (ring_of above.now level.now below.now x) }
 {
     [
-        S::below(above[x + 1], own),
-        S::below(above[x + 2], own),
-        S::below(level[x + 2], own),
-        S::below(below[x + 2], own),
-        S::below(below[x + 1], own),
-        S::below(below[x], own),
-        S::below(level[x], own),
-        S::below(above[x], own),
+        is_below_later::<S>(above[x + 1], own),
+        is_below_later::<S>(above[x + 2], own),
+        is_below_earlier::<S>(level[x + 2], own),
+        is_below_earlier::<S>(below[x + 2], own),
+        is_below_earlier::<S>(below[x + 1], own),
+        is_below_earlier::<S>(below[x], own),
+        is_below_later::<S>(level[x], own),
+        is_below_later::<S>(above[x], own),
     ]
+}
+
+// Whether a rank is below one of a greater index.
+#[inline]
+fn is_below_later<S: Side>(rank: Rank, later: Rank) -> bool
+    ensures { result ≡ earlier_below S.NAME rank later }
+{
+    let here = Rank {
+        height: rank.height,
+        index: 0,
+    };
+    let there = Rank {
+        height: later.height,
+        index: 1,
+    };
+    S::below(here, there)
+}
+
+// Whether a rank is below one of a lesser index.
+#[inline]
+fn is_below_earlier<S: Side>(rank: Rank, earlier: Rank) -> bool
+    ensures { result ≡ later_below S.NAME rank earlier }
+{
+    let here = Rank {
+        height: rank.height,
+        index: 1,
+    };
+    let there = Rank {
+        height: earlier.height,
+        index: 0,
+    };
+    S::below(here, there)
 }
 
 /// Of each group of lower places that are beside one another the first straight one, clockwise from

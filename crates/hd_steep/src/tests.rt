@@ -1,32 +1,38 @@
 // Small surfaces whose roots are known.
 ghost use Rattle.std.specs.Prelude.{◌≤◌};
-ghost use Rattle.hd_map.specs.Map.{IsSize};
+ghost use Rattle.hd_map.specs.Map.{IsCellOf, IsSize};
 
 use crate::{crossings, next, passes, regions, root};
-use hd_base::{List, Memory};
+use hd_base::Memory;
 use hd_map::{
-    Cell, DataType, Down, Grid, Heights, Pass, Rank, Side, Size, Surface, Up, index_of, is_present,
-    position_of,
+    Cell, Cells, DataType, Down, Heights, Pass, Rank, Side, Size, Surface, Up, index_of,
+    is_cell_of, is_present, position_of,
 };
 use std::alloc::Global;
 use std::process::Abort;
 
 // A surface with these heights by index. A negative one stands for a point that is not measured.
-#[tactic(auto, using(crate::proofs::Unmeasured::unmeasured_cells))]
 fn surface_of(alloc: Global, size: Size, heights: &[i64]) -> Result<Surface, Memory>
     requires { IsSize size }
 {
     let count = size.profiles * size.points;
-    let cells = vec![in alloc; Cell::Bad; count as usize]?;
-    let mut surface = Surface::new(alloc, size, DataType::I32, List::from_vec(cells))?;
-    for index in 0..count {
-        if let Some(&height) = heights.get(index as usize) {
-            if height >= 0 {
-                let _ = surface.set_cell(position_of(size, index), Cell::Height(height));
-            }
-        }
+    let mut cells = Cells::with_capacity(alloc, DataType::I32, count as usize)?;
+    'cells: for index in 0..count {
+        cells.push(cell_of(cells.data_type(), heights.get(index as usize)))?;
     }
-    Ok(surface)
+    Ok(Surface::new(size, cells))
+}
+
+// The cell of a height that is not negative.
+fn cell_of(data_type: DataType, height: Option<&i64>) -> Cell
+    ensures { IsCellOf data_type result }
+{
+    match height {
+        Some(&height) if height >= 0 && is_cell_of(data_type, Cell::Height(height)) => {
+            Cell::Height(height)
+        }
+        _ => Cell::Bad,
+    }
 }
 
 // Whether each label is the root as it is found from the point alone, and that of its next.

@@ -14,15 +14,7 @@ offer-requires-clause-within g c =
     let less = c.loop-place-test.true in
     let read : slice_get c.args.ways.now.all.items c.loop-place.place ≡ Some c.index.result.now = get-from_read c.args.ways.now.all.items c.loop-place.place _ _ (omega (arith, few, less)) (sym c.index.ensures) in
     let goes = way-goes c.args.ways.now c.requires.grouped c.args.low c.loop-place.place c.index-start.result.now c.index-stop.result.now c.index.result.now starts_at stops_at c.loop-place.invariant.from less read in
-    rw c.requires.long goes.2
-
-pub offer-requires-clause-passes : goal.offer-requires-clause-passes
-offer-requires-clause-passes g c =
-    let inside = c.requires.within in
-    let stops_at : slice_get c.args.ways.now.starts.items (c.args.low + 1) ≡ Some c.index-stop.result.now = get-from_read c.args.ways.now.starts.items (c.args.low + 1) _ _ (omega (arith, inside)) (sym c.index-stop.ensures) in
-    let few = c.requires.grouped.stops (c.args.low + 1) c.index-stop.result.now stops_at in
-    let less = c.loop-place-test.true in
-    c.requires.grouped.passes c.loop-place.place c.index.result.now (get-from_read c.args.ways.now.all.items c.loop-place.place _ _ (omega (arith, few, less)) (sym c.index.ensures))
+    rw c.requires.long goes
 
 pub loop-place-preserved : goal.loop-place-preserved
 loop-place-preserved g c =
@@ -33,12 +25,11 @@ loop-place-preserved g c =
     let less = c.loop-place-test.true in
     let from = c.loop-place.invariant.from in
     let read : slice_get c.args.ways.now.all.items c.loop-place.place ≡ Some c.index.result.now = get-from_read c.args.ways.now.all.items c.loop-place.place _ _ (omega (arith, few, less)) (sym c.index.ensures) in
-    let goes = way-goes c.args.ways.now c.requires.grouped c.args.low c.loop-place.place c.index-start.result.now c.index-stop.result.now c.index.result.now starts_at stops_at from less read in
     record {
       heap = c.in_ok-offer.ensures.heap;
       from = omega (arith, from);
-      so = spreads-step (below_by g.S.Side.NAME) g.met.S.Side.order c.args.ways.now c.args.low c.args.done.now c.index-start.result.now c.args.lowest.now (heap_items c.args.heap.now) c.loop-place.place c.index-stop.result.now c.index.result.now goes.0 starts_at stops_at from less read goes.1
-          c.loop-place.lowest c.offer.new.lowest (heap_items c.loop-place.heap) (heap_items c.offer.new.heap) c.loop-place.invariant.so (c.in_ok-offer.ensures.offers goes.0 goes.1);
+      so = spreads-step (below_by g.S.Side.NAME) g.met.S.Side.order c.args.ways.now c.args.low c.args.done.now c.index-start.result.now c.args.lowest.now (heap_items c.args.heap.now) c.loop-place.place c.index-stop.result.now c.index.result.now starts_at stops_at from less read
+          c.loop-place.lowest c.offer.new.lowest (heap_items c.loop-place.heap) (heap_items c.offer.new.heap) c.loop-place.invariant.so c.in_ok-offer.ensures.offers;
     }
 
 pub returns-clause-spreads : goal.returns-clause-spreads

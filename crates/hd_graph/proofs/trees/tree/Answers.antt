@@ -7,11 +7,13 @@ use Rattle.hd_map.specs.Order.{IsStrictOrder}
 use Rattle.hd_map.specs.Rank.{below_by}
 use Rattle.hd_graph.specs.declared.line.Stop.{Stop}
 use Rattle.hd_graph.specs.declared.parts.Part.{Part}
-use Rattle.hd_graph.specs.Parts.{AreGrouped, comes_before, only_pits, IsSidePart}
+use Rattle.hd_graph.specs.declared.parts.Rise.{Rise}
+use Rattle.hd_graph.specs.Parts.{AreGrouped, comes_before, only_pits, sides_of, IsSidePart}
 use Rattle.hd_graph.specs.Tells.{IsPitOn, IsSaddleOn, joins_of}
 use Rattle.hd_graph.proofs.Grouped.{before-weak}
 use Rattle.hd_graph.proofs.Highest.{OnePlace, line-tells}
 use Rattle.hd_graph.proofs.Lows.{IsLowOn}
+use Rattle.hd_graph.proofs.LeftParts.{sides-moved}
 use Rattle.hd_graph.proofs.MapTrees.{tree-of_map}
 use Rattle.hd_graph.proofs.PitLines.{once-short, tree-of_pits}
 use Rattle.hd_graph.proofs.Places.{one_place}
@@ -30,15 +32,15 @@ returns g c =
     let is_pits : c.deref.result.now ≡ pits = c.deref.ensures.value ∙ c.in_ok-pits.ensures ∙ ap (λ (xs : List Stop). only_pits below None xs) c.stops.ensures.value in
     let once : OnePlace line = one_place (λ (z : Stop). z.low) line c.stops.ensures.once in
     let short_once : OnePlace pits = once-short below order line once in
-    let raw : List Part = c.in_ok-parts.parts.items in
-    let es : List Part = c.sort_unstable_by.new.self.items in
-    let exactly : (e : Part) → Contains raw e ↔ IsSidePart below pits e = rw is_pits at c.in_ok-parts.ensures in
+    let raw : List Rise = c.in_ok-rises.rises.items in
+    let rises : List Rise = c.sort_unstable_by.new.self.items in
+    let exactly : (e : Part) → Contains (sides_of raw) e ↔ IsSidePart below pits e = rw is_pits at c.in_ok-rises.ensures in
     let joins : List Joining = joins_of c.in_ok-joins.joins.items in
-    let grouped : AreGrouped below es joins = rw c.deref-2.ensures.value at c.in_ok-joins.ensures in
-    let short : IsTree below (IsSaddleOn below pits) (IsLowOn pits) joins = tree-of_parts below order (IsSaddleOn below pits) pits (line-tells below order pits short_once) short_once es joins
+    let grouped : AreGrouped below (sides_of rises) joins = rw c.deref-2.ensures.value at c.in_ok-joins.ensures in
+    let short : IsTree below (IsSaddleOn below pits) (IsLowOn pits) joins = tree-of_parts below order (IsSaddleOn below pits) pits (line-tells below order pits short_once) short_once (sides_of rises) joins
     (λ e. (
-      λ h. (exactly e).0 (Contains-permutation es raw e (IsPermutation-sym raw es c.sort_unstable_by.ensures.permutation) h),
-      λ h. Contains-permutation raw es e c.sort_unstable_by.ensures.permutation ((exactly e).1 h),
+      λ h. (exactly e).0 (sides-moved rises raw (λ x at. Contains-permutation rises raw x (IsPermutation-sym raw rises c.sort_unstable_by.ensures.permutation) at) e h),
+      λ h. sides-moved raw rises (λ x at. Contains-permutation raw rises x c.sort_unstable_by.ensures.permutation at) e ((exactly e).1 h),
     )) grouped in
     let whole : IsTree below (IsSaddleOn below line) (IsPitOn line) joins = tree-of_pits below order line once joins short in
     rw c.from_vec.ensures (record {

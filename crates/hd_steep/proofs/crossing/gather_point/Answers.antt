@@ -1,7 +1,6 @@
-use Rattle.std.proofs.Common.{◌≡◌, ◌+◌, ◌∙◌, sym, refl}
+use Rattle.std.proofs.Common.{◌≡◌, ◌∙◌, sym, refl}
 use Rattle.std.proofs.lemmas.Bool.{OnFalse_at}
-use Rattle.hd_steep.specs.Rows.{rank_in}
-use Rattle.hd_steep.specs.Ring.{ring_of, are_lower}
+use Rattle.hd_steep.specs.Ring.{ring_of, are_lower_heights}
 use Rattle.hd_steep.proofs.Served.{read_middle, gathers_absent, present_in_middle, looked_lower, gathers_crossed, gathers_alone, firsts_at}
 use Rattle.hd_steep.proofs.crossing.gather_point.Goals as goal
 
@@ -20,13 +19,14 @@ cross-requires-clause-lower g c =
     let own = c.index-own.result.now in
     let around = ring_of rows.above.items rows.level.items rows.below.items c.args.at.x in
     let own_is = read_middle m side whole rows c.args.at c.requires.inside c.requires.rows own c.index-own.ensures in
-    let lower_is : c.lower_at-lower.result ≡ are_lower side own around = rw (c.deref.ensures.value, c.deref-2.ensures.value, c.deref-3.ensures.value) at c.lower_at-lower.ensures in
+    let here = present_in_middle m side whole rows c.args.at c.requires.inside c.requires.rows own own_is (sym c.is_missing.ensures ∙ c.if-is_missing.false) in
+    let lower_is : c.lower_at-lower.result ≡ are_lower_heights side own around = rw (c.deref.ensures.value, c.deref-2.ensures.value, c.deref-3.ensures.value) at c.lower_at-lower.ensures in
     let ring_is : c.ring_at-ring.result ≡ around = rw (c.deref-then-are_several.ensures.value, c.deref-then-are_several-2.ensures.value, c.deref-then-are_several-3.ensures.value) at c.ring_at-ring.ensures in
     looked_lower m side whole rows c.args.at c.requires.inside c.requires.rows own c.ring_at-ring.result c.firsts-first.result (record {
-      here = present_in_middle m side whole rows c.args.at c.requires.inside c.requires.rows own own_is (sym c.is_missing.ensures ∙ c.if-is_missing.false);
+      here = here;
       own_is = own_is;
       ring_is = ring_is;
-      first_is = firsts_at side own (rank_in rows.level.items (c.args.at.x + 1)) around c.lower_at-lower.result c.firsts-first.result own_is lower_is c.firsts-first.ensures;
+      first_is = firsts_at m side whole rows c.args.at c.requires.inside c.requires.rows own c.lower_at-lower.result c.firsts-first.result here own_is lower_is c.firsts-first.ensures;
     })
 
 pub returns-in_ok-cross : goal.returns-in_ok-cross
@@ -38,13 +38,14 @@ returns-in_ok-cross g c =
     let own = c.index-own.result.now in
     let around = ring_of rows.above.items rows.level.items rows.below.items c.args.at.x in
     let own_is = read_middle m side whole rows c.args.at c.requires.inside c.requires.rows own c.index-own.ensures in
-    let lower_is : c.lower_at-lower.result ≡ are_lower side own around = rw (c.deref.ensures.value, c.deref-2.ensures.value, c.deref-3.ensures.value) at c.lower_at-lower.ensures in
+    let here = present_in_middle m side whole rows c.args.at c.requires.inside c.requires.rows own own_is (sym c.is_missing.ensures ∙ c.if-is_missing.false) in
+    let lower_is : c.lower_at-lower.result ≡ are_lower_heights side own around = rw (c.deref.ensures.value, c.deref-2.ensures.value, c.deref-3.ensures.value) at c.lower_at-lower.ensures in
     let ring_is : c.ring_at-ring.result ≡ around = rw (c.deref-then-are_several.ensures.value, c.deref-then-are_several-2.ensures.value, c.deref-then-are_several-3.ensures.value) at c.ring_at-ring.ensures in
     gathers_crossed m side whole rows c.args.at c.requires.inside c.requires.rows own c.ring_at-ring.result c.firsts-first.result (record {
-      here = present_in_middle m side whole rows c.args.at c.requires.inside c.requires.rows own own_is (sym c.is_missing.ensures ∙ c.if-is_missing.false);
+      here = here;
       own_is = own_is;
       ring_is = ring_is;
-      first_is = firsts_at side own (rank_in rows.level.items (c.args.at.x + 1)) around c.lower_at-lower.result c.firsts-first.result own_is lower_is c.firsts-first.ensures;
+      first_is = firsts_at m side whole rows c.args.at c.requires.inside c.requires.rows own c.lower_at-lower.result c.firsts-first.result here own_is lower_is c.firsts-first.ensures;
     }) c.args.passes.now.items c.cross.new.passes.items c.in_ok-cross.ensures.extends c.in_ok-cross.ensures.crossed
 
 pub returns-else-are_several : goal.returns-else-are_several
@@ -56,10 +57,11 @@ returns-else-are_several g c =
     let own = c.index-own.result.now in
     let around = ring_of rows.above.items rows.level.items rows.below.items c.args.at.x in
     let own_is = read_middle m side whole rows c.args.at c.requires.inside c.requires.rows own c.index-own.ensures in
-    let lower_is : c.lower_at-lower.result ≡ are_lower side own around = rw (c.deref.ensures.value, c.deref-2.ensures.value, c.deref-3.ensures.value) at c.lower_at-lower.ensures in
+    let here = present_in_middle m side whole rows c.args.at c.requires.inside c.requires.rows own own_is (sym c.is_missing.ensures ∙ c.if-is_missing.false) in
+    let lower_is : c.lower_at-lower.result ≡ are_lower_heights side own around = rw (c.deref.ensures.value, c.deref-2.ensures.value, c.deref-3.ensures.value) at c.lower_at-lower.ensures in
     gathers_alone m side whole rows c.args.at c.requires.inside c.requires.rows own around c.firsts-first.result (record {
-      here = present_in_middle m side whole rows c.args.at c.requires.inside c.requires.rows own own_is (sym c.is_missing.ensures ∙ c.if-is_missing.false);
+      here = here;
       own_is = own_is;
       ring_is = refl;
-      first_is = firsts_at side own (rank_in rows.level.items (c.args.at.x + 1)) around c.lower_at-lower.result c.firsts-first.result own_is lower_is c.firsts-first.ensures;
+      first_is = firsts_at m side whole rows c.args.at c.requires.inside c.requires.rows own c.lower_at-lower.result c.firsts-first.result here own_is lower_is c.firsts-first.ensures;
     }) c.args.labels.now c.requires.regions c.args.passes.now.items (OnFalse_at c.if-are_several.false c.are_several.ensures)
