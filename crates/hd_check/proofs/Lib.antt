@@ -1,0 +1,11 @@
+mod Searching
+mod Leaks
+mod Verdicts
+mod Across
+mod Right
+mod Pits
+mod Determined
+mod ReadingSteps
+mod Adding
+mod Parts
+mod ReadsBack

@@ -1,0 +1,32 @@
+-- Pits, as they show in a list of neighbours.
+use Rattle.std.proofs.Common.{◌≡◌, ◌<◌, ◌≤◌, ◌∙◌, ℕ, List, length, true, false, sym, subst, ap, arith}
+use Rattle.std.specs.List.{Contains}
+use Rattle.std.proofs.lemmas.Bool.{false≢true}
+use Rattle.hd_map.specs.declared.types.Pos.{Pos}
+use Rattle.hd_map.specs.declared.types.SideName.{SideName}
+use Rattle.hd_map.specs.Map.{Map, Present}
+use Rattle.hd_map.specs.Neighbour.{Neighbour}
+use Rattle.hd_map.specs.Rank.{rank, below_by}
+use Rattle.hd_map.specs.Region.{IsPit}
+use Rattle.hd_map.proofs.Points.{point_at, same_point, Near-at}
+use Rattle.hd_check.specs.Rules.{point_of}
+use Rattle.hd_check.proofs.Searching.{place_found}
+
+-- a point with a lower neighbour is no pit
+pub no_pit : (m : Map) (side : SideName) (at q : Pos) → Neighbour m at q → below_by side (rank m q) (rank m at) ≡ true → IsPit m side (rank m at) → ⊥
+no_pit m side at q near low pit = pit.alone (rank m q) (record { near = Near-at m at q near; below = low })
+
+-- a point none of whose neighbours is below it is a pit
+pub is_pit_found : (m : Map) (side : SideName) (at : Pos) (round : List Pos) (k : ℕ) → Present m at → ((q : Pos) → Neighbour m at q → Contains round q) → length round ≤ k
+    → ((i : ℕ) → i < k → below_by side (rank m (point_of round i)) (rank m at) ≡ false) → IsPit m side (rank m at)
+is_pit_found m side at round k here all done none = record {
+  point = point_at m at here;
+  alone = λ q lower.
+      (let n = lower.near in
+      let same : n.from ≡ at = same_point m n.from at n.neighbour.from here (sym n.from_rank) in
+      let f = place_found round n.to (all n.to (subst (λ (p : Pos). Neighbour m p n.to) same n.neighbour)) in
+      let inside = f.1 in
+      let high = none f.0 (omega (arith, inside, done)) in
+      let is : rank m (point_of round f.0) ≡ q = ap (rank m) f.2 ∙ sym n.to_rank in
+      false≢true (sym high ∙ ap (λ r. below_by side r (rank m at)) is ∙ lower.below));
+}

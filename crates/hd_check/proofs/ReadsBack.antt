@@ -1,0 +1,274 @@
+-- The text of a certificate is read as this certificate.
+use Rattle.std.proofs.Common.{◌≡◌, ◌<◌, ◌+◌, ◌^◌, ◌||◌, ℕ, ℤ, pos, negsuc, suc, Bool, true, false, not, List, [], ◌∷◌, ◌++◌, length, map, Option, Some, None, Ok, refl, sym, ap, ap₂, ◌∙◌, append_assoc, arith, if◌then◌else◌}
+use Rattle.std.specs.Prelude.{All, codes, decimal, filter}
+use Rattle.std.specs.Char.{is_ascii_digit}
+use Rattle.std.specs.Fmt.{signed_decimal}
+use Rattle.std.specs.Int.{w64}
+use Rattle.std.specs.Int.RustNames.{FitsSigned}
+use Rattle.std.specs.List.{flat_map, list_all, slice_split, onto_first}
+use Rattle.std.proofs.lemmas.Bool.{and_from, and_parts, ne_eqb}
+use Rattle.std.proofs.lemmas.Bool.Decides.{nat_tests}
+use Rattle.std.proofs.lemmas.List.Elements.{All-head, All-tail}
+use Rattle.std.specs.Str.{bytes_eq}
+use Rattle.std.proofs.lemmas.Fmt.{decimal_nonempty, digits_decimal}
+use Rattle.std.proofs.lemmas.List.Splits.{slice_split-cons_yes, slice_split-cons_no}
+use Rattle.hd_map.specs.declared.types.Pos.{Pos}
+use Rattle.hd_map.specs.declared.types.SideName.{SideName}
+use Rattle.hd_map.specs.declared.types.SideName.TheVariants.{Dales, Hills}
+use Rattle.hd_num.specs.Lines.{is_blank, is_filled, is_line_feed, lines_of, without_empty_last, words_of}
+use Rattle.hd_num.proofs.ReadsBack.{count_of-decimal, digits, whole_of-signed_decimal}
+use Rattle.hd_check.specs.declared.types.Certificate.{Certificate}
+use Rattle.hd_check.specs.Reading.{Lines, Read, after_cut, after_from, after_path, after_saddle, after_side, after_to, and_then, certificate_of, counted_in, fitting, head_form, line_as, line_gives, point_form, point_of_counts, points_in, saddle_form, saddle_of_parts, value_of}
+use Rattle.hd_check.specs.Text.{certificate_lines, certificate_text, line_text, point_words, saddle_lines, side_word}
+use Rattle.hd_check.specs.Writable.{IsWritable, IsWritablePoint, IsWritableSaddle, AreWritable}
+
+-- neither a blank nor a line feed
+abbrev is_clear : ℕ → Bool
+is_clear byte = not (is_blank byte || is_line_feed byte)
+
+-- bytes, and none of them a blank or a line feed
+record IsWord (w : List ℕ) : Type 0 where
+  some : is_filled w ≡ true
+  clear : list_all is_clear w ≡ true
+
+not_blank : (b : ℕ) → is_clear b ≡ true → is_blank b ≡ false
+not_blank b h = elim (is_blank b) as (λ v. not (v || is_line_feed b) ≡ true → v ≡ false) [ true ↦ λ e. sym e | false ↦ λ e. refl ] h
+
+not_feed : (b : ℕ) → is_clear b ≡ true → is_line_feed b ≡ false
+not_feed b h = elim (is_blank b) as (λ v. not (v || is_line_feed b) ≡ true → is_line_feed b ≡ false) [
+  | true ↦ λ e. absurd (let f : false ≡ true = e in cc)
+  | false ↦ λ e. elim (is_line_feed b) as (λ v. not v ≡ true → v ≡ false) [ true ↦ λ f. sym f | false ↦ λ f. refl ] e
+] h
+
+-- a text without bytes that pass, before one that passes, is a piece
+split_front : (test : ℕ → Bool) → ((b : ℕ) → is_clear b ≡ true → test b ≡ false) → (w : List ℕ) (end : ℕ) (rest : List ℕ) → list_all is_clear w ≡ true → test end ≡ true
+    → slice_split test (w ++ end ∷ rest) ≡ w ∷ slice_split test rest
+split_front test fails [] end rest clear ends = slice_split-cons_yes test end rest ends
+split_front test fails (b ∷ w) end rest clear ends =
+    slice_split-cons_no test b (w ++ end ∷ rest) (fails b ((and_parts _ _ clear).0)) ∙ ap (onto_first b) (split_front test fails w end rest (and_parts _ _ clear).1 ends)
+
+-- and alone one piece
+split_alone : (test : ℕ → Bool) → ((b : ℕ) → is_clear b ≡ true → test b ≡ false) → (w : List ℕ) → list_all is_clear w ≡ true → slice_split test w ≡ w ∷ []
+split_alone test fails [] clear = refl
+split_alone test fails (b ∷ w) clear = slice_split-cons_no test b w (fails b ((and_parts _ _ clear).0)) ∙ ap (onto_first b) (split_alone test fails w (and_parts _ _ clear).1)
+
+-- words, and no other bytes
+abbrev AreWords : List (List ℕ) → Type 0
+AreWords [] = Unit {0}
+AreWords (w ∷ ws) = IsWord w × AreWords ws
+
+-- lines of some words each
+abbrev AreLines : List (List (List ℕ)) → Type 0
+AreLines [] = Unit {0}
+AreLines ([] ∷ lines) = ⊥
+AreLines ((w ∷ ws) ∷ lines) = AreWords (w ∷ ws) × AreLines lines
+
+-- a line without its line feed
+abbrev joined : List (List ℕ) → List ℕ
+joined [] = []
+joined (w ∷ []) = w
+joined (w ∷ v ∷ ws) = w ++ 32 ∷ joined (v ∷ ws)
+
+line_joined : (ws : List (List ℕ)) (rest : List ℕ) → line_text ws ++ rest ≡ joined ws ++ 10 ∷ rest
+line_joined [] rest = refl
+line_joined (w ∷ []) rest = append_assoc w (10 ∷ []) rest
+line_joined (w ∷ v ∷ ws) rest = append_assoc w (32 ∷ line_text (v ∷ ws)) rest ∙ ap (λ (t : List ℕ). w ++ 32 ∷ t) (line_joined (v ∷ ws) rest) ∙ sym (append_assoc w (32 ∷ joined (v ∷ ws)) (10 ∷ rest))
+
+-- no line feed stands in a word before a space
+feed_front : (u line : List ℕ) (rest : List ℕ) → list_all is_clear u ≡ true → slice_split is_line_feed (line ++ 10 ∷ rest) ≡ line ∷ slice_split is_line_feed rest
+    → slice_split is_line_feed (u ++ 32 ∷ (line ++ 10 ∷ rest)) ≡ (u ++ 32 ∷ line) ∷ slice_split is_line_feed rest
+feed_front [] line rest clear h = slice_split-cons_no is_line_feed 32 (line ++ 10 ∷ rest) refl ∙ ap (onto_first 32) h
+feed_front (b ∷ u) line rest clear h =
+    slice_split-cons_no is_line_feed b (u ++ 32 ∷ (line ++ 10 ∷ rest)) (not_feed b ((and_parts _ _ clear).0)) ∙ ap (onto_first b) (feed_front u line rest ((and_parts _ _ clear).1) h)
+
+-- nor in the line
+split_line : (w : List ℕ) (ws : List (List ℕ)) (rest : List ℕ) → AreWords (w ∷ ws) → slice_split is_line_feed (joined (w ∷ ws) ++ 10 ∷ rest) ≡ joined (w ∷ ws) ∷ slice_split is_line_feed rest
+split_line w [] rest are = split_front is_line_feed not_feed w 10 rest are.0.clear refl
+split_line w (v ∷ ws) rest are =
+    ap (slice_split is_line_feed) (append_assoc w (32 ∷ joined (v ∷ ws)) (10 ∷ rest)) ∙ feed_front w (joined (v ∷ ws)) rest are.0.clear (split_line v ws rest are.1)
+
+-- the words of a line are these
+split_words : (w : List ℕ) (ws : List (List ℕ)) → AreWords (w ∷ ws) → slice_split is_blank (joined (w ∷ ws)) ≡ w ∷ ws
+split_words w [] are = split_alone is_blank not_blank w are.0.clear
+split_words w (v ∷ ws) are = split_front is_blank not_blank w 32 (joined (v ∷ ws)) are.0.clear refl ∙ ap (λ (us : List (List ℕ)). w ∷ us) (split_words v ws are.1)
+
+filter_words : (ws : List (List ℕ)) → AreWords ws → filter is_filled ws ≡ ws
+filter_words [] are = refl
+filter_words (w ∷ ws) are = ap (λ (b : Bool). if b then w ∷ filter is_filled ws else filter is_filled ws) are.0.some ∙ ap (λ (us : List (List ℕ)). w ∷ us) (filter_words ws are.1)
+
+words_joined : (w : List ℕ) (ws : List (List ℕ)) → AreWords (w ∷ ws) → words_of (joined (w ∷ ws)) ≡ w ∷ ws
+words_joined w ws are = ap (filter is_filled) (split_words w ws are) ∙ filter_words (w ∷ ws) are
+
+-- the pieces of the text are its lines and an empty one
+split_text : (lines : List (List (List ℕ))) → AreLines lines → slice_split is_line_feed (flat_map line_text lines) ≡ map joined lines ++ [] ∷ []
+split_text [] are = refl
+split_text ([] ∷ lines) are = absurd are
+split_text ((w ∷ ws) ∷ lines) are =
+    ap (slice_split is_line_feed) (line_joined (w ∷ ws) (flat_map line_text lines)) ∙ split_line w ws (flat_map line_text lines) are.0
+    ∙ ap (λ (ps : List (List ℕ)). joined (w ∷ ws) ∷ ps) (split_text lines are.1)
+
+empty_last : (ps : List (List ℕ)) → without_empty_last (ps ++ [] ∷ []) ≡ ps
+empty_last [] = refl
+empty_last (p ∷ []) = refl
+empty_last (p ∷ q ∷ ps) = ap (λ (us : List (List ℕ)). p ∷ us) (empty_last (q ∷ ps))
+
+map_words : (lines : List (List (List ℕ))) → AreLines lines → map words_of (map joined lines) ≡ lines
+map_words [] are = refl
+map_words ([] ∷ lines) are = absurd are
+map_words ((w ∷ ws) ∷ lines) are = ap₂ (λ (us : List (List ℕ)) (uss : List (List (List ℕ))). us ∷ uss) (words_joined w ws are.0) (map_words lines are.1)
+
+-- the lines of the text, by their words
+lines_back : (lines : List (List (List ℕ))) → AreLines lines → map words_of (lines_of (flat_map line_text lines)) ≡ lines
+lines_back lines are = ap (λ (ps : List (List ℕ)). map words_of (without_empty_last ps)) (split_text lines are) ∙ ap (map words_of) (empty_last (map joined lines)) ∙ map_words lines are
+
+-- digits are a word
+clear_digit : (b : ℕ) → is_ascii_digit b ≡ true → is_clear b ≡ true
+clear_digit b h = grind (arith, nat_tests)
+
+clear_digits : (w : List ℕ) → list_all is_ascii_digit w ≡ true → list_all is_clear w ≡ true
+clear_digits [] h = refl
+clear_digits (b ∷ w) h = and_from _ _ (clear_digit b (and_parts _ _ h).0) (clear_digits w (and_parts _ _ h).1)
+
+filled : (w : List ℕ) → 0 < length w → is_filled w ≡ true
+filled w some = ap not (ne_eqb (length w) 0 (λ none. omega (arith, none, some)))
+
+decimal_word : (n : ℕ) → n < 2 ^ 64 → IsWord (decimal n)
+decimal_word n small = record { some = filled (decimal n) (decimal_nonempty n small); clear = clear_digits (decimal n) (digits_decimal digits n small) }
+
+signed_word : (z : ℤ) → FitsSigned w64 z → IsWord (signed_decimal z)
+signed_word (pos n) fits = let small : n < 2 ^ 63 = fits.sfits in decimal_word n (omega arith)
+signed_word (negsuc n) fits =
+    let small : n < 2 ^ 63 = fits.sfits in
+    let w = decimal_word (suc n) (omega arith) in
+    record { some = filled (45 ∷ decimal (suc n)) (omega arith); clear = w.clear }
+
+-- a point has words
+point_clear : (p : Pos) → IsWritablePoint p → AreWords (point_words p)
+point_clear p fits = let x = fits.column in let y = fits.profile in (decimal_word p.x (omega arith), (decimal_word p.y (omega arith), tt))
+
+points_clear : (ps : List Pos) → All IsWritablePoint ps → (rest : List (List (List ℕ))) → AreLines rest → AreLines (map point_words ps ++ rest)
+points_clear [] all rest are = are
+points_clear (p ∷ ps) all rest are = (point_clear p (All-head IsWritablePoint p ps all), points_clear ps (All-tail IsWritablePoint p ps all) rest are)
+
+-- a line of a word and a number
+number_clear : (key : List ℕ) (n : ℕ) → IsWord key → n < 2 ^ 32 → AreWords (key ∷ decimal n ∷ [])
+number_clear key n is small = (is, (decimal_word n (omega arith), tt))
+
+-- the words that stand in each certificate
+word_certificate : IsWord (codes "certificate")
+word_certificate = record { some = refl; clear = refl }
+
+word_eight : IsWord (codes "8")
+word_eight = record { some = refl; clear = refl }
+
+word_from : IsWord (codes "from")
+word_from = record { some = refl; clear = refl }
+
+word_to : IsWord (codes "to")
+word_to = record { some = refl; clear = refl }
+
+word_saddle : IsWord (codes "saddle")
+word_saddle = record { some = refl; clear = refl }
+
+word_none : IsWord (codes "none")
+word_none = record { some = refl; clear = refl }
+
+word_path : IsWord (codes "path")
+word_path = record { some = refl; clear = refl }
+
+word_cut : IsWord (codes "cut")
+word_cut = record { some = refl; clear = refl }
+
+word_end : IsWord (codes "end")
+word_end = record { some = refl; clear = refl }
+
+side_clear : (side : SideName) → IsWord (side_word side)
+side_clear Dales = record { some = refl; clear = refl }
+side_clear Hills = record { some = refl; clear = refl }
+
+-- the lines from that of the cut on
+abbrev cut_part : List Pos → List (List (List ℕ))
+cut_part cut = (codes "cut" ∷ decimal (length cut) ∷ []) ∷ (map point_words cut ++ (codes "end" ∷ []) ∷ [])
+
+cut_clear : (cut : List Pos) → AreWritable cut → AreLines (cut_part cut)
+cut_clear cut are = (number_clear (codes "cut") (length cut) word_cut are.few, points_clear cut are.each ((codes "end" ∷ []) ∷ []) ((word_end, tt), tt))
+
+saddle_clear : (saddle : Option (Pos × ℤ)) (path : List Pos) → IsWritableSaddle saddle path → AreWritable path → (rest : List (List (List ℕ))) → AreLines rest → AreLines (saddle_lines saddle path ++ rest)
+saddle_clear (Some s) path is are rest more =
+    let x = is.0.column in
+    let y = is.0.profile in (
+      (word_saddle, (decimal_word s.0.x (omega arith), (decimal_word s.0.y (omega arith), (signed_word s.1 is.1, tt)))),
+      (number_clear (codes "path") (length path) word_path are.few, points_clear path are.each rest more),
+    )
+saddle_clear None path is are rest more = ((word_saddle, (word_none, tt)), more)
+
+all_clear : (c : Certificate) → IsWritable c → AreLines (certificate_lines c)
+all_clear c is = (
+  (word_certificate, (side_clear c.side, (word_eight, tt))),
+  ((word_from, point_clear c.from is.from), ((word_to, point_clear c.to is.to), saddle_clear c.saddle c.path is.saddle is.path (cut_part c.cut) (cut_clear c.cut is.cut))),
+)
+
+-- a point reads back
+point_back : (p : Pos) → IsWritablePoint p → point_form (point_words p) ≡ Some p
+point_back p fits = ap₂ point_of_counts (count_of-decimal p.x fits.column) (count_of-decimal p.y fits.profile)
+
+abbrev from_line : ℕ → List (List (List ℕ)) → Lines
+from_line number lines = record { number = number; lines = lines }
+
+points_back : (ps : List Pos) (number : ℕ) (rest : List (List (List ℕ))) → All IsWritablePoint ps → (n : ℕ) × (points_in (length ps) (from_line number (map point_words ps ++ rest)) ≡ Ok (ps, from_line n rest))
+points_back [] number rest all = (number, refl)
+points_back (p ∷ ps) number rest all =
+    let more = points_back ps (number + 1) rest (All-tail IsWritablePoint p ps all) in (
+      more.0,
+      ap (λ (o : Option Pos). and_then (line_gives number (map point_words ps ++ rest) o) (λ q left. and_then (points_in (length ps) left) (λ qs left. Ok (q ∷ qs, left)))) (point_back p (All-head IsWritablePoint p ps all))
+          ∙ ap (λ (r : Read (List Pos)). and_then r (λ qs left. Ok (p ∷ qs, left))) more.1,
+    )
+
+-- so do a number and points
+counted_back : (key : List ℕ) → bytes_eq key key ≡ true → (ps : List Pos) (number : ℕ) (rest : List (List (List ℕ))) → AreWritable ps
+    → (n : ℕ) × (counted_in key (from_line number ((key ∷ decimal (length ps) ∷ []) ∷ (map point_words ps ++ rest))) ≡ Ok (ps, from_line n rest))
+counted_back key same ps number rest are =
+    let more = points_back ps (number + 1) rest are.each in (
+      more.0,
+      ap₂ (λ (b : Bool) (o : Option ℕ). and_then (line_gives number (map point_words ps ++ rest) (if b then o else None)) points_in) same (count_of-decimal (length ps) are.few) ∙ more.1,
+    )
+
+-- a saddle
+saddle_back : (s : Pos × ℤ) → IsWritablePoint s.0 → FitsSigned w64 s.1 → saddle_form (codes "saddle" ∷ decimal s.0.x ∷ decimal s.0.y ∷ signed_decimal s.1 ∷ []) ≡ Some (Some s)
+saddle_back s point fits = ap₂ (λ (p : Option Pos) (h : Option ℤ). saddle_of_parts p h) (point_back s.0 point) (ap fitting (whole_of-signed_decimal s.1 fits))
+
+-- the lines of a saddle and a path, and what follows them
+path_back : (side : SideName) (from to : Pos) (saddle : Option (Pos × ℤ)) (path : List Pos) (number : ℕ) (rest : List (List (List ℕ))) → IsWritableSaddle saddle path → AreWritable path
+    → (n : ℕ) × (after_to side from to (from_line number (saddle_lines saddle path ++ rest)) ≡ after_path side from to saddle path (from_line n rest))
+path_back side from to (Some s) path number rest is are =
+    let more = counted_back (codes "path") refl path (number + 1) rest are in (
+      more.0,
+      ap (λ (o : Option (Option (Pos × ℤ))). and_then (line_gives number ((codes "path" ∷ decimal (length path) ∷ []) ∷ (map point_words path ++ rest)) o) (after_saddle side from to)) (saddle_back s is.0 is.1)
+          ∙ ap (λ (r : Read (List Pos)). and_then r (after_path side from to (Some s))) more.1,
+    )
+path_back side from to None path number rest is are = (number + 1, ap (λ (ps : List Pos). after_path side from to None ps (from_line (number + 1) rest)) (sym is))
+
+-- the lines of a cut, and the end
+cut_back : (side : SideName) (from to : Pos) (saddle : Option (Pos × ℤ)) (path cut : List Pos) (number : ℕ) → AreWritable cut
+    → value_of (after_path side from to saddle path (from_line number (cut_part cut))) ≡ Ok (record { side = side; from = from; to = to; saddle = saddle; path = path; cut = cut })
+cut_back side from to saddle path cut number are =
+    let more = counted_back (codes "cut") refl cut number ((codes "end" ∷ []) ∷ []) are in
+    ap (λ (r : Read (List Pos)). value_of (and_then r (after_cut side from to saddle path))) more.1
+
+head_back : (side : SideName) → head_form (codes "certificate" ∷ side_word side ∷ codes "8" ∷ []) ≡ Some side
+head_back Dales = refl
+head_back Hills = refl
+
+-- the text of a certificate is read as this certificate
+pub text_back : (c : Certificate) → IsWritable c → certificate_of (certificate_text c) ≡ Ok c
+text_back c is =
+    let tail : List (List (List ℕ)) = saddle_lines c.saddle c.path ++ cut_part c.cut in
+    let third : List (List (List ℕ)) = (codes "to" ∷ point_words c.to) ∷ tail in
+    let second : List (List (List ℕ)) = (codes "from" ∷ point_words c.from) ∷ third in
+    let path = path_back c.side c.from c.to c.saddle c.path 4 (cut_part c.cut) is.saddle is.path in
+    ap (λ (lines : List (List (List ℕ))). value_of (and_then (line_as head_form (from_line 1 lines)) after_side)) (lines_back (certificate_lines c) (all_clear c is))
+    ∙ ap (λ (o : Option SideName). value_of (and_then (line_gives 1 second o) after_side)) (head_back c.side)
+    ∙ ap (λ (o : Option Pos). value_of (and_then (line_gives 2 third o) (after_from c.side))) (point_back c.from is.from)
+    ∙ ap (λ (o : Option Pos). value_of (and_then (line_gives 3 tail o) (after_to c.side c.from))) (point_back c.to is.to)
+    ∙ ap value_of path.1
+    ∙ cut_back c.side c.from c.to c.saddle c.path c.cut path.0 is.cut

@@ -1,0 +1,5 @@
+use Rattle.hd_check.proofs.Right.{right_saddle}
+use Rattle.hd_check.proofs.laws.right_certificate_tells_the_saddle.Goals as goal
+
+pub returns : goal.returns
+returns c = right_saddle

@@ -1,0 +1,29 @@
+use Rattle.std.proofs.Common.{refl}
+use Rattle.std.specs.Prelude.{◌↔◌}
+use Rattle.std.specs.List.{Contains}
+use Rattle.std.proofs.lemmas.Bool.{false≢true}
+use Rattle.hd_map.specs.declared.types.Pos.{Pos}
+use Rattle.hd_map.specs.Neighbour.{Neighbour}
+use Rattle.hd_check.specs.Rules.{point_of}
+use Rattle.hd_check.proofs.Leaks.{near_at}
+use Rattle.hd_check.proofs.Pits.{no_pit, is_pit_found}
+use Rattle.hd_check.proofs.path.is_pit.Goals as goal
+
+pub is_lower-requires-clause-a : goal.is_lower-requires-clause-a
+is_lower-requires-clause-a g c =
+    let m = g.G.Heights.map c.args.surface.now in
+    let all : (q : Pos) → Contains c.as_slice-round.result.now q ↔ Neighbour m c.args.at q = rw c.as_slice-round.ensures c.neighbours-near.ensures.all in
+    (near_at m c.args.at c.as_slice-round.result.now all c.loop-k.k c.loop-k-test.true).to
+
+pub returns-then-is_lower : goal.returns-then-is_lower
+returns-then-is_lower g c =
+    let m = g.G.Heights.map c.args.surface.now in
+    let all : (q : Pos) → Contains c.as_slice-round.result.now q ↔ Neighbour m c.args.at q = rw c.as_slice-round.ensures c.neighbours-near.ensures.all in
+    let near = near_at m c.args.at c.as_slice-round.result.now all c.loop-k.k c.loop-k-test.true in
+    (λ h. absurd (false≢true h), λ pit. absurd (no_pit m c.args.side c.args.at (point_of c.as_slice-round.result.now c.loop-k.k) near (rw (← c.is_lower.ensures) c.if-is_lower.true) pit))
+
+pub returns : goal.returns
+returns g c =
+    let m = g.G.Heights.map c.args.surface.now in
+    let all : (q : Pos) → Contains c.as_slice-round.result.now q ↔ Neighbour m c.args.at q = rw c.as_slice-round.ensures c.neighbours-near.ensures.all in
+    (λ _. is_pit_found m c.args.side c.args.at c.as_slice-round.result.now c.loop-k.k c.requires (λ q. (all q).1) c.loop-k-test.false c.loop-k.invariant, λ _. refl)

@@ -1,0 +1,7 @@
+use Rattle.std.proofs.Common.{◌≡◌, ◌<◌, ℕ, false}
+use Rattle.hd_map.specs.Rank.{rank, below_by}
+use Rattle.hd_check.specs.Rules.{point_of}
+use Rattle.hd_check.proofs.path.is_pit.Given as goal
+
+abbrev pub invariant-loop-k : goal.invariant-loop-k
+invariant-loop-k g l = let m = g.G.Heights.map l.surface in (i : ℕ) → i < l.k → below_by l.side (rank m (point_of l.round i)) (rank m l.fn.at) ≡ false

@@ -1,0 +1,24 @@
+//! Saddle certificates: their text, the eleven rules that make one right, and a checker of them that
+//! takes no memory. On any map a right certificate names the saddle of its two pits.
+#![tactic(auto)]
+
+mod checking;
+mod cut;
+mod laws;
+mod lines;
+mod order;
+mod path;
+mod reading;
+#[cfg(test)]
+mod tests;
+mod types;
+mod words;
+mod writing;
+
+pub use checking::check;
+pub use laws::{
+    right_certificate_tells_the_saddle, verdict_is_determined, written_certificate_reads_back,
+};
+pub use reading::read_certificate;
+pub use types::{Certificate, CertificateError, Verdict};
+pub use writing::write_certificate;

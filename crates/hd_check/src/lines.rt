@@ -1,0 +1,53 @@
+// The lines of a text, each by its words.
+ghost use Rattle.std.specs.Prelude.{◌≡◌};
+ghost use Rattle.hd_num.specs.Span.{IsPart, text_at};
+ghost use Rattle.hd_check.specs.Places.{IsPlace, Takes};
+
+use crate::CertificateError;
+use hd_base::List;
+use hd_num::{Span, next_line, split_words};
+use std::alloc::Global;
+
+/// Where a line of a text begins, and its number, from 1.
+#[derive(Clone, Copy, Debug)]
+pub struct Place {
+    /// The index of its first byte.
+    pub from: usize,
+    /// Its number.
+    pub number: u64,
+}
+
+/// A line, its words, and where the next one begins.
+#[derive(Drop)]
+pub struct Line {
+    pub span: Span,
+    pub words: List<Span>,
+    pub next: Place,
+}
+
+/// The line at a place. `BadLine` comes where the text ends there.
+pub fn take_line(alloc: Global, bytes: &[u8], place: Place) -> Result<Line, CertificateError>
+    requires { IsPlace bytes.now place }
+    ensures { Takes bytes.now place result }
+{
+    let Some((span, next)) = next_line(bytes, place.from) else {
+        return Err(CertificateError::BadLine(place.number));
+    };
+    let words = split_words(alloc, &bytes[span.start..span.end])?;
+    Ok(Line {
+        span,
+        words,
+        next: Place {
+            from: next,
+            number: place.number + 1,
+        },
+    })
+}
+
+/// The bytes of a part of a text.
+pub fn part(text: &[u8], span: Span) -> &[u8]
+    requires { IsPart text.now span }
+    ensures { result.now ≡ text_at text.now span }
+{
+    &text[span.start..span.end]
+}
