@@ -1,0 +1,10 @@
+mod Tops
+mod Searching
+mod Walks
+mod Flooding
+mod Nearest
+mod Listing
+mod Shown
+mod Sound
+mod Ranks
+mod Determined

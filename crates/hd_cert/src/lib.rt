@@ -1,0 +1,12 @@
+//! The saddle certificate of two pits: the shortest path over their saddle, and the points reached from
+//! the first below it, found by two floods.
+#![tactic(auto)]
+
+mod flood;
+mod laws;
+mod listed_points;
+mod making;
+mod trace;
+
+pub use laws::shown_certificate_is_determined;
+pub use making::certify;

@@ -1,0 +1,118 @@
+// The certificate for two pits.
+ghost use Rattle.std.specs.Prelude.{◌≡◌, ◌<◌, IfOk, Some, true};
+ghost use Rattle.hd_map.specs.Map.{IsSize, Present, cell_count, place_of};
+ghost use Rattle.hd_map.specs.Rank.{rank, IsPoint};
+ghost use Rattle.hd_check.specs.Rules.{IsRight};
+ghost use Rattle.hd_cert.specs.Marks.{within};
+ghost use Rattle.hd_map.specs.Saddle.{IsSaddle, SaddleIs};
+ghost use Rattle.hd_cert.specs.Routes.{IsShownRoute, IsRouteCut, IsMade};
+ghost use Rattle.hd_cert.specs.Shown.{IsWritten, AreTwoPits, IsShownCertificate};
+
+use crate::flood::steps_from;
+use crate::listed_points::listed;
+use crate::trace::{marks_within, path_down};
+use hd_base::{List, Memory};
+use hd_check::Certificate;
+use hd_map::{Heights, Pos, Rank, Side, index_of, position_of};
+use std::alloc::Global;
+
+/// The certificate of two different pits and their saddle.
+///
+/// Of the paths from the first to the second with that top, its path is one with the fewest points,
+/// and of those with the fewest the first by the list of indexes. Its cut is the points that are
+/// reached from the first by paths wholly below the saddle, or by any path where there is no saddle.
+/// The certificate is right. It takes 9 bytes a point and the queue, and time in proportion to the
+/// points. `Memory` comes where it is refused that memory.
+pub fn certify<S: Side, G: Heights>(
+    alloc: Global,
+    grid: &G,
+    from: Pos,
+    to: Pos,
+    saddle: Option<Rank>,
+) -> Result<Certificate, Memory>
+    requires pits { AreTwoPits (G.map grid.now) S.NAME from to }
+    requires saddle { SaddleIs (G.map grid.now) S.NAME (rank (G.map grid.now) from) (rank (G.map grid.now) to) saddle }
+    ensures shown { IfOk result (IsShownCertificate (G.map grid.now) S.NAME from to saddle) }
+    ensures right { IfOk result (IsRight (G.map grid.now)) }
+{
+    make::<S, G>(alloc, grid, from, to, saddle)
+}
+
+// The certificate by positions.
+fn make<S: Side, G: Heights>(
+    alloc: Global,
+    grid: &G,
+    from: Pos,
+    to: Pos,
+    saddle: Option<Rank>,
+) -> Result<Certificate, Memory>
+    requires pits { AreTwoPits (G.map grid.now) S.NAME from to }
+    requires saddle { SaddleIs (G.map grid.now) S.NAME (rank (G.map grid.now) from) (rank (G.map grid.now) to) saddle }
+    ensures { IfOk result (IsMade (G.map grid.now) S.NAME from to saddle) }
+{
+    let cut = shown_cut::<S, G>(alloc, grid, from, saddle)?;
+    match saddle {
+        None => Ok(Certificate {
+            side: S::NAME,
+            from,
+            to,
+            saddle: None,
+            path: List::new(alloc),
+            cut,
+        }),
+        Some(top) => {
+            let path = shown_path::<S, G>(alloc, grid, from, to, top)?;
+            Ok(Certificate {
+                side: S::NAME,
+                from,
+                to,
+                saddle: Some(written(grid, top)),
+                path,
+                cut,
+            })
+        }
+    }
+}
+
+// The shown path of two points.
+fn shown_path<S: Side, G: Heights>(
+    alloc: Global,
+    grid: &G,
+    from: Pos,
+    to: Pos,
+    saddle: Rank,
+) -> Result<List<Pos>, Memory>
+    requires here { Present (G.map grid.now) from }
+    requires there { Present (G.map grid.now) to }
+    requires saddle { IsSaddle (G.map grid.now) S.NAME (rank (G.map grid.now) from) (rank (G.map grid.now) to) saddle }
+    ensures { IfOk result (IsShownRoute (G.map grid.now) S.NAME from to saddle) }
+{
+    let marks = marks_within::<S, G>(alloc, grid, Some(saddle), false)?;
+    let steps = steps_from(alloc, grid, marks.as_slice(), to, Some(from))?;
+    let count = steps[index_of(grid.size(), from) as usize].unwrap_or(0);
+    path_down(alloc, grid, steps.as_slice(), from, count)
+}
+
+// The shown cut of a point that lies below the saddle.
+fn shown_cut<S: Side, G: Heights>(
+    alloc: Global,
+    grid: &G,
+    from: Pos,
+    saddle: Option<Rank>,
+) -> Result<List<Pos>, Memory>
+    requires here { Present (G.map grid.now) from }
+    requires low { within S.NAME saddle true (rank (G.map grid.now) from) ≡ true }
+    ensures { IfOk result (IsRouteCut (G.map grid.now) S.NAME saddle from) }
+{
+    let marks = marks_within::<S, G>(alloc, grid, saddle, true)?;
+    let steps = steps_from(alloc, grid, marks.as_slice(), from, None)?;
+    listed(alloc, grid.size(), steps.as_slice())
+}
+
+// The position and the height of a saddle.
+fn written<G: Heights>(grid: &G, saddle: Rank) -> (Pos, i64)
+    requires { IsPoint (G.map grid.now) saddle }
+    ensures { IsWritten (G.map grid.now) (Some saddle) (Some result) }
+{
+    (position_of(grid.size(), saddle.index), saddle.height)
+}
