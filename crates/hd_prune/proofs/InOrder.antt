@@ -1,0 +1,71 @@
+-- Pits in position order.
+use Rattle.std.proofs.Common.{◌≡◌, ◌≢◌, ℕ, zero, suc, ◌+◌, ◌<◌, Bool, true, false, List, [], ◌∷◌, ◌++◌, length, get_or, drop, Some, refl, sym, ◌∙◌, ap, subst, arith, slice_get, add-one, append_assoc}
+use Rattle.std.specs.Prelude.{Contains, AllPairs, nat_lt, ◌↔◌}
+use Rattle.std.specs.Cmp.{IsStrictWeakOrder}
+use Rattle.std.specs.List.Sorted.{IsPermutation, IsSortedBy}
+use Rattle.std.proofs.lemmas.Bool.Decides.{nat_tests}
+use Rattle.std.proofs.lemmas.List.Sorted.{sorted_far, Contains-permutation, IsPermutation-sym}
+use Rattle.std.proofs.Math.Seq.{drop-cons}
+use Rattle.std.proofs.lemmas.Map.Keys.{IsDistinct-IsPermutation}
+use Rattle.std.proofs.lemmas.Map.Made.{AllPairs-from_IsDistinct, IsDistinct-from_AllPairs}
+use Rattle.std.proofs.lemmas.List.Elements.{Contains-get_or}
+use Rattle.std.proofs.lemmas.Option.{same_Some}
+use Rattle.hd_map.specs.declared.types.Rank.{Rank}
+use Rattle.hd_map.specs.Map.{Map}
+use Rattle.hd_map.specs.Order.{IsStrictOrder}
+use Rattle.hd_map.specs.Rank.{IsPoint}
+use Rattle.hd_prune.specs.declared.line.PitStop.{PitStop}
+use Rattle.hd_prune.specs.declared.step.Owned.{Owned}
+use Rattle.hd_prune.specs.Line.{pits_of}
+use Rattle.hd_prune.proofs.Links.{one_point}
+use Rattle.hd_prune.proofs.Places.{one_place, pairs_from_places}
+use Rattle.hd_prune.proofs.Ordered.{same_test, same_test-decides, same_test-flips}
+use Rattle.hd_prune.specs.Pruned.{AreInOrder, index_less, owned_by}
+
+pub index-order : IsStrictWeakOrder index_less
+index-order = record {
+  one_way = λ x y h. grind (arith, nat_tests);
+  chain = λ x y z h k. grind (arith, nat_tests);
+}
+
+pub in_order : (raw pits ys : List Rank) → pits ≡ raw → IsPermutation pits ys → IsSortedBy index_less ys → AreInOrder raw ys
+in_order raw pits ys e moved sorted = record { same = subst (λ (zs : List Rank). IsPermutation zs ys) e moved; sorted = sorted }
+
+-- they are the same pits
+pub in_order-same : (raw pits : List Rank) → AreInOrder raw pits → (p : Rank) → Contains raw p ↔ Contains pits p
+in_order-same raw pits h p = (λ at. Contains-permutation raw pits p h.same at, λ at. Contains-permutation pits raw p (IsPermutation-sym raw pits h.same) at)
+
+pits_at : (line : List PitStop) (i : ℕ) (p : Rank) → slice_get (pits_of line) i ≡ Some p → (y : PitStop) × (slice_get line i ≡ Some y) × (y.pit ≡ p)
+pits_at [] i p h = absurd (cc h)
+pits_at (x ∷ xs) zero p h = (x, refl, same_Some x.pit p h)
+pits_at (x ∷ xs) (suc i) p h = pits_at xs i p h
+
+-- pits of a line that has each once are different
+pub pits-apart : (line : List PitStop) → AllPairs (λ x y. x.pit ≢ y.pit) line → AllPairs (λ p q. p ≢ q) (pits_of line)
+pits-apart line once = pairs_from_places (λ (p : Rank). p) (pits_of line) (λ i j p q ati atj e.
+    let a = pits_at line i p ati in
+    let b = pits_at line j q atj in
+    one_place (λ (z : PitStop). z.pit) line once i j a.0 b.0 a.1 b.1 (a.2 ∙ e ∙ sym b.2))
+
+at_least : (a b : ℕ) → nat_lt b a ≡ false → a ≢ b → a < b
+at_least a b h ne = elim (nat_lt a b) as (λ v. nat_lt a b ≡ v → a < b) [
+  | true ↦ λ e. grind (arith, nat_tests)
+  | false ↦ λ e. absurd (ne (grind (arith, nat_tests)))
+] refl
+
+-- different points in position order stand by rising index
+pub in_order-rises : (m : Map) (below : Rank → Rank → Bool) (order : IsStrictOrder below) (raw pits : List Rank) → AllPairs (λ p q. p ≢ q) raw → AreInOrder raw pits → ((p : Rank) → Contains pits p → IsPoint m p) → AllPairs (λ a b. a.index < b.index) pits
+in_order-rises m below order raw pits apart h points =
+    let once = IsDistinct-IsPermutation (same_test below order) (same_test-flips below order) raw pits h.same (IsDistinct-from_AllPairs (same_test-decides below order) raw apart) in
+    let differ = AllPairs-from_IsDistinct (same_test-decides below order) pits once in
+    λ i j d lt len. at_least (get_or pits i d).index (get_or pits j d).index (sorted_far index_less index-order pits h.sorted i j d (omega arith) len)
+    (λ e. differ i j d lt len (one_point m (get_or pits i d) (get_or pits j d) (points (get_or pits i d) (Contains-get_or pits i d (omega arith))) (points (get_or pits j d) (Contains-get_or pits j d len)) e))
+
+-- one more owner
+pub owned-more : (owner : Rank → Rank) (pits : List Rank) (i : ℕ) (d o : Rank) (old new all : List Owned) → i < length pits → new ≡ old ++ record { pit = get_or pits i d; owner = o } ∷ [] → o ≡ owner (get_or pits i d) →
+    old ++ owned_by owner (drop i pits) ≡ all → new ++ owned_by owner (drop (i + 1) pits) ≡ all
+owned-more owner pits i d o old new all inside e is so =
+    let x : Rank = get_or pits i d in
+    let one : drop i pits ≡ x ∷ drop (suc i) pits = drop-cons pits i d inside in
+    let split : owned_by owner (drop i pits) ≡ record { pit = x; owner = owner x } ∷ owned_by owner (drop (suc i) pits) = ap (owned_by owner) one in
+    rw (add-one, e, is, append_assoc, ← split) so

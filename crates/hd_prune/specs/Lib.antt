@@ -1,0 +1,11 @@
+pub mod Levels
+pub mod Elder
+pub mod Line
+pub mod Heights
+pub mod Leaving
+pub mod Around
+pub mod Taken
+pub mod Pruned
+pub mod Kept
+pub mod Answer
+pub mod Literal

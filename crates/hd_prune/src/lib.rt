@@ -1,0 +1,20 @@
+//! Wolf pruning of the pits of a surface, after ISO 25178-2.
+#![tactic(auto)]
+
+mod around;
+mod elders;
+mod kept;
+mod laws;
+mod leaving;
+mod line;
+mod order;
+mod pruning;
+mod step;
+mod taking;
+#[cfg(test)]
+mod tests;
+
+pub use around::Around;
+pub use laws::{pruning_is_nested, pruning_keeps_what_is_not_undercut};
+pub use pruning::{Pruned, prune};
+pub use step::{Kept, Owned, Step};

@@ -1,0 +1,78 @@
+// Wolf pruning.
+ghost use Rattle.std.specs.Prelude.{◌≡◌, IfOk};
+ghost use Rattle.hd_map.specs.Pruning.{SzIs};
+ghost use Rattle.hd_graph.specs.Tells.{TellsSaddles};
+ghost use Rattle.hd_prune.specs.Answer.{IsPruned};
+ghost use Rattle.hd_prune.specs.Kept.{AreNotUndercut};
+
+use crate::around::Around;
+use crate::kept::kept_in_order;
+use crate::leaving::{Limit, steps};
+use crate::line::{left_line, pit_line};
+use crate::order::{owners, pits_in_order};
+use crate::step::{Kept, Owned, Step};
+use crate::taking::take_over;
+use hd_base::{List, Memory};
+use hd_graph::FloodLine;
+use hd_map::Side;
+use hd_num::Percent;
+use std::alloc::Global;
+
+/// What pruning gives.
+#[derive(Debug, Drop)]
+pub struct Pruned {
+    /// The steps, in order.
+    pub steps: List<Step>,
+    /// The kept pits with their nearest saddles, in position order.
+    pub kept: List<Kept>,
+    /// All pits with their owners, in position order.
+    pub owners: List<Owned>,
+}
+
+/// Prunes the pits of a map at a percent of Sz: as long as the smallest local height of a pit is below
+/// it, that pit leaves, and the pit across its nearest saddle takes over what it owned (Wolf pruning of
+/// ISO 25178-2). The line tells the pits of the map and their saddles; `sz` is the greatest height of a
+/// present point less the least.
+pub fn prune<S: Side, A: Around>(
+    alloc: Global,
+    line: &FloodLine<S>,
+    around: &A,
+    percent: Percent,
+    sz: i64,
+) -> Result<Pruned, Memory>
+    requires side { A.side around.now ≡ S.NAME }
+    requires told { TellsSaddles (A.map around.now) S.NAME line.now }
+    requires sz { SzIs (A.map around.now) sz }
+    ensures pruned { IfOk result (λ pruned. IsPruned (A.map around.now) S.NAME percent.thousandths pruned.steps pruned.kept pruned.owners) }
+    ensures undercut { IfOk result (λ pruned. AreNotUndercut (A.map around.now) S.NAME percent.thousandths sz pruned.kept) }
+{
+    let limit = Limit { percent, sz };
+    prune_below::<S, A>(alloc, line, around, &limit)
+}
+
+// The same, below a limit.
+fn prune_below<S: Side, A: Around>(
+    alloc: Global,
+    line: &FloodLine<S>,
+    around: &A,
+    limit: &Limit,
+) -> Result<Pruned, Memory>
+    requires side { A.side around.now ≡ S.NAME }
+    requires told { TellsSaddles (A.map around.now) S.NAME line.now }
+    requires sz { SzIs (A.map around.now) limit.now.sz }
+    ensures pruned { IfOk result (λ pruned. IsPruned (A.map around.now) S.NAME limit.now.percent.thousandths pruned.steps pruned.kept pruned.owners) }
+    ensures undercut { IfOk result (λ pruned. AreNotUndercut (A.map around.now) S.NAME limit.now.percent.thousandths limit.now.sz pruned.kept) }
+{
+    let pits = pit_line::<S>(alloc, line.stops())?;
+    let leavers = steps::<S>(alloc, &pits, limit)?;
+    let mut taken = take_over::<S, A>(alloc, around, line, limit, &leavers)?;
+    let left = left_line::<S>(alloc, line.stops(), &taken.links)?;
+    let kept = kept_in_order::<S>(alloc, &left)?;
+    let sorted = pits_in_order(alloc, &pits)?;
+    let owners = owners::<S, A>(alloc, around, &mut taken.links, &sorted)?;
+    Ok(Pruned {
+        steps: taken.steps,
+        kept,
+        owners,
+    })
+}
