@@ -1,0 +1,3 @@
+pub mod Bounds
+pub mod Cuts
+pub mod Values

@@ -1,0 +1,6 @@
+use Rattle.std.proofs.Common.{◌≡◌, take, get_or, fold, pos}
+use Rattle.std.specs.Int.{int_max}
+use Rattle.hd_feature.proofs.statistic.greatest.Given as goal
+
+abbrev pub invariant-values : goal.invariant-values
+invariant-values l = l.greatest ≡ fold int_max (get_or l.values 0 (pos 0)) (take l.value-index l.values)

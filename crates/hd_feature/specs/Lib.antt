@@ -1,0 +1,5 @@
+pub mod Cut
+pub mod Notation
+pub mod Parameters
+pub mod Parts
+pub mod Value

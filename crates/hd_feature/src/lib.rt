@@ -1,0 +1,22 @@
+//! Feature parameters of the regions of a surface, after ISO 25178-2: the notation, the named
+//! parameters, and the value of a notation.
+#![tactic(auto)]
+
+mod laws;
+mod names;
+mod notation;
+mod parts;
+mod reading;
+mod region;
+mod significance;
+mod statistic;
+#[cfg(test)]
+mod tests;
+mod value;
+
+pub use laws::mean_height_is_small;
+pub use names::named;
+pub use notation::{Attribute, Kind, Notation, NotationError, Parameter, Significance, Statistic};
+pub use reading::read_notation;
+pub use region::Region;
+pub use value::evaluate;
