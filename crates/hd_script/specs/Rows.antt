@@ -1,12 +1,12 @@
 -- The command that the words after each name make, word 2 being the first of them.
-use Rattle.std.specs.Prelude.{◌*◌, ◌==◌, ℕ, List, [], ◌∷◌, length, Result, Ok, Err, if◌then◌else◌}
+use Rattle.std.specs.Prelude.{◌*◌, ◌==◌, ℕ, List, [], ◌∷◌, length, Some, None, Result, Ok, Err, if◌then◌else◌}
 use Rattle.hd_edit.specs.declared.edit.Edit.{Edit}
 use Rattle.hd_edit.specs.declared.edit.Edit.TheVariants.{Set, Bad, Add, Mask, Unmask}
 use Rattle.hd_script.specs.declared.command.Command.{Command}
-use Rattle.hd_script.specs.declared.command.Command.TheVariants.{Do, Undo, Element, Label, Tree}
+use Rattle.hd_script.specs.declared.command.Command.TheVariants.{Do, Undo, Element, Label, Saddle, Tree, Prune, Param, Feature}
 use Rattle.hd_script.specs.declared.command.LineError.{LineError}
 use Rattle.hd_script.specs.declared.command.LineError.TheVariants.{WordCount}
-use Rattle.hd_script.specs.Words.{and_then, count_word, whole_word, side_word, name_word, position_words, corner_words, entry_words}
+use Rattle.hd_script.specs.Words.{and_then, count_word, whole_word, side_word, name_word, percent_word, position_words, corner_words, entry_words}
 
 -- what the words after a name give
 abbrev pub Reading : Type 0
@@ -64,7 +64,28 @@ abbrev pub label_words : Reading
 label_words (side ∷ x ∷ y ∷ []) = and_then (side_word 2 side) (λ name. and_then (position_words 3 x y) (λ at. Ok (Label name at)))
 label_words words = Err WordCount
 
+-- `saddle S X Y X Y`
+abbrev pub saddle_words : Reading
+saddle_words (side ∷ x ∷ y ∷ x' ∷ y' ∷ []) = and_then (side_word 2 side) (λ name. and_then (position_words 3 x y) (λ a. and_then (position_words 5 x' y') (λ b. Ok (Saddle name a b))))
+saddle_words words = Err WordCount
+
 -- `tree S`
 abbrev pub tree_words : Reading
 tree_words (side ∷ []) = and_then (side_word 2 side) (λ name. Ok (Tree name))
 tree_words words = Err WordCount
+
+-- `prune S P`
+abbrev pub prune_words : Reading
+prune_words (side ∷ p ∷ []) = and_then (side_word 2 side) (λ name. and_then (percent_word 3 p) (λ percent. Ok (Prune name percent)))
+prune_words words = Err WordCount
+
+-- `param NAME` or `param NAME C`
+abbrev pub param_words : Reading
+param_words (name ∷ []) = Ok (Param name None)
+param_words (name ∷ c ∷ []) = and_then (whole_word 3 c) (λ height. Ok (Param name (Some height)))
+param_words words = Err WordCount
+
+-- `feature WORD`
+abbrev pub feature_words : Reading
+feature_words (word ∷ []) = Ok (Feature word)
+feature_words words = Err WordCount

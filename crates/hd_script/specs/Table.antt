@@ -1,12 +1,10 @@
 -- The table of the commands.
-use Rattle.std.specs.Prelude.{ℕ, List, [], ◌∷◌, codes, Result, Err, if◌then◌else◌}
+use Rattle.std.specs.Prelude.{ℕ, List, [], ◌∷◌, codes, Err, if◌then◌else◌}
 use Rattle.std.specs.Str.{bytes_eq}
 use Rattle.hd_edit.specs.declared.edit.Edit.TheVariants.{Dilate, Erode, Open, Close}
-use Rattle.hd_script.specs.declared.command.Command.{Command}
 use Rattle.hd_script.specs.declared.command.Command.TheVariants.{Elements, Info, Dales, Hills}
-use Rattle.hd_script.specs.declared.command.LineError.{LineError}
 use Rattle.hd_script.specs.declared.command.LineError.TheVariants.{UnknownCommand}
-use Rattle.hd_script.specs.Rows.{Reading, no_words, set_words, bad_words, add_words, mask_words, unmask_words, filter_words, undo_words, element_words, label_words, tree_words}
+use Rattle.hd_script.specs.Rows.{Reading, no_words, set_words, bad_words, add_words, mask_words, unmask_words, filter_words, undo_words, element_words, label_words, saddle_words, tree_words, prune_words, param_words, feature_words}
 
 -- a row of the table: the name of a command, and what the words after it give
 pub record Row : Type 0 where
@@ -34,7 +32,11 @@ commands = row (codes "set") set_words
     ∷ row (codes "dales") (no_words Dales)
     ∷ row (codes "hills") (no_words Hills)
     ∷ row (codes "label") label_words
+    ∷ row (codes "saddle") saddle_words
     ∷ row (codes "tree") tree_words
+    ∷ row (codes "prune") prune_words
+    ∷ row (codes "param") param_words
+    ∷ row (codes "feature") feature_words
     ∷ []
 
 -- what the words after a name give, by the first row of that name

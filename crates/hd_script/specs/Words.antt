@@ -1,5 +1,5 @@
 -- What the words of a line write, or the first of them that has not its form.
-use Rattle.std.specs.Prelude.{◌+◌, ◌==◌, ◌&&◌, ◌||◌, ◌≡◌, ℕ, ℤ, pos, negsuc, Bool, nat_le, nat_lt, int_le, List, [], ◌∷◌, length, codes, Option, Some, None, Result, Ok, Err, if◌then◌else◌}
+use Rattle.std.specs.Prelude.{◌+◌, ◌==◌, ◌&&◌, ◌||◌, ℕ, ℤ, pos, negsuc, Bool, nat_le, int_le, List, [], ◌∷◌, length, codes, Option, Some, None, Result, Ok, Err, if◌then◌else◌}
 use Rattle.std.specs.Char.{is_ascii_alphanumeric}
 use Rattle.std.specs.List.{list_all}
 use Rattle.std.specs.Str.{bytes_eq}
@@ -8,6 +8,8 @@ use Rattle.hd_map.specs.declared.types.SideName.{SideName}
 use Rattle.hd_map.specs.declared.types.SideName.TheVariants.{Dales, Hills}
 use Rattle.hd_num.specs.declared.whole.Whole.{Whole}
 use Rattle.hd_num.specs.declared.whole.Whole.TheVariants as whole
+use Rattle.hd_num.specs.declared.percent.Percent.{Percent}
+use Rattle.hd_num.specs.Percent.{percent_of}
 use Rattle.hd_num.specs.Whole.{count_of, whole_of}
 use Rattle.hd_script.specs.declared.command.LineError.{LineError}
 use Rattle.hd_script.specs.declared.command.LineError.TheVariants.{BadWord}
@@ -60,6 +62,9 @@ whole_word number word = read_or_bad number (fitting (whole_of word))
 
 abbrev pub side_word : ℕ → List ℕ → Result SideName LineError
 side_word number word = read_or_bad number (side_of word)
+
+unfoldable pub percent_word : ℕ → List ℕ → Result Percent LineError
+percent_word number word = read_or_bad number (percent_of word)
 
 abbrev pub name_word : ℕ → List ℕ → Result (List ℕ) LineError
 name_word number word = read_or_bad number (name_of word)

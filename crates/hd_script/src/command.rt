@@ -5,6 +5,7 @@ ghost use Rattle.hd_script.specs.declared.command.LineError.TheVariants.{Memory 
 use hd_base::{List, Memory};
 use hd_edit::Edit;
 use hd_map::{Pos, SideName};
+use hd_num::Percent;
 use thiserror::Error;
 
 /// What a line of a script asks for.
@@ -34,9 +35,29 @@ pub enum Command {
         side: SideName,
         at: Pos,
     },
+    /// The certificate of the saddle of two points on a side.
+    Saddle {
+        side: SideName,
+        a: Pos,
+        b: Pos,
+    },
     /// The change tree of a side.
     Tree {
         side: SideName,
+    },
+    /// The pruning of a side at a percent.
+    Prune {
+        side: SideName,
+        percent: Percent,
+    },
+    /// The parameter of a name, at a height where one is given.
+    Param {
+        name: List<u8>,
+        height: Option<i64>,
+    },
+    /// The value of a feature notation.
+    Feature {
+        word: List<u8>,
     },
 }
 

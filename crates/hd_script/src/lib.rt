@@ -5,6 +5,7 @@ mod command;
 mod element;
 mod filters;
 mod line;
+mod parameters;
 mod rows;
 #[cfg(test)]
 mod tests;

@@ -7,9 +7,10 @@ ghost use Rattle.hd_script.specs.Whole.{IsWhole, IsWholeIfAny};
 
 use crate::element::element_words;
 use crate::filters::{close_words, dilate_words, erode_words, open_words};
+use crate::parameters::{feature_words, param_words};
 use crate::rows::{
-    add_words, bad_words, label_words, mask_words, no_words, set_words, tree_words, undo_words,
-    unmask_words,
+    add_words, bad_words, label_words, mask_words, no_words, prune_words, saddle_words, set_words,
+    tree_words, undo_words, unmask_words,
 };
 use crate::words::text;
 use crate::{Command, LineError};
@@ -108,8 +109,16 @@ fn read_command(
         no_words(line, words, Command::Hills)
     } else if name == b"label".as_slice() {
         label_words(line, words)
+    } else if name == b"saddle".as_slice() {
+        saddle_words(line, words)
     } else if name == b"tree".as_slice() {
         tree_words(line, words)
+    } else if name == b"prune".as_slice() {
+        prune_words(line, words)
+    } else if name == b"param".as_slice() {
+        param_words(alloc, line, words)
+    } else if name == b"feature".as_slice() {
+        feature_words(alloc, line, words)
     } else {
         Err(LineError::UnknownCommand)
     }

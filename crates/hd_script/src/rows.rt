@@ -2,9 +2,11 @@
 ghost use Rattle.std.specs.Prelude.{◌≡◌, ◌∷◌, [], All, IfOk, map};
 ghost use Rattle.hd_script.specs.Whole.{IsWhole};
 ghost use Rattle.hd_num.specs.Span.{IsPart, text_at};
-ghost use Rattle.hd_script.specs.Rows.{add_words, bad_words, label_words, mask_words, no_words, set_words, tree_words, undo_words, unmask_words};
+ghost use Rattle.hd_script.specs.Rows.{add_words, bad_words, label_words, mask_words, no_words, prune_words, saddle_words, set_words, tree_words, undo_words, unmask_words};
 
-use crate::words::{corner_words, count_word, position_words, side_word, text, whole_word};
+use crate::words::{
+    corner_words, count_word, percent_word, position_words, side_word, text, whole_word,
+};
 use crate::{Command, LineError};
 use hd_edit::Edit;
 use hd_num::Span;
@@ -136,6 +138,37 @@ pub fn label_words(line: &[u8], words: &[Span]) -> Result<Command, LineError>
     Ok(Command::Label { side, at })
 }
 
+/// `saddle S X Y X Y`.
+pub fn saddle_words(line: &[u8], words: &[Span]) -> Result<Command, LineError>
+    requires { All (IsPart line.now) words.now }
+    ensures value { result ≡ saddle_words (map (text_at line.now) words.now) }
+    ensures whole { IfOk result IsWhole }
+{
+    let [side, x, y, other_x, other_y] = words else {
+        return Err(LineError::WordCount);
+    };
+    let (x, y) = (text(line, *x), text(line, *y));
+    let (other_x, other_y) = (text(line, *other_x), text(line, *other_y));
+    saddle_command(text(line, *side), x, y, other_x, other_y)
+}
+
+// The command of the five words after `saddle`.
+fn saddle_command(
+    side: &[u8],
+    x: &[u8],
+    y: &[u8],
+    other_x: &[u8],
+    other_y: &[u8],
+) -> Result<Command, LineError>
+    ensures value { result ≡ saddle_words (side.now ∷ x.now ∷ y.now ∷ other_x.now ∷ other_y.now ∷ []) }
+    ensures whole { IfOk result IsWhole }
+{
+    let side = side_word(2, side)?;
+    let a = position_words(3, x, y)?;
+    let b = position_words(5, other_x, other_y)?;
+    Ok(Command::Saddle { side, a, b })
+}
+
 /// `tree S`.
 pub fn tree_words(line: &[u8], words: &[Span]) -> Result<Command, LineError>
     requires { All (IsPart line.now) words.now }
@@ -147,4 +180,18 @@ pub fn tree_words(line: &[u8], words: &[Span]) -> Result<Command, LineError>
     };
     let side = side_word(2, text(line, *side))?;
     Ok(Command::Tree { side })
+}
+
+/// `prune S P`.
+pub fn prune_words(line: &[u8], words: &[Span]) -> Result<Command, LineError>
+    requires { All (IsPart line.now) words.now }
+    ensures value { result ≡ prune_words (map (text_at line.now) words.now) }
+    ensures whole { IfOk result IsWhole }
+{
+    let [side, percent] = words else {
+        return Err(LineError::WordCount);
+    };
+    let side = side_word(2, text(line, *side))?;
+    let percent = percent_word(3, text(line, *percent))?;
+    Ok(Command::Prune { side, percent })
 }

@@ -2,6 +2,7 @@
 use crate::{Command, LineError, read_line};
 use hd_edit::Edit;
 use hd_map::{Pos, SideName};
+use hd_num::Percent;
 use std::alloc::Global;
 use std::test::Fail;
 
@@ -116,6 +117,54 @@ fn reports(rt: HostRuntime) -> Result<(), Fail> {
 }
 
 #[test]
+fn saddles_prunings_and_parameters(rt: HostRuntime) -> Result<(), Fail> {
+    let read = read_line(rt.alloc(), b"saddle H 1 2 3 4");
+    assert!(rt;
+        matches!(
+            read,
+            Ok(Some(Command::Saddle {
+                side: SideName::Hills,
+                a: Pos { x: 1, y: 2 },
+                b: Pos { x: 3, y: 4 }
+            }))
+        )
+    );
+    let read = read_line(rt.alloc(), b"prune D 5.50%");
+    assert!(rt;
+        matches!(
+            read,
+            Ok(Some(Command::Prune {
+                side: SideName::Dales,
+                percent: Percent { thousandths: 5500 }
+            }))
+        )
+    );
+    let read = read_line(rt.alloc(), b"param Sda -1");
+    let Ok(
+        Some(
+            Command::Param {
+                name,
+                height: Some(-1),
+            },
+        ),
+    ) = read
+    else {
+        return Err("no parameter at a height".into());
+    };
+    assert_eq!(rt; name.as_slice(), b"Sda".as_slice());
+    let read = read_line(rt.alloc(), b"param Foo");
+    let Ok(Some(Command::Param { name, height: None })) = read else {
+        return Err("no parameter".into());
+    };
+    assert_eq!(rt; name.as_slice(), b"Foo".as_slice());
+    let Ok(Some(Command::Feature { word })) = read_line(rt.alloc(), b"feature FC;D") else {
+        return Err("no feature".into());
+    };
+    assert_eq!(rt; word.as_slice(), b"FC;D".as_slice());
+    Ok(())
+}
+
+#[test]
 fn an_element_has_a_name_and_a_table(rt: HostRuntime) -> Result<(), Fail> {
     let read = read_line(rt.alloc(), b"element f_-9 3 1 -4294967295 - +4294967295");
     let Ok(
@@ -159,7 +208,7 @@ fn lines_that_are_skipped(rt: HostRuntime) -> Result<(), Fail> {
 
 #[test]
 fn lines_that_are_refused(rt: HostRuntime) -> Result<(), Fail> {
-    let cases: [(&[u8], LineError); 48] = [
+    let cases: [(&[u8], LineError); 58] = [
         (b"run", LineError::UnknownCommand),
         (b"Dales", LineError::UnknownCommand),
         (b"SET 1 2 3", LineError::UnknownCommand),
@@ -198,6 +247,16 @@ fn lines_that_are_refused(rt: HostRuntime) -> Result<(), Fail> {
         (b"label D 1 -2", LineError::BadWord(4)),
         (b"tree", LineError::WordCount),
         (b"tree DH", LineError::BadWord(2)),
+        (b"saddle D 0 0 2", LineError::WordCount),
+        (b"saddle X 0 0 2 0", LineError::BadWord(2)),
+        (b"saddle D 0 0 x y", LineError::BadWord(5)),
+        (b"prune D", LineError::WordCount),
+        (b"prune D 101%", LineError::BadWord(3)),
+        (b"prune D 5", LineError::BadWord(3)),
+        (b"prune D 5.1234%", LineError::BadWord(3)),
+        (b"param", LineError::WordCount),
+        (b"param Sda x", LineError::BadWord(3)),
+        (b"feature FC; D", LineError::WordCount),
         (b"undo -1", LineError::BadWord(2)),
         (b"element f 1", LineError::WordCount),
         (b"element f! 1 1 0", LineError::BadWord(2)),

@@ -1,14 +1,14 @@
 // What the words of a line write.
-ghost use Rattle.std.specs.Prelude.{◌≡◌, ◌⊎◌, ◌<◌, ◌^◌, ◌&&◌, Err, IfOk, length, nat_le};
+ghost use Rattle.std.specs.Prelude.{◌≡◌, ◌⊎◌, ◌<◌, ◌^◌, ◌&&◌, Ok, Err, IfOk, length, nat_le};
 ghost use Rattle.hd_morph.specs.Element.{IsEntry};
 ghost use Rattle.hd_num.specs.Span.{IsPart, text_at};
 ghost use Rattle.std.specs.List.{list_all};
-ghost use Rattle.hd_script.specs.Words.{corner_words, count_word, entry_word, is_name_byte, name_word, position_words, side_word, whole_word};
+ghost use Rattle.hd_script.specs.Words.{corner_words, count_word, entry_word, is_name_byte, name_word, percent_word, position_words, side_word, whole_word};
 
 use crate::LineError;
 use hd_base::List;
 use hd_map::{Pos, SideName};
-use hd_num::{Span, Whole, read_count, read_whole};
+use hd_num::{Percent, Span, Whole, read_count, read_percent, read_whole};
 use std::alloc::Global;
 
 // The greatest absolute value of an entry of an element.
@@ -50,6 +50,17 @@ pub fn side_word(number: u32, word: &[u8]) -> Result<SideName, LineError>
         b"D" => Ok(SideName::Dales),
         b"H" => Ok(SideName::Hills),
         _ => Err(LineError::BadWord(number)),
+    }
+}
+
+/// The percent that the word of a number writes.
+#[tactic(auto, unfolding(crate::specs::Words::percent_word))]
+pub fn percent_word(number: u32, word: &[u8]) -> Result<Percent, LineError>
+    ensures { result ≡ percent_word number word.now }
+{
+    match read_percent(word) {
+        Some(percent) => Ok(percent),
+        None => Err(LineError::BadWord(number)),
     }
 }
 
@@ -102,6 +113,15 @@ pub fn entry_word(number: u32, word: &[u8]) -> Result<Option<i64>, LineError>
         Whole::Is(z) if -GREATEST_ENTRY <= z && z <= GREATEST_ENTRY => Ok(Some(z)),
         _ => Err(LineError::BadWord(number)),
     }
+}
+
+/// A word as it stands. `Memory` comes where its bytes are refused their memory.
+pub fn whole_text(alloc: Global, word: &[u8]) -> Result<List<u8>, LineError>
+    ensures value { (result ≡ Err LineError.Memory) ⊎ (result ≡ Ok word.now) }
+{
+    let mut text = List::new(alloc);
+    text.extend_from_slice(word)?;
+    Ok(text)
 }
 
 // Whether a word is a name.
