@@ -33,3 +33,8 @@ edit_refused s number edit error new reply after unlike applies is state =
 pub if_both : {T E : Type 0} (r : Result T E) {P Q R : T → Type 0} → IfOk r P → IfOk r Q → ((x : T) → P x → Q x → R x) → IfOk r R
 if_both (Ok x) p q f = f x p q
 if_both (Err e) p q f = tt
+
+-- and from one
+pub if_ok : {T E : Type 0} (r : Result T E) {P R : T → Type 0} → IfOk r P → ((x : T) → P x → R x) → IfOk r R
+if_ok (Ok x) p f = f x p
+if_ok (Err e) p f = tt

@@ -1,21 +1,27 @@
 -- A line leaves maps: the present one, and each earlier one.
-use Rattle.std.proofs.Common.{◌≡◌, ℕ, List, Option, Some, None, Result, Ok, Err, ◌⊎◌, inl, inr, refl, sym, ◌∙◌, subst}
-use Rattle.std.specs.Prelude.{All}
+use Rattle.std.proofs.Common.{ℕ, List, Option, Some, None, Result, Ok, Err, inl, inr, sym, subst}
+use Rattle.std.specs.Prelude.{All, ℤ}
 use Rattle.hd_map.specs.Map.{Map, IsMap}
 use Rattle.hd_edit.specs.declared.edit.Edit.{Edit}
 use Rattle.hd_edit.specs.declared.edit.EditError.{EditError}
 use Rattle.hd_morph.specs.declared.errors.ElementError.{ElementError}
 use Rattle.hd_morph.specs.Element.{ElementTable}
 use Rattle.hd_edit.specs.Board.{IsEdited, kept_after, map_before, earlier_before}
+use Rattle.hd_feature.specs.declared.notation.Notation.{Notation}
+use Rattle.hd_feature.specs.declared.notation.NotationError.{NotationError}
+use Rattle.hd_feature.specs.declared.notation.Parameter.{Parameter}
+use Rattle.hd_feature.specs.Notation.{notation_of}
+use Rattle.hd_feature.specs.Parameters.{parameter_of}
 use Rattle.hd_script.specs.declared.command.Command.{Command}
 use Rattle.hd_script.specs.declared.command.Command.TheVariants as command
 use Rattle.hd_script.specs.declared.command.LineError.{LineError}
 use Rattle.hd_script.specs.Line.{script_line}
 use Rattle.hd_engine.specs.Answers.{IsCommandAnswer, IsReadAnswer, IsAnswer}
-use Rattle.hd_engine.specs.Edits.{IsOutcomeAnswer, IsUndoAnswer, edited_state, undone_state}
+use Rattle.hd_engine.specs.Edits.{IsOutcomeAnswer, IsUndoAnswer}
 use Rattle.hd_engine.specs.Elements.{IsMadeAnswer}
 use Rattle.hd_engine.specs.Regions.{IsLabelAnswer}
 use Rattle.hd_engine.specs.Reply.{Reply, Reports}
+use Rattle.hd_engine.specs.Values.{IsNamedAnswer, IsNotationAnswer}
 use Rattle.hd_engine.specs.State.{State, IsState}
 
 -- a state that stays is one still
@@ -49,6 +55,14 @@ module _ (keeps : KeepsMaps) (s : State) (number : ℕ) (reply : Reply) (after :
   label-keeps side at (inr (inl absent)) = stays s after _ reply whole absent.2
   label-keeps side at (inr (inr root)) = stays s after _ reply whole root.answer
 
+  param-keeps : (name : List ℕ) (height : Option ℤ) (p : Result Parameter NotationError) → IsNamedAnswer s number name height p reply after → IsState after
+  param-keeps name height (Ok p) is = stays s after _ reply whole is.answer
+  param-keeps name height (Err error) is = stays s after _ reply whole is
+
+  feature-keeps : (word : List ℕ) (n : Result Notation NotationError) → IsNotationAnswer s number word n reply after → IsState after
+  feature-keeps word (Ok n) is = stays s after _ reply whole is.answer
+  feature-keeps word (Err error) is = stays s after _ reply whole is
+
   command-keeps : (asked : Command) → IsCommandAnswer s number asked reply after → IsState after
   command-keeps (command.Do edit) is = outcome-keeps edit is.outcome is.edited is.answer
   command-keeps (command.Undo n) is = undo-keeps n is
@@ -58,7 +72,11 @@ module _ (keeps : KeepsMaps) (s : State) (number : ℕ) (reply : Reply) (after :
   command-keeps command.Dales is = stays s after _ reply whole is.answer
   command-keeps command.Hills is = stays s after _ reply whole is.answer
   command-keeps (command.Label side at) is = label-keeps side at is
+  command-keeps (command.Saddle name a b) is = subst IsState (sym is.stays) whole
   command-keeps (command.Tree side) is = stays s after _ reply whole is.answer
+  command-keeps (command.Prune name percent) is = stays s after _ reply whole is.answer
+  command-keeps (command.Param name height) is = param-keeps name height (parameter_of name height) is
+  command-keeps (command.Feature word) is = feature-keeps word (notation_of word) is
 
   read-keeps : (read : Result (Option Command) LineError) → IsReadAnswer s number read reply after → IsState after
   read-keeps (Err error) is = stays s after _ reply whole is

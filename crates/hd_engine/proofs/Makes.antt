@@ -1,5 +1,5 @@
 -- A table makes one element, or has one first cause for which it makes none.
-use Rattle.std.proofs.Common.{◌≡◌, ◌⊎◌, inl, inr, Result, Ok, Err, refl, sym, ap, ◌∙◌, subst, arith}
+use Rattle.std.proofs.Common.{◌≡◌, inl, inr, Result, Ok, Err, refl, sym, ap, ◌∙◌, subst, arith}
 use Rattle.hd_morph.specs.declared.errors.ElementError.{ElementError}
 use Rattle.hd_morph.specs.declared.errors.ElementError.TheVariants.{EvenSize, TooWide, NoOrigin}
 use Rattle.hd_morph.specs.Element.{ElementTable, HasEvenSize, IsOverWide, IsElement, IsElementRefusal, MakesElement}

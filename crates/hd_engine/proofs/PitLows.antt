@@ -10,7 +10,7 @@ use Rattle.hd_map.specs.declared.types.Pos.{Pos}
 use Rattle.hd_map.specs.declared.types.Rank.{Rank}
 use Rattle.hd_map.specs.declared.types.SideName.{SideName}
 use Rattle.hd_map.specs.Map.{Map, IsMap, InGrid, Present, place_of, position_at, cell_count}
-use Rattle.hd_map.specs.Rank.{IsPoint, rank}
+use Rattle.hd_map.specs.Rank.{rank}
 use Rattle.hd_map.specs.Region.{AreRegions, IsPit}
 use Rattle.hd_map.proofs.Points.{position_at-place, position_at-inside, place_inside, same_index, point_at}
 use Rattle.hd_map.proofs.Nexts.{root-is_pit, root-of_pit}

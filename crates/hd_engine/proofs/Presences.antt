@@ -1,5 +1,5 @@
 -- The present points among the first ones by index.
-use Rattle.std.proofs.Common.{◌≡◌, ◌≤◌, ◌+◌, ◌++◌, ◌∙◌, ℕ, ℤ, List, [], ◌∷◌, length, map, Option, Some, None, refl, ap, sym, subst, arith, append-nil}
+use Rattle.std.proofs.Common.{◌≡◌, ◌≤◌, ◌+◌, ◌++◌, ◌∙◌, ℕ, ℤ, List, [], ◌∷◌, map, Option, Some, None, refl, ap, sym, subst, arith, append-nil}
 use Rattle.std.specs.Prelude.{fold}
 use Rattle.std.specs.Int.{int_min, int_max}
 use Rattle.std.specs.List.{cons_option, filter_map, range_with_len}
@@ -9,19 +9,18 @@ use Rattle.std.proofs.lemmas.List.FromFn.{map-range_with_len_more}
 use Rattle.std.proofs.lemmas.List.Sums.{fold_push}
 use Rattle.hd_map.specs.Map.{Map, position_at}
 use Rattle.hd_morph.specs.Filter.{relief_of}
-use Rattle.hd_engine.specs.declared.info.HeightRange.{HeightRange}
 use Rattle.hd_engine.specs.declared.info.Presence.{Presence}
 use Rattle.hd_engine.specs.Info.{IsPresence, heights_below, range_of}
 use Rattle.hd_engine.specs.Presence.{presence_with, widened}
 
 -- the heights with that of one more point
-heights_more : (m : Map) (n : ℕ) → heights_below m (n + 1) ≡ heights_below m n ++ cons_option (relief_of m (position_at m.size n)) []
+pub heights_more : (m : Map) (n : ℕ) → heights_below m (n + 1) ≡ heights_below m n ++ cons_option (relief_of m (position_at m.size n)) []
 heights_more m n =
     ap (filter_map (relief_of m)) (map-range_with_len_more (position_at m.size) 0 n n (omega arith))
     ∙ filter_map-append (relief_of m) (map (position_at m.size) (range_with_len 0 n)) (position_at m.size n ∷ [])
 
 -- the range with one more height
-range_more : (heights : List ℤ) (height : ℤ) → range_of (heights ++ height ∷ []) ≡ Some (widened (range_of heights) height)
+pub range_more : (heights : List ℤ) (height : ℤ) → range_of (heights ++ height ∷ []) ≡ Some (widened (range_of heights) height)
 range_more [] height = refl
 range_more (first ∷ heights) height =
     ap (λ least. Some (record { least = least; greatest = fold int_max first (heights ++ height ∷ []) })) (fold_push int_min first heights height)

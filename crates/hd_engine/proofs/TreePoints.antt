@@ -1,5 +1,5 @@
 -- The saddles and pits of a change tree are points of the map.
-use Rattle.std.proofs.Common.{◌≡◌, ◌<◌, ◌++◌, ℕ, List, [], ◌∷◌, length, get_or, inl, inr, refl, sym, ap, ◌∙◌, subst, ◌⊎◌}
+use Rattle.std.proofs.Common.{◌≡◌, ◌<◌, ◌++◌, List, [], ◌∷◌, length, get_or, inl, inr, refl, sym, ap, ◌∙◌, subst}
 use Rattle.std.specs.Prelude.{All, map}
 use Rattle.std.specs.List.{Contains, flat_map}
 use Rattle.std.proofs.lemmas.List.{length-map}
@@ -19,11 +19,11 @@ use Rattle.hd_graph.specs.declared.trees.Join.{Join}
 use Rattle.hd_engine.specs.Trees.{IsJoinInside, joining_of, join_line, tree_heading, tree_text}
 
 -- the index of a point is less than the number of cells
-point_inside : (m : Map) (p : Rank) → IsPoint m p → p.index < cell_count m.size
+pub point_inside : (m : Map) (p : Rank) → IsPoint m p → p.index < cell_count m.size
 point_inside m p point = subst (λ n. n < cell_count m.size) (sym (ap (λ (r : Rank). r.index) point.rank_is)) (place_inside m.size point.at point.present.in_grid)
 
 -- what stands in a path is a point
-path_point : (m : Map) (a b s : Rank) (xs : List Rank) → IsPoint m a → Leads (Near m) a xs b → Contains (a ∷ xs) s → IsPoint m s
+pub path_point : (m : Map) (a b s : Rank) (xs : List Rank) → IsPoint m a → Leads (Near m) a xs b → Contains (a ∷ xs) s → IsPoint m s
 path_point m a b s [] point leads there = elim (Contains-cases a s [] there) [
   | inl same ↦ subst (IsPoint m) (sym same) point
   | inr none ↦ absurd (Contains-none s none)

@@ -1,5 +1,5 @@
 -- What a line of a script comes to, and the lines of a whole script.
-use Rattle.std.specs.Prelude.{◌≡◌, ◌+◌, ◌++◌, ◌&&◌, ℕ, Bool, true, false, List, [], ◌∷◌, Option, Some, None, Result, Ok, Err}
+use Rattle.std.specs.Prelude.{◌≡◌, ◌+◌, ◌++◌, ◌&&◌, ℕ, List, [], ◌∷◌, Option, Some, None, Result, Ok, Err}
 use Rattle.hd_map.specs.declared.types.SideName.TheVariants as side
 use Rattle.hd_script.specs.declared.command.Command.{Command}
 use Rattle.hd_script.specs.declared.command.Command.TheVariants as command
@@ -9,10 +9,13 @@ use Rattle.hd_engine.specs.Edits.{IsEditAnswer, IsUndoAnswer}
 use Rattle.hd_engine.specs.Elements.{IsElementAnswer, IsElementsAnswer}
 use Rattle.hd_engine.specs.Forms.{form_text}
 use Rattle.hd_engine.specs.Info.{IsInfoAnswer}
+use Rattle.hd_engine.specs.Prunings.{IsPruneAnswer}
 use Rattle.hd_engine.specs.Regions.{IsRegionsAnswer, IsLabelAnswer}
 use Rattle.hd_engine.specs.Reply.{Reply, Reports, Refuses, accepted_with}
+use Rattle.hd_engine.specs.Saddles.{IsSaddleAnswer}
 use Rattle.hd_engine.specs.State.{State}
 use Rattle.hd_engine.specs.Trees.{IsTreeAnswer}
+use Rattle.hd_engine.specs.Values.{IsFeatureAnswer, IsParamAnswer}
 
 -- what a command comes to on a state
 abbrev pub IsCommandAnswer : State → ℕ → Command → Reply → State → Type 0
@@ -25,7 +28,11 @@ IsCommandAnswer s number command.Info reply after = IsInfoAnswer s reply after
 IsCommandAnswer s number command.Dales reply after = IsRegionsAnswer s side.Dales reply after
 IsCommandAnswer s number command.Hills reply after = IsRegionsAnswer s side.Hills reply after
 IsCommandAnswer s number (command.Label name at) reply after = IsLabelAnswer s number name at reply after
+IsCommandAnswer s number (command.Saddle name a b) reply after = IsSaddleAnswer s number name a b reply after
 IsCommandAnswer s number (command.Tree name) reply after = IsTreeAnswer s name reply after
+IsCommandAnswer s number (command.Prune name percent) reply after = IsPruneAnswer s name percent.thousandths reply after
+IsCommandAnswer s number (command.Param name height) reply after = IsParamAnswer s number name height reply after
+IsCommandAnswer s number (command.Feature word) reply after = IsFeatureAnswer s number word reply after
 
 -- what a line that was read comes to: a line that has not its form is refused, and a skipped one prints nothing
 abbrev pub IsReadAnswer : State → ℕ → Result (Option Command) LineError → Reply → State → Type 0

@@ -1,5 +1,5 @@
 -- The answers to edits and to undo.
-use Rattle.std.specs.Prelude.{◌≡◌, ◌≤◌, ◌<◌, ◌++◌, ◌⊎◌, ℕ, List, [], codes, decimal, length, Result, Ok, Err}
+use Rattle.std.specs.Prelude.{◌≤◌, ◌<◌, ◌++◌, ◌⊎◌, ℕ, List, [], codes, decimal, length, Result, Ok, Err}
 use Rattle.hd_map.specs.Map.{Map}
 use Rattle.hd_edit.specs.declared.edit.Edit.{Edit}
 use Rattle.hd_edit.specs.declared.edit.EditError.{EditError}

@@ -7,6 +7,14 @@ pub mod Edits
 pub mod Elements
 pub mod Regions
 pub mod Trees
+pub mod Saddles
+pub mod Prunings
+pub mod Owned
+pub mod Falls
 pub mod Info
 pub mod Presence
+pub mod Features
+pub mod Tallies
+pub mod Values
+pub mod Sums
 pub mod Answers

@@ -1,6 +1,7 @@
 -- The state that a session works on.
-use Rattle.std.specs.Prelude.{ℕ, List, [], All, replicate, false}
-use Rattle.hd_map.specs.Map.{Map, IsMap, cell_count}
+use Rattle.std.specs.Prelude.{ℕ, List, [], All}
+use Rattle.hd_map.specs.Map.{Map, IsMap}
+use Rattle.hd_map.specs.Sets.{unmasked}
 use Rattle.hd_morph.specs.Element.{ElementTable}
 use Rattle.hd_num.specs.declared.decimal.Decimal.{Decimal}
 use Rattle.hd_sdf_read.specs.declared.file.Extra.{Extra}
@@ -61,10 +62,6 @@ pub record State : Type 0 where
 -- the state at first
 abbrev pub first_state : File → State
 first_state file = record { read = texts_of file; map = file.map; earlier = []; elements = [] }
-
--- the map without its masks
-abbrev pub unmasked : Map → Map
-unmasked m = record m { masks = replicate (cell_count m.size) false }
 
 -- the file of a state: the texts as they were read, and the present map without its masks
 abbrev pub saved_file : State → File

@@ -1,25 +1,10 @@
 // Copies of what a session keeps.
 ghost use Rattle.std.specs.Prelude.{◌≡◌, IfOk};
-ghost use Rattle.hd_map.specs.Surface.{map_of};
 
 use hd_base::{List, Memory};
-use hd_map::{Cell, Grid, Heights, Surface, position_of};
 use hd_num::Decimal;
 use hd_sdf_read::Extra;
 use std::alloc::Global;
-
-/// The cells of a surface by index, the masked ones too.
-pub(crate) fn cells_of(alloc: Global, surface: &Surface) -> Result<List<Cell>, Memory>
-    ensures { IfOk result (λ cells. cells ≡ (map_of surface.now).cells) }
-{
-    let size = surface.size();
-    let count = size.profiles * size.points;
-    let mut cells = List::with_capacity(alloc, count as usize)?;
-    'cells: for index in 0..count {
-        cells.push(surface.cell(position_of(size, index)))?;
-    }
-    Ok(cells)
-}
 
 /// A copy of a decimal.
 pub(crate) fn decimal(alloc: Global, number: &Decimal) -> Result<Decimal, Memory>

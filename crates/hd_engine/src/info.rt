@@ -8,7 +8,7 @@ ghost use Rattle.hd_engine.specs.Texts.{texts_view};
 
 use crate::texts::Texts;
 use hd_base::{List, Memory};
-use hd_map::{DataType, Grid, Heights, Size, Surface, position_of};
+use hd_map::{DataType, Grid, Heights, Pos, Size, Surface, position_after};
 use hd_num::{push_text, push_unsigned, push_whole};
 use std::alloc::Global;
 
@@ -46,8 +46,8 @@ pub(crate) fn tell_info(alloc: Global, texts: &Texts, surface: &Surface) -> Resu
     Ok(text)
 }
 
-// How many points of a map are present, and the range of their heights.
-fn presence_of<G: Heights>(grid: &G) -> Presence
+/// How many points of a map are present, and the range of their heights.
+pub(crate) fn presence_of<G: Heights>(grid: &G) -> Presence
     ensures { IsPresence (present_heights (G.map grid.now)) result }
 {
     let size = grid.size();
@@ -55,8 +55,10 @@ fn presence_of<G: Heights>(grid: &G) -> Presence
         count: 0,
         range: None,
     };
-    'points: for index in 0..size.profiles * size.points {
-        seen = seen_with(seen, grid.height(position_of(size, index)));
+    let mut at = Pos { x: 0, y: 0 };
+    'points: for _ in 0..size.profiles * size.points {
+        seen = seen_with(seen, grid.height(at));
+        at = position_after(size, at);
     }
     seen
 }
@@ -78,7 +80,7 @@ fn seen_with(seen: Presence, height: Option<i64>) -> Presence
 
 // The range with one more height.
 #[inline]
-fn widened(range: Option<HeightRange>, height: i64) -> HeightRange
+pub(crate) fn widened(range: Option<HeightRange>, height: i64) -> HeightRange
     ensures { result ≡ widened range height }
 {
     match range {

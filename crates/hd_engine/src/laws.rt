@@ -1,13 +1,20 @@
 // What a line and a script determine.
-ghost use Rattle.std.specs.Prelude.{◌≡◌, ℕ, List};
+ghost use Rattle.std.specs.Prelude.{◌≡◌, ℕ, true, List, Ok, Some};
+ghost use Rattle.hd_map.specs.declared.types.Pos.{Pos};
+ghost use Rattle.hd_map.specs.declared.types.SideName.{SideName};
 ghost use Rattle.hd_map.specs.Map.{IsMap};
+ghost use Rattle.hd_script.specs.declared.command.Command.TheVariants.{Saddle};
+ghost use Rattle.hd_script.specs.Line.{script_line};
 ghost use Rattle.hd_sdf_read.specs.File.{File};
 ghost use Rattle.hd_engine.specs.Answers.{IsAnswer, AreAnswers};
 ghost use Rattle.hd_engine.specs.Reply.{Reply};
+ghost use Rattle.hd_engine.specs.Saddles.{PrintsRight};
 ghost use Rattle.hd_engine.specs.State.{State, IsState, first_state};
 
+use hd_cert::shown_certificate_is_determined;
 use hd_edit::{edit_is_determined, edits_keep_maps, logs_keep_maps, undos_keep_maps};
-use hd_map::change_tree_is_determined;
+use hd_map::{change_tree_is_determined, pruning_is_determined, saddle_is_determined};
+use hd_num::reduced_fraction_is_determined;
 use hd_steep::{regions_are_determined, root_is_determined};
 
 /// A line has one answer on a state, and one state after it.
@@ -18,6 +25,10 @@ pub fn answer_is_determined()
     regions_are_determined();
     root_is_determined();
     change_tree_is_determined();
+    saddle_is_determined();
+    shown_certificate_is_determined();
+    pruning_is_determined();
+    reduced_fraction_is_determined();
 }
 
 /// The lines of a script have one answer on a state, and one state after them.
@@ -37,3 +48,10 @@ pub fn answer_keeps_a_state()
     logs_keep_maps();
     undos_keep_maps();
 }
+
+/// Each accepted `saddle` line prints a certificate of the pits of its two points, the first point's
+/// as `from`, that is right on the map at that line.
+pub fn printed_certificate_is_right()
+    ensures { (s : State) (number : ℕ) (line : List ℕ) (side : SideName) (a b : Pos) (reply : Reply) (after : State) → script_line line ≡ Ok (Some (Saddle side a b))
+        → IsAnswer s number line reply after → reply.accepted ≡ true → PrintsRight s.map side a b reply }
+{}

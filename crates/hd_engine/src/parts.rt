@@ -1,14 +1,15 @@
 // A file as its texts and its surface, and the file of these.
 ghost use Rattle.std.specs.Prelude.{◌≡◌, IfOk};
+ghost use Rattle.hd_map.specs.Sets.{unmasked};
 ghost use Rattle.hd_map.specs.Surface.{map_of};
 ghost use Rattle.hd_sdf_read.specs.FileOf.{file_of};
-ghost use Rattle.hd_engine.specs.State.{file_with, texts_of, unmasked};
+ghost use Rattle.hd_engine.specs.State.{file_with, texts_of};
 ghost use Rattle.hd_engine.specs.Texts.{texts_view};
 
-use crate::copies::{cells_of, copied, decimal, extras};
+use crate::copies::{copied, decimal, extras};
 use crate::texts::Texts;
 use hd_base::Memory;
-use hd_map::{Grid, Heights, Surface};
+use hd_map::Surface;
 use hd_sdf_read::SdfFile;
 use std::alloc::Global;
 
@@ -59,8 +60,7 @@ pub(crate) fn joined(alloc: Global, texts: &Texts, surface: &Surface) -> Result<
     let z_resolution = decimal(alloc, &texts.z_resolution)?;
     let extra = extras(alloc, texts.extra.as_slice())?;
     let trailer = copied(alloc, &texts.trailer)?;
-    let cells = cells_of(alloc, surface)?;
-    let surface = Surface::new(alloc, surface.size(), surface.data_type(), cells)?;
+    let surface = surface.without_masks(alloc)?;
     Ok(SdfFile {
         version: texts.version,
         manufac_id,

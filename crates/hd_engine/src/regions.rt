@@ -16,13 +16,16 @@ use hd_num::{push_text, push_unsigned};
 use hd_steep::root;
 use std::alloc::Global;
 
+// So many bytes are reserved for the line of a region.
+const REGION_BYTES: usize = 24;
+
 /// The regions of a map on a side: their number, and a line for each in position order with its
 /// pit's column, profile and height in steps, and the number of its points.
 pub fn list_regions<S: Side, G: Heights>(alloc: Global, grid: &G) -> Result<List<u8>, Memory>
     ensures { IfOk result (λ text. (list : Items Extent) × AreExtents (G.map grid.now) S.NAME list × (text ≡ extents_text S.NAME (G.map grid.now).size list)) }
 {
     let list = extents::<S, G>(alloc, grid)?;
-    let mut text = List::new(alloc);
+    let mut text = List::with_capacity(alloc, list.as_slice().len().saturating_mul(REGION_BYTES))?;
     push_many(&mut text, S::NAME)?;
     push_unsigned(&mut text, list.as_slice().len() as u64)?;
     push_text(&mut text, b"\n".as_slice())?;
@@ -66,8 +69,8 @@ fn push_extents(
     Ok(())
 }
 
-// Adds the line of a region.
-fn push_extent(
+/// Adds the line of a region.
+pub fn push_extent(
     text: &mut List<u8>,
     side: SideName,
     size: Size,

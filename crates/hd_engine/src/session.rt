@@ -8,10 +8,13 @@ ghost use Rattle.hd_engine.specs.Edits.{edit_text, IsEditAnswer, IsUndoAnswer};
 ghost use Rattle.hd_engine.specs.Elements.{IsElementAnswer, IsElementsAnswer};
 ghost use Rattle.hd_engine.specs.Forms.{form_text};
 ghost use Rattle.hd_engine.specs.Info.{IsInfoAnswer};
+ghost use Rattle.hd_engine.specs.Prunings.{IsPruneAnswer};
 ghost use Rattle.hd_engine.specs.Regions.{IsLabelAnswer, IsRegionsAnswer, TellsRoot};
 ghost use Rattle.hd_engine.specs.Reply.{refused_for, reply_of};
+ghost use Rattle.hd_engine.specs.Saddles.{IsSaddleAnswer};
 ghost use Rattle.hd_engine.specs.State.{first_state, saved_file};
 ghost use Rattle.hd_engine.specs.Trees.{IsTreeAnswer};
+ghost use Rattle.hd_engine.specs.Values.{IsFeatureAnswer, IsParamAnswer};
 
 use crate::Answer;
 use crate::edits::{edit_cause, kept_cause};
@@ -20,13 +23,18 @@ use crate::forms::form_cause;
 use crate::info::tell_info;
 use crate::parts::{joined, parted};
 use crate::place::outside_cause;
+use crate::prunings::list_pruning;
 use crate::regions::{list_regions, not_present_cause, tell_label};
+use crate::saddles::show_saddle;
 use crate::texts::Texts;
 use crate::trees::list_tree;
+use crate::values::{notation_cause, tell_feature, tell_parameter};
 use hd_base::{List, Memory};
 use hd_edit::{Board, Edit, EditError};
+use hd_feature::{named, read_notation};
 use hd_map::{Down, Heights, Pos, Side, SideName, Surface, Up, contains, is_present};
 use hd_morph::Element;
+use hd_num::Percent;
 use hd_script::{Command, LineError, read_line};
 use hd_sdf_read::SdfFile;
 use std::alloc::Global;
@@ -142,6 +150,10 @@ impl Session {
             Command::Dales => self.list::<Down>(),
             Command::Hills => self.list::<Up>(),
             Command::Label { side, at } => self.label(number, side, at),
+            Command::Saddle { side, a, b } => self.saddle(number, side, a, b),
+            Command::Prune { side, percent } => self.prune(side, percent),
+            Command::Param { name, height } => self.param(number, name.as_slice(), height),
+            Command::Feature { word } => self.feature(number, word.as_slice()),
             Command::Tree {
                 side: SideName::Dales,
             } => self.tree::<Down>(),
@@ -269,11 +281,72 @@ impl Session {
         Ok(Answer::with_text(text))
     }
 
+    // The answer that shows the saddle of the pits of two points.
+    fn saddle(&self, number: u64, side: SideName, a: Pos, b: Pos) -> Result<Answer, Memory>
+        ensures { IfOk result (λ r. IsSaddleAnswer self.now.state number side a b (reply_of r) self.now.state) }
+    {
+        let grid = self.board.grid();
+        match side {
+            SideName::Dales => show_saddle::<Down, Surface>(self.alloc, grid, number, a, b),
+            SideName::Hills => show_saddle::<Up, Surface>(self.alloc, grid, number, a, b),
+        }
+    }
+
     // The answer that lists the change tree of a side.
     fn tree<S: Side>(&self) -> Result<Answer, Memory>
         ensures { IfOk result (λ a. IsTreeAnswer self.now.state S.NAME (reply_of a) self.now.state) }
     {
         let text = list_tree::<S, Surface>(self.alloc, self.board.grid())?;
         Ok(Answer::with_text(text))
+    }
+
+    // The answer that tells the pruning of a side.
+    fn prune(&self, side: SideName, percent: Percent) -> Result<Answer, Memory>
+        ensures { IfOk result (λ a. IsPruneAnswer self.now.state side percent.thousandths (reply_of a) self.now.state) }
+    {
+        match side {
+            SideName::Dales => self.tell_pruning::<Down>(percent),
+            SideName::Hills => self.tell_pruning::<Up>(percent),
+        }
+    }
+
+    // The same, by the order of the side.
+    fn tell_pruning<S: Side>(&self, percent: Percent) -> Result<Answer, Memory>
+        ensures { IfOk result (λ a. IsPruneAnswer self.now.state S.NAME percent.thousandths (reply_of a) self.now.state) }
+    {
+        let text = list_pruning::<S, Surface>(self.alloc, self.board.grid(), percent)?;
+        Ok(Answer::with_text(text))
+    }
+
+    // The answer that tells the value of a parameter by its name.
+    fn param(&self, number: u64, name: &[u8], height: Option<i64>) -> Result<Answer, Memory>
+        ensures { IfOk result (λ a. IsParamAnswer self.now.state number name.now height (reply_of a) self.now.state) }
+    {
+        match named(name, height) {
+            Ok(parameter) => {
+                let text = tell_parameter(self.alloc, self.board.grid(), name, height, &parameter)?;
+                Ok(Answer::with_text(text))
+            }
+            Err(error) => {
+                let cause = notation_cause(self.alloc, error)?;
+                Answer::refused(self.alloc, number, cause.as_slice())
+            }
+        }
+    }
+
+    // The answer that tells the value of a feature notation.
+    fn feature(&self, number: u64, word: &[u8]) -> Result<Answer, Memory>
+        ensures { IfOk result (λ a. IsFeatureAnswer self.now.state number word.now (reply_of a) self.now.state) }
+    {
+        match read_notation(word) {
+            Ok(notation) => {
+                let text = tell_feature(self.alloc, self.board.grid(), word, &notation)?;
+                Ok(Answer::with_text(text))
+            }
+            Err(error) => {
+                let cause = notation_cause(self.alloc, error)?;
+                Answer::refused(self.alloc, number, cause.as_slice())
+            }
+        }
     }
 }

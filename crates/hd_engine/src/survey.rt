@@ -17,6 +17,9 @@ use hd_map::{Heights, Rank, Side, position_of, rank_of};
 use hd_steep::{crossings, regions};
 use std::alloc::Global;
 
+// Heights without any order have about one pit for nine points: memory is reserved for as many.
+const POINTS_A_PIT: usize = 8;
+
 /// A region of a map.
 #[derive(Clone, Copy, Debug, PartialEq, Eq)]
 pub struct Extent {
@@ -42,8 +45,30 @@ pub fn extents<S: Side, G: Heights>(alloc: Global, grid: &G) -> Result<List<Exte
 pub fn flood_line<S: Side, G: Heights>(alloc: Global, grid: &G) -> Result<FloodLine<S>, Memory>
     ensures { IfOk result (TellsSaddles (G.map grid.now) S.NAME) }
 {
+    counted_line::<S, G>(alloc, grid)
+}
+
+/// The same flood line, whose stops a `u32` counts: they are points of the map.
+pub fn counted_line<S: Side, G: Heights>(alloc: Global, grid: &G) -> Result<FloodLine<S>, Memory>
+    ensures tells { IfOk result (TellsSaddles (G.map grid.now) S.NAME) }
+    ensures few { IfOk result (λ line. length line < 2 ^ 32) }
+{
     let roots = regions::<S, G>(alloc, grid)?;
-    let passes = crossings::<S, G>(alloc, grid, &roots)?;
+    let line = flood_line_of::<S, G>(alloc, grid, &roots)?;
+    Ok(line)
+}
+
+/// The same where the roots of the points on that side are known.
+pub fn flood_line_of<S: Side, G: Heights>(
+    alloc: Global,
+    grid: &G,
+    roots: &List<Option<u32>>,
+) -> Result<FloodLine<S>, Memory>
+    requires { AreRegions (G.map grid.now) S.NAME roots.now }
+    ensures tells { IfOk result (TellsSaddles (G.map grid.now) S.NAME) }
+    ensures few { IfOk result (λ line. length line < 2 ^ 32) }
+{
+    let passes = crossings::<S, G>(alloc, grid, roots)?;
     let lows = list_lows::<S, G>(alloc, grid, roots.as_slice())?;
     regions_are_basins();
     passes_of_basins_are_a_graph();
@@ -63,7 +88,7 @@ fn list_lows<S: Side, G: Heights>(
     ensures pits { IfOk result (ArePitsOf (G.map grid.now) S.NAME) }
     ensures different { IfOk result (AllPairs (λ x y. x.rank.index ≢ y.rank.index)) }
 {
-    let mut lows = List::new(alloc);
+    let mut lows = List::with_capacity(alloc, roots.len() / POINTS_A_PIT)?;
     'roots: for (index, root) in roots.iter().enumerate() {
         if is_root(*root, index as u32) {
             lows.push(low_at(grid, index as u32))?;
@@ -97,7 +122,7 @@ fn list_extents<S: Side, G: Heights>(
     ensures are { IfOk result (λ extents. extents ≡ map (extent_of (G.map grid.now) roots.now) (pits_of roots.now)) }
     ensures inside { IfOk result (All (IsInside (G.map grid.now).size)) }
 {
-    let mut extents = List::new(alloc);
+    let mut extents = List::with_capacity(alloc, roots.len() / POINTS_A_PIT)?;
     'roots: for (index, root) in roots.iter().enumerate() {
         if is_root(*root, index as u32) {
             extents.push(region_of(grid, index as u32, points[index]))?;
@@ -126,8 +151,8 @@ fn is_root(root: Option<u32>, index: u32) -> bool
     root == Some(index)
 }
 
-// By index, how many points have that root.
-fn count_points(alloc: Global, roots: &[Option<u32>]) -> Result<Vec<u32>, Memory>
+/// By index, how many points have that root.
+pub fn count_points(alloc: Global, roots: &[Option<u32>]) -> Result<Vec<u32>, Memory>
     requires few { length roots.now < 2 ^ 32 }
     requires inside { (k n : ℕ) → k < length roots.now → slice_index_or roots.now k None ≡ Some n → n < length roots.now }
     ensures { IfOk result (λ points. CountsPoints roots.now points.items) }

@@ -88,6 +88,24 @@ fn labels_name_a_pit_and_refuse_what_is_not_present(rt: HostRuntime) -> Result<(
 }
 
 #[test]
+fn saddles_are_shown_and_refused_in_order(rt: HostRuntime) -> Result<(), Fail> {
+    let mut session = small(rt.alloc())?;
+    let shown =
+        "certificate D 8\nfrom 0 0\nto 2 0\nsaddle 1 0 5\npath 3\n0 0\n1 0\n2 0\ncut 1\n0 0\nend\n";
+    assert!(rt; answers(&mut session, 1, "saddle D 1 0 2 0", true, shown));
+    let one = "line 2 refused: both points are in one region\n";
+    assert!(rt; answers(&mut session, 2, "saddle D 0 0 1 0", false, one));
+    assert!(rt; answers(&mut session, 3, "mask 1 0 1 0", true, "line 3 ok\n"));
+    let outside = "line 4 refused: 3 0 is outside\n";
+    assert!(rt; answers(&mut session, 4, "saddle H 1 0 3 0", false, outside));
+    let missing = "line 5 refused: 1 0 is not present\n";
+    assert!(rt; answers(&mut session, 5, "saddle H 2 0 1 0", false, missing));
+    let none = "certificate D 8\nfrom 2 0\nto 0 0\nsaddle none\ncut 1\n2 0\nend\n";
+    assert!(rt; answers(&mut session, 6, "saddle D 2 0 0 0", true, none));
+    Ok(())
+}
+
+#[test]
 fn undo_goes_back_over_cells_and_masks(rt: HostRuntime) -> Result<(), Fail> {
     let mut session = small(rt.alloc())?;
     assert!(rt; answers(&mut session, 1, "mask 1 0 1 0", true, "line 1 ok\n"));
@@ -99,6 +117,25 @@ fn undo_goes_back_over_cells_and_masks(rt: HostRuntime) -> Result<(), Fail> {
     assert!(rt; answers(&mut session, 5, "hills", true, "hills 1\nhill 1 0 5 3\n"));
     let empty = "line 6 refused: empty rectangle\n";
     assert!(rt; answers(&mut session, 6, "add 2 0 0 0 1", false, empty));
+    Ok(())
+}
+
+#[test]
+fn pruning_tells_steps_and_the_points_of_kept_pits(rt: HostRuntime) -> Result<(), Fail> {
+    let mut session = small(rt.alloc())?;
+    let one = "prune D 90% 1 1\nstep 2 0 local 4 saddle 1 0 into 0 0\ndale 0 0 0 3\n";
+    assert!(rt; answers(&mut session, 1, "prune D 90%", true, one));
+    let both = "prune D 80% 0 2\ndale 0 0 0 2\ndale 2 0 1 1\n";
+    assert!(rt; answers(&mut session, 2, "prune D 80.00%", true, both));
+    assert!(rt;
+        answers(
+            &mut session,
+            3,
+            "prune H 5%",
+            true,
+            "prune H 5% 0 1\nhill 1 0 5 3\n"
+        )
+    );
     Ok(())
 }
 
@@ -159,5 +196,29 @@ fn masked_points_keep_their_height_in_the_file(rt: HostRuntime) -> Result<(), Fa
     assert!(rt; answers(&mut session, 1, "set 0 0 7", true, "line 1 ok\n"));
     assert!(rt; answers(&mut session, 2, "mask 1 0 1 0", true, "line 2 ok\n"));
     assert_eq!(rt; first_heights(&session), Some((Some(7), Some(5))));
+    Ok(())
+}
+
+#[test]
+fn parameters_take_the_regions_after_pruning(rt: HostRuntime) -> Result<(), Fail> {
+    let mut session = small(rt.alloc())?;
+    assert!(rt; answers(&mut session, 1, "param S10z", true, "param S10z 19/2\n"));
+    assert!(rt; answers(&mut session, 2, "param Sda 3", true, "param Sda 3 none\n"));
+    assert!(rt; answers(&mut session, 3, "param Sda -1", true, "param Sda -1 3/2\n"));
+    let whole = "feature FC;D;Wolfprune:90%;All;AreaE;Max";
+    let three = "feature FC;D;Wolfprune:90%;All;AreaE;Max 3/1\n";
+    assert!(rt; answers(&mut session, 4, whole, true, three));
+    let pair = "line 5 refused: part 4 does not go with the type\n";
+    assert!(rt;
+        answers(
+            &mut session,
+            5,
+            "feature FC;D;Wolfprune:5%;Top:5;lpvh;Mean",
+            false,
+            pair
+        )
+    );
+    let name = "line 6 refused: unknown parameter\n";
+    assert!(rt; answers(&mut session, 6, "param Foo", false, name));
     Ok(())
 }

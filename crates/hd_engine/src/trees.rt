@@ -13,6 +13,9 @@ use hd_map::{Heights, Rank, Side, SideName, Size};
 use hd_num::{push_text, push_unsigned};
 use std::alloc::Global;
 
+// So many bytes are reserved for the line of a saddle.
+const JOIN_BYTES: usize = 36;
+
 /// The change tree of a map on a side: the number of its saddles, and a line for each in the side's
 /// order with its column, profile and height in steps, and the pits that it joins.
 pub fn list_tree<S: Side, G: Heights>(alloc: Global, grid: &G) -> Result<List<u8>, Memory>
@@ -29,7 +32,7 @@ fn tree_lines(alloc: Global, side: SideName, size: Size, joins: &[Join]) -> Resu
     requires { All (λ join. IsJoinInside size (joining_of join)) joins.now }
     ensures { IfOk result (λ text. text ≡ tree_heading side (length joins.now) ++ flat_map (λ join. join_line size (joining_of join)) joins.now) }
 {
-    let mut text = List::new(alloc);
+    let mut text = List::with_capacity(alloc, joins.len().saturating_mul(JOIN_BYTES))?;
     push_text(&mut text, b"tree ".as_slice())?;
     push_side(&mut text, side)?;
     push_text(&mut text, b" ".as_slice())?;

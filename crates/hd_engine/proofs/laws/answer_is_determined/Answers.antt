@@ -7,5 +7,9 @@ returns c = λ s number line a b s' s'' whole x y.
       edits = c.edit_is_determined.ensures;
       regions = c.regions_are_determined.ensures;
       trees = c.change_tree_is_determined.ensures;
+      fractions = c.reduced_fraction_is_determined.ensures;
+      prunings = c.pruning_is_determined.ensures;
       roots = c.root_is_determined.ensures;
+      saddles = c.saddle_is_determined.ensures;
+      certificates = c.shown_certificate_is_determined.ensures;
     }) s number a b s' s'' whole line x y

@@ -1,8 +1,4 @@
-use Rattle.hd_map.specs.Surface.{map_of}
 use Rattle.hd_engine.proofs.parts.joined.Goals as goal
-
-pub new-requires-clause-heights : goal.new-requires-clause-heights
-new-requires-clause-heights c = rw (c.in_ok-cells.ensures, c.data_type.ensures) c.args.surface.now.whole.heights
 
 pub invariant_of-result : goal.invariant_of-result
 invariant_of-result c = record {
@@ -17,5 +13,5 @@ invariant_of-result c = record {
     c.in_ok-extra.ensures,
     c.as_slice.ensures,
     c.in_ok-trailer.ensures,
-  ) (c.args.texts.now.forms (map_of c.in_ok-surface.surface));
+  ) (c.args.texts.now.forms _);
 }

@@ -1,6 +1,4 @@
-use Rattle.std.proofs.Common.{◌<◌, ◌+◌, ◌++◌, ◌∷◌, [], length, true, sym, ◌∙◌, ap, subst}
-use Rattle.hd_graph.specs.declared.graph.Low.{Low}
-use Rattle.hd_map.specs.Rank.{rank}
+use Rattle.std.proofs.Common.{◌+◌, ◌++◌, ◌∷◌, [], sym, ◌∙◌, ap, subst}
 use Rattle.hd_engine.proofs.PitLows.{AreLowsBefore, own_present, lows_push, lows_pass, lows_all}
 use Rattle.hd_engine.proofs.survey.list_lows.Goals as goal
 use Rattle.hd_engine.proofs.survey.list_lows.Goals.{then-is_root+in_ok-push, else-is_root}

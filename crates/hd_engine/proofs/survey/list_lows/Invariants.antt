@@ -1,5 +1,3 @@
-use Rattle.std.proofs.Common.{◌≡◌, ◌≢◌, ◌<◌, ℕ, true}
-use Rattle.std.specs.List.{Contains, AllPairs}
 use Rattle.hd_engine.proofs.PitLows.{AreLowsBefore}
 use Rattle.hd_engine.proofs.survey.list_lows.Given as goal
 

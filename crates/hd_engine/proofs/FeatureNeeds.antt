@@ -1,0 +1,99 @@
+-- What the regions after pruning rest on, and what is known of their list.
+use Rattle.std.proofs.Common.{◌≡◌, ◌<◌, ◌≤◌, ◌^◌, ◌*◌, ℕ, List, length, Option, Some, sym, subst, arith}
+use Rattle.std.specs.Prelude.{All, AllPairs, unsigned_abs}
+use Rattle.std.specs.Option.{ForSome}
+use Rattle.hd_feature.specs.declared.notation.Attribute.TheVariants.{Lpvh}
+use Rattle.hd_feature.specs.declared.notation.Notation.{Notation}
+use Rattle.hd_feature.specs.declared.notation.Statistic.TheVariants.{Mean}
+use Rattle.hd_feature.specs.declared.region.Region.{Region}
+use Rattle.hd_feature.specs.Value.{IsValue}
+use Rattle.hd_map.specs.declared.types.SideName.{SideName}
+use Rattle.hd_map.specs.Map.{IsMap, Map, cell_count}
+use Rattle.hd_map.specs.Region.{AreRegions}
+use Rattle.hd_num.specs.declared.frac.Frac.{Frac}
+use Rattle.hd_prune.specs.Answer.{IsPruned}
+use Rattle.hd_prune.specs.Pruned.{leavings_of}
+use Rattle.hd_prune.specs.declared.step.Kept.{Kept}
+use Rattle.hd_prune.specs.declared.step.Owned.{Owned}
+use Rattle.hd_prune.specs.declared.step.Step.{Step}
+use Rattle.hd_engine.specs.declared.info.HeightRange.{HeightRange}
+use Rattle.hd_engine.specs.declared.tally.Tally.{Tally}
+use Rattle.hd_engine.specs.Features.{AreFeatures}
+use Rattle.hd_engine.specs.Info.{present_heights, range_of}
+use Rattle.hd_engine.specs.Sums.{IsSmall}
+use Rattle.hd_engine.specs.Tallies.{AreFeaturesWith, AreOwnerPlaces, AreTallies, HasHeights}
+use Rattle.hd_engine.proofs.FeatureLists.{features_are, features_heights, features_points}
+use Rattle.hd_engine.proofs.FeaturePoints.{kept_few, kept_heights, kept_inside, kept_ordered, owners_different, owners_owned, owners_pits, range_heights}
+use Rattle.hd_engine.proofs.Tallying.{tallies_few}
+
+-- what is known of the kept pits and of the owners
+pub record Needs (roots : List (Option ℕ)) (kept : List Kept) (owners : List Owned) : Type 0 where
+  pub most : length kept ≤ 4194304
+  pub few : length kept < 2 ^ 32
+  pub kept_in : All (λ k. k.pit.index < length roots) kept
+  pub ordered : AllPairs (λ a b. a.pit.index < b.pit.index) kept
+  pub pits : All (λ o. o.pit.index < length roots) owners
+  pub owned : All (λ o. o.owner.index < length roots) owners
+  pub different : AllPairs (λ a b. a.pit.index < b.pit.index) owners
+  pub heights : All HasHeights kept
+
+-- what is known of the list of regions
+pub record Outcome (m : Map) (side : SideName) (thousandths : ℕ) (list : List Region) : Type 0 where
+  pub are : AreFeatures m side thousandths list
+  pub points : All (λ r. r.points ≤ 4194304) list
+  pub heights : All (λ r. unsigned_abs r.lpvh ≤ 2 ^ 33) list
+  pub few : length list ≤ 4194304
+
+module _ (m : Map) (side : SideName) (thousandths : ℕ) (whole : IsMap m) (roots : List (Option ℕ)) (steps : List Step) (kept : List Kept) (owners : List Owned) (regions : AreRegions m side roots)
+    (pruned : IsPruned m side thousandths steps kept owners) where
+  pub needs : Needs roots kept owners
+  needs =
+      let ordered = kept_ordered m side thousandths whole (leavings_of steps) pruned.last pruned.owner pruned.pruning kept pruned.are_kept in
+      let inside = kept_inside m side thousandths whole (leavings_of steps) pruned.last pruned.owner pruned.pruning kept pruned.are_kept in
+      let count = kept_few kept (cell_count m.size) ordered inside in
+      record {
+        most = omega (arith, count, whole.size.cells);
+        few = omega (arith, count, whole.size.cells);
+        kept_in = subst (λ n. All (λ (k : Kept). k.pit.index < n) kept) (sym regions.whole) inside;
+        ordered = ordered;
+        pits = subst (λ n. All (λ (o : Owned). o.pit.index < n) owners) (sym regions.whole) (owners_pits m side thousandths whole (leavings_of steps) pruned.last pruned.owner pruned.pruning owners pruned.owned);
+        owned = subst (λ n. All (λ (o : Owned). o.owner.index < n) owners) (sym regions.whole) (owners_owned m side thousandths whole (leavings_of steps) pruned.last pruned.owner pruned.pruning owners pruned.owned);
+        different = owners_different m side thousandths whole (leavings_of steps) pruned.last pruned.owner pruned.pruning owners pruned.owned;
+        heights = kept_heights m side thousandths whole (leavings_of steps) pruned.last pruned.owner pruned.pruning kept pruned.are_kept;
+      }
+
+  pub outcome : (count : ℕ) (places ps : List ℕ) (tallies ts : List Tally) (name : SideName) (range : Option HeightRange) (list : List Region) → AreOwnerPlaces kept owners count places → ps ≡ places
+      → AreTallies m roots ps (length kept) (cell_count m.size) tallies → ts ≡ tallies → name ≡ side → range ≡ range_of (present_heights m) → AreFeaturesWith name range kept ts (length kept) list → Outcome m side thousandths list
+  outcome count places ps tallies ts name range list placed same_places tallied same_tallies same_side same_range listed =
+      let counts : AreTallies m roots places (length kept) (cell_count m.size) ts =
+      subst (λ (xs : List Tally). AreTallies m roots places (length kept) (cell_count m.size) xs) (sym same_tallies) (subst (λ (xs : List ℕ). AreTallies m roots xs (length kept) (cell_count m.size) tallies) same_places tallied) in
+      let made : AreFeaturesWith side (range_of (present_heights m)) kept ts (length kept) list =
+      subst (λ r. AreFeaturesWith side r kept ts (length kept) list) same_range (subst (λ s. AreFeaturesWith s range kept ts (length kept) list) same_side listed) in
+      let known = needs in
+      record {
+        are = record {
+          roots = roots;
+          regions = regions;
+          steps = leavings_of steps;
+          last = pruned.last;
+          owner = pruned.owner;
+          pruning = pruned.pruning;
+          kept = kept;
+          are_kept = pruned.are_kept;
+          are = features_are m side whole roots regions thousandths (leavings_of steps) pruned.last pruned.owner pruned.pruning kept owners pruned.owned count places placed ts list counts made;
+        };
+        points = features_points side (range_of (present_heights m)) kept ts list (cell_count m.size) counts.whole (tallies_few m roots places (length kept) (cell_count m.size) ts counts) made whole.size.cells;
+        heights = features_heights side (range_of (present_heights m)) kept ts list known.heights (λ r is. range_heights m r whole is) made;
+        few = omega (arith, made.whole, known.most);
+      }
+
+-- the mean of small local heights is small
+pub small_value : ((n : Notation) (regions : List Region) (area bound : ℕ) (f : Frac) → n.attribute ≡ Lpvh → n.statistic ≡ Mean
+    → All (λ r. unsigned_abs r.lpvh ≤ bound) regions → IsValue n regions area (Some f) → (unsigned_abs f.num ≤ length regions * bound) × (f.den ≤ length regions))
+    → (n : Notation) (regions : List Region) (area : ℕ) (value : Option Frac) → n.attribute ≡ Lpvh → n.statistic ≡ Mean
+    → All (λ r. unsigned_abs r.lpvh ≤ 2 ^ 33) regions → length regions ≤ 4194304 → IsValue n regions area value → ForSome value IsSmall
+small_value law n regions area value attribute statistic heights few is f same =
+    let b = law n regions area (2 ^ 33) f attribute statistic heights (subst (λ (v : Option Frac). IsValue n regions area v) same is) in
+    let num = b.0 in
+    let den = b.1 in
+    record { num = omega (arith, num, few); den = omega (arith, den, few) }

@@ -1,0 +1,92 @@
+-- The saddle of two pits on a flood line.
+use Rattle.std.proofs.Common.{◌≡◌, ◌<◌, ◌&&◌, ◌∙◌, ℕ, Bool, true, false, List, Option, Some, None, inl, inr, refl, sym, ap, subst}
+use Rattle.std.proofs.Math.Dec.{eqb}
+use Rattle.std.proofs.lemmas.Bool.Decides.{eqb_tells}
+use Rattle.hd_map.specs.declared.types.Pos.{Pos}
+use Rattle.hd_map.specs.declared.types.Rank.{Rank}
+use Rattle.hd_map.specs.declared.types.SideName.{SideName}
+use Rattle.hd_map.specs.Map.{Map}
+use Rattle.hd_map.specs.Path.{IsPath}
+use Rattle.hd_map.specs.Rank.{Near, below_by}
+use Rattle.hd_map.specs.Region.{IsPit}
+use Rattle.hd_map.specs.Saddle.{SaddleIs}
+use Rattle.hd_map.specs.SideLaws.{below_by-order}
+use Rattle.hd_map.proofs.Levels.{reach-sym, reach-from_path, path-from_reach, reach-end, points-both, top_of, PointStep}
+use Rattle.hd_map.proofs.Saddles.{near-sym, reach-point, top-head, saddle-sym}
+use Rattle.hd_graph.specs.declared.line.Stop.{Stop}
+use Rattle.hd_graph.specs.Line.{rise_between}
+use Rattle.hd_graph.specs.Tells.{TellsSaddles, IsPitOn}
+use Rattle.hd_engine.specs.Saddles.{IsPlaceOf}
+
+-- a path leads back
+path_back : (m : Map) (side : SideName) (a b : Rank) (xs : List Rank) → IsPath m a xs b → (ys : List Rank) × IsPath m b ys a
+path_back m side a b xs path =
+    let laws = below_by-order side in
+    let top = top_of (below_by side) laws a xs in
+    let low = top-head m side a xs top.0 top.1 in
+    let reach = reach-from_path (Near m) (below_by side) laws top.0 a b xs path.leads top.1.none_above in
+    let back = reach-sym (PointStep (Near m) (below_by side) top.0) (points-both (Near m) (below_by side) laws (near-sym m) top.0) reach in
+    let found = path-from_reach (Near m) (below_by side) laws top.0 (reach-end (Near m) (below_by side) laws top.0 low reach) back in
+    (found.0, record { point = reach-point m side top.0 path.point reach; leads = found.1 })
+
+-- a saddle, or that there is none, is the same both ways
+saddle_back : (m : Map) (side : SideName) (a b : Rank) (s : Option Rank) → SaddleIs m side a b s → SaddleIs m side b a s
+saddle_back m side a b (Some s) h = saddle-sym m side a b s h
+saddle_back m side a b None h = λ xs path. let back = path_back m side b a xs path in h back.0 back.1
+
+module _ (m : Map) (side : SideName) (line : List Stop) (tells : TellsSaddles m side line) (p q : Rank) (i j : ℕ) (first : IsPlaceOf line p i) (second : IsPlaceOf line q j) where
+  -- the highest rise after the place of the first pit up to that of the second is their saddle
+  pub saddle_along : i < j → SaddleIs m side p q (rise_between (below_by side) line i j)
+  saddle_along before =
+      subst (λ (x : Rank). SaddleIs m side x q (rise_between (below_by side) line i j)) first.low
+      (subst (λ (y : Rank). SaddleIs m side first.stop.low y (rise_between (below_by side) line i j)) second.low
+      (tells.saddles i j first.stop second.stop before first.at_place second.at_place first.is_pit second.is_pit))
+
+  -- two pits at one place are one
+  pub place_one : i ≡ j → p ≡ q
+  place_one same =
+      let e : first.stop ≡ second.stop = (let x = first.at_place in let y = second.at_place in cc) in
+      sym first.low ∙ ap (λ (x : Stop). x.low) e ∙ second.low
+
+-- the same where the second pit stands first
+pub saddle_against : (m : Map) (side : SideName) (line : List Stop) → TellsSaddles m side line → (p q : Rank) (i j : ℕ) → IsPlaceOf line p i → IsPlaceOf line q j → j < i
+    → SaddleIs m side p q (rise_between (below_by side) line j i)
+saddle_against m side line tells p q i j first second before = saddle_back m side q p _ (saddle_along m side line tells q p j i second first before)
+
+-- a place on one list is a place on the same list
+pub same_list : (xs line : List Stop) (r p : Rank) (k : ℕ) → xs ≡ line → r ≡ p → IsPlaceOf xs r k → IsPlaceOf line p k
+same_list xs line r p k e f is = subst (λ (ys : List Stop). IsPlaceOf ys p k) e (subst (λ (q : Rank). IsPlaceOf xs q k) f is)
+
+-- a pit of the map stands on the list
+pub stands : (m : Map) (side : SideName) (xs line : List Stop) (r p : Rank) → TellsSaddles m side line → xs ≡ line → r ≡ p → IsPit m side p → IsPitOn xs r
+stands m side xs line r p tells e f pit = subst (λ (ys : List Stop). IsPitOn ys r) (sym e) (subst (λ (q : Rank). IsPitOn line q) (sym f) ((tells.pits p).1 pit))
+
+and_left : (a b : Bool) → true ≡ (a && b) → a ≡ true
+and_left true b e = refl
+and_left false b e = absurd (let no = e in cc)
+
+and_right : (a b : Bool) → true ≡ (a && b) → b ≡ true
+and_right true b e = sym e
+and_right false b e = absurd (let no = e in cc)
+
+not_both_true : (a b : Bool) → a ≡ true → b ≡ true → false ≡ (a && b) → ⊥
+not_both_true true true x y e = cc
+not_both_true true false x y e = cc
+not_both_true false b x y e = cc
+
+number_same : (a b : ℕ) → eqb a b ≡ true → a ≡ b
+number_same a b t = elim (eqb_tells a b) [ inl p ↦ p.1 | inr p ↦ absurd (let f : eqb a b ≡ false = p.0 in cc) ]
+
+number_itself : (a : ℕ) → eqb a a ≡ true
+number_itself a = elim (eqb_tells a a) [ inl p ↦ p.0 | inr p ↦ absurd (p.1 refl) ]
+
+parts_same : (a b c d : ℕ) → a ≡ c → b ≡ d → ◌≡◌ {A = Pos} (record { x = a; y = b }) (record { x = c; y = d })
+parts_same a b c d e f = cc
+
+-- positions that compare as equal are one
+pub found_same : (p q : Pos) → true ≡ (eqb p.x q.x && eqb p.y q.y) → p ≡ q
+found_same p q e = parts_same p.x p.y q.x q.y (number_same p.x q.x (and_left (eqb p.x q.x) (eqb p.y q.y) e)) (number_same p.y q.y (and_right (eqb p.x q.x) (eqb p.y q.y) e))
+
+-- and others are two
+pub found_apart : (p q : Pos) → false ≡ (eqb p.x q.x && eqb p.y q.y) → p ≡ q → ⊥
+found_apart p q e same = not_both_true (eqb p.x q.x) (eqb p.y q.y) (subst (λ (r : Pos). eqb p.x r.x ≡ true) same (number_itself p.x)) (subst (λ (r : Pos). eqb p.y r.y ≡ true) same (number_itself p.y)) e

@@ -1,0 +1,134 @@
+// The certificate of the saddle of two points' pits.
+ghost use Rattle.std.specs.Prelude.{◌≡◌, ◌<◌, ◌^◌, length, IfOk, Option as Maybe};
+ghost use Rattle.hd_map.specs.declared.types.Rank.{Rank};
+ghost use Rattle.hd_map.specs.Map.{Present};
+ghost use Rattle.hd_map.specs.Rank.{rank};
+ghost use Rattle.hd_map.specs.Saddle.{SaddleIs};
+ghost use Rattle.hd_check.specs.declared.types.Certificate.{Certificate};
+ghost use Rattle.hd_check.specs.Rules.{IsRight};
+ghost use Rattle.hd_check.specs.Text.{certificate_text};
+ghost use Rattle.hd_cert.specs.Shown.{AreTwoPits, IsShownCertificate};
+ghost use Rattle.hd_graph.specs.Tells.{IsPitOn};
+ghost use Rattle.hd_engine.specs.Reply.{reply_of};
+ghost use Rattle.hd_engine.specs.Saddles.{IsPairReply, IsPlaceOf, IsSaddleReply};
+
+use crate::Answer;
+use crate::place::outside_cause;
+use crate::regions::not_present_cause;
+use crate::survey::counted_line;
+use hd_base::{List, Memory};
+use hd_cert::certify;
+use hd_check::write_certificate;
+use hd_graph::Stop;
+use hd_map::{Heights, Pos, Rank, Side, contains, is_present, rank_of};
+use hd_steep::root;
+use std::alloc::Global;
+
+/// The answer to `saddle`: the certificate of the pits of two points' regions on a side. A position
+/// outside is refused, then one that is not present, then two points in one region.
+///
+/// It takes time in proportion to the points, beside the flood line. `Memory` comes where the line, the
+/// certificate or its text is refused its memory.
+pub fn show_saddle<S: Side, G: Heights>(
+    alloc: Global,
+    grid: &G,
+    number: u64,
+    a: Pos,
+    b: Pos,
+) -> Result<Answer, Memory>
+    ensures { IfOk result (λ r. IsSaddleReply (G.map grid.now) number S.NAME a b (reply_of r)) }
+{
+    let size = grid.size();
+    if !contains(size, a) {
+        let cause = outside_cause(alloc, a)?;
+        return Answer::refused(alloc, number, cause.as_slice());
+    }
+    if !contains(size, b) {
+        let cause = outside_cause(alloc, b)?;
+        return Answer::refused(alloc, number, cause.as_slice());
+    }
+    if !is_present(grid, a) {
+        let cause = not_present_cause(alloc, a)?;
+        return Answer::refused(alloc, number, cause.as_slice());
+    }
+    if !is_present(grid, b) {
+        let cause = not_present_cause(alloc, b)?;
+        return Answer::refused(alloc, number, cause.as_slice());
+    }
+    show_pair::<S, G>(alloc, grid, number, a, b)
+}
+
+// The answer for two present points.
+fn show_pair<S: Side, G: Heights>(
+    alloc: Global,
+    grid: &G,
+    number: u64,
+    a: Pos,
+    b: Pos,
+) -> Result<Answer, Memory>
+    requires here { Present (G.map grid.now) a }
+    requires there { Present (G.map grid.now) b }
+    ensures { IfOk result (λ r. IsPairReply (G.map grid.now) number S.NAME a b (reply_of r)) }
+{
+    let from = root::<S, G>(alloc, grid, a);
+    let to = root::<S, G>(alloc, grid, b);
+    if from == to {
+        return Answer::refused(alloc, number, b"both points are in one region".as_slice());
+    }
+    let text = tell_saddle::<S, G>(alloc, grid, from, to)?;
+    Ok(Answer::with_text(text))
+}
+
+// The text of the certificate of two pits.
+fn tell_saddle<S: Side, G: Heights>(
+    alloc: Global,
+    grid: &G,
+    from: Pos,
+    to: Pos,
+) -> Result<List<u8>, Memory>
+    requires { AreTwoPits (G.map grid.now) S.NAME from to }
+    ensures { IfOk result (λ text. (saddle : Maybe Rank) × (c : Certificate) × IsShownCertificate (G.map grid.now) S.NAME from to saddle c
+        × IsRight (G.map grid.now) c × (text ≡ certificate_text c)) }
+{
+    let saddle = saddle_between::<S, G>(alloc, grid, from, to)?;
+    let certificate = certify::<S, G>(alloc, grid, from, to, saddle)?;
+    let mut text = List::new(alloc);
+    write_certificate(&mut text, &certificate)?;
+    Ok(text)
+}
+
+// The saddle of two pits.
+fn saddle_between<S: Side, G: Heights>(
+    alloc: Global,
+    grid: &G,
+    from: Pos,
+    to: Pos,
+) -> Result<Option<Rank>, Memory>
+    requires { AreTwoPits (G.map grid.now) S.NAME from to }
+    ensures { IfOk result (SaddleIs (G.map grid.now) S.NAME (rank (G.map grid.now) from) (rank (G.map grid.now) to)) }
+{
+    let line = counted_line::<S, G>(alloc, grid)?;
+    let first = place_on(line.stops(), rank_of(grid, from));
+    let second = place_on(line.stops(), rank_of(grid, to));
+    if first < second {
+        Ok(line.between(first, second))
+    } else {
+        Ok(line.between(second, first))
+    }
+}
+
+// The place of a pit on a flood line.
+fn place_on(stops: &[Stop], pit: Rank) -> u32
+    requires few { length stops.now < 2 ^ 32 }
+    requires there { IsPitOn stops.now pit }
+    ensures { IsPlaceOf stops.now pit result }
+{
+    let mut place = 0u32;
+    'stops: for stop in stops {
+        if stop.pit && stop.low == pit {
+            return place;
+        }
+        place += 1;
+    }
+    unreachable!()
+}
