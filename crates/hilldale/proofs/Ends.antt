@@ -7,18 +7,18 @@ use Rattle.hd_base.specs.Told.{AppendsStart}
 use Rattle.hilldale.specs.declared.status.Status.{Status}
 use Rattle.hilldale.specs.declared.status.Status.TheVariants.{Done, LineRefused, Usage, ReadFault, WriteFault, Memory}
 use Rattle.hilldale.specs.declared.stop.Refusal.{Refusal}
-use Rattle.hilldale.specs.declared.stop.Refusal.TheVariants.{SurfaceTooLong, Surface, ScriptTooLong}
+use Rattle.hilldale.specs.declared.stop.Refusal.TheVariants.{SurfaceTooLong, Surface, SecondTooLong, Unreadable, RuleFails}
 use Rattle.hilldale.specs.declared.stop.Stop.{Stop}
 use Rattle.hilldale.specs.declared.stop.Stop.TheVariants as stop
 use Rattle.hilldale.specs.FaultCounts.{Count, RoseIn, Stays, HasStatusCause}
 use Rattle.hilldale.specs.Ending.{Completes, IsTheOutcome, EndsAs, Finishes, EndsRun}
-use Rattle.hilldale.specs.Outcome.{Outcome, Inputs, IsOutcome, IsOutcomeOfRun, IsOutcomeOfInputs, inputs_of, status_of, tells}
-use Rattle.hilldale.specs.ReadOrder.{ScriptComesLast, ReadsInOrder}
+use Rattle.hilldale.specs.Outcome.{Outcome, IsOutcome, IsOutcomeOfRequest, refuses, status_of, tells}
+use Rattle.hilldale.specs.ReadOrder.{SecondComesLast, ReadsInOrder}
 use Rattle.hilldale.specs.Refusals.{refusal_status, refusal_text}
 use Rattle.hilldale.specs.RunResult.{IsRun, IsDefined, HasRunStop}
 use Rattle.hilldale.specs.Saving.{Saving, IsSavedAs, SavesLast, SavesInTurn}
 use Rattle.hilldale.specs.Texts.{usage_text, read_fault_text}
-use Rattle.hilldale.specs.Words.{Request, form_of}
+use Rattle.hilldale.specs.Words.{Request, form_of, save_name, second_name, surface_name}
 use Rattle.hilldale.proofs.Answered.{AppendsStart-after}
 
 -- the form of the words, as it was found
@@ -51,7 +51,7 @@ module _ (words : List (List ℕ)) (surface script : List ℕ) (failed stays : T
   pub usage_ends : (got : List ℕ) (status : Status) (old new : Option (List ℕ)) (flushed : Bool) (faults : Count) → form_of words ≡ None → got ≡ usage_text → stays
       → Finishes got Usage status old new flushed faults → EndsAs words surface script failed stays s status old new
   usage_ends got status old new flushed faults none e kept finish =
-      let P : Outcome → Option Request → Type 0 = λ o form. MatchOption form (o ≡ tells Usage usage_text) (λ request. IsOutcomeOfRun request surface script o) in
+      let P : Outcome → Option Request → Type 0 = λ o form. MatchOption form (o ≡ tells Usage usage_text) (λ request. IsOutcomeOfRequest request surface script o) in
       let o : Outcome = tells Usage usage_text in
       finish_ends [] usage_text o Usage status old old new flushed faults refl refl (Appends-nil old) (record { is = subst (P o) (sym none) refl; only = λ o' h. subst (P o') none h })
       kept (λ h. h) (subst (λ xs. Finishes xs Usage status old new flushed faults) e finish)
@@ -59,12 +59,12 @@ module _ (words : List (List ℕ)) (surface script : List ℕ) (failed stays : T
   module _ (request : Request) (named : form_of words ≡ Some request) where
     -- the outcome where the words have this form
     abbrev AtForm : Outcome → Option Request → Type 0
-    AtForm o form = MatchOption form (o ≡ tells Usage usage_text) (λ r. IsOutcomeOfRun r surface script o)
+    AtForm o form = MatchOption form (o ≡ tells Usage usage_text) (λ r. IsOutcomeOfRequest r surface script o)
 
-    to_run : (o : Outcome) → IsOutcome words surface script o → IsOutcomeOfRun request surface script o
+    to_run : (o : Outcome) → IsOutcome words surface script o → IsOutcomeOfRequest request surface script o
     to_run o h = subst (AtForm o) named h
 
-    from_run : (o : Outcome) → IsOutcomeOfRun request surface script o → IsOutcome words surface script o
+    from_run : (o : Outcome) → IsOutcomeOfRequest request surface script o → IsOutcome words surface script o
     from_run o h = subst (AtForm o) (sym named) h
 
     the_run : (o : Outcome) → IsDefined request surface script o → IsTheOutcome words surface script o
@@ -81,17 +81,17 @@ module _ (words : List (List ℕ)) (surface script : List ℕ) (failed stays : T
     refused_ends : (refusal : Refusal) (status : Status) (old mid new : Option (List ℕ)) (flushed : Bool) (faults : Count) → stays → IsRun request surface script stays s (Err (stop.Refused refusal)) old mid
         → (Completes words surface script stays s (refusal_status refusal) old new → EndsAs words surface script failed stays s (refusal_status refusal) old new)
         → Finishes (refusal_text refusal) (refusal_status refusal) status mid new flushed faults → EndsAs words surface script failed stays s status old new
-    refused_ends refusal status old mid new flushed faults unsaved (refused, kept) same finish =
-        let o : Outcome = tells (refusal_status refusal) (refusal_text refusal) in
-        let Q : Outcome → Result Inputs Refusal → Type 0 = λ o' r. IsOutcomeOfInputs request.save r o' in
-        finish_ends [] (refusal_text refusal) o (refusal_status refusal) status old mid new flushed faults refl refl (Appends-kept old old mid [] (Appends-nil old) kept)
-        (record { is = from_run o (subst (Q o) (sym refused) refl); only = λ o' h. subst (Q o') refused (to_run o' h) }) unsaved same finish
+    refused_ends refusal status old mid new flushed faults unsaved (defined, kept) same finish =
+        finish_ends [] (refusal_text refusal) (refuses refusal) (refusal_status refusal) status old mid new flushed faults refl refl (Appends-kept old old mid [] (Appends-nil old) kept) (the_run (refuses refusal) defined) unsaved
+        same finish
 
     -- the status of a refusal asks for all of the output
     refused_as : (refusal : Refusal) (old new : Option (List ℕ)) → Completes words surface script stays s (refusal_status refusal) old new → EndsAs words surface script failed stays s (refusal_status refusal) old new
     refused_as SurfaceTooLong old new h = h
     refused_as (Surface error) old new h = h
-    refused_as ScriptTooLong old new h = h
+    refused_as SecondTooLong old new h = h
+    refused_as (Unreadable line) old new h = h
+    refused_as (RuleFails rule at) old new h = h
 
     -- what `out` and `saved` hold at the end, from what the run came to
     pub run_ends : (result : Result Bool Stop) (status : Status) (old mid new : Option (List ℕ)) (flushed : Bool) (faults : Count) → (result ≡ Err stop.ReadFault → failed)
@@ -108,8 +108,10 @@ module _ (words : List (List ℕ)) (surface script : List ℕ) (failed stays : T
         )
     run_ends (Err stop.WriteFault) status old mid new flushed faults cause unsaved (inl (kept, text, begun, part)) end =
         subst (λ t. EndsAs words surface script failed stays s t old new) (sym end.status_is) (inl (kept, inl (text, (request, named, begun), start_kept old mid new text part end.kept)))
-    run_ends (Err stop.WriteFault) status old mid new flushed faults cause unsaved (inr (o, defined, (text, is, some, written))) end =
+    run_ends (Err stop.WriteFault) status old mid new flushed faults cause unsaved (inr (o, defined, inl (text, is, some, written))) end =
         subst (λ t. EndsAs words surface script failed stays s t old new) (sym end.status_is) (inr (inr (o, the_run o defined, (text, is, some, Appends-kept old mid new o.out written end.kept))))
+    run_ends (Err stop.WriteFault) status old mid new flushed faults cause unsaved (inr (o, defined, inr (part, saved))) end =
+        subst (λ t. EndsAs words surface script failed stays s t old new) (sym end.status_is) (inr (inl (o, the_run o defined, start_kept old mid new o.out part end.kept, saved)))
     run_ends (Err stop.ReadFault) status old mid new flushed faults cause unsaved kept finish =
         let still = unsaved stop.ReadFault refl (λ e. cc) in
         elim finish [
@@ -135,13 +137,17 @@ finished bytes wanted status old new flushed faults finish fine = elim finish [
 refusal_is : (refusal : Refusal) → (refusal_status refusal ≢ ReadFault) × (refusal_status refusal ≢ WriteFault) × (refusal_status refusal ≢ Usage)
 refusal_is SurfaceTooLong = (λ e. cc, λ e. cc, λ e. cc)
 refusal_is (Surface error) = (λ e. cc, λ e. cc, λ e. cc)
-refusal_is ScriptTooLong = (λ e. cc, λ e. cc, λ e. cc)
+refusal_is SecondTooLong = (λ e. cc, λ e. cc, λ e. cc)
+refusal_is (Unreadable line) = (λ e. cc, λ e. cc, λ e. cc)
+refusal_is (RuleFails rule at) = (λ e. cc, λ e. cc, λ e. cc)
 
 -- a refusal is told by neither of the statuses of all lines
 refusal_ends : (refusal : Refusal) {status : Status} → refusal_status refusal ≡ status → (status ≡ Done) ⊎ (status ≡ LineRefused) → ⊥
 refusal_ends SurfaceTooLong e is = elim is [ inl a ↦ cc | inr b ↦ cc ]
 refusal_ends (Surface error) e is = elim is [ inl a ↦ cc | inr b ↦ cc ]
-refusal_ends ScriptTooLong e is = elim is [ inl a ↦ cc | inr b ↦ cc ]
+refusal_ends SecondTooLong e is = elim is [ inl a ↦ cc | inr b ↦ cc ]
+refusal_ends (Unreadable line) e is = elim is [ inl a ↦ cc | inr b ↦ cc ]
+refusal_ends (RuleFails rule at) e is = elim is [ inl a ↦ cc | inr b ↦ cc ]
 
 module _ (status : Status) (old mid new : Option (List ℕ)) (flushed : Bool) where
   -- all is flushed but after a write fault and want of memory
@@ -246,7 +252,7 @@ module _ (status : Status) (old new : Option (List ℕ)) (flushed : Bool) (fault
 
 -- when `saved` is touched, from when the run touches it
 pub run_saves : (form : Option Request) (request : Request) (result : Result Bool Stop) (status : Status) (stays : Type 0) (surface script : Count) (before mid now : ℕ) (s : Saving) (old new : Option (List ℕ)) (flushed : Bool)
-    → form ≡ Some request → SavesLast request.save result stays surface script (record { before = before; now = mid }) s → EndsRun result status old new flushed (record { before = mid; now = now })
+    → form ≡ Some request → SavesLast (save_name request) result stays surface script (record { before = before; now = mid }) s → EndsRun result status old new flushed (record { before = mid; now = now })
     → SavesInTurn form status stays surface script (record { before = before; now = now }) s
 run_saves form request result status stays surface script before mid now s old new flushed named last end =
     let faults : Count = record { before = mid; now = now } in record {
@@ -255,7 +261,7 @@ run_saves form request result status stays surface script before mid now s old n
       read = last.read;
       failed = λ rose. let k = last.failed rose in fault_count status old new flushed faults result k.0 end ∙ k.1;
       flushed_all = λ other name is asked done. let same : request ≡ other = cc in
-          all_done status old new flushed faults result (λ accepted ok. last.flushed_all accepted name ok (ap (λ (r : Request). r.save) same ∙ asked)) end done;
+          all_done status old new flushed faults result (λ accepted ok. last.flushed_all accepted name ok (ap save_name same ∙ asked)) end done;
     }
 
 -- words without their form save nothing
@@ -282,12 +288,26 @@ run_has_form (Err (stop.Refused refusal)) status old new flushed faults end is =
 
 -- no source is touched where the words have not their form
 pub unformed_in_order : {S R : Type 0} (form : Option Request) (files : List ℕ → Option (List ℕ)) (surfaces : Count) (surface : S) (script : R) → form ≡ None → ReadsInOrder form files surfaces surface surface script script
-unformed_in_order form files surfaces surface script none = record { unformed = λ e. (refl, refl); formed = λ request e. absurd (cc) }
+unformed_in_order form files surfaces surface script none = record { unformed = λ e. (refl, refl); unnamed = λ request e named. (refl, refl); formed = λ request name e named. absurd (cc) }
 
--- the order of a run, where the words have the form that was found
-pub run_in_order : {S R : Type 0} (form : Option Request) (request : Request) (files : List ℕ → Option (List ℕ)) (surfaces : Count) (surface surface' : S) (script script' : R) → form ≡ Some request
-    → ScriptComesLast request (files request.surface) surfaces script script' → ReadsInOrder form files surfaces surface surface' script script'
-run_in_order form request files surfaces surface surface' script script' named order = record {
+-- nor where they name no surface
+pub unnamed_in_order : {S R : Type 0} (form : Option Request) (request : Request) (files : List ℕ → Option (List ℕ)) (surfaces : Count) (surface : S) (script : R) → form ≡ Some request → surface_name request ≡ None
+    → ReadsInOrder form files surfaces surface surface script script
+unnamed_in_order form request files surfaces surface script named none = record {
+  unformed = λ e. (refl, refl);
+  unnamed = λ other e no_name. (refl, refl);
+  formed = λ other name e is. let same : request ≡ other = cc in let wrong : surface_name request ≡ Some name = ap surface_name same ∙ is in absurd (cc);
+}
+
+-- the order of a run on a surface, where the words have the form that was found
+pub run_in_order : {S R : Type 0} (form : Option Request) (request : Request) (name : List ℕ) (files : List ℕ → Option (List ℕ)) (surfaces : Count) (surface surface' : S) (script script' : R) → form ≡ Some request
+    → surface_name request ≡ Some name → SecondComesLast (second_name request) (files name) surfaces script script' → ReadsInOrder form files surfaces surface surface' script script'
+run_in_order form request name files surfaces surface surface' script script' named surface_is order = record {
   unformed = λ none. absurd (cc);
-  formed = λ other e. let same : request ≡ other = cc in subst (λ (r : Request). ScriptComesLast r (files r.surface) surfaces script script') same order;
+  unnamed = λ other e none. let same : request ≡ other = cc in let wrong : surface_name request ≡ None = ap surface_name same ∙ none in absurd (cc);
+  formed = λ other read e is. let same : request ≡ other = cc in
+      let it : Some name ≡ Some read = sym surface_is ∙ ap surface_name same ∙ is in
+      let same_name : name ≡ read = cc in
+      subst (λ (n : List ℕ). SecondComesLast (second_name other) (files n) surfaces script script') same_name
+      (subst (λ (r : Request). SecondComesLast (second_name r) (files name) surfaces script script') same order);
 }

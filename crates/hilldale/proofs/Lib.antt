@@ -1,5 +1,9 @@
 pub mod Answered
 pub mod Runs
+pub mod Checks
 pub mod Savings
 pub mod WordLemmas
 pub mod Ends
+pub mod Drawings
+pub mod Demonstrations
+pub mod Summaries

@@ -1,20 +1,17 @@
 -- What is saved, from its parts.
-use Rattle.std.proofs.Common.{◌≡◌, ◌≢◌, ℕ, Bool, List, [], Option, Some, None, Result, Ok, Err, inl, inr, refl, sym, ap, ◌∙◌, subst}
-use Rattle.std.specs.Option.{option_map}
+use Rattle.std.proofs.Common.{◌≡◌, ℕ, Bool, List, [], Option, Some, None, Result, Ok, Err, inl, inr, refl, sym, ap, subst}
 use Rattle.std.specs.Io.KnownBytes.{Appends, Keeps}
 use Rattle.std.proofs.KnownBytes.{Appends-nil, Appends-trans, Appends-kept}
-use Rattle.hd_base.specs.Causes.{HasCause}
-use Rattle.hd_base.specs.Told.{Told, OnTold, AppendsStart}
+use Rattle.hd_base.specs.Told.{Told, OnTold}
 use Rattle.hd_engine.specs.State.{State, saved_file}
-use Rattle.hd_engine.specs.Answers.{AreAnswers}
 use Rattle.hd_sdf_write.specs.Canonical.{canonical}
 use Rattle.hilldale.specs.declared.stop.Stop.{Stop}
 use Rattle.hilldale.specs.declared.stop.Stop.TheVariants.{Memory, ReadFault, WriteFault, Refused}
-use Rattle.hilldale.specs.FaultCounts.{Count, RoseIn, Stays}
+use Rattle.hilldale.specs.FaultCounts.{Count, Stays}
 use Rattle.hilldale.specs.Outcome.{saved_of}
 use Rattle.hilldale.specs.RunResult.{AnswersAndSaves, HasSinkStop}
-use Rattle.hilldale.specs.Saving.{Saving, SavesAll, SavesSome, IsSavedAs, Saves, SavesLast, emptied}
-use Rattle.hilldale.specs.WrittenAnswers.{AnswersFirst, WritesAnswers, HasWriteStop, reply_of}
+use Rattle.hilldale.specs.Saving.{Saving, SavesAll, IsSavedAs, Saves, SavesLast, emptied}
+use Rattle.hilldale.specs.WrittenAnswers.{WritesAnswers, HasWriteStop}
 use Rattle.hilldale.proofs.Answered.{all_answers}
 
 -- after an accepted open no byte is written yet

@@ -21,10 +21,10 @@ RoseIn count = Rose count.before count.now
 abbrev pub Stays : Count → Type 0
 Stays count = count.now ≡ count.before
 
--- a source failed: that of the surface, or, once the surface is accepted, that of the script
+-- a source failed: that of the surface, or, once the surface is accepted, that of the second input
 abbrev pub SourceFailed : Result File Refusal → Count → Count → Type 0
-SourceFailed surface surfaces scripts =
-    RoseIn surfaces ⊎ ((file : File) × (surface ≡ Ok file) × RoseIn scripts)
+SourceFailed surface surfaces seconds =
+    RoseIn surfaces ⊎ ((file : File) × (surface ≡ Ok file) × RoseIn seconds)
 
 -- a read fault comes only where a source failed and no sink, a write fault only where a sink failed, and each
 -- other status only where none failed

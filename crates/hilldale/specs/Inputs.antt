@@ -3,9 +3,7 @@ use Rattle.std.specs.Prelude.{◌≡◌, ◌≢◌, ◌<◌, ◌≤◌, ℕ, Lis
 use Rattle.hd_base.specs.Causes.{Rose}
 use Rattle.hd_sdf_read.specs.declared.file.SdfFile.{SdfFile}
 use Rattle.hd_sdf_read.specs.FileOf.{file_of}
-use Rattle.hilldale.specs.declared.limits.TheConstants.{SCRIPT_LIMIT}
-use Rattle.hilldale.specs.declared.stop.Refusal.{Refusal}
-use Rattle.hilldale.specs.declared.stop.Refusal.TheVariants.{ScriptTooLong}
+use Rattle.hilldale.specs.declared.stop.Refusal.TheVariants.{SecondTooLong}
 use Rattle.hilldale.specs.declared.stop.Stop.{Stop}
 use Rattle.hilldale.specs.declared.stop.Stop.TheVariants.{Memory, ReadFault, WriteFault, Refused}
 use Rattle.hilldale.specs.Outcome.{surface_of}
@@ -18,13 +16,13 @@ IsSurfaceRead bytes (Err Memory) = ⊤
 IsSurfaceRead bytes (Err ReadFault) = ⊤
 IsSurfaceRead bytes (Err WriteFault) = ⊥
 
--- what the answer tells of the script's bytes
-abbrev pub IsScriptRead : List ℕ → Result (List ℕ) Stop → Type 0
-IsScriptRead bytes (Ok read) = (length bytes ≤ SCRIPT_LIMIT) × (read ≡ bytes)
-IsScriptRead bytes (Err (Refused refusal)) = (SCRIPT_LIMIT < length bytes) × (refusal ≡ ScriptTooLong)
-IsScriptRead bytes (Err Memory) = ⊤
-IsScriptRead bytes (Err ReadFault) = ⊤
-IsScriptRead bytes (Err WriteFault) = ⊥
+-- what the answer tells of the second input's bytes, by their limit
+abbrev pub IsSecondRead : ℕ → List ℕ → Result (List ℕ) Stop → Type 0
+IsSecondRead limit bytes (Ok read) = (length bytes ≤ limit) × (read ≡ bytes)
+IsSecondRead limit bytes (Err (Refused refusal)) = (limit < length bytes) × (refusal ≡ SecondTooLong)
+IsSecondRead limit bytes (Err Memory) = ⊤
+IsSecondRead limit bytes (Err ReadFault) = ⊤
+IsSecondRead limit bytes (Err WriteFault) = ⊥
 
 -- a read fault comes only where the count rose, and each other answer leaves the count; no write fault comes
 pub record HasReadStop {T : Type 0} (before now : ℕ) (result : Result T Stop) : Type 0 where

@@ -11,3 +11,6 @@ pub mod Inputs
 pub mod WrittenAnswers
 pub mod RunResult
 pub mod Ending
+pub mod Generator
+pub mod Demo
+pub mod DemoWords

@@ -1,18 +1,21 @@
 -- How the refusal of an input is told.
 use Rattle.std.specs.Prelude.{◌++◌, ℕ, List, codes, decimal, nat_eq, if◌then◌else◌}
+use Rattle.hd_map.specs.declared.types.Pos.{Pos}
 use Rattle.hd_sdf_read.specs.declared.error.SdfError.{SdfError}
 use Rattle.hd_sdf_read.specs.declared.error.SdfError.TheVariants.{Memory, BadVersion, BadHeaderLine, KeyTwice, BadValue, HeaderEnds, MissingKey, Unsupported, TooLarge, BadDatum, DatumRange, TooFewData, TooManyData, TrailerTooLong, TooManyKeys}
 use Rattle.hilldale.specs.declared.status.Status.{Status}
 use Rattle.hilldale.specs.declared.status.Status.TheVariants as status
 use Rattle.hilldale.specs.declared.stop.Refusal.{Refusal}
-use Rattle.hilldale.specs.declared.stop.Refusal.TheVariants.{SurfaceTooLong, Surface, ScriptTooLong}
+use Rattle.hilldale.specs.declared.stop.Refusal.TheVariants.{SurfaceTooLong, Surface, SecondTooLong, Unreadable, RuleFails}
 use Rattle.hilldale.specs.Texts.{line, too_long_text, second_too_long_text}
 
 -- the status of a run that is refused an input
 abbrev pub refusal_status : Refusal → Status
 refusal_status SurfaceTooLong = status.SurfaceRefused
 refusal_status (Surface error) = status.SurfaceRefused
-refusal_status ScriptTooLong = status.TooLong
+refusal_status SecondTooLong = status.TooLong
+refusal_status (Unreadable number) = status.CertificateRefused
+refusal_status (RuleFails rule at) = status.CertificateRefused
 
 -- which of the required keys is missing, from 1
 abbrev pub missing_key : ℕ → List ℕ
@@ -50,8 +53,14 @@ surface_cause (TooManyData number) = at_datum number (codes " is one too many")
 surface_cause TrailerTooLong = codes "trailer too long"
 surface_cause (TooManyKeys number) = at_line number (codes ": too many keys")
 
+-- a rule that fails, and where
+abbrev pub at_rule : ℕ → Pos → List ℕ
+at_rule rule at = codes "rule " ++ decimal rule ++ codes " at " ++ decimal at.x ++ codes " " ++ decimal at.y
+
 -- the line that tells it
 abbrev pub refusal_text : Refusal → List ℕ
 refusal_text SurfaceTooLong = too_long_text
 refusal_text (Surface error) = line (codes "surface refused: " ++ surface_cause error)
-refusal_text ScriptTooLong = second_too_long_text
+refusal_text SecondTooLong = second_too_long_text
+refusal_text (Unreadable number) = line (codes "certificate unreadable: line " ++ decimal number)
+refusal_text (RuleFails rule at) = line (codes "certificate refused: " ++ at_rule rule at)

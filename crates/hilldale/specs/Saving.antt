@@ -9,7 +9,7 @@ use Rattle.hilldale.specs.declared.status.Status.TheVariants as ended
 use Rattle.hilldale.specs.declared.stop.Stop.{Stop}
 use Rattle.hilldale.specs.declared.stop.Stop.TheVariants.{Memory, ReadFault, WriteFault, Refused}
 use Rattle.hilldale.specs.FaultCounts.{Count, RoseIn, Stays}
-use Rattle.hilldale.specs.Words.{Request}
+use Rattle.hilldale.specs.Words.{Request, save_name}
 
 -- `saved` over a run: the bytes that it tells before and now, whether all are flushed, and its count of faults
 pub record Saving : Type 0 where
@@ -63,9 +63,9 @@ pub record SavesLast (save : Option (List ℕ)) (result : Result Bool Stop) (sta
 -- the same of a run of the program, by its status
 pub record SavesInTurn (form : Option Request) (status : Status) (stays : Type 0)
     (surface script out : Count) (s : Saving) : Type 0 where
-  pub unasked : ((request : Request) → form ≡ Some request → request.save ≡ None) → stays
+  pub unasked : ((request : Request) → form ≡ Some request → save_name request ≡ None) → stays
   pub stopped : status ≢ Done → status ≢ LineRefused → status ≢ ended.WriteFault → stays
   pub read : ¬ (Stays surface × Stays script) → stays
   pub failed : ¬ Stays s.faults → Stays out
-  pub flushed_all : (request : Request) (name : List ℕ) → form ≡ Some request → request.save ≡ Some name
+  pub flushed_all : (request : Request) (name : List ℕ) → form ≡ Some request → save_name request ≡ Some name
       → (status ≡ Done) ⊎ (status ≡ LineRefused) → IsTrue s.flushed

@@ -18,5 +18,8 @@ too_long_text = line (codes "surface refused: file too long")
 unfoldable pub read_fault_text : List ℕ
 read_fault_text = line (codes "read fault")
 
+unfoldable pub accepted_text : List ℕ
+accepted_text = line (codes "certificate accepted")
+
 unfoldable pub second_too_long_text : List ℕ
 second_too_long_text = line (codes "second input too long")

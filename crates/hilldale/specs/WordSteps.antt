@@ -1,10 +1,10 @@
 -- The words after the command, read one by one.
 use Rattle.std.specs.Prelude.{◌≡◌, ◌++◌, ℕ, false, codes, bytes_eq, List, [], ◌∷◌, Option, None}
 use Rattle.std.specs.Option.{option_copied, option_to_list, option_map, option_and_then}
-use Rattle.hilldale.specs.Words.{Given, given_of, dales_form, run_form}
+use Rattle.hilldale.specs.Words.{Given, given_of, dales_form, run_form, check_form, demo_form}
 use Rattle.hilldale.specs.declared.words.Found.{Found}
 use Rattle.hilldale.specs.declared.words.FoundNames.{FoundNames}
-use Rattle.hilldale.specs.declared.words.FoundNames.TheVariants.{Zero, One, Two}
+use Rattle.hilldale.specs.declared.words.FoundNames.TheVariants.{Zero, One, Two, Three, Four}
 use Rattle.hilldale.specs.declared.words.Progress.{Progress}
 use Rattle.hilldale.specs.declared.words.Stage.{Stage}
 
@@ -13,6 +13,8 @@ abbrev pub names_in : FoundNames → List (List ℕ)
 names_in Zero = []
 names_in (One first) = first.now ∷ []
 names_in (Two first second) = first.now ∷ second.now ∷ []
+names_in (Three first second third) = first.now ∷ second.now ∷ third.now ∷ []
+names_in (Four first second third fourth) = first.now ∷ second.now ∷ third.now ∷ fourth.now ∷ []
 
 -- what was found, as names and values of `--tile` and of `--save`
 abbrev pub found_so_far : Found → Given
@@ -48,12 +50,14 @@ pub record IsNoOptionAlone (word : List ℕ) : Type 0 where
   pub tile : bytes_eq word (codes "--tile") ≡ false
   pub save : bytes_eq word (codes "--save") ≡ false
 
--- neither form has such words
+-- no command has such words
 pub record HasNoForm (given : Option Given) : Type 0 where
   pub dales : option_and_then dales_form given ≡ None
   pub run : option_and_then run_form given ≡ None
+  pub check : option_and_then check_form given ≡ None
+  pub demo : option_and_then demo_form given ≡ None
 
--- with this word next there is neither form, whatever the later words are
+-- with this word next there is no form, whatever the later words are
 abbrev pub IsRefused : Progress → List ℕ → Type 0
 IsRefused progress word = (words : List (List ℕ)) → HasNoForm (given_after progress (word ∷ words))
 

@@ -1,22 +1,56 @@
 -- The form of the program's words.
-use Rattle.std.specs.Prelude.{◌&&◌, ℕ, Bool, false, List, [], ◌∷◌, length, drop, Option, Some, None, codes, nat_eq, nat_le, if◌then◌else◌}
+use Rattle.std.specs.Prelude.{◌≤◌, ◌&&◌, ⊤, ℕ, Bool, false, List, [], ◌∷◌, length, drop, Option, Some, None, codes, nat_eq, nat_le, if◌then◌else◌}
 use Rattle.std.specs.Option.{option_copied, option_map, option_and_then}
 use Rattle.std.specs.List.{starts_with}
 use Rattle.std.specs.Str.{bytes_eq}
 use Rattle.std.specs.Str.Parse.{digits_value}
 use Rattle.hd_num.specs.Whole.{is_numeral}
+use Rattle.hilldale.specs.declared.demo.Demo.{Demo}
 use Rattle.hilldale.specs.declared.limits.TheConstants.{LEAST_TILE, GREATEST_TILE, USUAL_TILE}
+use Rattle.hilldale.specs.declared.words.CheckJob.{CheckJob}
 use Rattle.hilldale.specs.declared.words.Job.{Job}
+use Rattle.hilldale.specs.declared.words.Job.TheVariants as job
+use Rattle.hilldale.specs.declared.words.RunJob.{RunJob}
 use Rattle.hilldale.specs.declared.words.Stage.{Stage}
 use Rattle.hilldale.specs.declared.words.Stage.TheVariants.{Options, TileValue, SaveValue, Names}
+use Rattle.hilldale.specs.Demo.{IsDemo}
+use Rattle.hilldale.specs.DemoWords.{demo_of}
 
--- what the words ask for: a surface, a script or the one line `dales`, the side of a tile, and the name to save
--- under
-pub record Request : Type 0 where
+-- a surface, a script or the one line `dales`, the side of a tile, and the name to save under
+pub record RunRequest : Type 0 where
   pub surface : List ℕ
   pub script : Option (List ℕ)
   pub tile : ℕ
   pub save : Option (List ℕ)
+
+-- a surface, and a certificate of it
+pub record CheckRequest : Type 0 where
+  pub surface : List ℕ
+  pub certificate : List ℕ
+
+-- what the words ask for: answers to lines, the check of a certificate, or a demo
+pub data Request : Type 0 where
+  Run : RunRequest → Request
+  Check : CheckRequest → Request
+  Demonstrate : Demo → Request
+
+-- the name of the surface, where one is read
+abbrev pub surface_name : Request → Option (List ℕ)
+surface_name (Run run) = Some run.surface
+surface_name (Check check) = Some check.surface
+surface_name (Demonstrate demo) = None
+
+-- the name of the second input, where there is one
+abbrev pub second_name : Request → Option (List ℕ)
+second_name (Run run) = run.script
+second_name (Check check) = Some check.certificate
+second_name (Demonstrate demo) = None
+
+-- the name to save under, where there is one
+abbrev pub save_name : Request → Option (List ℕ)
+save_name (Run run) = run.save
+save_name (Check check) = None
+save_name (Demonstrate demo) = None
 
 -- the names among the words after the command, and the values of `--tile` and of `--save`
 pub record Given : Type 0 where
@@ -87,7 +121,7 @@ save_of (value ∷ (other ∷ more)) = None
 -- what `dales` asks for, by the names and the values of `--tile` and of `--save`
 abbrev pub dales_names : List (List ℕ) → List (List ℕ) → List (List ℕ) → Option Request
 dales_names (surface ∷ []) [] [] =
-    option_map (λ name. record { surface = name; script = None; tile = USUAL_TILE; save = None }) (filled surface)
+    option_map (λ name. Run (record { surface = name; script = None; tile = USUAL_TILE; save = None })) (filled surface)
 dales_names _ _ _ = None
 
 -- `dales SURFACE` has one name and no option
@@ -98,7 +132,7 @@ dales_form given = dales_names given.names given.tiles given.saves
 abbrev pub run_names : List (List ℕ) → List (List ℕ) → List (List ℕ) → Option Request
 run_names (surface ∷ (script ∷ [])) tiles saves =
     option_and_then (λ name. option_and_then (λ second. option_and_then (λ side.
-    option_map (λ save. record { surface = name; script = Some second; tile = side; save = save }) (save_of saves))
+    option_map (λ save. Run (record { surface = name; script = Some second; tile = side; save = save })) (save_of saves))
     (tile_of tiles)) (filled script)) (filled surface)
 run_names _ _ _ = None
 
@@ -106,19 +140,57 @@ run_names _ _ _ = None
 abbrev pub run_form : Given → Option Request
 run_form given = run_names given.names given.tiles given.saves
 
+-- what `check` asks for, by the names and the values of `--tile` and of `--save`
+abbrev pub check_names : List (List ℕ) → List (List ℕ) → List (List ℕ) → Option Request
+check_names (surface ∷ (certificate ∷ [])) [] [] =
+    option_and_then (λ name. option_map (λ second. Check (record { surface = name; certificate = second })) (filled certificate))
+    (filled surface)
+check_names _ _ _ = None
+
+-- `check SURFACE CERT` has two names and no option
+abbrev pub check_form : Given → Option Request
+check_form given = check_names given.names given.tiles given.saves
+
+-- what `demo` asks for, by the names and the values of `--tile` and of `--save`
+abbrev pub demo_names : List (List ℕ) → List (List ℕ) → List (List ℕ) → Option Request
+demo_names (points ∷ (profiles ∷ (number ∷ (edits ∷ [])))) tiles [] =
+    option_and_then (λ side. option_map (λ demo. Demonstrate demo) (demo_of points profiles number edits side))
+    (tile_of tiles)
+demo_names _ _ _ = None
+
+-- `demo W H NUMBER EDITS` has four names, each of them a count, and may have `--tile`
+abbrev pub demo_form : Given → Option Request
+demo_form given = demo_names given.names given.tiles given.saves
+
 -- what the words ask for, where they have their form
 abbrev pub form_of : List (List ℕ) → Option Request
 form_of [] = None
 form_of (command ∷ words) =
     if bytes_eq command (codes "dales") then option_and_then dales_form (given_of Options words)
     else if bytes_eq command (codes "run") then option_and_then run_form (given_of Options words)
+    else if bytes_eq command (codes "check") then option_and_then check_form (given_of Options words)
+    else if bytes_eq command (codes "demo") then option_and_then demo_form (given_of Options words)
     else None
 
 -- what a job of the program stands for
-abbrev pub request_of : Job → Request
-request_of job = record {
-  surface = job.surface.now;
-  script = option_copied job.script;
-  tile = job.tile;
-  save = option_copied job.save;
+abbrev pub run_request_of : RunJob → RunRequest
+run_request_of run = record {
+  surface = run.surface.now;
+  script = option_copied run.script;
+  tile = run.tile;
+  save = option_copied run.save;
 }
+
+abbrev pub check_request_of : CheckJob → CheckRequest
+check_request_of check = record { surface = check.surface.now; certificate = check.certificate.now }
+
+abbrev pub request_of : Job → Request
+request_of (job.Run run) = Run (run_request_of run)
+request_of (job.Check check) = Check (check_request_of check)
+request_of (job.Demo demo) = Demonstrate demo
+
+-- the numbers that are asked for are within their limits
+abbrev pub IsWithinLimits : Job → Type 0
+IsWithinLimits (job.Run run) = (LEAST_TILE ≤ run.tile) × (run.tile ≤ GREATEST_TILE)
+IsWithinLimits (job.Check check) = ⊤
+IsWithinLimits (job.Demo demo) = IsDemo demo

@@ -1,8 +1,8 @@
-// Reading the surface file and the script.
-ghost use Rattle.std.specs.Prelude.{◌≡◌, ◌≤◌, ℕ, List as Items, length, Some, IsTrue, IfOk};
-ghost use Rattle.hilldale.specs.Inputs.{IsSurfaceRead, IsScriptRead, HasReadStop};
+// Reading the surface file and the second input.
+ghost use Rattle.std.specs.Prelude.{◌≡◌, ◌≤◌, ◌<◌, ◌-◌, ◌^◌, ℕ, List as Items, length, Some, IsTrue, IfOk};
+ghost use Rattle.hilldale.specs.Inputs.{IsSurfaceRead, IsSecondRead, HasReadStop};
 
-use crate::limits::{SCRIPT_LIMIT, SURFACE_LIMIT};
+use crate::limits::SURFACE_LIMIT;
 use crate::stop::{Refusal, Stop};
 use hd_base::{List, ReadError, Source, read_all};
 use hd_sdf_read::{SdfError, SdfFile, read_sdf};
@@ -27,17 +27,24 @@ pub fn read_surface<S: Source>(alloc: Global, source: &mut S, name: &str) -> Res
     }
 }
 
-/// The script under this name, whole, or read to one byte past the limit.
-pub fn read_script<R: Source>(alloc: Global, source: &mut R, name: &str) -> Result<List<u8>, Stop>
-    requires { IsTrue (R.allows source.old name.now) }
-    ensures told { (bytes : Items ℕ) → R.files source.old name.now ≡ Some bytes → IsScriptRead bytes result }
-    ensures within { IfOk result (λ read. length read ≤ SCRIPT_LIMIT) }
+/// The second input under this name, a script or a certificate: whole, or read to one byte past the
+/// limit.
+pub fn read_second<R: Source>(
+    alloc: Global,
+    source: &mut R,
+    name: &str,
+    limit: usize,
+) -> Result<List<u8>, Stop>
+    requires limit { limit < 2 ^ 64 - 1 }
+    requires allowed { IsTrue (R.allows source.old name.now) }
+    ensures told { (bytes : Items ℕ) → R.files source.old name.now ≡ Some bytes → IsSecondRead limit bytes result }
+    ensures within { IfOk result (λ read. length read ≤ limit) }
     ensures cause { HasReadStop (R.faults source.old) (R.faults source.new) result }
 {
-    match read_all(alloc, source, name, SCRIPT_LIMIT) {
+    match read_all(alloc, source, name, limit) {
         Ok(bytes) => Ok(bytes),
         Err(ReadError::Memory) => Err(Stop::Memory),
         Err(ReadError::ReadFault) => Err(Stop::ReadFault),
-        Err(ReadError::TooLong(_)) => Err(Stop::Refused(Refusal::ScriptTooLong)),
+        Err(ReadError::TooLong(_)) => Err(Stop::Refused(Refusal::SecondTooLong)),
     }
 }

@@ -4,12 +4,22 @@
 
 mod answers;
 mod causes;
+mod certificates;
+mod check;
+mod demo;
+#[cfg(test)]
+mod demo_tests;
+mod demonstration;
+mod generator;
 mod inputs;
 mod limits;
+#[cfg(test)]
+mod report_tests;
 mod run;
 mod save;
 mod status;
 mod stop;
+mod summary;
 #[cfg(test)]
 mod tests;
 mod texts;

@@ -7,17 +7,17 @@ ghost use Rattle.hd_sdf_read.specs.FileOf.{file_of};
 ghost use Rattle.hd_engine.specs.State.{first_state};
 ghost use Rattle.hilldale.specs.FaultCounts.{Count, SourceFailed, Stays, over};
 ghost use Rattle.hilldale.specs.Outcome.{surface_of};
-ghost use Rattle.hilldale.specs.ReadOrder.{ScriptComesLast};
+ghost use Rattle.hilldale.specs.ReadOrder.{SecondComesLast};
 ghost use Rattle.hilldale.specs.RunResult.{AnswersAndSaves, HasRunStop, HasSinkStop, IsRun};
 ghost use Rattle.hilldale.specs.Saving.{SavesLast, saving};
-ghost use Rattle.hilldale.specs.Words.{request_of};
+ghost use Rattle.hilldale.specs.Words.{Run, run_request_of};
 
 use crate::answers::answer_lines;
-use crate::inputs::{read_script, read_surface};
+use crate::inputs::{read_second, read_surface};
 use crate::limits::{GREATEST_TILE, LEAST_TILE, SCRIPT_LIMIT};
 use crate::save::save_file;
 use crate::stop::Stop;
-use crate::words::Job;
+use crate::words::RunJob;
 use hd_base::{Sink, Source};
 use hd_engine::{Session, answer_keeps_a_state, answers_are_determined};
 use hd_sdf_read::SdfFile;
@@ -28,7 +28,7 @@ use std::alloc::Global;
 /// accepted.
 pub fn run<S: Source, R: Source, W: Sink, V: Sink>(
     alloc: Global,
-    job: &Job<'_>,
+    job: &RunJob<'_>,
     surface: &mut S,
     script: &mut R,
     out: &mut W,
@@ -42,11 +42,11 @@ pub fn run<S: Source, R: Source, W: Sink, V: Sink>(
     ensures open { IsTrue (W.is_open out.new) }
     ensures told { (bytes second : Items ℕ) → S.files surface.old job.now.surface.now ≡ Some bytes
         → ((name : Items ℕ) → option_copied job.now.script ≡ Some name → R.files script.old name ≡ Some second)
-        → IsRun (request_of job.now) bytes second (saved.new ≡ saved.old)
+        → IsRun (Run (run_request_of job.now)) bytes second (saved.new ≡ saved.old)
         (saving (V.written saved.old) (V.written saved.new) (V.flushed saved.new) (over (V.faults saved.old) (V.faults saved.new)))
         result (W.written out.old) (W.written out.new) }
     ensures unwritten { result ≡ Err Stop.ReadFault → Keeps (W.written out.old) (W.written out.new) }
-    ensures order { ScriptComesLast (request_of job.now) (S.files surface.old job.now.surface.now)
+    ensures order { SecondComesLast (option_copied job.now.script) (S.files surface.old job.now.surface.now)
         (over (S.faults surface.old) (S.faults surface.new)) script.old script.new }
     ensures failed { (bytes : Items ℕ) → S.files surface.old job.now.surface.now ≡ Some bytes
         → result ≡ Err Stop.ReadFault
@@ -69,7 +69,7 @@ pub fn run<S: Source, R: Source, W: Sink, V: Sink>(
     let Some(name) = job.script else {
         return answer_all(alloc, file, job, b"dales".as_slice(), out, saved);
     };
-    let lines = match read_script(alloc, script, name) {
+    let lines = match read_second(alloc, script, name, SCRIPT_LIMIT) {
         Ok(lines) => lines,
         Err(stop) => return Err(stop),
     };
@@ -81,7 +81,7 @@ pub fn run<S: Source, R: Source, W: Sink, V: Sink>(
 fn answer_all<W: Sink, V: Sink>(
     alloc: Global,
     file: SdfFile,
-    job: &Job<'_>,
+    job: &RunJob<'_>,
     script: &[u8],
     out: &mut W,
     saved: &mut V,

@@ -1,15 +1,17 @@
-// Why a run stops before all lines are answered.
+// Why a run, a check or a demo stops before its end.
 ghost use Rattle.std.specs.Prelude.{◌≡◌, IfOk};
 ghost use Rattle.hilldale.specs.Refusals.{refusal_status, refusal_text};
 
 use crate::causes::surface_line;
+use crate::certificates::{rule_line, unreadable_line};
 use crate::status::Status;
 use crate::texts::{SECOND_TOO_LONG, SURFACE_TOO_LONG};
 use hd_base::{List, Memory};
+use hd_map::Pos;
 use hd_sdf_read::SdfError;
 use std::alloc::Global;
 
-/// Why a run stops before all lines are answered.
+/// Why a run, a check or a demo stops before its end.
 #[derive(Clone, Copy, Debug, PartialEq, Eq)]
 pub enum Stop {
     /// Want of memory.
@@ -29,18 +31,28 @@ pub enum Refusal {
     SurfaceTooLong,
     /// The surface's bytes are no file of the grammar.
     Surface(SdfError),
-    /// The script has more bytes than its limit.
-    ScriptTooLong,
+    /// The script or the certificate has more bytes than its limit.
+    SecondTooLong,
+    /// The certificate's line with this number, from 1, is the first that has not its form.
+    Unreadable(u64),
+    /// A rule of certificates fails, and those before it hold.
+    RuleFails {
+        /// The number of the rule, from 1 to 11.
+        rule: u8,
+        /// The position where it fails.
+        at: Pos,
+    },
 }
 
 impl Refusal {
-    /// The status with which a run ends for it.
+    /// The status with which the program ends for it.
     pub fn status(self) -> Status
         ensures { result ≡ refusal_status self }
     {
         match self {
             Refusal::SurfaceTooLong | Refusal::Surface(_) => Status::SurfaceRefused,
-            Refusal::ScriptTooLong => Status::TooLong,
+            Refusal::SecondTooLong => Status::TooLong,
+            Refusal::Unreadable(_) | Refusal::RuleFails { .. } => Status::CertificateRefused,
         }
     }
 
@@ -52,7 +64,9 @@ impl Refusal {
         match self {
             Refusal::SurfaceTooLong => copied(alloc, SURFACE_TOO_LONG.as_bytes()),
             Refusal::Surface(error) => surface_line(alloc, error),
-            Refusal::ScriptTooLong => copied(alloc, SECOND_TOO_LONG.as_bytes()),
+            Refusal::SecondTooLong => copied(alloc, SECOND_TOO_LONG.as_bytes()),
+            Refusal::Unreadable(line) => unreadable_line(alloc, line),
+            Refusal::RuleFails { rule, at } => rule_line(alloc, rule, at),
         }
     }
 }

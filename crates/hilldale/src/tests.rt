@@ -1,4 +1,6 @@
 // What runs of the program write, over sources and sinks in memory.
+use crate::inputs::read_second;
+use crate::stop::{Refusal, Stop};
 use crate::{Status, top};
 use hd_base::{List, MemSink, MemSource, write_all};
 use std::alloc::Global;
@@ -27,7 +29,13 @@ usage: hilldale demo W H NUMBER EDITS [--tile N]
 const PROFILE_DALES: &str = "dales 2\ndale 0 0 0 2\ndale 2 0 1 1\n";
 
 // A file of this type with these data.
-fn file(alloc: Global, points: u32, profiles: u32, code: u32, data: &str) -> Result<String, Fail> {
+pub(crate) fn file(
+    alloc: Global,
+    points: u32,
+    profiles: u32,
+    code: u32,
+    data: &str,
+) -> Result<String, Fail> {
     Ok(format!(in alloc;
         "{HEADER}NumPoints = {points}\nNumProfiles = {profiles}\n{SCALES}DataType = {code}\nCheckType = 0\n*\n{data}\n*\n"
     )?)
@@ -41,7 +49,7 @@ fn profile(alloc: Global, code: u32) -> Result<String, Fail> {
 // How a run is fed: the surface `A` and the script `B`, the bytes of a piece, and the calls of each
 // source and of the sink that fail.
 #[derive(Drop)]
-struct Feed<'a> {
+pub(crate) struct Feed<'a> {
     surface: &'a str,
     script: &'a str,
     piece: usize,
@@ -51,7 +59,7 @@ struct Feed<'a> {
 }
 
 // A feed without faults.
-fn whole<'a>(surface: &'a str, script: &'a str) -> Feed<'a> {
+pub(crate) fn whole<'a>(surface: &'a str, script: &'a str) -> Feed<'a> {
     Feed {
         surface,
         script,
@@ -118,7 +126,7 @@ fn run_saving(
 }
 
 // Compares the status and the output of a run.
-fn expect(
+pub(crate) fn expect(
     rt: &(impl Abort + AllocGlobal),
     words: &[&str],
     feed: &Feed,
@@ -211,7 +219,7 @@ fn lines_of_a_script_are_answered_in_order(rt: HostRuntime) -> Result<(), Fail> 
 #[test]
 fn words_without_their_form_are_told_the_usage(rt: HostRuntime) -> Result<(), Fail> {
     let surface = profile(rt.alloc(), 5)?;
-    let cases: [&[&str]; 27] = [
+    let cases: [&[&str]; 32] = [
         &[],
         &["dales"],
         &["dales", "-x"],
@@ -236,11 +244,43 @@ fn words_without_their_form_are_told_the_usage(rt: HostRuntime) -> Result<(), Fa
         &["run", "A", "B", "--save", "-"],
         &["run", "A", "B", "--save=C", "--save", "C"],
         &["dales", "A", "--save", "C"],
-        &["check", "A", "B"],
-        &["demo", "3", "1", "7", "1"],
+        &["check", "A"],
+        &["check", "A", "B", "B"],
+        &["check", "A", ""],
+        &["check", "A", "B", "--tile", "8"],
+        &["check", "A", "B", "--save=C"],
+        &["check", "-x", "A", "B"],
+        &["Check", "A", "B"],
         &["--help"],
     ];
     let feed = whole(surface.as_str(), "dales");
+    for words in cases {
+        expect(&rt, words, &feed, Status::Usage, USAGE)?;
+    }
+    Ok(())
+}
+
+#[test]
+fn words_of_no_demo_are_told_the_usage(rt: HostRuntime) -> Result<(), Fail> {
+    let cases: [&[&str]; 16] = [
+        &["demo"],
+        &["demo", "3", "1", "7"],
+        &["demo", "3", "1", "7", "1", "1"],
+        &["demo", "3", "1", "7", ""],
+        &["demo", "0", "1", "7", "1"],
+        &["demo", "65536", "1", "7", "1"],
+        &["demo", "65535", "65", "1", "0"],
+        &["demo", "3", "1", "4294967296", "1"],
+        &["demo", "3", "1", "7", "100001"],
+        &["demo", "3", "1", "-7", "1"],
+        &["demo", "3", "1", "--", "-7", "1"],
+        &["demo", "3", "1", "7", "1", "--tile", "7"],
+        &["demo", "3", "1", "7", "1", "--tile"],
+        &["demo", "3", "1", "7", "1", "--tile=8", "--tile=8"],
+        &["demo", "3", "1", "7", "1", "--save=C"],
+        &["Demo", "3", "1", "7", "1"],
+    ];
+    let feed = whole("", "");
     for words in cases {
         expect(&rt, words, &feed, Status::Usage, USAGE)?;
     }
@@ -265,17 +305,15 @@ fn options_and_their_end_may_stand_between_the_names(rt: HostRuntime) -> Result<
     Ok(())
 }
 
-// Compares the refusal of a surface, before which no script is opened.
+// Compares the refusal of a surface, before which no second input is opened.
 fn expect_refused(rt: &(impl Abort + AllocGlobal), surface: &str, cause: &str) -> Result<(), Fail> {
     let refused = format!(in rt.alloc(); "surface refused: {cause}\n")?;
     let feed = whole(surface, "dales");
-    expect(
-        rt,
-        &["run", "A", "C"],
-        &feed,
-        Status::SurfaceRefused,
-        refused.as_str(),
-    )
+    let cases: [&[&str]; 2] = [&["run", "A", "C"], &["check", "A", "C"]];
+    for words in cases {
+        expect(rt, words, &feed, Status::SurfaceRefused, refused.as_str())?;
+    }
+    Ok(())
 }
 
 #[test]
@@ -321,7 +359,12 @@ fn data_outside_the_grammar_are_refused(rt: HostRuntime) -> Result<(), Fail> {
 #[test]
 fn a_file_that_is_not_there_is_a_read_fault(rt: HostRuntime) -> Result<(), Fail> {
     let surface = profile(rt.alloc(), 5)?;
-    let cases: [&[&str]; 2] = [&["dales", "C"], &["run", "A", "C"]];
+    let cases: [&[&str]; 4] = [
+        &["dales", "C"],
+        &["run", "A", "C"],
+        &["check", "C", "B"],
+        &["check", "A", "C"],
+    ];
     let feed = whole(surface.as_str(), "dales");
     for words in cases {
         expect(&rt, words, &feed, Status::ReadFault, "read fault\n")?;
@@ -424,6 +467,187 @@ fn each_call_that_fails_is_a_fault_of_its_kind(rt: HostRuntime) -> Result<(), Fa
     for (failing, piece, calls) in table {
         expect_faults(&rt, failing, piece, calls)?;
     }
+    Ok(())
+}
+
+// The lowest way over of these heights leads through a third dale.
+const SQUARE: &str = "0 9 1\n4 9 5\n6 2 6";
+
+const ACCEPTED: &str = "certificate accepted\n";
+
+// The certificate of the pits 0 0 and 2 0 of the square, with this first line, this second point of
+// the path, and this cut.
+fn certificate(alloc: Global, first: &str, second: &str, cut: &str) -> Result<String, Fail> {
+    Ok(format!(in alloc;
+        "{first}\nfrom 0 0\nto 2 0\nsaddle 2 1 5\npath 5\n0 0\n{second}\n1 2\n2 1\n2 0\n{cut}\nend\n"
+    )?)
+}
+
+#[test]
+fn a_certificate_is_accepted_refused_or_unreadable(rt: HostRuntime) -> Result<(), Fail> {
+    let surface = file(rt.alloc(), 3, 3, 5, SQUARE)?;
+    let head = "certificate D 8";
+    let cut = "cut 3\n0 0\n0 1\n1 2";
+    let open = "cut 2\n0 0\n1 2";
+    let cases = [
+        (head, "0 1", cut, Status::Done, ACCEPTED),
+        (
+            head,
+            "0 1",
+            open,
+            Status::CertificateRefused,
+            "certificate refused: rule 11 at 0 1\n",
+        ),
+        (
+            head,
+            "1 1",
+            cut,
+            Status::CertificateRefused,
+            "certificate refused: rule 7 at 1 1\n",
+        ),
+        (
+            "certificate X 8",
+            "0 1",
+            cut,
+            Status::CertificateRefused,
+            "certificate unreadable: line 1\n",
+        ),
+    ];
+    for (first, second, cut, wanted, output) in cases {
+        let text = certificate(rt.alloc(), first, second, cut)?;
+        let feed = whole(surface.as_str(), text.as_str());
+        expect(&rt, &["check", "A", "B"], &feed, wanted, output)?;
+    }
+    Ok(())
+}
+
+#[test]
+fn each_printed_certificate_is_accepted(rt: HostRuntime) -> Result<(), Fail> {
+    let cases = [
+        (3, 3, SQUARE, "saddle D 0 0 2 0"),
+        (4, 1, "9 8 9 0", "saddle H 0 0 2 0"),
+        (3, 1, "0 BAD 1", "saddle D 0 0 2 0"),
+    ];
+    for (points, profiles, data, line) in cases {
+        let surface = file(rt.alloc(), points, profiles, 5, data)?;
+        let feed = whole(surface.as_str(), line);
+        let (status, text) = run(rt.alloc(), &["run", "A", "B"], &feed)?;
+        assert_eq!(rt; status, Status::Done);
+        let feed = whole(surface.as_str(), text.as_str());
+        let words = ["check", "--", "A", "B"];
+        expect(&rt, &words, &feed, Status::Done, ACCEPTED)?;
+    }
+    Ok(())
+}
+
+#[test]
+fn each_call_of_a_check_that_fails_is_a_fault_of_its_kind(rt: HostRuntime) -> Result<(), Fail> {
+    let surface = file(rt.alloc(), 3, 3, 5, SQUARE)?;
+    let text = certificate(rt.alloc(), "certificate D 8", "0 1", "cut 3\n0 0\n0 1\n1 2")?;
+    // Whose call fails, its number, and what is written. The calls of a source are an open, a read
+    // of the whole and one that finds the end; those of the sink a write and a flush.
+    let cases: [(&[u64], &[u64], &[u64], Status, &str); 9] = [
+        (&[0], &[], &[], Status::ReadFault, "read fault\n"),
+        (&[1], &[], &[], Status::ReadFault, "read fault\n"),
+        (&[2], &[], &[], Status::ReadFault, "read fault\n"),
+        (&[], &[0], &[], Status::ReadFault, "read fault\n"),
+        (&[], &[1], &[], Status::ReadFault, "read fault\n"),
+        (&[], &[2], &[], Status::ReadFault, "read fault\n"),
+        (&[], &[], &[0], Status::WriteFault, ""),
+        (&[], &[], &[1], Status::WriteFault, ACCEPTED),
+        (&[3], &[3], &[2], Status::Done, ACCEPTED),
+    ];
+    for (surface_fails, script_fails, sink_fails, wanted, output) in cases {
+        let feed = Feed {
+            surface_fails,
+            script_fails,
+            sink_fails,
+            ..whole(surface.as_str(), text.as_str())
+        };
+        expect(&rt, &["check", "A", "B"], &feed, wanted, output)?;
+    }
+    Ok(())
+}
+
+const DEMO: &str = "demo 3 1 7 1
+dales 2
+hills 1
+kept dales 2
+kept hills 1
+Spd 1/3
+S10z 4761/1
+edits 1
+dales 1
+hills 2
+kept dales 1
+kept hills 2
+Spd 2/3
+S10z 3847/1
+";
+
+#[test]
+fn a_demo_is_written_without_its_sources(rt: HostRuntime) -> Result<(), Fail> {
+    let cases: [&[&str]; 5] = [
+        &["demo", "3", "1", "7", "1"],
+        &["demo", "03", "001", "007", "1"],
+        &["demo", "--tile", "8", "3", "1", "7", "1"],
+        &["demo", "3", "1", "--tile=256", "7", "1"],
+        &["demo", "3", "--tile=064", "--", "1", "7", "1"],
+    ];
+    let feed = Feed {
+        surface_fails: &[0],
+        script_fails: &[0],
+        ..whole("", "")
+    };
+    for words in cases {
+        expect(&rt, words, &feed, Status::Done, DEMO)?;
+    }
+    Ok(())
+}
+
+#[test]
+fn a_demo_says_the_same_on_every_tile(rt: HostRuntime) -> Result<(), Fail> {
+    let feed = whole("", "");
+    let words = ["demo", "20", "12", "7", "3"];
+    let (status, text) = run(rt.alloc(), &words, &feed)?;
+    assert_eq!(rt; status, Status::Done);
+    for tile in ["--tile=8", "--tile=64", "--tile=256"] {
+        let words = ["demo", tile, "20", "12", "7", "3"];
+        expect(&rt, &words, &feed, Status::Done, text.as_str())?;
+    }
+    Ok(())
+}
+
+#[test]
+fn each_call_of_a_demo_that_fails_is_a_write_fault(rt: HostRuntime) -> Result<(), Fail> {
+    // The calls are a write for each piece of the 145 bytes, and a flush.
+    let cases: [(&[u64], Status, usize); 5] = [
+        (&[0], Status::WriteFault, 0),
+        (&[1], Status::WriteFault, 64),
+        (&[2], Status::WriteFault, 128),
+        (&[3], Status::WriteFault, 145),
+        (&[4], Status::Done, 145),
+    ];
+    for (sink_fails, wanted, count) in cases {
+        let feed = Feed {
+            sink_fails,
+            piece: 64,
+            ..whole("", "")
+        };
+        let written = DEMO.get(..count).unwrap_or(DEMO);
+        expect(&rt, &["demo", "3", "1", "7", "1"], &feed, wanted, written)?;
+    }
+    Ok(())
+}
+
+#[test]
+fn a_second_input_of_one_byte_over_its_limit_is_refused(rt: HostRuntime) -> Result<(), Fail> {
+    let mut source = source_of(rt.alloc(), "B", "three", &[], 2)?;
+    let read = read_second(rt.alloc(), &mut source, "B", 4);
+    assert!(rt; matches!(read, Err(Stop::Refused(Refusal::SecondTooLong))));
+    let read = read_second(rt.alloc(), &mut source, "B", 5);
+    let bytes = read.ok().ok_or("not read")?;
+    assert_eq!(rt; bytes.as_slice(), b"three".as_slice());
     Ok(())
 }
 

@@ -13,5 +13,8 @@ pub const SURFACE_TOO_LONG: &str = "surface refused: file too long\n";
 /// A source that failed.
 pub const READ_FAULT: &str = "read fault\n";
 
-/// A script with more bytes than the limit.
+/// A certificate by which all rules hold.
+pub const ACCEPTED: &str = "certificate accepted\n";
+
+/// A script or a certificate with more bytes than its limit.
 pub const SECOND_TOO_LONG: &str = "second input too long\n";

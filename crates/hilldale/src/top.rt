@@ -3,7 +3,7 @@ ghost use Rattle.std.specs.Prelude.{◌≡◌, ◌≢◌, ◌⊎◌, ℕ, List a
 ghost use Rattle.std.specs.Option.{ForSome};
 ghost use Rattle.std.specs.Io.KnownBytes.{Appends};
 ghost use Rattle.hd_base.specs.Told.{OnTold};
-ghost use Rattle.hilldale.specs.Words.{form_of};
+ghost use Rattle.hilldale.specs.Words.{form_of, save_name, second_name, surface_name};
 ghost use Rattle.hilldale.specs.Outcome.{TellsInputs, surface_of};
 ghost use Rattle.hilldale.specs.FaultCounts.{HasStatusCause, SourceFailed, over};
 ghost use Rattle.hilldale.specs.ReadOrder.{ReadsInOrder};
@@ -11,22 +11,26 @@ ghost use Rattle.hilldale.specs.Ending.{EndsAs, EndsRun, Finishes};
 ghost use Rattle.hilldale.specs.Saving.{SavesInTurn, saving};
 ghost use Rattle.hilldale.specs.Texts.{read_fault_text};
 
+use crate::check::check_certificate;
+use crate::demonstration::write_demo;
 use crate::run::run;
 use crate::status::Status;
 use crate::stop::Stop;
 use crate::texts::{READ_FAULT, USAGE};
-use crate::words::job_of;
+use crate::words::{Job, job_of};
 use hd_base::{Sink, Source, write_all};
 use std::alloc::Global;
 
-/// Runs the program by the words after its name. The surface is read from `surface`, the script
-/// from `script`, and answers go to `out`, which is handed in open. The file that the lines leave is
-/// saved to `saved`, where the words name one; the words decide the name, and no other is opened.
+/// Runs the program by the words after its name. The surface is read from `surface`, the script or
+/// the certificate from `script`, and answers go to `out`, which is handed in open. The file that
+/// the lines of a script leave is saved to `saved`, where the words name one; the words decide the
+/// name, and no other is opened. A demo opens no source and saves nothing.
 ///
 /// The first step that fails decides the status: the words, reading the surface, judging it, reading
-/// the script, each line's answer and its writing, opening, writing and flushing `saved`, the flush
-/// of `out`. The text of a status is written and flushed; where this fails, the status is
-/// `WriteFault`.
+/// the second input, then of a script each line's answer and its writing, opening, writing and
+/// flushing `saved`, and of a certificate its form, its rules and the text; the flush of `out`. A
+/// demo has the words, the writing of its text and the flush. The text of a status is written and
+/// flushed; where this fails, the status is `WriteFault`.
 pub fn top<S: Source, R: Source, W: Sink, V: Sink>(
     alloc: Global,
     words: &[String],
@@ -37,11 +41,11 @@ pub fn top<S: Source, R: Source, W: Sink, V: Sink>(
 ) -> Status
     requires open { IsTrue (W.is_open out.old) }
     requires surface { ForSome (form_of (map string_bytes words.now))
-        (λ request. IsTrue (S.allows surface.old request.surface)) }
+        (λ request. ForSome (surface_name request) (λ name. IsTrue (S.allows surface.old name))) }
     requires script { ForSome (form_of (map string_bytes words.now))
-        (λ request. ForSome request.script (λ name. IsTrue (R.allows script.old name))) }
+        (λ request. ForSome (second_name request) (λ name. IsTrue (R.allows script.old name))) }
     requires saved { ForSome (form_of (map string_bytes words.now))
-        (λ request. ForSome request.save (λ name. IsTrue (V.allows saved.old name))) }
+        (λ request. ForSome (save_name request) (λ name. IsTrue (V.allows saved.old name))) }
 
     // What the words and the told bytes of both inputs come to is what was written and saved.
     ensures outcome { (bytes second : Items ℕ)
@@ -78,11 +82,23 @@ pub fn top<S: Source, R: Source, W: Sink, V: Sink>(
     let Some(job) = job_of(words) else {
         return finish(out, USAGE.as_bytes(), Status::Usage);
     };
-    let ran = run(alloc, &job, surface, script, out, saved);
-    end_run(alloc, out, ran)
+    match job {
+        Job::Run(job) => {
+            let ran = run(alloc, &job, surface, script, out, saved);
+            end_run(alloc, out, ran)
+        }
+        Job::Check(job) => {
+            let checked = check_certificate(alloc, &job, surface, script, out);
+            end_run(alloc, out, checked)
+        }
+        Job::Demo(demo) => {
+            let shown = write_demo(alloc, demo, out);
+            end_run(alloc, out, shown)
+        }
+    }
 }
 
-// Ends a run by what it came to.
+// Ends a run, a check or a demo by what it came to.
 fn end_run<W: Sink>(alloc: Global, out: &mut W, ran: Result<bool, Stop>) -> Status
     requires { IsTrue (W.is_open out.old) }
     ensures { EndsRun ran result (W.written out.old) (W.written out.new) (W.flushed out.new)

@@ -2,16 +2,27 @@
 ghost use Rattle.std.specs.Prelude.{◌≡◌, ◌≤◌, [], ◌∷◌, ◌++◌, length, drop, map, codes, nat_eq, string_bytes, IfNone, IfSome, if◌then◌else◌};
 ghost use Rattle.std.specs.List.{starts_with};
 ghost use Rattle.std.specs.Option.{option_copied, option_map, option_to_list};
-ghost use Rattle.hilldale.specs.Words.{begins_with_dash, dales_form, filled, form_of, given_of, request_of, run_form, save_of, savable, tile_of};
+ghost use Rattle.hilldale.specs.Words.{IsWithinLimits, begins_with_dash, check_form, dales_form, demo_form, filled, form_of, given_of, request_of, run_form, save_of, savable, tile_of};
 ghost use Rattle.hilldale.specs.WordSteps.{HasNoForm, IsNoOptionAlone, IsRefused, LeadsTo, at_stage, found_so_far};
 
+use crate::demo::Demo;
 use crate::limits::{GREATEST_TILE, LEAST_TILE, USUAL_TILE};
 use hd_num::read_count;
 
-/// What the words ask for: a surface, the script to run or none, the side of a tile, and the name to
-/// save under or none.
+/// What the words ask for.
 #[derive(Clone, Copy, Debug)]
-pub struct Job<'a> {
+pub enum Job<'a> {
+    /// Answers to lines.
+    Run(RunJob<'a>),
+    /// The check of a certificate.
+    Check(CheckJob<'a>),
+    /// A demo, whose numbers are within their limits.
+    Demo(Demo),
+}
+
+/// A surface, the script to run or none, the side of a tile, and the name to save under or none.
+#[derive(Clone, Copy, Debug)]
+pub struct RunJob<'a> {
     /// The name of the surface.
     pub surface: &'a str,
     /// The name of the script, where one is to run.
@@ -20,6 +31,15 @@ pub struct Job<'a> {
     pub tile: u32,
     /// The name under which the file is saved, where it is.
     pub save: Option<&'a str>,
+}
+
+/// A surface, and a certificate of it.
+#[derive(Clone, Copy, Debug)]
+pub struct CheckJob<'a> {
+    /// The name of the surface.
+    pub surface: &'a str,
+    /// The name of the certificate.
+    pub certificate: &'a str,
 }
 
 // What the next word may be: an option or a name, the value of `--tile` or of `--save`, or a name
@@ -38,6 +58,8 @@ enum FoundNames<'a> {
     Zero,
     One(&'a str),
     Two(&'a str, &'a str),
+    Three(&'a str, &'a str, &'a str),
+    Four(&'a str, &'a str, &'a str, &'a str),
 }
 
 // What the words so far have given.
@@ -56,24 +78,29 @@ struct Progress<'a> {
 }
 
 /// What the words ask for: `dales SURFACE`, or `run SURFACE SCRIPT`, which may have `--tile SIDE`
-/// or `--tile=SIDE`, and `--save NAME` or `--save=NAME`, each at most once. The word `--` ends the
-/// options. None comes exactly where the words have neither form.
+/// or `--tile=SIDE`, and `--save NAME` or `--save=NAME`, each at most once, or
+/// `check SURFACE CERT`, or `demo W H NUMBER EDITS`, which may have `--tile` as `run` has. The word
+/// `--` ends the options. None comes exactly where the words have none of these forms.
 pub fn job_of(words: &[String]) -> Option<Job<'_>>
     ensures form { option_map request_of result ≡ form_of (map string_bytes words.now) }
-    ensures tile { IfSome result (λ job. LEAST_TILE ≤ job.tile × job.tile ≤ GREATEST_TILE) }
+    ensures limits { IfSome result IsWithinLimits }
 {
     let (command, rest) = words.split_first()?;
     if command.as_str() == "dales" {
         dales_job(found_in(rest)?)
     } else if command.as_str() == "run" {
         run_job(found_in(rest)?)
+    } else if command.as_str() == "check" {
+        check_job(found_in(rest)?)
+    } else if command.as_str() == "demo" {
+        demo_job(found_in(rest)?)
     } else {
         None
     }
 }
 
 // What the words after the command give. None comes where they are refused, or are too many for
-// either form.
+// each form.
 fn found_in(words: &[String]) -> Option<Found<'_>>
     ensures none { IfNone result (HasNoForm (given_of Stage.Options (map string_bytes words.now))) }
     ensures some { IfSome result
@@ -208,9 +235,9 @@ fn with_save<'a>(found: Found<'a>, value: &'a str) -> Option<Progress<'a>>
     }
 }
 
-// One more name, where there are not two yet.
+// One more name, where there are not four yet.
 fn with_name<'a>(found: Found<'a>, name: &'a str) -> Option<Found<'a>>
-    ensures none { IfNone result (length (found_so_far found.entry).names ≡ 2) }
+    ensures none { IfNone result (length (found_so_far found.entry).names ≡ 4) }
     ensures some { IfSome result (λ more. found_so_far more ≡ record {
       names = (found_so_far found.entry).names ++ (name.now ∷ []);
       tiles = (found_so_far found.entry).tiles;
@@ -220,7 +247,9 @@ fn with_name<'a>(found: Found<'a>, name: &'a str) -> Option<Found<'a>>
     let names = match found.names {
         FoundNames::Zero => FoundNames::One(name),
         FoundNames::One(first) => FoundNames::Two(first, name),
-        FoundNames::Two(..) => return None,
+        FoundNames::Two(first, second) => FoundNames::Three(first, second, name),
+        FoundNames::Three(first, second, third) => FoundNames::Four(first, second, third, name),
+        FoundNames::Four(..) => return None,
     };
     Some(Found {
         names,
@@ -232,15 +261,15 @@ fn with_name<'a>(found: Found<'a>, name: &'a str) -> Option<Found<'a>>
 // What `dales` asks for.
 fn dales_job(found: Found<'_>) -> Option<Job<'_>>
     ensures form { option_map request_of result ≡ dales_form (found_so_far found.entry) }
-    ensures tile { IfSome result (λ job. LEAST_TILE ≤ job.tile × job.tile ≤ GREATEST_TILE) }
+    ensures limits { IfSome result IsWithinLimits }
 {
     match (found.names, found.tile, found.save) {
-        (FoundNames::One(surface), None, None) => Some(Job {
+        (FoundNames::One(surface), None, None) => Some(Job::Run(RunJob {
             surface: filled_name(surface)?,
             script: None,
             tile: USUAL_TILE,
             save: None,
-        }),
+        })),
         _ => None,
     }
 }
@@ -248,15 +277,49 @@ fn dales_job(found: Found<'_>) -> Option<Job<'_>>
 // What `run` asks for.
 fn run_job(found: Found<'_>) -> Option<Job<'_>>
     ensures form { option_map request_of result ≡ run_form (found_so_far found.entry) }
-    ensures tile { IfSome result (λ job. LEAST_TILE ≤ job.tile × job.tile ≤ GREATEST_TILE) }
+    ensures limits { IfSome result IsWithinLimits }
 {
     match found.names {
-        FoundNames::Two(surface, script) => Some(Job {
+        FoundNames::Two(surface, script) => Some(Job::Run(RunJob {
             surface: filled_name(surface)?,
             script: Some(filled_name(script)?),
             tile: tile_side(found.tile)?,
             save: save_name(found.save)?,
-        }),
+        })),
+        _ => None,
+    }
+}
+
+// What `check` asks for.
+fn check_job(found: Found<'_>) -> Option<Job<'_>>
+    ensures form { option_map request_of result ≡ check_form (found_so_far found.entry) }
+    ensures limits { IfSome result IsWithinLimits }
+{
+    match (found.names, found.tile, found.save) {
+        (FoundNames::Two(surface, certificate), None, None) => Some(Job::Check(CheckJob {
+            surface: filled_name(surface)?,
+            certificate: filled_name(certificate)?,
+        })),
+        _ => None,
+    }
+}
+
+// What `demo` asks for.
+fn demo_job(found: Found<'_>) -> Option<Job<'_>>
+    ensures form { option_map request_of result ≡ demo_form (found_so_far found.entry) }
+    ensures limits { IfSome result IsWithinLimits }
+{
+    match (found.names, found.save) {
+        (FoundNames::Four(points, profiles, number, edits), None) => {
+            let tile = tile_side(found.tile)?;
+            Some(Job::Demo(Demo::read(
+                points.as_bytes(),
+                profiles.as_bytes(),
+                number.as_bytes(),
+                edits.as_bytes(),
+                tile,
+            )?))
+        }
         _ => None,
     }
 }

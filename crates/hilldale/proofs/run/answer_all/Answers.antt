@@ -1,4 +1,4 @@
-use Rattle.std.proofs.Common.{◌≡◌, [], List, ℕ, Ok, Err, Some, inl, ap, subst, refl}
+use Rattle.std.proofs.Common.{[], Ok, inl, ap, subst, refl}
 use Rattle.std.specs.Option.{option_copied}
 use Rattle.std.specs.Prelude.{⊤}
 use Rattle.std.proofs.KnownBytes.{Appends-nil}

@@ -2,18 +2,18 @@ use Rattle.std.proofs.Common.{◌≡◌, ◌∷◌, [], ◌∙◌, Some, Ok, Err
 use Rattle.std.specs.Option.{option_copied}
 use Rattle.hd_num.specs.Lines.{lines_of}
 use Rattle.hd_sdf_read.specs.FileOf.{file_of}
-use Rattle.hilldale.specs.Words.{request_of}
+use Rattle.hilldale.specs.Words.{run_request_of}
 use Rattle.hilldale.specs.declared.stop.Stop.TheVariants.{ReadFault}
-use Rattle.hilldale.proofs.Runs.{inputs_of-ok, lines_to_answer-none, lines_to_answer-fits, run_answered, script_after, script_stops, script_untouched, surface_stops}
+use Rattle.hilldale.proofs.Runs.{inputs_of-ok, lines_to_answer-none, lines_to_answer-fits, run_answered, second_after, script_stops, second_untouched, surface_stops}
 use Rattle.hilldale.proofs.Savings.{last_untouched}
 use Rattle.hilldale.proofs.run.run.Goals as goal
 
 pub returns-in-Err-clause-told : goal.returns-in-Err-clause-told
 returns-in-Err-clause-told g c = λ bytes second told named.
-    surface_stops (request_of c.args.job.now) bytes second _ _ c.in-Err.stop (g.W.Sink.written c.args.out.now) (c.in-Err.ensures.told bytes told)
+    surface_stops (run_request_of c.args.job.now) bytes second _ _ c.in-Err.stop (g.W.Sink.written c.args.out.now) (c.in-Err.ensures.told bytes told)
 
 pub returns-in-Err-clause-order : goal.returns-in-Err-clause-order
-returns-in-Err-clause-order g c = script_untouched (request_of c.args.job.now) _ _ c.args.script.now
+returns-in-Err-clause-order g c = second_untouched (option_copied c.args.job.now.script) _ _ c.args.script.now
 
 pub returns-in-Err-clause-failed : goal.returns-in-Err-clause-failed
 returns-in-Err-clause-failed g c = λ bytes told e. let is : c.in-Err.stop ≡ ReadFault = cc in inl (c.in-Err.ensures.cause.fault (ap Err is))
@@ -23,7 +23,7 @@ returns-in-Err-clause-saved g c = last_untouched _ _ _ _ _ _ _ refl refl (λ acc
 
 pub returns-in_default-clause-told : goal.returns-in_default-clause-told
 returns-in_default-clause-told g c = λ bytes second told named.
-    let request = request_of c.args.job.now in
+    let request = run_request_of c.args.job.now in
     let file = file_of c.in-Ok.file in
     let lines = lines_of c.as_slice.result.now in
     let dales : lines ≡ codes "dales" ∷ [] = ap lines_of c.as_slice.ensures in
@@ -32,7 +32,7 @@ returns-in_default-clause-told g c = λ bytes second told named.
     _ _ c.answer_all.result (g.W.Sink.written c.args.out.now) (g.W.Sink.written c.answer_all.new.out) c.answer_all.ensures.answers
 
 pub returns-in_default-clause-order : goal.returns-in_default-clause-order
-returns-in_default-clause-order g c = script_untouched (request_of c.args.job.now) _ _ c.args.script.now
+returns-in_default-clause-order g c = second_untouched (option_copied c.args.job.now.script) _ _ c.args.script.now
 
 pub returns-in_default-clause-failed : goal.returns-in_default-clause-failed
 returns-in_default-clause-failed g c = λ bytes told e. elim (c.answer_all.ensures.cause.only ReadFault e) [ inl w ↦ absurd (cc) | inr w ↦ absurd (cc) ]
@@ -40,29 +40,29 @@ returns-in_default-clause-failed g c = λ bytes told e. elim (c.answer_all.ensur
 pub returns-in_default-clause-saved : goal.returns-in_default-clause-saved
 returns-in_default-clause-saved g c = c.answer_all.ensures.saved _ _ (c.in-Ok.ensures.cause.no_fault (λ e. cc)) refl
 
-pub returns-in-Err-read_script-clause-told : goal.returns-in-Err-read_script-clause-told
-returns-in-Err-read_script-clause-told g c = λ bytes second told named.
+pub returns-in-Err-read_second-clause-told : goal.returns-in-Err-read_second-clause-told
+returns-in-Err-read_second-clause-told g c = λ bytes second told named.
     let name_is : option_copied c.args.job.now.script ≡ Some c.in-Some.name.now = ap option_copied c.in-Some.is in
-    script_stops (request_of c.args.job.now) bytes second _ _ c.in-Some.name.now (file_of c.in-Ok.file) c.in-Err-read_script.stop (g.W.Sink.written c.args.out.now) (c.in-Ok.ensures.told bytes told) name_is
-    (c.in-Err-read_script.ensures.told second (named c.in-Some.name.now name_is))
+    script_stops (run_request_of c.args.job.now) bytes second _ _ c.in-Some.name.now (file_of c.in-Ok.file) c.in-Err-read_second.stop (g.W.Sink.written c.args.out.now) (c.in-Ok.ensures.told bytes told) name_is
+    (c.in-Err-read_second.ensures.told second (named c.in-Some.name.now name_is))
 
-pub returns-in-Err-read_script-clause-order : goal.returns-in-Err-read_script-clause-order
-returns-in-Err-read_script-clause-order g c =
-    script_after (request_of c.args.job.now) _ _ c.args.script.now _ c.in-Some.name.now (file_of c.in-Ok.file) (ap option_copied c.in-Some.is) (c.in-Ok.ensures.cause.no_fault (λ e. cc)) c.in-Ok.ensures.told
+pub returns-in-Err-read_second-clause-order : goal.returns-in-Err-read_second-clause-order
+returns-in-Err-read_second-clause-order g c =
+    second_after (option_copied c.args.job.now.script) _ _ c.args.script.now _ c.in-Some.name.now (file_of c.in-Ok.file) (ap option_copied c.in-Some.is) (c.in-Ok.ensures.cause.no_fault (λ e. cc)) c.in-Ok.ensures.told
 
-pub returns-in-Err-read_script-clause-failed : goal.returns-in-Err-read_script-clause-failed
-returns-in-Err-read_script-clause-failed g c = λ bytes told e.
-    let is : c.in-Err-read_script.stop ≡ ReadFault = cc in inr (file_of c.in-Ok.file, c.in-Ok.ensures.told bytes told, c.in-Err-read_script.ensures.cause.fault (ap Err is))
+pub returns-in-Err-read_second-clause-failed : goal.returns-in-Err-read_second-clause-failed
+returns-in-Err-read_second-clause-failed g c = λ bytes told e.
+    let is : c.in-Err-read_second.stop ≡ ReadFault = cc in inr (file_of c.in-Ok.file, c.in-Ok.ensures.told bytes told, c.in-Err-read_second.ensures.cause.fault (ap Err is))
 
-pub returns-in-Err-read_script-clause-saved : goal.returns-in-Err-read_script-clause-saved
-returns-in-Err-read_script-clause-saved g c = last_untouched _ _ _ _ _ _ _ refl refl (λ accepted name is asked. cc)
+pub returns-in-Err-read_second-clause-saved : goal.returns-in-Err-read_second-clause-saved
+returns-in-Err-read_second-clause-saved g c = last_untouched _ _ _ _ _ _ _ refl refl (λ accepted name is asked. cc)
 
 pub returns-clause-told : goal.returns-clause-told
 returns-clause-told g c = λ bytes second told named.
-    let request = request_of c.args.job.now in
+    let request = run_request_of c.args.job.now in
     let file = file_of c.in-Ok.file in
     let name_is : option_copied c.args.job.now.script ≡ Some c.in-Some.name.now = ap option_copied c.in-Some.is in
-    let script = c.in-Ok-read_script.ensures.told second (named c.in-Some.name.now name_is) in
+    let script = c.in-Ok-read_second.ensures.told second (named c.in-Some.name.now name_is) in
     let lines = lines_of c.as_slice-2.result.now in
     let lines_is : lines ≡ lines_of second = ap lines_of (c.as_slice-2.ensures ∙ script.1) in
     run_answered request bytes second c.answers_are_determined.ensures (record { file = file; lines = lines }) (c.answer_keeps_a_state.ensures.first file c.in-Ok.file.surface.whole)
@@ -71,10 +71,10 @@ returns-clause-told g c = λ bytes second told named.
 
 pub returns-clause-order : goal.returns-clause-order
 returns-clause-order g c =
-    script_after (request_of c.args.job.now) _ _ c.args.script.now _ c.in-Some.name.now (file_of c.in-Ok.file) (ap option_copied c.in-Some.is) (c.in-Ok.ensures.cause.no_fault (λ e. cc)) c.in-Ok.ensures.told
+    second_after (option_copied c.args.job.now.script) _ _ c.args.script.now _ c.in-Some.name.now (file_of c.in-Ok.file) (ap option_copied c.in-Some.is) (c.in-Ok.ensures.cause.no_fault (λ e. cc)) c.in-Ok.ensures.told
 
 pub returns-clause-failed : goal.returns-clause-failed
 returns-clause-failed g c = λ bytes told e. elim (c.answer_all-2.ensures.cause.only ReadFault e) [ inl w ↦ absurd (cc) | inr w ↦ absurd (cc) ]
 
 pub returns-clause-saved : goal.returns-clause-saved
-returns-clause-saved g c = c.answer_all-2.ensures.saved _ _ (c.in-Ok.ensures.cause.no_fault (λ e. cc)) (c.in-Ok-read_script.ensures.cause.no_fault (λ e. cc))
+returns-clause-saved g c = c.answer_all-2.ensures.saved _ _ (c.in-Ok.ensures.cause.no_fault (λ e. cc)) (c.in-Ok-read_second.ensures.cause.no_fault (λ e. cc))

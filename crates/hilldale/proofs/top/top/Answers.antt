@@ -1,10 +1,13 @@
-use Rattle.std.proofs.Common.{◌≡◌, ◌∙◌, ap, map, string_bytes, None, Some, refl, sym}
+use Rattle.std.proofs.Common.{◌≡◌, ◌∙◌, ap, subst, map, string_bytes, Some, refl, sym}
 use Rattle.std.specs.Option.{option_map}
-use Rattle.hilldale.specs.FaultCounts.{SourceFailed}
-use Rattle.hilldale.specs.Outcome.{surface_of}
-use Rattle.hilldale.specs.Words.{form_of, request_of}
+use Rattle.hilldale.specs.declared.words.Job.TheVariants as job
+use Rattle.hilldale.specs.FaultCounts.{over}
+use Rattle.hilldale.specs.Words.{Request, Run, Check, Demonstrate, IsWithinLimits, check_request_of, form_of, request_of, run_request_of}
 use Rattle.hilldale.specs.Texts.{usage_text}
-use Rattle.hilldale.proofs.Ends.{form_found, run_cause, run_ends, run_flushed, run_has_form, run_in_order, run_read_fault, run_saves, unformed_in_order, unformed_saves, usage_ends}
+use Rattle.hilldale.proofs.Checks.{check_is_run}
+use Rattle.hilldale.proofs.Demonstrations.{demo_is_run, demo_reads_nothing}
+use Rattle.hilldale.proofs.Ends.{form_found, run_cause, run_ends, run_flushed, run_has_form, run_in_order, run_read_fault, run_saves, unformed_in_order, unformed_saves, unnamed_in_order, usage_ends}
+use Rattle.hilldale.proofs.Savings.{last_untouched}
 use Rattle.hilldale.proofs.top.top.Goals as goal
 
 pub returns-in_default-clause-outcome : goal.returns-in_default-clause-outcome
@@ -18,45 +21,162 @@ returns-in_default-clause-order g c = unformed_in_order _ (g.S.Source.files c.ar
 pub returns-in_default-clause-saved : goal.returns-in_default-clause-saved
 returns-in_default-clause-saved g c = unformed_saves _ _ _ _ _ _ _ (sym c.job_of.ensures.form ∙ ap (option_map request_of) c.in_default.is) refl refl
 
+pub run-ran-requires-clause-tile : goal.run-ran-requires-clause-tile
+run-ran-requires-clause-tile g c = subst IsWithinLimits c.in-Run.is c.in-Some.ensures.limits
+
 pub run-ran-requires-clause-surface : goal.run-ran-requires-clause-surface
-run-ran-requires-clause-surface g c = c.requires.surface (request_of c.in-Some.job) (form_found request_of c.job_of.result c.in-Some.job _ c.job_of.ensures.form c.in-Some.is)
+run-ran-requires-clause-surface g c =
+    let request : Request = Run (run_request_of c.in-Run.job) in
+    let named : form_of (map string_bytes c.args.words.now) ≡ Some request = form_found request_of c.job_of.result (job.Run c.in-Run.job) _ c.job_of.ensures.form (c.in-Some.is ∙ ap Some c.in-Run.is) in
+    c.requires.surface request named c.in-Run.job.surface.now refl
 
 pub run-ran-requires-clause-script : goal.run-ran-requires-clause-script
-run-ran-requires-clause-script g c = c.requires.script (request_of c.in-Some.job) (form_found request_of c.job_of.result c.in-Some.job _ c.job_of.ensures.form c.in-Some.is)
+run-ran-requires-clause-script g c =
+    let request : Request = Run (run_request_of c.in-Run.job) in
+    let named : form_of (map string_bytes c.args.words.now) ≡ Some request = form_found request_of c.job_of.result (job.Run c.in-Run.job) _ c.job_of.ensures.form (c.in-Some.is ∙ ap Some c.in-Run.is) in
+    c.requires.script request named
 
 pub run-ran-requires-clause-saved : goal.run-ran-requires-clause-saved
-run-ran-requires-clause-saved g c = c.requires.saved (request_of c.in-Some.job) (form_found request_of c.job_of.result c.in-Some.job _ c.job_of.ensures.form c.in-Some.is)
+run-ran-requires-clause-saved g c =
+    let request : Request = Run (run_request_of c.in-Run.job) in
+    let named : form_of (map string_bytes c.args.words.now) ≡ Some request = form_found request_of c.job_of.result (job.Run c.in-Run.job) _ c.job_of.ensures.form (c.in-Some.is ∙ ap Some c.in-Run.is) in
+    c.requires.saved request named
 
-pub returns-clause-outcome : goal.returns-clause-outcome
-returns-clause-outcome g c = λ bytes second told.
-    let words = map string_bytes c.args.words.now in
-    let request = request_of c.in-Some.job in
-    let named : form_of words ≡ Some request = form_found request_of c.job_of.result c.in-Some.job _ c.job_of.ensures.form c.in-Some.is in
+pub check_certificate-checked-requires-clause-surface : goal.check_certificate-checked-requires-clause-surface
+check_certificate-checked-requires-clause-surface g c =
+    let request : Request = Check (check_request_of c.in-Check.job) in
+    let named : form_of (map string_bytes c.args.words.now) ≡ Some request = form_found request_of c.job_of.result (job.Check c.in-Check.job) _ c.job_of.ensures.form (c.in-Some.is ∙ ap Some c.in-Check.is) in
+    c.requires.surface request named c.in-Check.job.surface.now refl
+
+pub check_certificate-checked-requires-clause-certificate : goal.check_certificate-checked-requires-clause-certificate
+check_certificate-checked-requires-clause-certificate g c =
+    let request : Request = Check (check_request_of c.in-Check.job) in
+    let named : form_of (map string_bytes c.args.words.now) ≡ Some request = form_found request_of c.job_of.result (job.Check c.in-Check.job) _ c.job_of.ensures.form (c.in-Some.is ∙ ap Some c.in-Check.is) in
+    c.requires.script request named c.in-Check.job.certificate.now refl
+
+pub returns-in-Run-clause-outcome : goal.returns-in-Run-clause-outcome
+returns-in-Run-clause-outcome g c = λ bytes second told.
+    let request : Request = Run (run_request_of c.in-Run.job) in
+    let named : form_of (map string_bytes c.args.words.now) ≡ Some request = form_found request_of c.job_of.result (job.Run c.in-Run.job) _ c.job_of.ensures.form (c.in-Some.is ∙ ap Some c.in-Run.is) in
     let inputs = told request named in
-    run_ends words bytes second _ _ _ request named c.run-ran.result c.end_run.result (g.W.Sink.written c.args.out.now) (g.W.Sink.written c.run-ran.new.out) (g.W.Sink.written c.end_run.new.out) (g.W.Sink.flushed c.end_run.new.out) _
-    (c.run-ran.ensures.failed bytes inputs.0) c.run-ran.ensures.saved.stopped (c.run-ran.ensures.told bytes second inputs.0 inputs.1) c.end_run.ensures
+    run_ends (map string_bytes c.args.words.now) bytes second _ _ _ request named c.run-ran.result c.end_run.result (g.W.Sink.written c.args.out.now) (g.W.Sink.written c.run-ran.new.out) (g.W.Sink.written c.end_run.new.out) (g.W.Sink.flushed c.end_run.new.out) _
+    (c.run-ran.ensures.failed bytes (inputs.0 c.in-Run.job.surface.now refl)) c.run-ran.ensures.saved.stopped (c.run-ran.ensures.told bytes second (inputs.0 c.in-Run.job.surface.now refl) inputs.1) c.end_run.ensures
 
-pub returns-clause-usage : goal.returns-clause-usage
-returns-clause-usage g c = λ is. absurd (run_has_form c.run-ran.result c.end_run.result _ _ _ _ c.end_run.ensures is)
+pub returns-in-Run-clause-usage : goal.returns-in-Run-clause-usage
+returns-in-Run-clause-usage g c = λ is. absurd (run_has_form c.run-ran.result c.end_run.result _ _ _ _ c.end_run.ensures is)
 
-pub returns-clause-unformed : goal.returns-clause-unformed
-returns-clause-unformed g c = λ none.
-    let named : form_of (map string_bytes c.args.words.now) ≡ Some (request_of c.in-Some.job) = form_found request_of c.job_of.result c.in-Some.job _ c.job_of.ensures.form c.in-Some.is in absurd (cc)
+pub returns-in-Run-clause-unformed : goal.returns-in-Run-clause-unformed
+returns-in-Run-clause-unformed g c = λ none.
+    let request : Request = Run (run_request_of c.in-Run.job) in
+    let named : form_of (map string_bytes c.args.words.now) ≡ Some request = form_found request_of c.job_of.result (job.Run c.in-Run.job) _ c.job_of.ensures.form (c.in-Some.is ∙ ap Some c.in-Run.is) in
+    absurd (cc)
 
-pub returns-clause-order : goal.returns-clause-order
-returns-clause-order g c = run_in_order _ (request_of c.in-Some.job) (g.S.Source.files c.args.surface.now) _ c.args.surface.now c.run-ran.new.surface c.args.script.now c.run-ran.new.script
-    (form_found request_of c.job_of.result c.in-Some.job _ c.job_of.ensures.form c.in-Some.is) c.run-ran.ensures.order
+pub returns-in-Run-clause-order : goal.returns-in-Run-clause-order
+returns-in-Run-clause-order g c =
+    let request : Request = Run (run_request_of c.in-Run.job) in
+    let named : form_of (map string_bytes c.args.words.now) ≡ Some request = form_found request_of c.job_of.result (job.Run c.in-Run.job) _ c.job_of.ensures.form (c.in-Some.is ∙ ap Some c.in-Run.is) in
+    run_in_order _ request c.in-Run.job.surface.now (g.S.Source.files c.args.surface.now) _ c.args.surface.now c.run-ran.new.surface c.args.script.now c.run-ran.new.script named refl c.run-ran.ensures.order
 
-pub returns-clause-cause : goal.returns-clause-cause
-returns-clause-cause g c = run_cause _ _ _ _ _ _ c.end_run.result _ _ _ c.run-ran.result c.run-ran.ensures.cause c.end_run.ensures
+pub returns-in-Run-clause-cause : goal.returns-in-Run-clause-cause
+returns-in-Run-clause-cause g c = run_cause _ _ _ _ _ _ c.end_run.result _ _ _ c.run-ran.result c.run-ran.ensures.cause c.end_run.ensures
 
-pub returns-clause-read_fault : goal.returns-clause-read_fault
-returns-clause-read_fault g c =
+pub returns-in-Run-clause-read_fault : goal.returns-in-Run-clause-read_fault
+returns-in-Run-clause-read_fault g c =
     run_read_fault c.end_run.result (g.W.Sink.written c.args.out.now) (g.W.Sink.written c.run-ran.new.out) (g.W.Sink.written c.end_run.new.out) (g.W.Sink.flushed c.end_run.new.out) c.run-ran.result _ c.end_run.ensures c.run-ran.ensures.unwritten
 
-pub returns-clause-flushed : goal.returns-clause-flushed
-returns-clause-flushed g c = λ bytes told fine kept.
+pub returns-in-Run-clause-flushed : goal.returns-in-Run-clause-flushed
+returns-in-Run-clause-flushed g c = λ bytes told fine kept.
     run_flushed c.end_run.result (g.W.Sink.written c.args.out.now) (g.W.Sink.written c.run-ran.new.out) (g.W.Sink.written c.end_run.new.out) (g.W.Sink.flushed c.end_run.new.out) c.run-ran.result _ c.end_run.ensures fine kept
 
-pub returns-clause-saved : goal.returns-clause-saved
-returns-clause-saved g c = run_saves _ (request_of c.in-Some.job) c.run-ran.result c.end_run.result _ _ _ _ _ _ _ _ _ _ (form_found request_of c.job_of.result c.in-Some.job _ c.job_of.ensures.form c.in-Some.is) c.run-ran.ensures.saved c.end_run.ensures
+pub returns-in-Run-clause-saved : goal.returns-in-Run-clause-saved
+returns-in-Run-clause-saved g c =
+    let request : Request = Run (run_request_of c.in-Run.job) in
+    let named : form_of (map string_bytes c.args.words.now) ≡ Some request = form_found request_of c.job_of.result (job.Run c.in-Run.job) _ c.job_of.ensures.form (c.in-Some.is ∙ ap Some c.in-Run.is) in
+    run_saves _ request c.run-ran.result c.end_run.result _ _ _ _ _ _ _ _ _ _ named c.run-ran.ensures.saved c.end_run.ensures
+
+pub returns-in-Check-clause-outcome : goal.returns-in-Check-clause-outcome
+returns-in-Check-clause-outcome g c = λ bytes second told.
+    let request : Request = Check (check_request_of c.in-Check.job) in
+    let named : form_of (map string_bytes c.args.words.now) ≡ Some request = form_found request_of c.job_of.result (job.Check c.in-Check.job) _ c.job_of.ensures.form (c.in-Some.is ∙ ap Some c.in-Check.is) in
+    let inputs = told request named in
+    run_ends (map string_bytes c.args.words.now) bytes second _ _ _ request named c.check_certificate-checked.result c.end_run-in-Check.result (g.W.Sink.written c.args.out.now) (g.W.Sink.written c.check_certificate-checked.new.out) (g.W.Sink.written c.end_run-in-Check.new.out) (g.W.Sink.flushed c.end_run-in-Check.new.out) _
+    (c.check_certificate-checked.ensures.failed bytes (inputs.0 c.in-Check.job.surface.now refl)) (λ why is other. refl) (check_is_run (check_request_of c.in-Check.job) bytes second _ _ c.check_certificate-checked.result (g.W.Sink.written c.args.out.now) (g.W.Sink.written c.check_certificate-checked.new.out) refl (c.check_certificate-checked.ensures.told bytes second (inputs.0 c.in-Check.job.surface.now refl) (inputs.1 c.in-Check.job.certificate.now refl))) c.end_run-in-Check.ensures
+
+pub returns-in-Check-clause-usage : goal.returns-in-Check-clause-usage
+returns-in-Check-clause-usage g c = λ is. absurd (run_has_form c.check_certificate-checked.result c.end_run-in-Check.result _ _ _ _ c.end_run-in-Check.ensures is)
+
+pub returns-in-Check-clause-unformed : goal.returns-in-Check-clause-unformed
+returns-in-Check-clause-unformed g c = λ none.
+    let request : Request = Check (check_request_of c.in-Check.job) in
+    let named : form_of (map string_bytes c.args.words.now) ≡ Some request = form_found request_of c.job_of.result (job.Check c.in-Check.job) _ c.job_of.ensures.form (c.in-Some.is ∙ ap Some c.in-Check.is) in
+    absurd (cc)
+
+pub returns-in-Check-clause-order : goal.returns-in-Check-clause-order
+returns-in-Check-clause-order g c =
+    let request : Request = Check (check_request_of c.in-Check.job) in
+    let named : form_of (map string_bytes c.args.words.now) ≡ Some request = form_found request_of c.job_of.result (job.Check c.in-Check.job) _ c.job_of.ensures.form (c.in-Some.is ∙ ap Some c.in-Check.is) in
+    run_in_order _ request c.in-Check.job.surface.now (g.S.Source.files c.args.surface.now) _ c.args.surface.now c.check_certificate-checked.new.surface c.args.script.now c.check_certificate-checked.new.script named refl c.check_certificate-checked.ensures.order
+
+pub returns-in-Check-clause-cause : goal.returns-in-Check-clause-cause
+returns-in-Check-clause-cause g c = run_cause _ _ _ _ _ _ c.end_run-in-Check.result _ _ _ c.check_certificate-checked.result (c.check_certificate-checked.ensures.cause (over (g.V.Sink.faults c.args.saved.now) (g.V.Sink.faults c.args.saved.now)) refl) c.end_run-in-Check.ensures
+
+pub returns-in-Check-clause-read_fault : goal.returns-in-Check-clause-read_fault
+returns-in-Check-clause-read_fault g c =
+    run_read_fault c.end_run-in-Check.result (g.W.Sink.written c.args.out.now) (g.W.Sink.written c.check_certificate-checked.new.out) (g.W.Sink.written c.end_run-in-Check.new.out) (g.W.Sink.flushed c.end_run-in-Check.new.out) c.check_certificate-checked.result _ c.end_run-in-Check.ensures c.check_certificate-checked.ensures.unwritten
+
+pub returns-in-Check-clause-flushed : goal.returns-in-Check-clause-flushed
+returns-in-Check-clause-flushed g c = λ bytes told fine kept.
+    run_flushed c.end_run-in-Check.result (g.W.Sink.written c.args.out.now) (g.W.Sink.written c.check_certificate-checked.new.out) (g.W.Sink.written c.end_run-in-Check.new.out) (g.W.Sink.flushed c.end_run-in-Check.new.out) c.check_certificate-checked.result _ c.end_run-in-Check.ensures fine kept
+
+pub returns-in-Check-clause-saved : goal.returns-in-Check-clause-saved
+returns-in-Check-clause-saved g c =
+    let request : Request = Check (check_request_of c.in-Check.job) in
+    let named : form_of (map string_bytes c.args.words.now) ≡ Some request = form_found request_of c.job_of.result (job.Check c.in-Check.job) _ c.job_of.ensures.form (c.in-Some.is ∙ ap Some c.in-Check.is) in
+    run_saves _ request c.check_certificate-checked.result c.end_run-in-Check.result _ _ _ _ _ _ _ _ _ _ named (last_untouched _ _ _ _ _ _ _ refl refl (λ accepted name is asked. cc)) c.end_run-in-Check.ensures
+
+pub write_demo-shown-requires-clause-demo : goal.write_demo-shown-requires-clause-demo
+write_demo-shown-requires-clause-demo g c = subst IsWithinLimits c.in-Demo.is c.in-Some.ensures.limits
+
+pub returns-in-Demo-clause-outcome : goal.returns-in-Demo-clause-outcome
+returns-in-Demo-clause-outcome g c = λ bytes second told.
+    let request : Request = Demonstrate c.in-Demo.demo in
+    let named : form_of (map string_bytes c.args.words.now) ≡ Some request = form_found request_of c.job_of.result (job.Demo c.in-Demo.demo) _ c.job_of.ensures.form (c.in-Some.is ∙ ap Some c.in-Demo.is) in
+    run_ends (map string_bytes c.args.words.now) bytes second _ _ _ request named c.write_demo-shown.result c.end_run-in-Demo.result (g.W.Sink.written c.args.out.now) (g.W.Sink.written c.write_demo-shown.new.out) (g.W.Sink.written c.end_run-in-Demo.new.out) (g.W.Sink.flushed c.end_run-in-Demo.new.out) _
+    (demo_reads_nothing c.in-Demo.demo _ c.write_demo-shown.result _ _ c.write_demo-shown.ensures.told) (λ why is other. refl) (demo_is_run c.in-Demo.demo bytes second _ _ c.write_demo-shown.result (g.W.Sink.written c.args.out.now) (g.W.Sink.written c.write_demo-shown.new.out) refl c.write_demo-shown.ensures.told) c.end_run-in-Demo.ensures
+
+pub returns-in-Demo-clause-usage : goal.returns-in-Demo-clause-usage
+returns-in-Demo-clause-usage g c = λ is. absurd (run_has_form c.write_demo-shown.result c.end_run-in-Demo.result _ _ _ _ c.end_run-in-Demo.ensures is)
+
+pub returns-in-Demo-clause-unformed : goal.returns-in-Demo-clause-unformed
+returns-in-Demo-clause-unformed g c = λ none.
+    let request : Request = Demonstrate c.in-Demo.demo in
+    let named : form_of (map string_bytes c.args.words.now) ≡ Some request = form_found request_of c.job_of.result (job.Demo c.in-Demo.demo) _ c.job_of.ensures.form (c.in-Some.is ∙ ap Some c.in-Demo.is) in
+    absurd (cc)
+
+pub returns-in-Demo-clause-order : goal.returns-in-Demo-clause-order
+returns-in-Demo-clause-order g c =
+    let request : Request = Demonstrate c.in-Demo.demo in
+    let named : form_of (map string_bytes c.args.words.now) ≡ Some request = form_found request_of c.job_of.result (job.Demo c.in-Demo.demo) _ c.job_of.ensures.form (c.in-Some.is ∙ ap Some c.in-Demo.is) in
+    unnamed_in_order _ request (g.S.Source.files c.args.surface.now) _ c.args.surface.now c.args.script.now named refl
+
+pub returns-in-Demo-clause-cause : goal.returns-in-Demo-clause-cause
+returns-in-Demo-clause-cause g c =
+    let kept = over (g.V.Sink.faults c.args.saved.now) (g.V.Sink.faults c.args.saved.now) in
+    let surfaces = over (g.S.Source.faults c.args.surface.now) (g.S.Source.faults c.args.surface.now) in
+    let scripts = over (g.R.Source.faults c.args.script.now) (g.R.Source.faults c.args.script.now) in
+    run_cause _ _ _ _ _ _ c.end_run-in-Demo.result _ _ _ c.write_demo-shown.result (c.write_demo-shown.ensures.cause surfaces scripts kept refl refl refl) c.end_run-in-Demo.ensures
+
+pub returns-in-Demo-clause-read_fault : goal.returns-in-Demo-clause-read_fault
+returns-in-Demo-clause-read_fault g c =
+    run_read_fault c.end_run-in-Demo.result (g.W.Sink.written c.args.out.now) (g.W.Sink.written c.write_demo-shown.new.out) (g.W.Sink.written c.end_run-in-Demo.new.out) (g.W.Sink.flushed c.end_run-in-Demo.new.out) c.write_demo-shown.result _ c.end_run-in-Demo.ensures
+    (demo_reads_nothing c.in-Demo.demo _ c.write_demo-shown.result _ _ c.write_demo-shown.ensures.told)
+
+pub returns-in-Demo-clause-flushed : goal.returns-in-Demo-clause-flushed
+returns-in-Demo-clause-flushed g c = λ bytes told fine kept.
+    run_flushed c.end_run-in-Demo.result (g.W.Sink.written c.args.out.now) (g.W.Sink.written c.write_demo-shown.new.out) (g.W.Sink.written c.end_run-in-Demo.new.out) (g.W.Sink.flushed c.end_run-in-Demo.new.out) c.write_demo-shown.result _ c.end_run-in-Demo.ensures fine kept
+
+pub returns-in-Demo-clause-saved : goal.returns-in-Demo-clause-saved
+returns-in-Demo-clause-saved g c =
+    let request : Request = Demonstrate c.in-Demo.demo in
+    let named : form_of (map string_bytes c.args.words.now) ≡ Some request = form_found request_of c.job_of.result (job.Demo c.in-Demo.demo) _ c.job_of.ensures.form (c.in-Some.is ∙ ap Some c.in-Demo.is) in
+    run_saves _ request c.write_demo-shown.result c.end_run-in-Demo.result _ _ _ _ _ _ _ _ _ _ named (last_untouched _ _ _ _ _ _ _ refl refl (λ accepted name is asked. cc)) c.end_run-in-Demo.ensures

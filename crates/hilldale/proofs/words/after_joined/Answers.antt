@@ -1,10 +1,20 @@
-use Rattle.std.proofs.Common.{◌≡◌, ◌∙◌, ap, false, None, codes, drop, nat_eq, sym}
+use Rattle.std.proofs.Common.{◌≡◌, ◌∙◌, ap, false, true, None, codes, drop, nat_eq, sym}
 use Rattle.std.specs.List.{starts_with}
 use Rattle.hilldale.specs.Words.{given_of, begins_with_dash}
 use Rattle.hilldale.specs.WordSteps.{found_so_far, followed_by}
 use Rattle.hilldale.specs.declared.words.Stage.TheVariants.{Options}
-use Rattle.hilldale.proofs.WordLemmas.{absent-false, full_names, one_name, plain_word}
+use Rattle.hilldale.proofs.WordLemmas.{absent-false, full_names, one_name, plain_word, refused_word}
 use Rattle.hilldale.proofs.words.after_joined.Goals as goal
+
+pub returns-then-is_option-clause-none : goal.returns-then-is_option-clause-none
+returns-then-is_option-clause-none c =
+    let word = c.args.word.now in
+    let first : c.joined_value.result ≡ None = cc in
+    let second : c.joined_value-in_default.result ≡ None = cc in
+    let tile = absent-false (starts_with nat_eq word (codes "--tile=")) (drop 7 word) c.joined_value.result c.joined_value.ensures first in
+    let save = absent-false (starts_with nat_eq word (codes "--save=")) (drop 7 word) c.joined_value-in_default.result c.joined_value-in_default.ensures second in
+    let dash : begins_with_dash word ≡ true = cc in
+    λ words. refused_word (found_so_far c.args.found) word words c.requires tile save dash
 
 pub returns-in_err-with_name-clause-none : goal.returns-in_err-with_name-clause-none
 returns-in_err-with_name-clause-none c =

@@ -1,4 +1,4 @@
-use Rattle.std.proofs.Common.{◌≡◌, ◌∙◌, ◌∷◌, ap, drop, map, string_bytes, suc, sym}
+use Rattle.std.proofs.Common.{◌≡◌, ◌+◌, ◌∙◌, ◌∷◌, ap, arith, drop, map, string_bytes, suc, sym}
 use Rattle.hilldale.specs.Words.{given_of}
 use Rattle.hilldale.specs.WordSteps.{given_after}
 use Rattle.hilldale.specs.declared.words.Stage.TheVariants.{Options}
@@ -7,6 +7,16 @@ use Rattle.hilldale.proofs.words.found_in.Goals as goal
 
 pub loop-word-init : goal.loop-word-init
 loop-word-init c = none_before (given_of Options (map string_bytes c.args.words.now))
+
+pub loop-word-preserved : goal.loop-word-preserved
+loop-word-preserved c =
+    let words = c.args.words.now in
+    let rest = map string_bytes (drop (suc c.loop-word.word-index) words) in
+    let left = left_item string_bytes words c.loop-word.word-index c.word-item.result c.word-item.is c.loop-word-test.true in
+    let text = ap (λ bytes. bytes ∷ rest) (sym c.as_str.ensures.value) in
+    let next : suc c.loop-word.word-index ≡ c.loop-word.word-index + 1 = omega arith in
+    c.loop-word.invariant ∙ ap (given_after c.loop-word.progress) (left ∙ text) ∙ c.in_ok-progress.ensures.some rest
+    ∙ ap (λ i. given_after c.in_ok-progress.progress (map string_bytes (drop i words))) next
 
 pub returns-in_err-progress-clause-none : goal.returns-in_err-progress-clause-none
 returns-in_err-progress-clause-none c =
