@@ -1,7 +1,8 @@
 // What no clause says: the outcomes that the rules give for words and texts from outside.
 use crate::{
-    Frac, Whole, leading_digits, next_line, push_frac, push_text, push_unsigned, push_whole,
-    read_count, read_decimal, read_whole, split_words, trim,
+    Frac, Percent, Whole, leading_digits, next_line, percent_less, push_frac, push_percent,
+    push_text, push_unsigned, push_whole, read_count, read_decimal, read_percent, read_whole,
+    split_words, trim,
 };
 use hd_base::List;
 use std::test::Fail;
@@ -260,4 +261,69 @@ fn reduced_fractions(rt: HostRuntime) -> Result<(), Fail> {
 fn sums_of_fractions(rt: HostRuntime) {
     let sum = Frac::new(1, 6).add(Frac::new(-1, 10));
     assert_eq!(rt; (sum.num(), sum.den()), (1, 15));
+}
+
+#[test]
+fn words_as_percents(rt: HostRuntime) -> Result<(), Fail> {
+    let cases: [(&[u8], Option<u32>); 14] = [
+        (b"5%", Some(5_000)),
+        (b"5.50%", Some(5_500)),
+        (b"005.5%", Some(5_500)),
+        (b"0.05%", Some(50)),
+        (b"0%", Some(0)),
+        (b"100.000%", Some(100_000)),
+        (b"100.001%", None),
+        (b"101%", None),
+        (b"0005%", None),
+        (b"5.%", None),
+        (b".5%", None),
+        (b"5.1234%", None),
+        (b"+5%", None),
+        (b"5", None),
+    ];
+    for (word, thousandths) in &cases {
+        let read = read_percent(word).map(|percent| percent.thousandths);
+        assert_eq!(rt; read, *thousandths, "at {word:?}");
+    }
+    Ok(())
+}
+
+#[test]
+fn printed_percents(rt: HostRuntime) -> Result<(), Fail> {
+    let cases: [(u32, &[u8]); 6] = [
+        (5_500, b"5.5%"),
+        (50, b"0.05%"),
+        (1, b"0.001%"),
+        (0, b"0%"),
+        (5_000, b"5%"),
+        (100_000, b"100%"),
+    ];
+    for (thousandths, text) in &cases {
+        let mut printed = List::new(rt.alloc());
+        push_percent(
+            &mut printed,
+            Percent {
+                thousandths: *thousandths,
+            },
+        )?;
+        assert_eq!(rt; printed.as_slice(), *text);
+    }
+    Ok(())
+}
+
+#[test]
+fn a_local_height_is_below_a_percent_strictly(rt: HostRuntime) -> Result<(), Fail> {
+    let whole = i64::MAX;
+    let cases: [(i64, u32, i64, bool); 6] = [
+        (4, 90_000, 5, true),
+        (4, 80_000, 5, false),
+        (0, 0, 5, false),
+        (0, 1, 1, true),
+        (whole, 100_000, whole, false),
+        (whole - 1, 100_000, whole, true),
+    ];
+    for (local, thousandths, sz, less) in cases {
+        assert_eq!(rt; percent_less(local, Percent { thousandths }, sz), less);
+    }
+    Ok(())
 }
