@@ -21,7 +21,7 @@ import time
 ROOT = pathlib.Path(__file__).resolve().parent.parent
 GNU_TIME = '/usr/bin/time'
 sys.path.insert(0, str(ROOT / 'examples'))
-from make import write_plain  # noqa: E402
+import make  # noqa: E402
 
 
 def draws(s):
@@ -40,7 +40,7 @@ def rows(kind, n):
 
 
 def write_surface(name, kind, n):
-    write_plain(name, 'bench', ('1e-6', '1e-6'), 6, n, n, rows(kind, n))
+    make.write_surface(name, 'bench', ('1e-6', '1e-6'), 6, n, n, rows(kind, n))
 
 
 def timed(words, rounds):
