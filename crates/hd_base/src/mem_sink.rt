@@ -40,8 +40,8 @@ impl Model for MemSink {
 }
 
 impl MemSink {
-    /// A sink with no room, that takes at most `piece` bytes a write and fails at the calls whose
-    /// numbers are in `fails`. It is open.
+    /// A sink with no room, that takes at most `piece` bytes a write, at least one, and fails at the
+    /// calls whose numbers are in `fails`. It is open.
     pub fn new(alloc: Global, fails: List<u64>, piece: usize) -> Self
         requires { 0 < piece }
         ensures { result ≡ record {

@@ -40,8 +40,8 @@ impl Model for MemSource {
 }
 
 impl MemSource {
-    /// A source of these files, names before contents, that gives at most `piece` bytes a read and
-    /// fails at the calls whose numbers are in `fails`.
+    /// A source of these files, names before contents, that gives at most `piece` bytes a read, at
+    /// least one, and fails at the calls whose numbers are in `fails`.
     pub fn new(files: List<(List<u8>, List<u8>)>, fails: List<u64>, piece: usize) -> Self
         requires { 0 < piece }
         ensures { result ≡ record {

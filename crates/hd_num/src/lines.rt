@@ -5,9 +5,9 @@ ghost use Rattle.hd_num.specs.Lines.{IsLineAt, IsPieceEnd, is_line_feed, lines_o
 use crate::Span;
 use bstr::ByteSlice;
 
-/// The line that begins at an index, and the index where the next one begins. A line ends before a
-/// line feed; a last one may end with the text. A carriage return belongs to its line. None comes
-/// exactly where the index is the length of the text.
+/// The line that begins at an index, at most the length of the text, and the index where the next one
+/// begins. A line ends before a line feed; a last one may end with the text. A carriage return belongs
+/// to its line. None comes exactly where the index is the length of the text.
 pub fn next_line(bytes: &[u8], from: usize) -> Option<(Span, usize)>
     requires { from ≤ length bytes.now }
     ensures end { IsNone result ↔ (from ≡ length bytes.now) }
