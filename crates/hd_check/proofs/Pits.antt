@@ -1,7 +1,9 @@
 -- Pits, as they show in a list of neighbours.
 use Rattle.std.proofs.Common.{◌≡◌, ◌<◌, ◌≤◌, ◌∙◌, ℕ, List, length, true, false, sym, subst, ap, arith}
+use Rattle.std.specs.Prelude.{◌↔◌}
 use Rattle.std.specs.List.{Contains}
 use Rattle.std.proofs.lemmas.Bool.{false≢true}
+use Rattle.std.proofs.lemmas.List.Elements.{Contains-get_or}
 use Rattle.hd_map.specs.declared.types.Pos.{Pos}
 use Rattle.hd_map.specs.declared.types.SideName.{SideName}
 use Rattle.hd_map.specs.Map.{Map, Present}
@@ -11,6 +13,10 @@ use Rattle.hd_map.specs.Region.{IsPit}
 use Rattle.hd_map.proofs.Points.{point_at, same_point, Near-at}
 use Rattle.hd_check.specs.Rules.{point_of}
 use Rattle.hd_check.proofs.Searching.{place_found}
+
+-- an item of the list of neighbours is a neighbour
+pub near_at : (m : Map) (at : Pos) (round : List Pos) → ((q : Pos) → Contains round q ↔ Neighbour m at q) → (k : ℕ) → k < length round → Neighbour m at (point_of round k)
+near_at m at round all k inside = (all (point_of round k)).0 (Contains-get_or round k (record { x = 0; y = 0 }) inside)
 
 -- a point with a lower neighbour is no pit
 pub no_pit : (m : Map) (side : SideName) (at q : Pos) → Neighbour m at q → below_by side (rank m q) (rank m at) ≡ true → IsPit m side (rank m at) → ⊥

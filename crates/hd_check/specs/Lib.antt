@@ -5,3 +5,4 @@ pub mod Text
 pub mod Reading
 pub mod Places
 pub mod Writable
+pub mod Profiles

@@ -4,7 +4,8 @@ ghost use Rattle.hd_check.specs.Certified.{level_of};
 ghost use Rattle.hd_check.specs.Judged.{TriedFrom};
 ghost use Rattle.hd_check.specs.Rules.{AllPresent, IsVerdict, cut_rules};
 
-use crate::cut::{first_leak, first_not_below, first_not_rising, wrong_part};
+use crate::closed::first_leak;
+use crate::cut::{first_not_below, first_not_rising, wrong_part};
 use crate::path::{
     first_absent, first_high, off_path, wrong_end, wrong_height, wrong_pit, wrong_step,
 };
@@ -38,11 +39,11 @@ pub fn check<G: Heights>(alloc: Global, surface: &G, certificate: &Certificate) 
     if let Some(at) = first_high(surface, certificate) {
         return Verdict::No { rule: 7, at };
     }
-    check_cut(alloc, surface, certificate)
+    check_cut(surface, certificate)
 }
 
 // The rules 8 to 11, where rule 1 holds.
-fn check_cut<G: Heights>(alloc: Global, surface: &G, certificate: &Certificate) -> Verdict
+fn check_cut<G: Heights>(surface: &G, certificate: &Certificate) -> Verdict
     requires { AllPresent (G.map surface.now) certificate.now None }
     ensures { TriedFrom 8 (cut_rules (G.map surface.now) certificate.now) result }
 {
@@ -59,7 +60,7 @@ fn check_cut<G: Heights>(alloc: Global, surface: &G, certificate: &Certificate) 
     if let Some(at) = first_not_below(surface, side, level, cut) {
         return Verdict::No { rule: 10, at };
     }
-    if let Some(at) = first_leak(alloc, surface, side, level, cut) {
+    if let Some(at) = first_leak(surface, side, level, cut) {
         return Verdict::No { rule: 11, at };
     }
     Verdict::Yes

@@ -1,13 +1,12 @@
-// The rules 8 to 11: the cut.
+// The rules 8 to 10: the cut.
 ghost use Rattle.std.specs.Prelude.{◌≡◌, ◌<◌, ◌↔◌, ℕ, IsTrue, length, None, MatchOption};
 ghost use Rattle.std.specs.List.{Contains};
 ghost use Rattle.hd_map.specs.Map.{IsSize, InGrid, Present, place_of};
 ghost use Rattle.hd_check.specs.Judged.{Asks, Then};
-ghost use Rattle.hd_check.specs.Rules.{AsksPoints, AsksPairs, IsBelowLevel, FirstLeak, IsCutClosed, point_of};
+ghost use Rattle.hd_check.specs.Rules.{AsksPoints, AsksPairs, IsBelowLevel, point_of};
 
 use crate::order::is_lower;
-use hd_map::{Heights, Pos, SideName, Size, index_of, neighbours};
-use std::alloc::Global;
+use hd_map::{Heights, Pos, SideName, Size, index_of};
 
 /// Rule 8: the second of the first two positions that don't rise.
 pub fn first_not_rising(size: Size, cut: &[Pos]) -> Option<Pos>
@@ -93,55 +92,6 @@ pub fn first_not_below<G: Heights>(
     for k in 0..cut.len() {
         if !is_below_level(surface, side, level, cut[k]) {
             return Some(cut[k]);
-        }
-    }
-    None
-}
-
-// The first neighbour of a point of the cut that is below the saddle and not in the cut.
-fn leak_of<G: Heights>(
-    alloc: Global,
-    surface: &G,
-    side: SideName,
-    level: Option<Pos>,
-    cut: &[Pos],
-    at: Pos,
-) -> Option<Pos>
-    requires present { (k : ℕ) → k < length cut.now → Present (G.map surface.now) (point_of cut.now k) }
-    requires level { MatchOption level (Unit {0}) (Present (G.map surface.now)) }
-    requires rises { AsksPairs cut.now (λ p q. place_of (G.map surface.now).size p < place_of (G.map surface.now).size q) None }
-    requires at { Present (G.map surface.now) at }
-    ensures { FirstLeak (G.map surface.now) side level cut.now at result }
-{
-    let size = surface.size();
-    let near = neighbours(alloc, surface, at);
-    let round = near.as_slice();
-    for k in 0..round.len() {
-        let q = round[k];
-        if is_below_level(surface, side, level, q) && !is_in(size, cut, q) {
-            return Some(q);
-        }
-    }
-    None
-}
-
-/// Rule 11: for the first point of the cut with a neighbour that is below the saddle and not in the
-/// cut, its first such neighbour.
-pub fn first_leak<G: Heights>(
-    alloc: Global,
-    surface: &G,
-    side: SideName,
-    level: Option<Pos>,
-    cut: &[Pos],
-) -> Option<Pos>
-    requires present { (k : ℕ) → k < length cut.now → Present (G.map surface.now) (point_of cut.now k) }
-    requires level { MatchOption level (Unit {0}) (Present (G.map surface.now)) }
-    requires rises { AsksPairs cut.now (λ p q. place_of (G.map surface.now).size p < place_of (G.map surface.now).size q) None }
-    ensures { IsCutClosed (G.map surface.now) side level cut.now result }
-{
-    for k in 0..cut.len() {
-        if let Some(q) = leak_of(alloc, surface, side, level, cut, cut[k]) {
-            return Some(q);
         }
     }
     None

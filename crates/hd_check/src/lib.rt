@@ -3,11 +3,13 @@
 #![tactic(auto)]
 
 mod checking;
+mod closed;
 mod cut;
 mod laws;
 mod lines;
 mod order;
 mod path;
+mod points;
 mod reading;
 #[cfg(test)]
 mod tests;

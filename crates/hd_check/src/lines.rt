@@ -1,7 +1,7 @@
 // The lines of a text, each by its words.
 ghost use Rattle.std.specs.Prelude.{◌≡◌};
 ghost use Rattle.hd_num.specs.Span.{IsPart, text_at};
-ghost use Rattle.hd_check.specs.Places.{IsPlace, Takes};
+ghost use Rattle.hd_check.specs.Places.{IsPlace, Takes, TakesLine};
 
 use crate::CertificateError;
 use hd_base::List;
@@ -25,23 +25,30 @@ pub struct Line {
     pub next: Place,
 }
 
-/// The line at a place. `BadLine` comes where the text ends there.
-pub fn take_line(alloc: Global, bytes: &[u8], place: Place) -> Result<Line, CertificateError>
+/// The line at a place, and the place where the next one begins. `BadLine` comes where the text ends
+/// there.
+pub fn line_at(bytes: &[u8], place: Place) -> Result<(Span, Place), CertificateError>
     requires { IsPlace bytes.now place }
-    ensures { Takes bytes.now place result }
+    ensures { TakesLine bytes.now place result }
 {
     let Some((span, next)) = next_line(bytes, place.from) else {
         return Err(CertificateError::BadLine(place.number));
     };
+    let next = Place {
+        from: next,
+        number: place.number + 1,
+    };
+    Ok((span, next))
+}
+
+/// The line at a place, by its words. `BadLine` comes where the text ends there.
+pub fn take_line(alloc: Global, bytes: &[u8], place: Place) -> Result<Line, CertificateError>
+    requires { IsPlace bytes.now place }
+    ensures { Takes bytes.now place result }
+{
+    let (span, next) = line_at(bytes, place)?;
     let words = split_words(alloc, &bytes[span.start..span.end])?;
-    Ok(Line {
-        span,
-        words,
-        next: Place {
-            from: next,
-            number: place.number + 1,
-        },
-    })
+    Ok(Line { span, words, next })
 }
 
 /// The bytes of a part of a text.

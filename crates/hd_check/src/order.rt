@@ -14,8 +14,8 @@ pub fn is_lower<G: Heights>(surface: &G, side: SideName, a: Pos, b: Pos) -> bool
     is_below(side, rank_of(surface, a), rank_of(surface, b))
 }
 
-// Whether a rank is below another.
-fn is_below(side: SideName, a: Rank, b: Rank) -> bool
+/// Whether a rank is below another.
+pub fn is_below(side: SideName, a: Rank, b: Rank) -> bool
     ensures { result ≡ below_by side a b }
 {
     match side {

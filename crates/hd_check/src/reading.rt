@@ -3,10 +3,9 @@ ghost use Rattle.std.specs.Prelude.{◌≡◌, ◌⊎◌, Err, codes};
 ghost use Rattle.hd_check.specs.Places.{Gives, IsPlace, lines_at};
 ghost use Rattle.hd_check.specs.Reading.{blank_among, certificate_of, count_form, counted_in, end_form, end_in, end_point_form, head_form, line_as, path_in, point_form, points_in, saddle_form};
 
-use crate::lines::{Place, part, take_line};
-use crate::words::{
-    count_words, end_point_words, end_words, head_words, point_words, saddle_words,
-};
+use crate::lines::{Place, line_at, part, take_line};
+use crate::points::point_in;
+use crate::words::{count_words, end_point_words, end_words, head_words, saddle_words};
 use crate::{Certificate, CertificateError};
 use hd_base::List;
 use hd_map::{Pos, SideName};
@@ -150,21 +149,21 @@ fn point_lines(
     let mut points = List::new(alloc);
     let mut place = start;
     'points: for k in 0..count {
-        let (at, next) = point_line(alloc, bytes, place)?;
+        let (at, next) = point_line(bytes, place)?;
         points.push(at)?;
         place = next;
     }
     Ok((points, place))
 }
 
-// Reads `X Y`.
-fn point_line(alloc: Global, bytes: &[u8], place: Place) -> Result<(Pos, Place), CertificateError>
+// Reads `X Y`. It takes no memory.
+fn point_line(bytes: &[u8], place: Place) -> Result<(Pos, Place), CertificateError>
     requires { IsPlace bytes.now place }
     ensures { Gives bytes.now result (line_as point_form (lines_at bytes.now place)) }
 {
-    let line = take_line(alloc, bytes, place)?;
-    match point_words(part(bytes, line.span), line.words.as_slice()) {
-        Some(at) => Ok((at, line.next)),
+    let (span, next) = line_at(bytes, place)?;
+    match point_in(part(bytes, span)) {
+        Some(at) => Ok((at, next)),
         None => Err(CertificateError::BadLine(place.number)),
     }
 }

@@ -41,8 +41,8 @@ fn side_of(word: &[u8]) -> Option<SideName>
     }
 }
 
-/// The point of `X Y`.
-pub fn point_words(line: &[u8], words: &[Span]) -> Option<Pos>
+// The point of `X Y`.
+fn point_words(line: &[u8], words: &[Span]) -> Option<Pos>
     requires { All (IsPart line.now) words.now }
     ensures { result ≡ point_form (map (text_at line.now) words.now) }
 {

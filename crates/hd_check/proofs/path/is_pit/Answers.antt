@@ -5,8 +5,7 @@ use Rattle.std.proofs.lemmas.Bool.{false≢true}
 use Rattle.hd_map.specs.declared.types.Pos.{Pos}
 use Rattle.hd_map.specs.Neighbour.{Neighbour}
 use Rattle.hd_check.specs.Rules.{point_of}
-use Rattle.hd_check.proofs.Leaks.{near_at}
-use Rattle.hd_check.proofs.Pits.{no_pit, is_pit_found}
+use Rattle.hd_check.proofs.Pits.{near_at, no_pit, is_pit_found}
 use Rattle.hd_check.proofs.path.is_pit.Goals as goal
 
 pub is_lower-requires-clause-a : goal.is_lower-requires-clause-a
