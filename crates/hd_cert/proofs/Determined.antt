@@ -22,7 +22,7 @@ tail_same : {X : Type 0} (x y : X) (xs ys : List X) → x ∷ xs ≡ y ∷ ys �
 tail_same x y xs ys e = cc
 
 -- positions of the same ranks are the same
-same_places : (m : Map) (ps qs : List Pos) → All (Present m) ps → All (Present m) qs → map (rank m) ps ≡ map (rank m) qs → ps ≡ qs
+pub same_places : (m : Map) (ps qs : List Pos) → All (Present m) ps → All (Present m) qs → map (rank m) ps ≡ map (rank m) qs → ps ≡ qs
 same_places m [] [] here there e = refl
 same_places m [] (q ∷ qs) here there e = absurd (let l = ap length e in let k = length-map qs (rank m) in omega (arith, l, k))
 same_places m (p ∷ ps) [] here there e = absurd (let l = ap length e in let k = length-map ps (rank m) in omega (arith, l, k))

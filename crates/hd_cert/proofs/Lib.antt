@@ -4,7 +4,9 @@ mod Walks
 mod Flooding
 mod Nearest
 mod Listing
+mod Marking
 mod Shown
 mod Sound
 mod Ranks
 mod Determined
+mod Right

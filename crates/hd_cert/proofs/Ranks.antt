@@ -25,7 +25,7 @@ use Rattle.hd_cert.proofs.Sound.{leads_ranks, route_present}
 use Rattle.hd_cert.proofs.Walks.{path_leads}
 
 -- a path of ranks between two positions is one of positions
-route_of : (m : Map) (a : Pos) (xs : List Rank) (b : Pos) → Present m a → Present m b → Leads (Near m) (rank m a) xs (rank m b)
+pub route_of : (m : Map) (a : Pos) (xs : List Rank) (b : Pos) → Present m a → Present m b → Leads (Near m) (rank m a) xs (rank m b)
     → (ps : List Pos) × Leads (Neighbour m) a ps b × (map (rank m) ps ≡ xs)
 route_of m a [] b here there l = ([], same_point m a b here there l, refl)
 route_of m a (x ∷ xs) b here there l =
@@ -55,13 +55,13 @@ indexes_map m [] = refl
 indexes_map m (p ∷ ps) = ap (λ (is : List ℕ). place_of m.size p ∷ is) (indexes_map m ps)
 
 -- all of the positions are present
-all_present : (m : Map) (ps : List Pos) → ((k : ℕ) → k < length ps → Present m (point_of ps k)) → All (Present m) ps
+pub all_present : (m : Map) (ps : List Pos) → ((k : ℕ) → k < length ps → Present m (point_of ps k)) → All (Present m) ps
 all_present m [] h = All-nil (Present m)
 all_present m (p ∷ ps) h = All-cons (Present m) p ps (h 0 (omega arith)) (all_present m ps (λ k inside. h (suc k) (omega (arith, inside))))
 
 module _ (m : Map) (side : SideName) (a b : Pos) (s : Rank) (here : Present m a) (there : Present m b) where
   -- a path of ranks over the saddle is a route over it
-  over_route : (ys : List Rank) → IsPathOver m side (rank m a) (rank m b) s ys → (qs : List Pos) × IsRouteOver m side a b s (a ∷ qs) × (map (rank m) qs ≡ ys)
+  pub over_route : (ys : List Rank) → IsPathOver m side (rank m a) (rank m b) s ys → (qs : List Pos) × IsRouteOver m side a b s (a ∷ qs) × (map (rank m) qs ≡ ys)
   over_route ys over =
       let r = route_of m a ys b here there over.path.leads in
       let is : map (rank m) r.0 ≡ ys = r.2 in (
@@ -120,14 +120,14 @@ module _ (m : Map) (side : SideName) (a b : Pos) (s : Rank) (here : Present m a)
       }
 
 -- an item of the ranks is that of an item
-Contains-map : (m : Map) (x : Rank) (ps : List Pos) → Contains (map (rank m) ps) x → (p : Pos) × Contains ps p × (rank m p ≡ x)
+pub Contains-map : (m : Map) (x : Rank) (ps : List Pos) → Contains (map (rank m) ps) x → (p : Pos) × Contains ps p × (rank m p ≡ x)
 Contains-map m x [] c = absurd (Contains-none x c)
 Contains-map m x (p ∷ ps) c = elim (Contains-cases (rank m p) x (map (rank m) ps) c) [
   | inl e ↦ (p, Contains-head p ps, sym e)
   | inr rest ↦ let r = Contains-map m x ps rest in (r.0, Contains-tail p r.0 ps r.1, r.2)
 ]
 
-Contains-rank : (m : Map) (p : Pos) (ps : List Pos) → Contains ps p → Contains (map (rank m) ps) (rank m p)
+pub Contains-rank : (m : Map) (p : Pos) (ps : List Pos) → Contains ps p → Contains (map (rank m) ps) (rank m p)
 Contains-rank m p [] c = absurd (Contains-none p c)
 Contains-rank m p (q ∷ ps) c = elim (Contains-cases q p ps c) [
   | inl e ↦ subst (λ (r : Rank). Contains (rank m q ∷ map (rank m) ps) r) (ap (rank m) (sym e)) (Contains-head (rank m q) (map (rank m) ps))
@@ -135,7 +135,7 @@ Contains-rank m p (q ∷ ps) c = elim (Contains-cases q p ps c) [
 ]
 
 -- the index of the rank at a place
-rank_place : (m : Map) (ps : List Pos) (k : ℕ) (d : Rank) → k < length ps → (get_or (map (rank m) ps) k d).index ≡ place_at m.size ps k
+pub rank_place : (m : Map) (ps : List Pos) (k : ℕ) (d : Rank) → k < length ps → (get_or (map (rank m) ps) k d).index ≡ place_at m.size ps k
 rank_place m [] k d inside = absurd (omega (arith, inside))
 rank_place m (p ∷ ps) zero d inside = refl
 rank_place m (p ∷ ps) (suc k) d inside = rank_place m ps k d (omega (arith, inside))
@@ -149,13 +149,13 @@ below_to m side None p h = refl
 below_to m side (Some s) p h = h
 
 -- a low route as a path below the saddle
-all_below : (m : Map) (side : SideName) (saddle : Option Rank) (a : Pos) (ps : List Pos) (b : Pos) → within side saddle true (rank m a) ≡ true → Leads (IsLowStep m side saddle) a ps b
+pub all_below : (m : Map) (side : SideName) (saddle : Option Rank) (a : Pos) (ps : List Pos) (b : Pos) → within side saddle true (rank m a) ≡ true → Leads (IsLowStep m side saddle) a ps b
     → All (IsBelowSaddle side saddle) (rank m a ∷ map (rank m) ps)
 all_below m side saddle a [] b low l = All-cons (IsBelowSaddle side saddle) (rank m a) [] (below_from m side saddle a low) (All-nil (IsBelowSaddle side saddle))
 all_below m side saddle a (p ∷ ps) b low l = All-cons (IsBelowSaddle side saddle) (rank m a) (rank m p ∷ map (rank m) ps) (below_from m side saddle a low) (all_below m side saddle p ps b l.0.to l.1)
 
 -- and the other way round
-low_route : (m : Map) (side : SideName) (saddle : Option Rank) (a : Pos) (ps : List Pos) (b : Pos) → All (IsBelowSaddle side saddle) (rank m a ∷ map (rank m) ps) → Leads (Neighbour m) a ps b
+pub low_route : (m : Map) (side : SideName) (saddle : Option Rank) (a : Pos) (ps : List Pos) (b : Pos) → All (IsBelowSaddle side saddle) (rank m a ∷ map (rank m) ps) → Leads (Neighbour m) a ps b
     → Leads (IsLowStep m side saddle) a ps b
 low_route m side saddle a [] b all l = l
 low_route m side saddle a (p ∷ ps) b all l =

@@ -1,4 +1,4 @@
--- The shown certificate is right.
+-- A certificate with a path over the saddle and the cut below it is right.
 use Rattle.std.proofs.Common.{◌≡◌, ◌<◌, ◌+◌, ℕ, zero, suc, true, List, [], ◌∷◌, length, map, Option, Some, None, inl, inr, ap, ◌∙◌, refl, sym, subst, arith}
 use Rattle.std.specs.Prelude.{ℤ, MatchOption}
 use Rattle.std.specs.List.{Contains}
@@ -15,13 +15,12 @@ use Rattle.hd_map.specs.Rank.{rank, below_by, Near}
 use Rattle.hd_map.specs.Region.{IsPit}
 use Rattle.hd_map.proofs.Points.{same_point, point_at, Near-at}
 use Rattle.hd_map.specs.SideLaws.{below_by-order}
-use Rattle.hd_check.specs.declared.types.Certificate.{Certificate}
 use Rattle.hd_check.specs.Certified.{position_only}
 use Rattle.hd_check.specs.Rules.{point_of, IsBelowLevel, IsLeak, IsRight}
 use Rattle.hd_map.specs.Saddle.{SaddleIs}
 use Rattle.hd_cert.specs.Marks.{within}
-use Rattle.hd_cert.specs.Routes.{IsRouteOver, IsLowStep, IsShownRoute, IsRouteCut, IsMade}
-use Rattle.hd_cert.specs.Shown.{IsWritten, AreTwoPits}
+use Rattle.hd_cert.specs.Routes.{IsRouteOver, IsLowStep, IsRouteCut}
+use Rattle.hd_cert.specs.Shown.{IsWritten}
 use Rattle.hd_cert.proofs.Shown.{leads_present, none_above-at}
 
 -- a path of positions as one of ranks
@@ -108,8 +107,9 @@ route_present m side a b s path here over (suc j) inside =
     let e : j + 1 ≡ suc j = omega arith in
     subst (λ (k : ℕ). Present m (point_of path k)) e (over.steps j (omega (arith, inside))).to
 
-right_of : (m : Map) (side : SideName) (a b : Pos) (saddle : Option Rank) (written : Option (Pos × ℤ)) (path cut : List Pos) → Present m a → Present m b → IsPit m side (rank m a) → IsPit m side (rank m b) → (a ≡ b → ⊥)
-    → SaddleIs m side (rank m a) (rank m b) saddle → IsWritten m saddle written → MatchOption saddle (path ≡ []) (λ s. IsShownRoute m side a b s path) → IsRouteCut m side saddle a cut
+-- where a path goes over the saddle, and a cut is the points reached below it, all rules hold
+pub right_of : (m : Map) (side : SideName) (a b : Pos) (saddle : Option Rank) (written : Option (Pos × ℤ)) (path cut : List Pos) → Present m a → Present m b → IsPit m side (rank m a) → IsPit m side (rank m b) → (a ≡ b → ⊥)
+    → SaddleIs m side (rank m a) (rank m b) saddle → IsWritten m saddle written → MatchOption saddle (path ≡ []) (λ s. IsRouteOver m side a b s path) → IsRouteCut m side saddle a cut
     → IsRight m (record { side = side; from = a; to = b; saddle = written; path = path; cut = cut })
 right_of m side a b None None path cut here there pit pit' apart is w none shown =
     let empty : length path ≡ 0 = ap length none in (
@@ -140,8 +140,7 @@ right_of m side a b None None path cut here there pit pit' apart is w none shown
         ),
       ),
     )
-right_of m side a b (Some s) (Some (p, h)) path cut here there pit pit' apart is w path_shown shown =
-    let over = path_shown.over in
+right_of m side a b (Some s) (Some (p, h)) path cut here there pit pit' apart is w over shown =
     let present = route_present m side a b s path here over in
     let on : IsOneOf (rank m p) (map (rank m) path) = subst (λ (t : Rank). IsOneOf t (map (rank m) path)) (sym w.1) (one_from s (map (rank m) path) over.top.one_of) in
     let none : NoneAbove (below_by side) (rank m p) (map (rank m) path) = subst (λ (t : Rank). NoneAbove (below_by side) t (map (rank m) path)) (sym w.1) (none_from (below_by side) s (map (rank m) path) over.top.none_above) in (
@@ -174,12 +173,3 @@ right_of m side a b (Some s) (Some (p, h)) path cut here there pit pit' apart is
     )
 right_of m side a b None (Some x) path cut here there pit pit' apart is w none shown = absurd w
 right_of m side a b (Some s) None path cut here there pit pit' apart is w none shown = absurd w
-
-pub shown_right : (m : Map) (side : SideName) (a b : Pos) (saddle : Option Rank) (c : Certificate) → AreTwoPits m side a b → SaddleIs m side (rank m a) (rank m b) saddle → IsMade m side a b saddle c → IsRight m c
-shown_right m side a b saddle c pits is shown =
-    let path = shown.path in
-    let at : IsRight m (record { side = side; from = a; to = b; saddle = c.saddle; path = c.path; cut = c.cut }) =
-    right_of m side a b saddle c.saddle c.path c.cut pits.here pits.there pits.pit pits.other pits.apart is shown.saddle_is shown.path shown.cut in
-    subst (λ (d : SideName). IsRight m (record { side = d; from = c.from; to = c.to; saddle = c.saddle; path = c.path; cut = c.cut })) (sym shown.side_is)
-    (subst (λ (p : Pos). IsRight m (record { side = side; from = p; to = c.to; saddle = c.saddle; path = c.path; cut = c.cut })) (sym shown.from_is)
-    (subst (λ (p : Pos). IsRight m (record { side = side; from = a; to = p; saddle = c.saddle; path = c.path; cut = c.cut })) (sym shown.to_is) at))

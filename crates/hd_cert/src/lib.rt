@@ -8,5 +8,5 @@ mod listed_points;
 mod making;
 mod trace;
 
-pub use laws::shown_certificate_is_determined;
+pub use laws::{shown_certificate_is_determined, shown_certificate_is_right};
 pub use making::certify;

@@ -8,7 +8,7 @@ ghost use Rattle.hd_cert.specs.Steps.{AreSteps, steps_at};
 ghost use Rattle.hd_cert.specs.Nearer.{IsNearer, IsFirstNearer, GoesNearer};
 
 use hd_base::{List, Memory};
-use hd_map::{Heights, Pos, Rank, Side, index_of, neighbours, position_of};
+use hd_map::{Heights, Pos, Rank, Side, index_of, neighbours, position_after};
 use std::alloc::Global;
 
 /// By index whether a point is present and lies within a level.
@@ -23,9 +23,10 @@ pub fn marks_within<S: Side, G: Heights>(
     let size = grid.size();
     let count = size.profiles * size.points;
     let mut marks = Vec::with_capacity(alloc, count as usize)?;
+    let mut at = Pos { x: 0, y: 0 };
     for index in 0..count {
-        let at = position_of(size, index);
         marks.push(is_within::<S, G>(grid, level, strict, at))?;
+        at = position_after(size, at);
     }
     Ok(marks)
 }

@@ -1,13 +1,22 @@
-use Rattle.std.proofs.Common.{◌≡◌, subst, arith, ℕ}
+use Rattle.std.proofs.Common.{◌≡◌, refl, subst, arith, ℕ}
 use Rattle.hd_map.specs.Map.{cell_count}
-use Rattle.hd_cert.specs.Listed.{AreListed}
-use Rattle.hd_cert.proofs.Listing.{listed_more}
+use Rattle.hd_cert.specs.Listed.{AreListed, Lists}
+use Rattle.hd_cert.proofs.Listing.{at_inside, at_next, listed_more}
 use Rattle.hd_cert.proofs.listed_points.listed.Goals as goal
 
+pub list_one-requires-clause-at : goal.list_one-requires-clause-at
+list_one-requires-clause-at c = at_inside c.args.size c.args.size c.loop-index.index c.loop-index.at refl c.loop-index.invariant.0 c.loop-index-test.true
+
 pub loop-index-preserved : goal.loop-index-preserved
-loop-index-preserved c = listed_more c.args.size c.args.steps.now c.loop-index.index c.loop-index.found.items c.list_one.new.found.items c.in_ok-list_one.ensures c.loop-index.invariant
+loop-index-preserved c =
+    let so = c.loop-index.invariant.0 in
+    let found = c.loop-index.found.items in
+    let lists = subst (λ (n : ℕ). Lists c.args.size c.args.steps.now n found c.list_one.new.found.items) so.place c.in_ok-list_one.ensures in (
+      at_next c.args.size c.args.size c.loop-index.index c.loop-index.at c.position_after-at.result refl so c.position_after-at.ensures.column c.position_after-at.ensures.place,
+      listed_more c.args.size c.args.steps.now c.loop-index.index found c.list_one.new.found.items lists c.loop-index.invariant.1,
+    )
 
 pub returns : goal.returns
 returns c =
     let e : c.loop-index.index ≡ cell_count c.args.size = omega arith in
-    rw c.from_vec.ensures (subst (λ (n : ℕ). AreListed c.args.size c.args.steps.now n c.loop-index.found.items) e c.loop-index.invariant)
+    rw c.from_vec.ensures (subst (λ (n : ℕ). AreListed c.args.size c.args.steps.now n c.loop-index.found.items) e c.loop-index.invariant.1)

@@ -1,5 +1,6 @@
 use Rattle.hd_cert.specs.Listed.{AreListed}
+use Rattle.hd_cert.proofs.Listing.{IsAt}
 use Rattle.hd_cert.proofs.listed_points.listed.Given as goal
 
 abbrev pub invariant-loop-index : goal.invariant-loop-index
-invariant-loop-index l = AreListed l.size l.steps l.index l.found.items
+invariant-loop-index l = IsAt l.size l.index l.at × AreListed l.size l.steps l.index l.found.items

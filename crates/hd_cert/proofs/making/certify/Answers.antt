@@ -2,8 +2,8 @@ use Rattle.hd_check.specs.Rules.{IsRight}
 use Rattle.hd_cert.specs.Routes.{IsMade}
 use Rattle.hd_cert.specs.Shown.{IsShownCertificate}
 use Rattle.hd_cert.proofs.Ranks.{made_shown}
+use Rattle.hd_cert.proofs.Right.{shown_right}
 use Rattle.hd_cert.proofs.Shown.{if_ok_more}
-use Rattle.hd_cert.proofs.Sound.{shown_right}
 use Rattle.hd_cert.proofs.making.certify.Goals as goal
 
 pub returns-clause-shown : goal.returns-clause-shown
@@ -16,4 +16,5 @@ pub returns-clause-right : goal.returns-clause-right
 returns-clause-right g c =
     let m = g.G.Heights.map c.args.grid.now in
     if_ok_more (IsMade m g.S.Side.NAME c.args.from c.args.to c.args.saddle) (IsRight m) c.make.result
-    (λ made is. shown_right m g.S.Side.NAME c.args.from c.args.to c.args.saddle made c.requires.pits c.requires.saddle is) c.make.ensures
+    (λ made is. shown_right m g.S.Side.NAME c.args.from c.args.to c.args.saddle made c.requires.pits
+    (made_shown m g.S.Side.NAME c.args.from c.args.to c.args.saddle made c.requires.pits c.requires.saddle is)) c.make.ensures

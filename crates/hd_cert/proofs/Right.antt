@@ -1,0 +1,88 @@
+-- The shown certificate is right.
+use Rattle.std.proofs.Common.{◌≡◌, ◌<◌, ◌+◌, true, List, [], ◌∷◌, length, map, Option, Some, None, ap, ◌∙◌, sym, subst, arith}
+use Rattle.std.specs.Prelude.{All, Contains, AllPairs, MatchOption}
+use Rattle.std.proofs.lemmas.List.{length-map}
+use Rattle.std.proofs.lemmas.List.Elements.{All-get_or}
+use Rattle.hd_map.specs.declared.types.Pos.{Pos}
+use Rattle.hd_map.specs.declared.types.Rank.{Rank}
+use Rattle.hd_map.specs.declared.types.SideName.{SideName}
+use Rattle.hd_map.specs.Map.{Map, Present}
+use Rattle.hd_map.specs.Path.{Leads}
+use Rattle.hd_map.specs.Rank.{rank}
+use Rattle.hd_map.specs.Shown.{IsBelowSaddle, IsReachedBelow}
+use Rattle.hd_map.proofs.Points.{point_at, same_point}
+use Rattle.hd_check.specs.declared.types.Certificate.{Certificate}
+use Rattle.hd_check.specs.Rules.{IsRight}
+use Rattle.hd_cert.specs.Marks.{within}
+use Rattle.hd_cert.specs.Routes.{IsRouteOver, IsLowStep, IsRouteCut}
+use Rattle.hd_cert.specs.Shown.{AreTwoPits, IsPathAt, IsCutAt, IsShownCertificate}
+use Rattle.hd_cert.proofs.Determined.{same_places}
+use Rattle.hd_cert.proofs.Ranks.{route_of, all_present, over_route, Contains-map, Contains-rank, rank_place, all_below, low_route}
+use Rattle.hd_cert.proofs.Searching.{place_found}
+use Rattle.hd_cert.proofs.Shown.{leads_present, pit_within}
+use Rattle.hd_cert.proofs.Sound.{leads_ranks, right_of, route_present}
+
+-- the shown path is a path of positions over the saddle
+path_over : (m : Map) (side : SideName) (a b : Pos) (s : Rank) (path : List Pos) → Present m a → Present m b → IsPathAt m side a b s path → IsRouteOver m side a b s path
+path_over m side a b s path here there at =
+    let route = over_route m side a b s here there at.points at.shown.over in
+    let whole : List Pos = a ∷ route.0 in
+    let all = all_present m whole (route_present m side a b s whole here route.1) in
+    let ranks : map (rank m) whole ≡ map (rank m) path = ap (λ (xs : List Rank). rank m a ∷ xs) route.2 ∙ at.stand.1 in
+    subst (IsRouteOver m side a b s) (same_places m whole path all at.stand.0 ranks) route.1
+
+path_or_none : (m : Map) (side : SideName) (a b : Pos) (saddle : Option Rank) (path : List Pos) → Present m a → Present m b → MatchOption saddle (path ≡ []) (λ s. IsPathAt m side a b s path)
+    → MatchOption saddle (path ≡ []) (λ s. IsRouteOver m side a b s path)
+path_or_none m side a b None path here there none = none
+path_or_none m side a b (Some s) path here there at = path_over m side a b s path here there at
+
+module _ (m : Map) (side : SideName) (a b : Pos) (saddle : Option Rank) (cut : List Pos) (here : Present m a) (low : within side saddle true (rank m a) ≡ true) (at : IsCutAt m side a b saddle cut) where
+  listed_present : (p : Pos) → Contains cut p → Present m p
+  listed_present p c = let f = place_found cut p c in subst (Present m) f.2 (All-get_or (Present m) cut f.0 (record { x = 0; y = 0 }) f.1 at.stand.0)
+
+  -- what is listed is reached
+  listed_reached : (p : Pos) → Contains cut p → (xs : List Pos) × Leads (IsLowStep m side saddle) a xs p
+  listed_reached p c =
+      let there = listed_present p c in
+      let reached = (at.shown.exactly (rank m p)).0 (subst (λ (xs : List Rank). Contains xs (rank m p)) (sym at.stand.1) (Contains-rank m p cut c)) in
+      let route = route_of m a reached.points p here there reached.path.leads in
+      (route.0, low_route m side saddle a route.0 p (subst (λ (xs : List Rank). All (IsBelowSaddle side saddle) (rank m a ∷ xs)) (sym route.2) reached.below) route.1)
+
+  -- what is reached is listed
+  reached_listed : (p : Pos) → (xs : List Pos) × Leads (IsLowStep m side saddle) a xs p → Contains cut p
+  reached_listed p w =
+      let reached : IsReachedBelow m side saddle (rank m a) (rank m p) = record {
+        points = map (rank m) w.0;
+        path = record { point = point_at m a here; leads = leads_ranks m side saddle a w.0 p w.1 };
+        below = all_below m side saddle a w.0 p low w.1;
+      } in
+      let q = Contains-map m (rank m p) cut (subst (λ (xs : List Rank). Contains xs (rank m p)) at.stand.1 ((at.shown.exactly (rank m p)).1 reached)) in
+      subst (Contains cut) (same_point m q.0 p (listed_present q.0 q.1) (leads_present m side saddle a w.0 p here w.1) q.2) q.1
+
+  -- the shown cut is the points that are reached below the saddle, by positions
+  cut_of : IsRouteCut m side saddle a cut
+  cut_of = record {
+    rises = λ k inside.
+        (let ordered = subst (λ (xs : List Rank). AllPairs (λ p q. p.index < q.index) xs) at.stand.1 at.shown.in_order in
+        let d : Rank = rank m a in
+        let l : length (map (rank m) cut) ≡ length cut = length-map cut (rank m) in
+        let first = rank_place m cut k d (omega (arith, inside)) in
+        let second = rank_place m cut (k + 1) d (omega (arith, inside)) in
+        let up = ordered k (k + 1) d (omega arith) (omega (arith, inside, l)) in
+        omega (arith, first, second, up));
+    low = low;
+    all = λ p. (listed_reached p, reached_listed p);
+  }
+
+-- the certificate that is shown of two pits and their saddle is right
+pub shown_right : (m : Map) (side : SideName) (a b : Pos) (saddle : Option Rank) (c : Certificate) → AreTwoPits m side a b → IsShownCertificate m side a b saddle c → IsRight m c
+shown_right m side a b saddle c pits shown =
+    let is = shown.cut.shown.saddle_is in
+    let low = pit_within m side a b saddle pits.here pits.there pits.pit pits.apart is in
+    let path = path_or_none m side a b saddle c.path pits.here pits.there shown.path in
+    let cut = cut_of m side a b saddle c.cut pits.here low shown.cut in
+    let at : IsRight m (record { side = side; from = a; to = b; saddle = c.saddle; path = c.path; cut = c.cut }) =
+    right_of m side a b saddle c.saddle c.path c.cut pits.here pits.there pits.pit pits.other pits.apart is shown.saddle_is path cut in
+    subst (λ (d : SideName). IsRight m (record { side = d; from = c.from; to = c.to; saddle = c.saddle; path = c.path; cut = c.cut })) (sym shown.side_is)
+    (subst (λ (p : Pos). IsRight m (record { side = side; from = p; to = c.to; saddle = c.saddle; path = c.path; cut = c.cut })) (sym shown.from_is)
+    (subst (λ (p : Pos). IsRight m (record { side = side; from = a; to = p; saddle = c.saddle; path = c.path; cut = c.cut })) (sym shown.to_is) at))
