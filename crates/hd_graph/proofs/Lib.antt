@@ -1,10 +1,14 @@
 pub mod Places
+pub mod Steps
+pub mod Unions
 pub mod Ends
 pub mod Numbers
 pub mod Heaps
 pub mod Visits
 pub mod Rises
 pub mod Floods
+pub mod Keeping
+pub mod Thinned
 pub mod Stops
 pub mod Orders
 pub mod Lows

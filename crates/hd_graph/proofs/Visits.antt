@@ -1,17 +1,13 @@
 -- What one more visit does to the flood.
-use Rattle.std.proofs.Common.{◌≡◌, ◌≢◌, ℕ, zero, suc, ◌<◌, ◌+◌, inl, inr, List, [], ◌∷◌, ◌++◌, length, Option, Some, None, Bool, true, false, refl, sym, ◌∙◌, ap, subst, arith, slice_get, set, replicate}
+use Rattle.std.proofs.Common.{◌≡◌, ◌≢◌, ℕ, zero, suc, ◌<◌, ◌≤◌, ◌+◌, inl, inr, List, [], ◌∷◌, ◌++◌, length, Option, Some, None, Bool, true, false, refl, sym, ◌∙◌, ap, subst, arith, slice_get, set, replicate}
 use Rattle.std.specs.Prelude.{if◌then◌else◌}
 use Rattle.std.proofs.lemmas.List.{length-set}
 use Rattle.std.proofs.lemmas.Option.{slice_get_within}
-use Rattle.hd_map.specs.declared.types.Rank.{Rank}
-use Rattle.hd_map.specs.Order.{IsNotAbove, IsStrictOrder}
-use Rattle.hd_map.proofs.Sides.{not_above-trans}
 use Rattle.hd_graph.specs.declared.candidate.Candidate.{Candidate}
 use Rattle.hd_graph.specs.declared.flooding.Visit.{Visit}
 use Rattle.hd_graph.specs.declared.ways.Ways.{Ways}
-use Rattle.hd_graph.specs.Candidates.{pass_of}
 use Rattle.hd_graph.specs.Flood.{HasWay, AreGrouped, Holds, HoldsLows, Spreads, Takes, IsFlooded, AllDone, lows_of}
-use Rattle.hd_graph.proofs.Heaps.{marked, holds-none, reached-falls}
+use Rattle.hd_graph.proofs.Heaps.{marked, holds-none}
 use Rattle.hd_graph.proofs.Places.{get-push_old, get-push_new, get-push_cases, get-set_same, get-set_other, same_number}
 
 -- how many lows are not done
@@ -27,13 +23,13 @@ undone-set (false ∷ ds) zero h = omega arith
 undone-set (d ∷ ds) (suc i) h = (let r = undone-set ds i h in omega arith)
 
 -- each way leads to a low
-pub ways-inside : (ways : Ways) → AreGrouped ways → (a b : ℕ) (w : Rank) → HasWay ways a b w → b < lows_of ways
+pub ways-inside : (ways : Ways) → AreGrouped ways → (a b w : ℕ) → HasWay ways a b w → b < lows_of ways
 ways-inside ways grouped a b w h = grouped.inside a b w h
 
 -- the rise of the next visit: a candidate for its low, not above any that is not done
-pub record IsNextRise {S : Type 0} (below : Rank → Rank → Bool) (done : List Bool) (heap : List (Candidate S)) (low : ℕ) (rise : Option Rank) : Type 0 where
-  pub held : (r : Rank) → rise ≡ Some r → Holds heap low r
-  pub least : (to : ℕ) (at : Rank) → Holds heap to at → slice_get done to ≡ Some false → (r : Rank) × (rise ≡ Some r) × IsNotAbove below r at
+pub record IsNextRise (done : List Bool) (heap : List Candidate) (low : ℕ) (rise : Option ℕ) : Type 0 where
+  pub held : (r : ℕ) → rise ≡ Some r → Holds heap low r
+  pub least : (to at : ℕ) → Holds heap to at → slice_get done to ≡ Some false → (r : ℕ) × (rise ≡ Some r) × (r ≤ at)
 
 -- a low more is done
 pub all_done-more : (done : List Bool) (k : ℕ) → AllDone done k → slice_get done k ≡ Some true → AllDone done (k + 1)
@@ -42,12 +38,12 @@ all_done-more done k all here v less = elim (same_number v k) [
   | inr ne ↦ all v (omega arith)
 ]
 
-module _ {S : Type 0} (below : Rank → Rank → Bool) (ways : Ways) (n : ℕ) (range : (a b : ℕ) (w : Rank) → HasWay ways a b w → b < n) where
-  module _ (order : IsStrictOrder below) (done : List Bool) (lowest lowest' : List (Option Rank)) (visits : List Visit) (heap mid new : List (Candidate S)) (low : ℕ) (rise : Option Rank)
-      (so : IsFlooded below ways n done lowest visits heap) (fresh : slice_get done low ≡ Some false) (next : IsNextRise below done heap low rise)
-      (fewer : (to : ℕ) (at : Rank) → Holds mid to at → Holds heap to at)
-      (kept : (to : ℕ) (at : Rank) → Holds heap to at → slice_get done to ≡ Some false → to ≢ low → Holds mid to at)
-      (spread : Spreads below ways low (set done low true) lowest lowest' mid new) where
+module _ (ways : Ways) (n : ℕ) (range : (a b w : ℕ) → HasWay ways a b w → b < n) where
+  module _ (done : List Bool) (visits : List Visit) (heap mid new : List Candidate) (low : ℕ) (rise : Option ℕ)
+      (so : IsFlooded ways n done visits heap) (fresh : slice_get done low ≡ Some false) (next : IsNextRise done heap low rise)
+      (fewer : (to at : ℕ) → Holds mid to at → Holds heap to at)
+      (kept : (to at : ℕ) → Holds heap to at → slice_get done to ≡ Some false → to ≢ low → Holds mid to at)
+      (spread : Spreads ways low (set done low true) mid new) where
     not_yet : (k : ℕ) (y : Visit) → slice_get visits k ≡ Some y → y.low ≢ low
     not_yet k y h e = (let d : slice_get done low ≡ Some true = subst (λ v. slice_get done v ≡ Some true) e (so.visited_done k y h) in cc)
 
@@ -62,7 +58,7 @@ module _ {S : Type 0} (below : Rank → Rank → Bool) (ways : Ways) (n : ℕ) (
     old : (k : ℕ) (y : Visit) → slice_get visits k ≡ Some y → slice_get (visits ++ visit ∷ []) k ≡ Some y
     old k y h = get-push_old visits visit y k h
 
-    attaches_more : (k : ℕ) (y : Visit) (r : Rank) → slice_get (visits ++ visit ∷ []) k ≡ Some y → y.rise ≡ Some r →
+    attaches_more : (k : ℕ) (y : Visit) (r : ℕ) → slice_get (visits ++ visit ∷ []) k ≡ Some y → y.rise ≡ Some r →
         (m : ℕ) × (z : Visit) × (m < k) × (slice_get (visits ++ visit ∷ []) m ≡ Some z) × HasWay ways z.low y.low r
     unfolding visit
     attaches_more k y r hk hr = elim (get-push_cases visits visit y k hk) [
@@ -73,8 +69,8 @@ module _ {S : Type 0} (below : Rank → Rank → Bool) (ways : Ways) (n : ℕ) (
           (a.0, a.1, less, old a.0 a.1 a.2, subst (λ (v : Visit). HasWay ways a.1.low v.low r) p.1 a.3))
     ]
 
-    lowest_more : (k m : ℕ) (y z : Visit) (v : ℕ) (w : Rank) → m < k → slice_get (visits ++ visit ∷ []) k ≡ Some y → slice_get (visits ++ visit ∷ []) m ≡ Some z → HasWay ways z.low v w →
-        ((j : ℕ) (u : Visit) → j < k → slice_get (visits ++ visit ∷ []) j ≡ Some u → u.low ≢ v) → (r : Rank) × (y.rise ≡ Some r) × IsNotAbove below r w
+    lowest_more : (k m : ℕ) (y z : Visit) (v w : ℕ) → m < k → slice_get (visits ++ visit ∷ []) k ≡ Some y → slice_get (visits ++ visit ∷ []) m ≡ Some z → HasWay ways z.low v w →
+        ((j : ℕ) (u : Visit) → j < k → slice_get (visits ++ visit ∷ []) j ≡ Some u → u.low ≢ v) → (r : ℕ) × (y.rise ≡ Some r) × (r ≤ w)
     unfolding visit
     lowest_more k m y z v w less hk hm way apart = elim (get-push_cases visits visit y k hk) [
       | inl p ↦ (let inside : k < length visits = slice_get_within visits k y p in
@@ -86,10 +82,8 @@ module _ {S : Type 0} (below : Rank → Rank → Bool) (ways : Ways) (n : ℕ) (
         | inl q ↦ (let bound : v < length done = subst (λ b. v < b) (sym so.long) (range z.low v w way) in
             elim (marked done v bound) [
               | inl a ↦ (let o = so.done_visited v a in absurd (apart o.0 o.1 (omega (arith, slice_get_within visits o.0 o.1 o.2, p.0)) (old o.0 o.1 o.2) o.3))
-              | inr a ↦ (
-                  let c = so.complete m z v w q way a in
-                  let l = next.least v c.0 (so.held v c.0 c.1 a) a in
-                  subst (λ (u : Visit). (r : Rank) × (u.rise ≡ Some r) × IsNotAbove below r w) p.1 (l.0, l.1, not_above-trans below order l.0 c.0 w l.2 c.2))
+              | inr a ↦ (let l = next.least v w (so.complete m z v w q way a) a in
+                  subst (λ (u : Visit). (r : ℕ) × (u.rise ≡ Some r) × (r ≤ w)) p.1 (l.0, l.1, l.2))
             ])
         | inr q ↦ absurd (omega (arith, q.0, p.0))
       ]
@@ -108,11 +102,10 @@ module _ {S : Type 0} (below : Rank → Rank → Bool) (ways : Ways) (n : ℕ) (
       ]
     ]
 
-    pub flooded-visit : IsFlooded below ways n (set done low true) lowest' (visits ++ record { low = low; rise = rise } ∷ []) new
+    pub flooded-visit : IsFlooded ways n (set done low true) (visits ++ record { low = low; rise = rise } ∷ []) new
     unfolding visit
     flooded-visit = record {
       long = length-set done low true ∙ so.long;
-      long_lowest = spread.lowers.long ∙ so.long_lowest;
       done_visited = λ v h. elim (same_number low v) [
         | inl e ↦ (length visits, visit, get-push_new visits visit, e)
         | inr ne ↦ (let o = so.done_visited v (sym (get-set_other done low v true ne) ∙ h) in (o.0, o.1, old o.0 o.1 o.2, o.3))
@@ -126,52 +119,45 @@ module _ {S : Type 0} (below : Rank → Rank → Bool) (ways : Ways) (n : ℕ) (
         | inl o ↦ (let a = so.sound to at (fewer to at o) in (a.0, a.1, old a.0 a.1 a.2, a.3))
         | inr o ↦ (length visits, visit, get-push_new visits visit, o)
       ];
-      held = λ v r h undone. elim (spread.lowers.held v r h) [
-        | inl was ↦ (let u = still v undone in spread.lowers.kept v r (kept v r (so.held v r was u.1) u.1 u.0))
-        | inr here ↦ here
-      ];
       complete = λ m y v w hm way h. elim (get-push_cases visits visit y m hm) [
-        | inl p ↦ reached-falls below order lowest lowest' mid new spread.lowers v w (so.complete m y v w p way (still v h).1)
-        | inr p ↦ spread.reached v w (subst (λ (z : Visit). HasWay ways z.low v w) (sym p.1) way) h
+        | inl p ↦ (let u = still v h in spread.kept v w (kept v w (so.complete m y v w p way u.1) u.1 u.0))
+        | inr p ↦ spread.held v w (subst (λ (z : Visit). HasWay ways z.low v w) (sym p.1) way) h
       ];
     }
 
   -- a visit to a first low, with an empty heap
-  pub flooded-start : IsStrictOrder below → (done : List Bool) (lowest lowest' : List (Option Rank)) (visits : List Visit) (heap new : List (Candidate S)) (low : ℕ) → IsFlooded below ways n done lowest visits heap → slice_get done low ≡ Some false → length heap ≡ 0 →
-      Spreads below ways low (set done low true) lowest lowest' heap new → IsFlooded below ways n (set done low true) lowest' (visits ++ record { low = low; rise = None } ∷ []) new
-  flooded-start order done lowest lowest' visits heap new low so fresh empty spread = flooded-visit order done lowest lowest' visits heap heap new low None so fresh
+  pub flooded-start : (done : List Bool) (visits : List Visit) (heap new : List Candidate) (low : ℕ) → IsFlooded ways n done visits heap → slice_get done low ≡ Some false → length heap ≡ 0 →
+      Spreads ways low (set done low true) heap new → IsFlooded ways n (set done low true) (visits ++ record { low = low; rise = None } ∷ []) new
+  flooded-start done visits heap new low so fresh empty spread = flooded-visit done visits heap heap new low None so fresh
       (record { held = λ r e. cc; least = λ to at h undone. absurd (holds-none heap to at empty h) }) (λ to at h. h) (λ to at h undone ne. h) spread
 
   -- a visit to the lowest candidate
-  pub flooded-next : IsStrictOrder below → (done : List Bool) (lowest lowest' : List (Option Rank)) (visits : List Visit) (heap mid new : List (Candidate S)) (c : Candidate S) → IsFlooded below ways n done lowest visits heap → Takes below done heap c mid →
-      Spreads below ways c.to (set done c.to true) lowest lowest' mid new → IsFlooded below ways n (set done c.to true) lowest' (visits ++ record { low = c.to; rise = Some (pass_of c) } ∷ []) new
-  flooded-next order done lowest lowest' visits heap mid new c so takes spread = flooded-visit order done lowest lowest' visits heap mid new c.to (Some (pass_of c)) so takes.fresh
-      (record { held = λ r e. (let same : pass_of c ≡ r = cc in subst (λ w. Holds heap c.to w) same takes.held); least = λ to at h undone. (pass_of c, refl, takes.lowest to at h undone) })
+  pub flooded-next : (done : List Bool) (visits : List Visit) (heap mid new : List Candidate) (c : Candidate) → IsFlooded ways n done visits heap → Takes done heap c mid →
+      Spreads ways c.to (set done c.to true) mid new → IsFlooded ways n (set done c.to true) (visits ++ record { low = c.to; rise = Some c.pass } ∷ []) new
+  flooded-next done visits heap mid new c so takes spread = flooded-visit done visits heap mid new c.to (Some c.pass) so takes.fresh
+      (record { held = λ r e. (let same : c.pass ≡ r = cc in subst (λ w. Holds heap c.to w) same takes.held); least = λ to at h undone. (c.pass, refl, takes.lowest to at h undone) })
       takes.only takes.kept spread
 
   -- where all candidates are done, none is needed
-  pub flooded-over : (done : List Bool) (lowest : List (Option Rank)) (visits : List Visit) (heap new : List (Candidate S)) → IsFlooded below ways n done lowest visits heap → ((to : ℕ) (at : Rank) → Holds heap to at → slice_get done to ≡ Some true) →
-      length new ≡ 0 → IsFlooded below ways n done lowest visits new
-  flooded-over done lowest visits heap new so over empty = record {
+  pub flooded-over : (done : List Bool) (visits : List Visit) (heap new : List Candidate) → IsFlooded ways n done visits heap → ((to at : ℕ) → Holds heap to at → slice_get done to ≡ Some true) →
+      length new ≡ 0 → IsFlooded ways n done visits new
+  flooded-over done visits heap new so over empty = record {
     long = so.long;
-    long_lowest = so.long_lowest;
     done_visited = so.done_visited;
     visited_done = so.visited_done;
     prim = so.prim;
     sound = λ to at h. absurd (holds-none new to at empty h);
-    held = λ v r h undone. absurd (let d = over v r (so.held v r h undone) in cc);
-    complete = so.complete;
+    complete = λ m y v w hm way undone. absurd (let d = over v w (so.complete m y v w hm way undone) in cc);
   }
 
   -- the candidates are lows
-  pub flooded-lows : (done : List Bool) (lowest : List (Option Rank)) (visits : List Visit) (heap : List (Candidate S)) → IsFlooded below ways n done lowest visits heap → HoldsLows heap (length done)
-  flooded-lows done lowest visits heap so to at h = (let a = so.sound to at h in subst (λ b. to < b) (sym so.long) (range (a.1).low to at a.3))
+  pub flooded-lows : (done : List Bool) (visits : List Visit) (heap : List Candidate) → IsFlooded ways n done visits heap → HoldsLows heap (length done)
+  flooded-lows done visits heap so to at h = (let a = so.sound to at h in subst (λ b. to < b) (sym so.long) (range (a.1).low to at a.3))
 
   -- nothing is visited yet
-  pub flooded-none : (done : List Bool) (lowest : List (Option Rank)) (visits : List Visit) (heap : List (Candidate S)) → done ≡ replicate n false → lowest ≡ replicate n None → visits ≡ [] → length heap ≡ 0 → IsFlooded below ways n done lowest visits heap
-  flooded-none done lowest visits heap clear no_lowest none empty = record {
+  pub flooded-none : (done : List Bool) (visits : List Visit) (heap : List Candidate) → done ≡ replicate n false → visits ≡ [] → length heap ≡ 0 → IsFlooded ways n done visits heap
+  flooded-none done visits heap clear none empty = record {
     long = ap length clear ∙ long_replicate n false;
-    long_lowest = ap length no_lowest ∙ long_replicate n None;
     done_visited = λ v h. absurd (all_clear n v (ap (λ ds. slice_get ds v) (sym clear) ∙ h));
     visited_done = λ k x h. absurd (nothing k x h);
     prim = record {
@@ -180,7 +166,6 @@ module _ {S : Type 0} (below : Rank → Rank → Bool) (ways : Ways) (n : ℕ) (
       lowest = λ k m x y v w less hk hm way apart. absurd (nothing k x hk);
     };
     sound = λ to at h. absurd (holds-none heap to at empty h);
-    held = λ v r h undone. absurd (none_lowest n v r (ap (λ rs. slice_get rs v) (sym no_lowest) ∙ h));
     complete = λ m y v w hm way undone. absurd (nothing m y hm);
   }
     where
@@ -190,11 +175,6 @@ module _ {S : Type 0} (below : Rank → Rank → Bool) (ways : Ways) (n : ℕ) (
       long_replicate : {X : Type 0} (m : ℕ) (x : X) → length (replicate m x) ≡ m
       long_replicate zero x = refl
       long_replicate (suc m) x = ap suc (long_replicate m x)
-
-      none_lowest : (m v : ℕ) (r : Rank) → slice_get (replicate m None) v ≡ Some (Some r) → ⊥
-      none_lowest zero v r h = cc
-      none_lowest (suc m) zero r h = cc
-      none_lowest (suc m) (suc v) r h = none_lowest m v r h
 
       all_clear : (m v : ℕ) → slice_get (replicate m false) v ≡ Some true → ⊥
       all_clear zero v h = cc

@@ -3,7 +3,9 @@ pub mod Walks
 pub mod Line
 pub mod Tells
 pub mod Basins
-pub mod Lower
+pub mod Links
+pub mod Classes
+pub mod Thinning
 pub mod Candidates
 pub mod Ends
 pub mod Flood

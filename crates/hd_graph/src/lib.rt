@@ -3,13 +3,16 @@
 #![tactic(auto)]
 
 mod candidate;
+mod classes;
 mod flooding;
 mod graph;
 mod laws;
 mod line;
+mod links;
 mod parts;
 #[cfg(test)]
 mod tests;
+mod thinning;
 mod trees;
 mod ways;
 

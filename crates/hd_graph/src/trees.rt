@@ -33,7 +33,8 @@ pub struct ChangeTree {
 
 /// The change tree of the stops that are pits: for each saddle of two of them, as
 /// `FloodLine::between` gives it, the lowest pits of the classes that it joins. Where the line tells
-/// the pits of a map and their saddles, it is the change tree of the map.
+/// the pits of a map and their saddles, it is the change tree of the map. `Memory` comes where the
+/// line of the pits, their rises or the joins are refused their memory.
 pub fn tree<S: Side>(alloc: Global, line: &FloodLine<S>) -> Result<ChangeTree, Memory>
     ensures of_line { IfOk result (λ tree. IsTree (below_by S.NAME) (IsSaddleOn (below_by S.NAME) line.now)
         (IsPitOn line.now) (joins_of tree.joins)) }

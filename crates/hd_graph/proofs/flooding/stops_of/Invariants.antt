@@ -7,5 +7,5 @@ use Rattle.hd_graph.proofs.flooding.stops_of.Given as goal
 abbrev pub invariant-loop-visit : goal.invariant-loop-visit
 invariant-loop-visit l = record {
   long : length l.stops ≡ l.visit-index;
-  each : (k : ℕ) (v : Visit) → k < l.visit-index → slice_get l.visits k ≡ Some v → (s : Stop) × (slice_get l.stops k ≡ Some s) × IsStopOf l.lows v s;
+  each : (k : ℕ) (v : Visit) → k < l.visit-index → slice_get l.visits k ≡ Some v → (s : Stop) × (slice_get l.stops k ≡ Some s) × IsStopOf l.lows l.links v s;
 }

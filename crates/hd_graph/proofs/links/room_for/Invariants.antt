@@ -1,5 +1,5 @@
-use Rattle.hd_graph.specs.Flood.{AreWithin}
-use Rattle.hd_graph.proofs.ways.room_for.Given as goal
+use Rattle.hd_graph.specs.Links.{AreWithin}
+use Rattle.hd_graph.proofs.links.room_for.Given as goal
 
 abbrev pub invariant-loop-low : goal.invariant-loop-low
 invariant-loop-low l = AreWithin l.lows l.low-index l.room

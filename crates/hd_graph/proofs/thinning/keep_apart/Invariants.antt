@@ -1,0 +1,12 @@
+use Rattle.std.proofs.Common.{◌≡◌, length}
+use Rattle.hd_map.specs.Rank.{below_by}
+use Rattle.hd_graph.specs.Classes.{AreFalling}
+use Rattle.hd_graph.proofs.Keeping.{KeptSoFar}
+use Rattle.hd_graph.proofs.thinning.keep_apart.Given as goal
+
+abbrev pub invariant-loop-link : goal.invariant-loop-link
+invariant-loop-link g l = record {
+  falling : AreFalling l.classes.parents.items;
+  long : length l.classes.parents.items ≡ l.count;
+  so : KeptSoFar (below_by g.S.Side.NAME) l.links l.link-index l.classes.parents.items l.kept.items;
+}

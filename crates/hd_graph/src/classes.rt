@@ -1,0 +1,76 @@
+// Numbers in classes that grow together.
+ghost use Rattle.std.specs.Prelude.{◌≡◌, ◌<◌, ◌^◌, ◌↔◌, ℕ, IfOk, Some, true, false, length, slice_get};
+ghost use Rattle.hd_graph.specs.Classes.{AreFalling, AreOneClass, Joins};
+
+use hd_base::Memory;
+use std::alloc::Global;
+
+/// The numbers below a bound in classes.
+#[derive(Drop)]
+pub struct Classes {
+    /// By number, one of its class that is less, and itself where it is the least.
+    pub parents: Vec<u32>,
+}
+
+impl Classes {
+    /// Each number in a class of its own.
+    pub fn new(alloc: Global, count: usize) -> Result<Classes, Memory>
+        requires { count < 2 ^ 32 }
+        ensures falling { IfOk result (λ classes. AreFalling classes.parents.items) }
+        ensures long { IfOk result (λ classes. length classes.parents.items ≡ count) }
+        ensures own { IfOk result (λ classes. (x y : ℕ) → AreOneClass classes.parents.items x y → x ≡ y) }
+    {
+        let mut parents = Vec::with_capacity(alloc, count)?;
+        for number in 0..count {
+            parents.push(number as u32)?;
+        }
+        Ok(Classes { parents })
+    }
+
+    /// Puts the classes of two numbers together, and says whether they were apart.
+    pub fn join(&mut self, a: u32, b: u32) -> bool
+        requires falling { AreFalling self.old.parents.items }
+        requires first { a < length self.old.parents.items }
+        requires second { b < length self.old.parents.items }
+        ensures falling { AreFalling self.new.parents.items }
+        ensures long { length self.new.parents.items ≡ length self.old.parents.items }
+        ensures apart { result ≡ true → AreOneClass self.old.parents.items a b → ⊥ }
+        ensures joins { result ≡ true → Joins self.old.parents.items a b self.new.parents.items }
+        ensures one { result ≡ false → AreOneClass self.old.parents.items a b }
+        ensures same { result ≡ false → (x y : ℕ) → AreOneClass self.new.parents.items x y
+            ↔ AreOneClass self.old.parents.items x y }
+    {
+        let first = self.least_of(a);
+        let second = self.least_of(b);
+        if first == second {
+            return false;
+        }
+        let least = first.min(second);
+        let greater = first.max(second);
+        self.parents[greater as usize] = least;
+        true
+    }
+
+    // The least number of the class. Those on the way get parents further on, so that later ways are short.
+    fn least_of(&mut self, number: u32) -> u32
+        requires falling { AreFalling self.old.parents.items }
+        requires inside { number < length self.old.parents.items }
+        ensures falling { AreFalling self.new.parents.items }
+        ensures long { length self.new.parents.items ≡ length self.old.parents.items }
+        ensures inside { result < length self.new.parents.items }
+        ensures one { AreOneClass self.old.parents.items number result }
+        ensures least { slice_get self.new.parents.items result ≡ Some result }
+        ensures stays { (x : ℕ) → slice_get self.old.parents.items x ≡ Some x
+            → slice_get self.new.parents.items x ≡ Some x }
+        ensures same { (x y : ℕ) → AreOneClass self.new.parents.items x y ↔ AreOneClass self.old.parents.items x y }
+    {
+        let mut least = number;
+        while self.parents[least as usize] != least {
+            let parent = self.parents[least as usize];
+            let next = self.parents[parent as usize];
+            self.parents[least as usize] = next;
+            least = next;
+        }
+        least
+    }
+}
