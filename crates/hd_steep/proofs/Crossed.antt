@@ -177,8 +177,8 @@ module _ (m : Map) (side : SideName) where
       }
 
   -- the rank at its position
-  pub pit_rank : (x : Rank) (k : ℕ) (of : IsPitOf m side x k) (s : Size) (p : Pos) (r : Rank) → s ≡ m.size → p ≡ position_at s k → r ≡ rank m p → r ≡ of.root
-  pit_rank x k of s p r size is e = e ∙ ap (rank m) (is ∙ ap (λ (t : Size). position_at t k) size) ∙ (pit_at x k of).rank_is
+  pub rank_of_pit : (x : Rank) (k : ℕ) (of : IsPitOf m side x k) (s : Size) (p : Pos) (r : Rank) → s ≡ m.size → p ≡ position_at s k → r ≡ rank m p → r ≡ of.root
+  rank_of_pit x k of s p r size is e = e ∙ ap (rank m) (is ∙ ap (λ (t : Size). position_at t k) size) ∙ (pit_at x k of).rank_is
 
   -- points whose regions have one pit lie in one region
   pub in_one : (x y : Rank) (j k : ℕ) → IsPitOf m side x j → IsPitOf m side y k → j ≡ k → AreInOne m side x y
@@ -190,9 +190,9 @@ module _ (m : Map) (side : SideName) where
   }
 
   -- of two different pits the one that is not below the other is above it
-  pub pits_apart : (x y : Rank) (j k : ℕ) (one : IsPitOf m side x j) (other : IsPitOf m side y k) → (j ≡ k → ⊥) → below_by side one.root other.root ≡ false → below_by side other.root one.root ≡ true
-  pits_apart x y j k one other apart not = elim (same_or_below (below_by side) (below_by-order side) other.root one.root not) [
-    | inl same ↦ absurd (apart (one.index_is ∙ ap (λ (r : Rank). r.index) (sym same) ∙ sym other.index_is))
+  pub pits_apart : (x y p q : Rank) → IsRoot m side x p → IsRoot m side y q → (p.index ≡ q.index → ⊥) → below_by side p q ≡ false → below_by side q p ≡ true
+  pits_apart x y p q one other apart not = elim (same_or_below (below_by side) (below_by-order side) q p not) [
+    | inl same ↦ absurd (apart (ap (λ (r : Rank). r.index) (sym same)))
     | inr below ↦ below
   ]
 

@@ -10,7 +10,7 @@ use Rattle.hd_map.specs.declared.types.Pos.{Pos}
 use Rattle.hd_map.specs.declared.types.Rank.{Rank}
 use Rattle.hd_map.specs.declared.types.SideName.{SideName}
 use Rattle.hd_map.specs.Map.{Map, IsMap, InGrid, Present}
-use Rattle.hd_map.specs.Rank.{rank}
+use Rattle.hd_map.specs.Rank.{rank, IsPoint}
 use Rattle.hd_map.specs.Region.{LowerNeighbour, IsNext, IsRoot, AreRegions}
 use Rattle.hd_map.proofs.Gather.{same_pos}
 use Rattle.hd_steep.specs.Lowest.{missing}
@@ -60,6 +60,14 @@ module _ (m : Map) (side : SideName) (whole : IsMap m) (rows : Rows) (at : Pos) 
   gathers_absent own passes is test = gathers_none m side (λ u. u ≡ at) passes (λ u same here.
       let there : Present m at = subst (λ (p : Pos). Present m p) same here in
       point_apart m side whole middle at there (own_is m side whole above level below at.x at.y inside.column round.above round.level round.below at there refl refl) (ap (λ (r : Rank). r.height) (sym is) ∙ heights_same own.height (missing side).height test))
+
+  -- where one is, the rank is that of the point
+  pub point_in_middle : (own : Rank) → own ≡ middle → Present m at → IsPoint m own
+  point_in_middle own is here = record {
+    at = at;
+    present = here;
+    rank_is = is ∙ own_is m side whole above level below at.x at.y inside.column round.above round.level round.below at here refl refl;
+  }
 
   -- where another height stands, one is present
   pub present_in_middle : (own : Rank) → own ≡ middle → int_eq own.height (missing side).height ≡ false → Present m at

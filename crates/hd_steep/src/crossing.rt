@@ -3,7 +3,7 @@ ghost use Rattle.std.specs.Prelude.{◌≡◌, ◌<◌, ℕ, [], true, IfOk, OnO
 ghost use Rattle.hd_map.specs.Map.{InGrid};
 ghost use Rattle.hd_map.specs.Crossings.{AreCrossingsUnder};
 ghost use Rattle.hd_map.specs.Rank.{IsPoint};
-ghost use Rattle.hd_map.specs.Region.{LowerNeighbour, AreRegions};
+ghost use Rattle.hd_map.specs.Region.{LowerNeighbour, AreRegions, IsRoot};
 ghost use Rattle.hd_steep.specs.Rows.{rank_in};
 ghost use Rattle.hd_steep.specs.Ring.{is_marked};
 ghost use Rattle.hd_steep.specs.Crossed.{AreRowsRound, IsPitOf, AreInOne, IsPassTo, Extends, IsCrossed, Gathers};
@@ -112,13 +112,15 @@ fn cross<S: Side, G: Heights>(
     passes: &mut Vec<Pass>,
 ) -> Result<(), Memory>
     requires regions { AreRegions (G.map grid.now) S.NAME labels.now }
+    requires point { IsPoint (G.map grid.now) own }
     requires lower { (k : ℕ) → is_marked marks.now k ≡ true → LowerNeighbour (G.map grid.now) S.NAME own (rank_in ring.now k) }
     ensures extends { OnOk result (Extends (G.map grid.now) S.NAME passes.old.items passes.new.items) }
     ensures crossed { OnOk result ((k : ℕ) → is_marked marks.now k ≡ true → IsCrossed (G.map grid.now) S.NAME passes.new.items own (rank_in ring.now k)) }
 {
+    let pit = pit_rank::<S, G>(grid, own, pit_of::<S, G>(grid, labels, own));
     for place in 0..8 {
         if marks[place] {
-            cross_to::<S, G>(grid, labels, own, ring[place], passes)?;
+            cross_to::<S, G>(grid, labels, own, pit, ring[place], passes)?;
         }
     }
     Ok(())
@@ -129,52 +131,64 @@ fn cross_to<S: Side, G: Heights>(
     grid: &G,
     labels: &[Option<u32>],
     own: Rank,
+    pit: Rank,
     other: Rank,
     passes: &mut Vec<Pass>,
 ) -> Result<(), Memory>
     requires regions { AreRegions (G.map grid.now) S.NAME labels.now }
+    requires pit { IsRoot (G.map grid.now) S.NAME own pit }
     requires lower { LowerNeighbour (G.map grid.now) S.NAME own other }
     ensures extends { OnOk result (Extends (G.map grid.now) S.NAME passes.old.items passes.new.items) }
     ensures crossed { OnOk result (IsCrossed (G.map grid.now) S.NAME passes.new.items own other) }
 {
-    if let Some(pass) = pass_to::<S, G>(grid, labels, own, other) {
+    if let Some(pass) = pass_to::<S, G>(grid, labels, own, pit, other) {
         passes.push(pass)?;
     }
     Ok(())
 }
 
-// The pass at a point to one of its lower neighbours, and none if both lie in one region.
+// The pass at a point, whose pit is known, to one of its lower neighbours, and none if both lie in one
+// region.
 fn pass_to<S: Side, G: Heights>(
     grid: &G,
     labels: &[Option<u32>],
     own: Rank,
+    pit: Rank,
     other: Rank,
 ) -> Option<Pass>
     requires regions { AreRegions (G.map grid.now) S.NAME labels.now }
+    requires pit { IsRoot (G.map grid.now) S.NAME own pit }
     requires lower { LowerNeighbour (G.map grid.now) S.NAME own other }
     ensures { MatchOption result (AreInOne (G.map grid.now) S.NAME own other) (IsPassTo (G.map grid.now) S.NAME own other) }
 {
-    let here = pit_of::<S, G>(grid, labels, own);
     let there = pit_of::<S, G>(grid, labels, other);
-    if here == there {
+    if pit.index == there {
         return None;
     }
-    let size = grid.size();
-    let one = rank_of(grid, position_of(size, here));
-    let two = rank_of(grid, position_of(size, there));
-    if S::below(one, two) {
+    let two = pit_rank::<S, G>(grid, other, there);
+    if S::below(pit, two) {
         Some(Pass {
-            a: one,
+            a: pit,
             b: two,
             at: own,
         })
     } else {
         Some(Pass {
             a: two,
-            b: one,
+            b: pit,
             at: own,
         })
     }
+}
+
+// The pit of a point by its index.
+#[inline]
+fn pit_rank<S: Side, G: Heights>(grid: &G, _point: Rank, pit: u32) -> Rank
+    requires { IsPitOf (G.map grid.now) S.NAME _point pit }
+    ensures root { IsRoot (G.map grid.now) S.NAME _point result }
+    ensures index { result.index ≡ pit }
+{
+    rank_of(grid, position_of(grid.size(), pit))
 }
 
 // The index of the pit of a point.

@@ -1,7 +1,7 @@
 use Rattle.std.proofs.Common.{◌≡◌, ◌∙◌, sym, refl}
 use Rattle.std.proofs.lemmas.Bool.{OnFalse_at}
 use Rattle.hd_steep.specs.Ring.{ring_of, are_lower_heights}
-use Rattle.hd_steep.proofs.Served.{read_middle, gathers_absent, present_in_middle, looked_lower, gathers_crossed, gathers_alone, firsts_at}
+use Rattle.hd_steep.proofs.Served.{read_middle, gathers_absent, present_in_middle, looked_lower, point_in_middle, gathers_crossed, gathers_alone, firsts_at}
 use Rattle.hd_steep.proofs.crossing.gather_point.Goals as goal
 
 pub returns-then-is_missing : goal.returns-then-is_missing
@@ -9,6 +9,17 @@ returns-then-is_missing g c =
     gathers_absent (g.G.Heights.map c.args.grid.now) g.S.Side.NAME (g.met.G.Heights.whole c.args.grid.now) c.args.rows.now c.args.at c.requires.inside c.requires.rows c.index-own.result.now c.args.passes.now.items
     (read_middle (g.G.Heights.map c.args.grid.now) g.S.Side.NAME (g.met.G.Heights.whole c.args.grid.now) c.args.rows.now c.args.at c.requires.inside c.requires.rows c.index-own.result.now c.index-own.ensures)
     (sym c.is_missing.ensures ∙ c.if-is_missing.true)
+
+pub cross-requires-clause-point : goal.cross-requires-clause-point
+cross-requires-clause-point g c =
+    let m = g.G.Heights.map c.args.grid.now in
+    let side = g.S.Side.NAME in
+    let whole = g.met.G.Heights.whole c.args.grid.now in
+    let rows = c.args.rows.now in
+    let own = c.index-own.result.now in
+    let own_is = read_middle m side whole rows c.args.at c.requires.inside c.requires.rows own c.index-own.ensures in
+    point_in_middle m side whole rows c.args.at c.requires.inside c.requires.rows own own_is
+    (present_in_middle m side whole rows c.args.at c.requires.inside c.requires.rows own own_is (sym c.is_missing.ensures ∙ c.if-is_missing.false))
 
 pub cross-requires-clause-lower : goal.cross-requires-clause-lower
 cross-requires-clause-lower g c =
