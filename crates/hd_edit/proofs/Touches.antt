@@ -1,5 +1,5 @@
 -- Whether what is done at a point changes it.
-use Rattle.std.proofs.Common.{◌≡◌, ◌≢◌, Bool, true, false, refl, ap, arith}
+use Rattle.std.proofs.Common.{◌≡◌, ◌≢◌, ◌↔◌, IsTrue, Bool, true, false, refl, sym, ap, arith}
 use Rattle.std.proofs.lemmas.Bool.{false_from_ne_true}
 use Rattle.std.proofs.lemmas.Int.{ints}
 use Rattle.hd_map.specs.declared.types.Cell.{Cell}
@@ -17,11 +17,16 @@ same_mask-itself true = refl
 same_mask-itself false = refl
 
 -- cells that pass the test are one
-same_cell-true : (a b : Cell) → same_cell a b ≡ true → a ≡ b
+pub same_cell-true : (a b : Cell) → same_cell a b ≡ true → a ≡ b
 same_cell-true (Height x) (Height y) e = let same : x ≡ y = grind (arith, ints) in ap Height same
 same_cell-true (Height x) Bad e = cc
 same_cell-true Bad (Height y) e = cc
 same_cell-true Bad Bad e = refl
+
+-- a test whether two cells are one
+pub same_cell_is : (b : Bool) (x y : Cell) → (IsTrue b ↔ (x ≡ y)) → b ≡ same_cell x y
+same_cell_is true x y is = rw (is.0 refl) (sym (same_cell-itself y))
+same_cell_is false x y is = sym (false_from_ne_true (same_cell x y) (λ same. let e : false ≡ true = is.1 (same_cell-true x y same) in cc))
 
 same_mask-true : (a b : Bool) → same_mask a b ≡ true → a ≡ b
 same_mask-true true true e = refl

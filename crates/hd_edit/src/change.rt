@@ -1,5 +1,5 @@
 // What a cell or a mask was before it was changed.
-ghost use Rattle.std.specs.Prelude.{◌≡◌, ◌<◌, ◌≤◌, ◌+◌, ◌^◌, ◌≤ℤ◌, ◌<ℤ◌, ◌+ℤ◌, pos, length};
+ghost use Rattle.std.specs.Prelude.{◌≡◌, ◌<◌, ◌≤◌, ◌+◌, ◌^◌, ◌≤ℤ◌, ◌<ℤ◌, ◌+ℤ◌, pos, length, vec_len, vec_capacity, All};
 ghost use Rattle.hd_map.specs.declared.types.Cell.TheVariants.{Height};
 ghost use Rattle.hd_map.specs.Map.{InGrid, IsCellOf};
 ghost use Rattle.hd_map.specs.Sets.{with_cell, with_mask};
@@ -7,7 +7,7 @@ ghost use Rattle.hd_edit.specs.Board.{RisesUpTo};
 ghost use Rattle.hd_edit.specs.Change.{height_over, IsCellThatWas, IsChange, AreChanges, with_was, before_changes};
 
 use hd_base::List;
-use hd_map::{Cell, DataType, Grid, Heights, Pos, least_of, position_of};
+use hd_map::{Cell, DataType, Grid, Heights, Pos, index_of, least_of, position_of};
 
 /// What stood at a point before it was changed.
 #[derive(Clone, Copy, Debug)]
@@ -71,6 +71,31 @@ pub fn put_cell<G: Grid>(grid: &mut G, at: Pos, cell: Cell)
     ensures count { RisesUpTo 1 (G.changes grid.old) (G.changes grid.new) }
 {
     let _ = grid.set_cell(at, cell);
+}
+
+/// Sets a cell to another one, and notes what it was. Inlined, it reads no cell that its caller has
+/// read.
+#[inline(always)]
+pub fn change_cell<G: Grid>(grid: &mut G, at: Pos, new: Cell, notes: &mut Vec<Change>)
+    requires in_grid { InGrid (G.map grid.old).size at }
+    requires in_range { IsCellOf (G.map grid.old).data_type new }
+    requires count { G.changes grid.old < 2 ^ 63 }
+    requires room { vec_len notes.old < vec_capacity notes.old }
+    requires notes { All (IsChange (G.map grid.old)) notes.old.items }
+    ensures map { G.map grid.new ≡ with_cell (G.map grid.old) at new }
+    ensures before { let back = before_changes notes.old.items (G.map grid.old) in
+        before_changes notes.new.items (G.map grid.new) ≡ back }
+    ensures notes { All (IsChange (G.map grid.old)) notes.new.items }
+    ensures len { vec_len notes.new ≡ vec_len notes.old + 1 }
+    ensures capacity { vec_capacity notes.new ≡ vec_capacity notes.old }
+    ensures origin { G.comes_from grid.old grid.new }
+    ensures count { RisesUpTo 1 (G.changes grid.old) (G.changes grid.new) }
+{
+    let cell = grid.cell(at);
+    let index = index_of(grid.size(), at);
+    let was = was_of(grid.data_type(), cell);
+    notes.push_reserved(Change { index, was });
+    put_cell(grid, at, new);
 }
 
 // Sets a mask.

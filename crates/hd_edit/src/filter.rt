@@ -1,18 +1,19 @@
 // The filters of a grid: all its heights at once.
-ghost use Rattle.std.specs.Prelude.{◌≡◌, ◌<◌, ◌≤◌, ◌+◌, ◌^◌, ◌↔◌, IsTrue, IfOk, MatchResult, None, length};
-ghost use Rattle.hd_map.specs.Map.{AreCellsOf, cell_count};
+ghost use Rattle.std.specs.Prelude.{◌≡◌, ◌<◌, ◌≤◌, ◌+◌, ◌^◌, IfOk, OnOk, OnErr, MatchResult, None, length, vec_len, vec_capacity, All};
+ghost use Rattle.hd_map.specs.Map.{InGrid, IsCellOf, AreCellsOf, cell_count, place_of};
+ghost use Rattle.hd_map.specs.Sets.{with_cell};
 ghost use Rattle.hd_morph.specs.Answer.{with_cells};
-ghost use Rattle.hd_morph.specs.NewHeights.{cells_after};
+ghost use Rattle.hd_morph.specs.NewHeights.{cell_after, cells_after};
 ghost use Rattle.hd_edit.specs.Board.{IsEdited, IsRefusalBy, RisesUpTo};
-ghost use Rattle.hd_edit.specs.Change.{AreChanges, before_changes};
-ghost use Rattle.hd_edit.specs.Filtered.{AreEditHeights};
-ghost use Rattle.hd_edit.specs.Stroke.{stroke_parts};
+ghost use Rattle.hd_edit.specs.Change.{IsChange, AreChanges, before_changes};
+ghost use Rattle.hd_edit.specs.Filtered.{AreEditHeights, changed_cells, one_if_other};
+ghost use Rattle.hd_edit.specs.Stroke.{same_cell, stroke_parts};
 
-use crate::change::{Change, put_cell, was_of};
+use crate::change::{Change, change_cell};
 use crate::elements::Elements;
 use crate::{Edit, EditError};
 use hd_base::{List, Memory};
-use hd_map::{Cell, Grid, Heights, Pos, position_after};
+use hd_map::{Cell, Grid, Heights, Pos, index_of, position_after};
 use hd_morph::{
     MorphError, NewHeights, closed_heights, dilated_heights, eroded_heights, opened_heights,
 };
@@ -57,22 +58,22 @@ pub fn filtered<G: Grid>(
 
 // Whether a cell stays.
 #[inline]
+#[tactic(auto, using(crate::proofs::Touches::same_cell_is))]
 fn is_same(old: Cell, new: Cell) -> bool
-    ensures { IsTrue result ↔ (old ≡ new) }
+    ensures { result ≡ same_cell old new }
 {
     old == new
 }
 
-// How many cells become others: their changes need no more memory.
+// How many cells become others: there are as many changes to note.
 fn count_changed<G: Grid>(grid: &G, heights: &NewHeights) -> u32
     requires { length heights.now ≡ cell_count (G.map grid.now).size }
-    ensures { result ≤ cell_count (G.map grid.now).size }
+    ensures { result ≡ changed_cells (G.map grid.now) heights.now }
 {
     let size = grid.size();
-    let points = size.profiles * size.points;
     let mut count = 0;
     let mut at = Pos { x: 0, y: 0 };
-    for index in 0..points {
+    for index in 0..size.profiles * size.points {
         let old = grid.cell(at);
         if !is_same(old, heights.cell(index, old)) {
             count += 1;
@@ -82,50 +83,62 @@ fn count_changed<G: Grid>(grid: &G, heights: &NewHeights) -> u32
     count
 }
 
-/// What the cells were that become others, in their order.
-pub fn changed_cells<G: Grid>(
-    alloc: Global,
-    grid: &G,
-    heights: &NewHeights,
-) -> Result<List<Change>, Memory>
-    requires { length heights.now ≡ cell_count (G.map grid.now).size }
-    ensures before { let m = G.map grid.now in
-        IfOk result (λ notes. before_changes notes (with_cells m (cells_after m heights.now)) ≡ m) }
-    ensures notes { IfOk result (AreChanges (G.map grid.now)) }
+// Puts the new height of a point in, and notes what stood there where that makes another cell.
+#[inline]
+fn put_height<G: Grid>(grid: &mut G, at: Pos, heights: &NewHeights, notes: &mut Vec<Change>)
+    requires in_grid { InGrid (G.map grid.old).size at }
+    requires whole { length heights.now ≡ cell_count (G.map grid.old).size }
+    requires in_range { let m = G.map grid.old in
+        IsCellOf m.data_type (cell_after m heights.now (place_of m.size at)) }
+    requires count { G.changes grid.old < 2 ^ 63 }
+    requires room { vec_len notes.old + one_if_other (G.map grid.old) heights.now at ≤ vec_capacity notes.old }
+    requires notes { All (IsChange (G.map grid.old)) notes.old.items }
+    ensures map { let m = G.map grid.old in
+        G.map grid.new ≡ with_cell m at (cell_after m heights.now (place_of m.size at)) }
+    ensures before { let back = before_changes notes.old.items (G.map grid.old) in
+        before_changes notes.new.items (G.map grid.new) ≡ back }
+    ensures notes { All (IsChange (G.map grid.old)) notes.new.items }
+    ensures len { vec_len notes.new ≡ vec_len notes.old + one_if_other (G.map grid.old) heights.now at }
+    ensures capacity { vec_capacity notes.new ≡ vec_capacity notes.old }
+    ensures origin { G.comes_from grid.old grid.new }
+    ensures rises { G.changes grid.old ≤ G.changes grid.new }
+    ensures count { G.changes grid.new + vec_len notes.old ≤ G.changes grid.old + vec_len notes.new }
 {
-    let size = grid.size();
-    let data_type = grid.data_type();
-    let count = count_changed(grid, heights);
-    let mut notes = List::with_capacity(alloc, count as usize)?;
-    let mut at = Pos { x: 0, y: 0 };
-    for index in 0..size.profiles * size.points {
-        let old = grid.cell(at);
-        if !is_same(old, heights.cell(index, old)) {
-            let was = was_of(data_type, old);
-            notes.push(Change { index, was })?;
-        }
-        at = position_after(size, at);
+    let old = grid.cell(at);
+    let index = index_of(grid.size(), at);
+    let new = heights.cell(index, old);
+    if !is_same(old, new) {
+        change_cell(grid, at, new, notes);
     }
-    Ok(notes)
 }
 
-/// Puts the new heights in.
-pub fn put_heights<G: Grid>(grid: &mut G, heights: &NewHeights)
+/// Puts the new heights in, and tells what the cells were that became others, in their order.
+/// Refused its memory it leaves the grid.
+pub fn put_heights<G: Grid>(
+    alloc: Global,
+    grid: &mut G,
+    heights: &NewHeights,
+) -> Result<List<Change>, Memory>
     requires whole { length heights.now ≡ cell_count (G.map grid.old).size }
     requires of_type { let m = G.map grid.old in AreCellsOf m.data_type (cells_after m heights.now) }
     requires count { G.changes grid.old < 2 ^ 62 }
-    ensures map { let m = G.map grid.old in G.map grid.new ≡ with_cells m (cells_after m heights.now) }
+    ensures memory { OnErr result (grid.new ≡ grid.old) }
+    ensures map { let m = G.map grid.old in
+        OnOk result (G.map grid.new ≡ with_cells m (cells_after m heights.now)) }
+    ensures before { IfOk result (λ notes. before_changes notes (G.map grid.new) ≡ G.map grid.old) }
+    ensures notes { IfOk result (AreChanges (G.map grid.old)) }
     ensures origin { G.comes_from grid.old grid.new }
     ensures count { RisesUpTo (cell_count (G.map grid.old).size) (G.changes grid.old) (G.changes grid.new) }
 {
     let size = grid.size();
-    let count = size.profiles * size.points;
+    let count = count_changed(grid, heights);
+    let mut notes = Vec::with_capacity(alloc, count as usize)?;
     let mut at = Pos { x: 0, y: 0 };
-    for index in 0..count {
-        let cell = heights.cell(index, grid.cell(at));
-        put_cell(grid, at, cell);
+    for _index in 0..size.profiles * size.points {
+        put_height(grid, at, heights, &mut notes);
         at = position_after(size, at);
     }
+    Ok(List::from_vec(notes))
 }
 
 impl From<MorphError> for EditError {

@@ -8,7 +8,7 @@ ghost use Rattle.hd_edit.specs.Stroke.{IsRectangle, IsStroked, stroke_parts};
 
 use crate::change::Change;
 use crate::elements::Elements;
-use crate::filter::{changed_cells, filtered, put_heights};
+use crate::filter::{filtered, put_heights};
 use crate::paint::{count_changes, stroke_points};
 use crate::stroke::Stroke;
 use crate::{Edit, EditError};
@@ -98,8 +98,7 @@ fn filter_grid<G: Grid>(
     ensures count { RisesUpTo (cell_count (G.map grid.old).size) (G.changes grid.old) (G.changes grid.new) }
 {
     let heights = filtered(alloc, grid, elements, edit)?;
-    let changes = changed_cells(alloc, grid, &heights)?;
-    put_heights(grid, &heights);
+    let changes = put_heights(alloc, grid, &heights)?;
     Ok(changes)
 }
 

@@ -1,59 +1,113 @@
-use Rattle.std.proofs.Common.{◌≡◌, ◌<◌, ◌≤◌, List, length, ap, get_or, refl, subst, sym, ◌∙◌, arith}
+use Rattle.std.proofs.Common.{◌<◌, ◌≤◌, [], refl, subst, ◌∙◌, arith, vec_len}
+use Rattle.std.proofs.lemmas.List.Elements.{All-nil}
 use Rattle.hd_map.specs.declared.types.Size.{Size}
-use Rattle.hd_map.specs.declared.types.Cell.{Cell}
-use Rattle.hd_map.specs.declared.types.Cell.TheVariants.{Bad}
-use Rattle.hd_map.specs.Map.{Map, IsCellOf, cell_count, place_of}
-use Rattle.hd_map.specs.Sets.{with_cell}
-use Rattle.hd_morph.specs.NewHeights.{cells_after}
-use Rattle.hd_morph.proofs.Listing.{length_cells_after}
-use Rattle.hd_edit.proofs.CellLists.{partly_new, at-first, at-next, at-inside, new-none, new-more, new-put, new-all, read_cell}
+use Rattle.hd_map.specs.Map.{cell_count}
+use Rattle.hd_edit.specs.Change.{IsChange}
+use Rattle.hd_edit.specs.Filtered.{becomes_other}
+use Rattle.hd_edit.proofs.Strokes.{count-few}
+use Rattle.hd_edit.proofs.Changes.{few_notes}
+use Rattle.hd_edit.proofs.CellLists.{at-first, at-next, at-inside, noted_first, noted_inside, noted_whole, noted_fits, noted_room, noted_notes, noted_next, noted_last, noted_few}
 use Rattle.hd_edit.proofs.filter.put_heights.Goals as goal
 
 pub loop-index-init : goal.loop-index-init
 loop-index-init g c = let m = g.G.Heights.map c.args.grid.now in record {
   at = at-first m.size _ refl refl (g.met.G.Heights.whole c.args.grid.now).size.some_points;
-  map = new-none m (cells_after m c.args.heights.now) (g.met.G.Heights.whole c.args.grid.now).cells;
+  noted = rw (c.in_ok-notes.ensures.items, c.in_ok-notes.ensures.len) (noted_first m c.args.heights.now (g.met.G.Heights.whole c.args.grid.now) [] refl (All-nil (IsChange m)));
+  capacity = c.in_ok-notes.ensures.exact;
   origin = g.met.G.Grid.itself c.args.grid.now;
   rises = omega arith;
   few = omega arith;
 }
 
-pub put_cell-requires-clause-in_grid : goal.put_cell-requires-clause-in_grid
-put_cell-requires-clause-in_grid g c =
+pub put_height-requires-clause-in_grid : goal.put_height-requires-clause-in_grid
+put_height-requires-clause-in_grid g c =
     let m = g.G.Heights.map c.args.grid.now in
-    rw c.loop-index.invariant.map (at-inside m.size c.size-size.result c.loop-index.index c.loop-index.at c.size-size.ensures c.loop-index.invariant.at c.loop-index-test.true)
-
-pub put_cell-requires-clause-in_range : goal.put_cell-requires-clause-in_range
-put_cell-requires-clause-in_range g c =
-    let m = g.G.Heights.map c.args.grid.now in
-    let n = c.loop-index.index in
+    let n = c.loop-index._index in
+    let so = c.loop-index.invariant.at in
     let inside : n < cell_count m.size = subst (λ (s : Size). n < cell_count s) c.size-size.ensures c.loop-index-test.true in
-    let cells : List Cell = cells_after m c.args.heights.now in
-    let room : n < length cells = rw (length_cells_after m c.args.heights.now) inside in
-    let new : c.cell-cell.result ≡ get_or cells n Bad = new-put m (g.G.Heights.map c.loop-index.grid) c.args.heights.now n c.loop-index.at c.cell.result c.cell-cell.result c.loop-index.invariant.at.place inside c.loop-index.invariant.map c.cell.ensures c.cell-cell.ensures in
-    let typed : IsCellOf m.data_type c.cell-cell.result = subst (λ (cell : Cell). IsCellOf m.data_type cell) (sym new) (read_cell m.data_type cells n Bad room c.requires.of_type) in
-    rw c.loop-index.invariant.map typed
+    noted_inside m c.args.heights.now n c.loop-index.at so.place inside (g.G.Heights.map c.loop-index.grid) c.loop-index.notes.items (vec_len c.loop-index.notes) c.loop-index.invariant.noted
+    (at-inside m.size c.size-size.result n c.loop-index.at c.size-size.ensures so c.loop-index-test.true)
+
+pub put_height-requires-clause-whole : goal.put_height-requires-clause-whole
+put_height-requires-clause-whole g c =
+    let m = g.G.Heights.map c.args.grid.now in
+    let n = c.loop-index._index in
+    let inside : n < cell_count m.size = subst (λ (s : Size). n < cell_count s) c.size-size.ensures c.loop-index-test.true in
+    noted_whole m c.args.heights.now n c.loop-index.at c.loop-index.invariant.at.place inside (g.G.Heights.map c.loop-index.grid) c.loop-index.notes.items (vec_len c.loop-index.notes) c.loop-index.invariant.noted c.requires.whole
+
+pub put_height-requires-clause-in_range : goal.put_height-requires-clause-in_range
+put_height-requires-clause-in_range g c =
+    let m = g.G.Heights.map c.args.grid.now in
+    let n = c.loop-index._index in
+    let inside : n < cell_count m.size = subst (λ (s : Size). n < cell_count s) c.size-size.ensures c.loop-index-test.true in
+    noted_fits m c.args.heights.now n c.loop-index.at c.loop-index.invariant.at.place inside (g.G.Heights.map c.loop-index.grid) c.loop-index.notes.items (vec_len c.loop-index.notes) c.loop-index.invariant.noted c.requires.of_type
+
+pub put_height-requires-clause-count : goal.put_height-requires-clause-count
+put_height-requires-clause-count g c =
+    let m = g.G.Heights.map c.args.grid.now in
+    let n = c.loop-index._index in
+    let inside : n < cell_count m.size = subst (λ (s : Size). n < cell_count s) c.size-size.ensures c.loop-index-test.true in
+    let room = noted_room m c.args.heights.now n c.loop-index.at c.loop-index.invariant.at.place inside (g.G.Heights.map c.loop-index.grid) c.loop-index.notes.items (vec_len c.loop-index.notes) c.loop-index.invariant.noted in
+    let few = count-few (becomes_other m c.args.heights.now) (cell_count m.size) in
+    let cells = (g.met.G.Heights.whole c.args.grid.now).size.cells in
+    omega (arith, c.loop-index.invariant.few, room, few, cells, c.requires.count)
+
+pub put_height-requires-clause-room : goal.put_height-requires-clause-room
+put_height-requires-clause-room g c =
+    let m = g.G.Heights.map c.args.grid.now in
+    let n = c.loop-index._index in
+    let inside : n < cell_count m.size = subst (λ (s : Size). n < cell_count s) c.size-size.ensures c.loop-index-test.true in
+    rw (c.loop-index.invariant.capacity, c.count_changed-count.ensures) (noted_room m c.args.heights.now n c.loop-index.at c.loop-index.invariant.at.place inside (g.G.Heights.map c.loop-index.grid) c.loop-index.notes.items (vec_len c.loop-index.notes) c.loop-index.invariant.noted)
+
+pub put_height-requires-clause-notes : goal.put_height-requires-clause-notes
+put_height-requires-clause-notes g c =
+    let m = g.G.Heights.map c.args.grid.now in
+    let n = c.loop-index._index in
+    let inside : n < cell_count m.size = subst (λ (s : Size). n < cell_count s) c.size-size.ensures c.loop-index-test.true in
+    noted_notes m c.args.heights.now n c.loop-index.at c.loop-index.invariant.at.place inside (g.G.Heights.map c.loop-index.grid) c.loop-index.notes.items (vec_len c.loop-index.notes) c.loop-index.invariant.noted
+
+pub position_after-at-requires-clause-in_grid : goal.position_after-at-requires-clause-in_grid
+position_after-at-requires-clause-in_grid g c =
+    let m = g.G.Heights.map c.args.grid.now in
+    rw c.size-size.ensures (at-inside m.size c.size-size.result c.loop-index._index c.loop-index.at c.size-size.ensures c.loop-index.invariant.at c.loop-index-test.true)
 
 pub loop-index-preserved : goal.loop-index-preserved
 loop-index-preserved g c =
     let m = g.G.Heights.map c.args.grid.now in
-    let n = c.loop-index.index in
-    let inside : n < cell_count m.size = subst (λ (s : Size). n < cell_count s) c.size-size.ensures c.loop-index-test.true in
+    let n = c.loop-index._index in
     let at = c.loop-index.at in
     let so = c.loop-index.invariant.at in
-    let place : place_of m.size at ≡ n = so.place in
-    let cells : List Cell = cells_after m c.args.heights.now in
-    let room : n < length cells = rw (length_cells_after m c.args.heights.now) inside in
-    let new : c.cell-cell.result ≡ get_or cells n Bad = new-put m (g.G.Heights.map c.loop-index.grid) c.args.heights.now n at c.cell.result c.cell-cell.result place inside c.loop-index.invariant.map c.cell.ensures c.cell-cell.ensures in
+    let inside : n < cell_count m.size = subst (λ (s : Size). n < cell_count s) c.size-size.ensures c.loop-index-test.true in
     record {
       at = at-next m.size c.size-size.result n at c.position_after-at.result c.size-size.ensures so c.position_after-at.ensures.column c.position_after-at.ensures.place;
-      map = c.put_cell.ensures.map ∙ ap (λ (now : Map). with_cell now at c.cell-cell.result) c.loop-index.invariant.map ∙ ap (λ (cell : Cell). with_cell (partly_new m cells n) at cell) new ∙ sym (new-more m cells n at place inside Bad room);
-      origin = g.met.G.Grid.onward c.args.grid.now c.loop-index.grid c.put_cell.new.grid c.loop-index.invariant.origin c.put_cell.ensures.origin;
-      rises = omega (arith, c.loop-index.invariant.rises, c.put_cell.ensures.count.0);
-      few = omega (arith, c.loop-index.invariant.few, c.put_cell.ensures.count.1);
+      noted = noted_next m c.args.heights.now n at so.place inside (g.G.Heights.map c.loop-index.grid) c.loop-index.notes.items (vec_len c.loop-index.notes) c.loop-index.invariant.noted
+          (g.G.Heights.map c.put_height.new.grid) c.put_height.new.notes.items (vec_len c.put_height.new.notes) c.put_height.ensures.map c.put_height.ensures.before c.put_height.ensures.notes c.put_height.ensures.len;
+      capacity = c.put_height.ensures.capacity ∙ c.loop-index.invariant.capacity;
+      origin = g.met.G.Grid.onward c.args.grid.now c.loop-index.grid c.put_height.new.grid c.loop-index.invariant.origin c.put_height.ensures.origin;
+      rises = omega (arith, c.loop-index.invariant.rises, c.put_height.ensures.rises);
+      few = omega (arith, c.loop-index.invariant.few, c.put_height.ensures.count);
     }
 
 pub returns-clause-map : goal.returns-clause-map
 returns-clause-map g c =
     let m = g.G.Heights.map c.args.grid.now in
-    c.loop-index.invariant.map ∙ new-all m (cells_after m c.args.heights.now) (length_cells_after m c.args.heights.now) c.loop-index.index (subst (λ (s : Size). cell_count s ≤ c.loop-index.index) c.size-size.ensures c.loop-index-test.false)
+    let n = c.loop-index._index in
+    noted_last m c.args.heights.now n (g.G.Heights.map c.loop-index.grid) c.loop-index.notes.items (vec_len c.loop-index.notes)
+    (subst (λ (s : Size). cell_count s ≤ n) c.size-size.ensures c.loop-index-test.false) c.loop-index.invariant.noted
+
+pub returns-clause-notes : goal.returns-clause-notes
+returns-clause-notes g c =
+    let m = g.G.Heights.map c.args.grid.now in
+    let n = c.loop-index._index in
+    let few = noted_few m c.args.heights.now n (g.G.Heights.map c.loop-index.grid) c.loop-index.notes.items (vec_len c.loop-index.notes) (subst (λ (s : Size). n ≤ cell_count s) c.size-size.ensures c.loop-index.auto._index-end) c.loop-index.invariant.noted in
+    record {
+      each = rw c.from_vec.ensures c.loop-index.invariant.noted.notes_are;
+      few = few_notes c.from_vec.result c.loop-index.notes.items (vec_len c.loop-index.notes) (cell_count m.size) c.from_vec.ensures c.loop-index.notes.ok.0 few;
+    }
+
+pub returns-clause-count : goal.returns-clause-count
+returns-clause-count g c =
+    let m = g.G.Heights.map c.args.grid.now in
+    let n = c.loop-index._index in
+    let few = noted_few m c.args.heights.now n (g.G.Heights.map c.loop-index.grid) c.loop-index.notes.items (vec_len c.loop-index.notes) (subst (λ (s : Size). n ≤ cell_count s) c.size-size.ensures c.loop-index.auto._index-end) c.loop-index.invariant.noted in
+    (c.loop-index.invariant.rises, omega (arith, c.loop-index.invariant.few, few))

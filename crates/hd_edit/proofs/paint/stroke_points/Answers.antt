@@ -1,9 +1,10 @@
-use Rattle.std.proofs.Common.{◌≡◌, ◌≤◌, ℕ, ap, ◌∙◌, refl, arith, List, [], length, vec_len}
+use Rattle.std.proofs.Common.{◌≡◌, ap, ◌∙◌, refl, arith, [], vec_len}
 use Rattle.std.proofs.lemmas.List.Elements.{All-nil}
 use Rattle.hd_map.specs.Map.{place_of, cell_count}
 use Rattle.hd_edit.specs.Change.{IsChange}
 use Rattle.hd_edit.specs.Stroke.{next_in}
 use Rattle.hd_edit.proofs.Rectangles.{stands_first, stands_next, next_later, stands_low}
+use Rattle.hd_edit.proofs.Changes.{few_notes}
 use Rattle.hd_edit.proofs.Draws.{drawn_first, drawn_next, drawn_fits, drawn_room, drawn_last, drawn_few}
 use Rattle.hd_edit.proofs.paint.stroke_points.Goals as goal
 
@@ -52,10 +53,6 @@ loop-at-preserved g c =
 pub returns-clause-map : goal.returns-clause-map
 returns-clause-map g c =
     drawn_last (g.G.Heights.map c.args.grid.now) c.args.from c.args.to c.args.stroke (g.met.G.Heights.whole c.args.grid.now) c.requires.rectangle c.loop-at.at (g.G.Heights.map c.loop-at.grid) c.loop-at.notes.items (vec_len c.loop-at.notes) c.loop-at-test.false c.loop-at.invariant.drawn
-
--- no more is noted than there are cells
-few_notes : {X : Type 0} (notes items : List X) (len count : ℕ) → notes ≡ items → len ≡ length items → len ≤ count → length notes ≤ count
-few_notes notes items len count same is few = rw (same, ← is) few
 
 pub returns-clause-notes : goal.returns-clause-notes
 returns-clause-notes g c =

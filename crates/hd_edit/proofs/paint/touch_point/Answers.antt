@@ -1,30 +1,12 @@
 use Rattle.std.proofs.Common.{ap, ◌∙◌, ◌≡◌}
-use Rattle.std.proofs.lemmas.List.Elements.{All-push}
 use Rattle.hd_map.specs.Map.{place_of}
 use Rattle.hd_map.specs.declared.types.Size.{Size}
-use Rattle.hd_edit.specs.Change.{IsChange}
-use Rattle.hd_edit.proofs.Changes.{before-cell, before-mask, was-of, cell_of}
+use Rattle.hd_edit.proofs.Changes.{before-mask}
 use Rattle.hd_edit.proofs.paint.touch_point.Goals as goal
-
-pub returns-in-Some-Cell-clause-before : goal.returns-in-Some-Cell-clause-before
-returns-in-Some-Cell-clause-before g c =
-    let m = g.G.Heights.map c.args.grid.now in
-    let place : c.index_of-index.result ≡ place_of m.size c.args.at = c.index_of-index.ensures.value ∙ ap (λ (s : Size). place_of s c.args.at) c.size.ensures in
-    before-cell m (g.G.Heights.map c.put_cell.new.grid) c.args.notes.now.items c.push_reserved.new.self.items c.args.at c.index_of-index.result c.cell-cell.result c.in-Some-Cell.new c.was_of-was.result
-    c.push_reserved.ensures.items place (rw c.data_type-in-Some-Cell.ensures at c.was_of-was.ensures) c.cell-cell.ensures c.put_cell.ensures.map
-
-pub returns-in-Some-Cell-clause-notes : goal.returns-in-Some-Cell-clause-notes
-returns-in-Some-Cell-clause-notes g c =
-    let m = g.G.Heights.map c.args.grid.now in
-    let whole = g.met.G.Heights.whole c.args.grid.now in
-    rw c.push_reserved.ensures.items (All-push (IsChange m) c.args.notes.now.items (record { index = c.index_of-index.result; was = c.was_of-was.result }) c.requires.notes (record {
-      inside = rw (← c.size.ensures) c.index_of-index.ensures.in_map;
-      height = was-of m.data_type c.was_of-was.result c.cell-cell.result (rw c.data_type-in-Some-Cell.ensures at c.was_of-was.ensures) (rw c.cell-cell.ensures (cell_of m whole c.args.at c.requires.in_grid));
-    }))
 
 pub returns-in-Some-Mask-clause-before : goal.returns-in-Some-Mask-clause-before
 returns-in-Some-Mask-clause-before g c =
     let m = g.G.Heights.map c.args.grid.now in
     let place : c.index_of-index.result ≡ place_of m.size c.args.at = c.index_of-index.ensures.value ∙ ap (λ (s : Size). place_of s c.args.at) c.size.ensures in
-    before-mask m (g.G.Heights.map c.put_mask.new.grid) c.args.notes.now.items c.push_reserved-in-Some-Mask.new.self.items c.args.at c.index_of-index.result c.masked-masked.result c.in-Some-Mask.new
-    c.push_reserved-in-Some-Mask.ensures.items place c.masked-masked.ensures c.put_mask.ensures.map
+    before-mask m (g.G.Heights.map c.put_mask.new.grid) c.args.notes.now.items c.push_reserved.new.self.items c.args.at c.index_of-index.result c.masked-masked.result c.in-Some-Mask.new
+    c.push_reserved.ensures.items place c.masked-masked.ensures c.put_mask.ensures.map
