@@ -3,3 +3,4 @@ pub mod Rows
 pub mod Whole
 pub mod Table
 pub mod Line
+pub mod Filters

@@ -35,7 +35,7 @@ pub enum Command {
         side: SideName,
         at: Pos,
     },
-    /// The certificate of the saddle of two points on a side.
+    /// The certificate of the saddle of the pits of two points on a side.
     Saddle {
         side: SideName,
         a: Pos,
@@ -62,7 +62,8 @@ pub enum Command {
 }
 
 /// Why a line was refused. `LineTooLong` is tried first, and then the others in the order in which
-/// they stand here.
+/// they stand here; but of an `element` line of four words or more, the name, the width and the
+/// height are tried before the number of words.
 #[derive(Debug, PartialEq, Eq, Drop, Error)]
 pub enum LineError {
     /// Want of memory; it may come in place of any other answer.

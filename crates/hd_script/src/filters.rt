@@ -1,64 +1,56 @@
 // The edits by filters, whose elements are named.
 ghost use Rattle.std.specs.Prelude.{◌≡◌, ◌⊎◌, Err, All, IfOk, map};
 ghost use Rattle.hd_num.specs.Span.{IsPart, text_at};
-ghost use Rattle.hd_edit.specs.declared.edit.Edit.TheVariants as edits;
+ghost use Rattle.hd_script.specs.Filters.{edit_by};
 ghost use Rattle.hd_script.specs.Rows.{filter_words};
 ghost use Rattle.hd_script.specs.Whole.{IsWhole};
 
 use crate::words::{name_word, text};
 use crate::{Command, LineError};
+use hd_base::List;
 use hd_edit::Edit;
 use hd_num::Span;
 use std::alloc::Global;
 
-/// `dilate NAME`.
-pub fn dilate_words(alloc: Global, line: &[u8], words: &[Span]) -> Result<Command, LineError>
-    requires { All (IsPart line.now) words.now }
-    ensures value { (result ≡ Err LineError.Memory) ⊎ (result ≡ filter_words edits.Dilate (map (text_at line.now) words.now)) }
-    ensures whole { IfOk result IsWhole }
-{
-    let [name] = words else {
-        return Err(LineError::WordCount);
-    };
-    let name = name_word(alloc, 2, text(line, *name))?;
-    Ok(Command::Do(Edit::Dilate { name }))
+/// The filters.
+#[derive(Clone, Copy, Debug)]
+pub enum Filter {
+    /// The dilation.
+    Dilate,
+    /// The erosion.
+    Erode,
+    /// The opening.
+    Open,
+    /// The closing.
+    Close,
 }
 
-/// `erode NAME`.
-pub fn erode_words(alloc: Global, line: &[u8], words: &[Span]) -> Result<Command, LineError>
-    requires { All (IsPart line.now) words.now }
-    ensures value { (result ≡ Err LineError.Memory) ⊎ (result ≡ filter_words edits.Erode (map (text_at line.now) words.now)) }
-    ensures whole { IfOk result IsWhole }
+// The edit by a filter with the element of a name.
+fn edit_by(filter: Filter, name: List<u8>) -> Edit
+    ensures { result ≡ edit_by filter name }
 {
-    let [name] = words else {
-        return Err(LineError::WordCount);
-    };
-    let name = name_word(alloc, 2, text(line, *name))?;
-    Ok(Command::Do(Edit::Erode { name }))
+    match filter {
+        Filter::Dilate => Edit::Dilate { name },
+        Filter::Erode => Edit::Erode { name },
+        Filter::Open => Edit::Open { name },
+        Filter::Close => Edit::Close { name },
+    }
 }
 
-/// `open NAME`.
-pub fn open_words(alloc: Global, line: &[u8], words: &[Span]) -> Result<Command, LineError>
+/// `dilate NAME`, `erode NAME`, `open NAME` or `close NAME`.
+pub fn filter_words(
+    alloc: Global,
+    line: &[u8],
+    words: &[Span],
+    filter: Filter,
+) -> Result<Command, LineError>
     requires { All (IsPart line.now) words.now }
-    ensures value { (result ≡ Err LineError.Memory) ⊎ (result ≡ filter_words edits.Open (map (text_at line.now) words.now)) }
+    ensures value { (result ≡ Err LineError.Memory) ⊎ (result ≡ filter_words (edit_by filter) (map (text_at line.now) words.now)) }
     ensures whole { IfOk result IsWhole }
 {
     let [name] = words else {
         return Err(LineError::WordCount);
     };
     let name = name_word(alloc, 2, text(line, *name))?;
-    Ok(Command::Do(Edit::Open { name }))
-}
-
-/// `close NAME`.
-pub fn close_words(alloc: Global, line: &[u8], words: &[Span]) -> Result<Command, LineError>
-    requires { All (IsPart line.now) words.now }
-    ensures value { (result ≡ Err LineError.Memory) ⊎ (result ≡ filter_words edits.Close (map (text_at line.now) words.now)) }
-    ensures whole { IfOk result IsWhole }
-{
-    let [name] = words else {
-        return Err(LineError::WordCount);
-    };
-    let name = name_word(alloc, 2, text(line, *name))?;
-    Ok(Command::Do(Edit::Close { name }))
+    Ok(Command::Do(edit_by(filter, name)))
 }

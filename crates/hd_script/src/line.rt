@@ -6,11 +6,11 @@ ghost use Rattle.hd_script.specs.Table.{commands, read_by};
 ghost use Rattle.hd_script.specs.Whole.{IsWhole, IsWholeIfAny};
 
 use crate::element::element_words;
-use crate::filters::{close_words, dilate_words, erode_words, open_words};
+use crate::filters::{Filter, filter_words};
 use crate::parameters::{feature_words, param_words};
 use crate::rows::{
     add_words, bad_words, label_words, mask_words, no_words, prune_words, saddle_words, set_words,
-    tree_words, undo_words, unmask_words,
+    tree_words, undo_words,
 };
 use crate::words::text;
 use crate::{Command, LineError};
@@ -26,9 +26,10 @@ const LONGEST_LINE: usize = 4096;
 /// The refusals, of which the first is the answer: `LineTooLong` exactly where the line has more
 /// than 4,096 bytes, whatever they are; `UnknownCommand` exactly where the first word is no command
 /// of the table; `WordCount` exactly where the number of words is not that of the command;
-/// `BadWord` with the number of the first word that has not its form, the command being word 1. For
-/// `element` the name, the width and the height are read before the number of words is judged.
-/// `Memory` comes where the words are refused their memory.
+/// `BadWord` with the number of the first word that has not its form, the command being word 1. An
+/// `element` line of fewer than four words is `WordCount` first; of any other the name, the width and
+/// the height are read before the number of words is judged. `Memory` comes where the words are
+/// refused their memory.
 pub fn read_line(alloc: Global, line: &[u8]) -> Result<Option<Command>, LineError>
     ensures value { (result ≡ Err LineError.Memory) ⊎ (result ≡ script_line line.now) }
     ensures whole { IfOk result IsWholeIfAny }
@@ -84,17 +85,17 @@ fn read_command(
     } else if name == b"add".as_slice() {
         add_words(line, words)
     } else if name == b"mask".as_slice() {
-        mask_words(line, words)
+        mask_words(line, words, true)
     } else if name == b"unmask".as_slice() {
-        unmask_words(line, words)
+        mask_words(line, words, false)
     } else if name == b"dilate".as_slice() {
-        dilate_words(alloc, line, words)
+        filter_words(alloc, line, words, Filter::Dilate)
     } else if name == b"erode".as_slice() {
-        erode_words(alloc, line, words)
+        filter_words(alloc, line, words, Filter::Erode)
     } else if name == b"open".as_slice() {
-        open_words(alloc, line, words)
+        filter_words(alloc, line, words, Filter::Open)
     } else if name == b"close".as_slice() {
-        close_words(alloc, line, words)
+        filter_words(alloc, line, words, Filter::Close)
     } else if name == b"undo".as_slice() {
         undo_words(line, words)
     } else if name == b"element".as_slice() {

@@ -1,5 +1,5 @@
 // The commands that the words after each name make.
-ghost use Rattle.std.specs.Prelude.{◌≡◌, ◌∷◌, [], All, IfOk, map};
+ghost use Rattle.std.specs.Prelude.{◌≡◌, ◌∷◌, [], All, IfOk, map, if◌then◌else◌};
 ghost use Rattle.hd_script.specs.Whole.{IsWhole};
 ghost use Rattle.hd_num.specs.Span.{IsPart, text_at};
 ghost use Rattle.hd_script.specs.Rows.{add_words, bad_words, label_words, mask_words, no_words, prune_words, saddle_words, set_words, tree_words, undo_words, unmask_words};
@@ -81,10 +81,11 @@ fn add_command(
     Ok(Command::Do(Edit::Add { from, to, delta }))
 }
 
-/// `mask X0 Y0 X1 Y1`.
-pub fn mask_words(line: &[u8], words: &[Span]) -> Result<Command, LineError>
+/// `mask X0 Y0 X1 Y1`, or `unmask` with these words.
+pub fn mask_words(line: &[u8], words: &[Span], masked: bool) -> Result<Command, LineError>
     requires { All (IsPart line.now) words.now }
-    ensures value { result ≡ mask_words (map (text_at line.now) words.now) }
+    ensures value { let words = map (text_at line.now) words.now in
+        result ≡ (if masked then mask_words words else unmask_words words) }
     ensures whole { IfOk result IsWhole }
 {
     let [x, y, other_x, other_y] = words else {
@@ -93,22 +94,11 @@ pub fn mask_words(line: &[u8], words: &[Span]) -> Result<Command, LineError>
     let (x, y) = (text(line, *x), text(line, *y));
     let (other_x, other_y) = (text(line, *other_x), text(line, *other_y));
     let (from, to) = corner_words(x, y, other_x, other_y)?;
-    Ok(Command::Do(Edit::Mask { from, to }))
-}
-
-/// `unmask X0 Y0 X1 Y1`.
-pub fn unmask_words(line: &[u8], words: &[Span]) -> Result<Command, LineError>
-    requires { All (IsPart line.now) words.now }
-    ensures value { result ≡ unmask_words (map (text_at line.now) words.now) }
-    ensures whole { IfOk result IsWhole }
-{
-    let [x, y, other_x, other_y] = words else {
-        return Err(LineError::WordCount);
-    };
-    let (x, y) = (text(line, *x), text(line, *y));
-    let (other_x, other_y) = (text(line, *other_x), text(line, *other_y));
-    let (from, to) = corner_words(x, y, other_x, other_y)?;
-    Ok(Command::Do(Edit::Unmask { from, to }))
+    if masked {
+        Ok(Command::Do(Edit::Mask { from, to }))
+    } else {
+        Ok(Command::Do(Edit::Unmask { from, to }))
+    }
 }
 
 /// `undo K`.
