@@ -1,4 +1,5 @@
 pub mod Cut
+pub mod HeightsAlone
 pub mod Notation
 pub mod Parameters
 pub mod Parts

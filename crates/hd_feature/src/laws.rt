@@ -1,10 +1,11 @@
-// How great the values of notations are.
-ghost use Rattle.std.specs.Prelude.{◌≡◌, ◌≤◌, ◌*◌, ℕ, List, All, Some, length, unsigned_abs};
+// How great the values of notations are, and what they are made of.
+ghost use Rattle.std.specs.Prelude.{◌≡◌, ◌≤◌, ◌*◌, ℕ, List, All, Option, Some, true, length, map, unsigned_abs};
 ghost use Rattle.hd_num.specs.declared.frac.Frac.{Frac};
 ghost use Rattle.hd_feature.specs.declared.notation.Attribute.TheVariants.{Lpvh};
 ghost use Rattle.hd_feature.specs.declared.notation.Notation.{Notation};
 ghost use Rattle.hd_feature.specs.declared.notation.Statistic.TheVariants.{Mean};
 ghost use Rattle.hd_feature.specs.declared.region.Region.{Region};
+ghost use Rattle.hd_feature.specs.HeightsAlone.{height_alone, heights_serve};
 ghost use Rattle.hd_feature.specs.Value.{IsValue};
 
 use hd_num::reduced_fraction_is_no_greater;
@@ -18,3 +19,10 @@ pub fn mean_height_is_small()
 {
     reduced_fraction_is_no_greater();
 }
+
+/// Where the pits and the local heights of the regions serve a notation, its value over these alone is
+/// its value over the regions.
+pub fn heights_alone_serve()
+    ensures { (n : Notation) (regions : List Region) (area : ℕ) (value : Option Frac) → heights_serve n ≡ true
+        → IsValue n (map height_alone regions) area value → IsValue n regions area value }
+{}

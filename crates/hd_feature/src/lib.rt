@@ -4,6 +4,7 @@
 
 mod laws;
 mod names;
+mod needs;
 mod notation;
 mod parts;
 mod reading;
@@ -14,8 +15,9 @@ mod statistic;
 mod tests;
 mod value;
 
-pub use laws::mean_height_is_small;
+pub use laws::{heights_alone_serve, mean_height_is_small};
 pub use names::named;
+pub use needs::heights_serve;
 pub use notation::{Attribute, Kind, Notation, NotationError, Parameter, Significance, Statistic};
 pub use reading::read_notation;
 pub use region::Region;

@@ -13,8 +13,8 @@ use hd_num::Percent;
 // The percent of the pruning of each named parameter: 5%.
 const PERCENT: Percent = Percent { thousandths: 5000 };
 
-/// The parameter of a name: `Spd`, `S5p`, `S5v`, `S10z`, and `Sda` and `Sha` at the height `c` in
-/// steps.
+/// The parameter of a name of ISO 25178-2: `Spd`, `S5p`, `S5v`, `S10z`, and `Sda` and `Sha` at the
+/// height `c` in steps.
 ///
 /// The refusals, of which the first is the answer: `UnknownName` exactly where the name is none of
 /// these, `NeedsHeight` exactly for `Sda` and `Sha` without a height, and `TakesNoHeight` exactly for

@@ -9,7 +9,8 @@ use hd_num::{Percent, Whole, read_count, read_percent, read_whole};
 // The most digits of a number of features.
 const MOST_DIGITS: usize = 7;
 
-/// Reads a word as a notation: six parts with `;` between them and no blanks.
+/// Reads a word as a notation of a feature parameter, in this project's profile of that of
+/// ISO 25178-2: six parts with `;` between them and no blanks.
 ///
 /// The refusals, of which the first is the answer: `BadPart` with the number of the first part that
 /// has not its form; where all parts have theirs and are fewer than six, with the number of the first

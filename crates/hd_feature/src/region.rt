@@ -6,7 +6,9 @@ use hd_map::Rank;
 pub struct Region {
     /// The kept pit, or for hills the kept peak.
     pub pit: Rank,
-    /// The local pit height, or the local peak height, in steps.
+    /// The local pit height, or the local peak height, in steps: the height difference to the nearest
+    /// saddle, and without one the greatest height of the surface less that of the pit, or that of the
+    /// peak less the least.
     pub lpvh: i64,
     /// The number of points.
     pub points: u64,

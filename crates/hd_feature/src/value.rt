@@ -10,10 +10,10 @@ use hd_base::{List, Memory};
 use hd_num::Frac;
 use std::alloc::Global;
 
-/// The value of a notation over the regions of its side after its pruning, in position order, on a
-/// surface with `area` present points: a fraction of steps, points or features. No region has more
-/// than 4,194,304 points. None comes exactly where no region is significant or the area is 0, and
-/// `Memory` where memory is refused.
+/// The value of a notation, after the feature parameters of ISO 25178-2, over the regions of its side
+/// after its pruning, in position order, on a surface with `area` present points: a fraction of steps,
+/// points or features. No region has more than 4,194,304 points. None comes exactly where no region is
+/// significant or the area is 0, and `Memory` where memory is refused.
 pub fn evaluate(
     alloc: Global,
     notation: &Notation,

@@ -32,7 +32,8 @@ pub struct Pruned {
 /// Prunes the pits of a map at a percent of Sz: as long as the smallest local height of a pit is below
 /// it, that pit leaves, and the pit across its nearest saddle takes over what it owned (Wolf pruning of
 /// ISO 25178-2). The line tells the pits of the map and their saddles; `sz` is the greatest height of a
-/// present point less the least.
+/// present point less the least, in steps. `Memory` comes where the steps, the kept pits or the owners
+/// are refused their memory.
 pub fn prune<S: Side, A: Around>(
     alloc: Global,
     line: &FloodLine<S>,
