@@ -7,6 +7,7 @@ use Rattle.std.proofs.lemmas.Int.{ints}
 use Rattle.std.proofs.lemmas.List.{get_or-map, length-map}
 use Rattle.std.proofs.lemmas.Option.{slice_get-get_or}
 use Rattle.hd_feature.specs.declared.region.Region.{Region}
+use Rattle.hd_feature.specs.HeightsAlone.{height_alone}
 use Rattle.hd_map.specs.declared.types.Pos.{Pos}
 use Rattle.hd_map.specs.declared.types.Rank.{Rank}
 use Rattle.hd_map.specs.declared.types.SideName.{SideName}
@@ -24,7 +25,7 @@ use Rattle.hd_engine.specs.declared.info.HeightRange.{HeightRange}
 use Rattle.hd_engine.specs.declared.tally.Tally.{Tally}
 use Rattle.hd_engine.specs.Features.{feature_of, feature_with, lpvh, owned_below, owns, owner_of, tally_of}
 use Rattle.hd_engine.specs.Info.{present_heights, range_of}
-use Rattle.hd_engine.specs.Tallies.{AreFeaturesWith, AreOwnerPlaces, AreTallies, HasHeights, IsHeight, IsHeightRange, has_place, placed_below}
+use Rattle.hd_engine.specs.Tallies.{AreFeaturesWith, AreOwnerPlaces, AreTallies, HasHeights, IsHeight, IsHeightRange, has_place, no_tally, placed_below}
 use Rattle.hd_engine.proofs.Roots.{rooted_present, same_number}
 
 -- lists of one length with the same elements
@@ -56,9 +57,6 @@ lpvh_small Hills (Some range) p None pit saddle ends = difference_small p.height
 no_kept : Kept
 no_kept = record { pit = record { height = pos 0; index = 0 }; nearest = None }
 
-no_tally : Tally
-no_tally = record { points = 0; edge = None }
-
 -- the regions of kept pits have small local heights
 pub features_heights : (side : SideName) (range : Option HeightRange) (kept : List Kept) (tallies : List Tally) (list : List Region) → All HasHeights kept → ForSome range IsHeightRange
     → AreFeaturesWith side range kept tallies (length kept) list → All (λ r. unsigned_abs r.lpvh ≤ 2 ^ 33) list
@@ -76,6 +74,21 @@ features_points side range kept tallies list n long few are most i d below =
     let e : (get_or list i d).points ≡ (get_or tallies i no_tally).points = ap (λ (r : Region). r.points) (are.each i d no_kept no_tally inside) in
     let h = few i no_tally (subst (λ n. i < n) (sym long) inside) in
     omega (arith, e, h, most)
+
+-- with tallies of no points they are their pits and local heights alone
+pub heights_are : (m : Map) (side : SideName) (owner : Rank → Rank) (roots : List (Option ℕ)) (kept : List Kept) (tallies : List Tally) (list : List Region)
+    → ((i : ℕ) → i < length kept → get_or tallies i no_tally ≡ no_tally)
+    → AreFeaturesWith side (range_of (present_heights m)) kept tallies (length kept) list → list ≡ map height_alone (map (feature_of m side owner roots) kept)
+heights_are m side owner roots kept tallies list none are =
+    let all : List Region = map (feature_of m side owner roots) kept in
+    let long : length all ≡ length kept = length-map kept (feature_of m side owner roots) in
+    same_lists list (map height_alone all) (are.whole ∙ sym long ∙ sym (length-map all height_alone)) (λ i d below.
+    let inside : i < length kept = subst (λ n. i < n) are.whole below in
+    let one : Kept = get_or kept i no_kept in
+    are.each i d no_kept no_tally inside
+    ∙ ap (feature_with side (range_of (present_heights m)) one) (none i inside)
+    ∙ sym (ap height_alone (get_or-map (feature_of m side owner roots) kept i no_kept d inside))
+    ∙ sym (get_or-map height_alone all i d d (subst (λ n. i < n) (sym long) inside)))
 
 module _ (m : Map) (side : SideName) (whole : IsMap m) (roots : List (Option ℕ)) (regions : AreRegions m side roots) where
   -- a root is a pit

@@ -1,11 +1,13 @@
 -- What the regions after pruning rest on, and what is known of their list.
-use Rattle.std.proofs.Common.{◌≡◌, ◌<◌, ◌≤◌, ◌^◌, ◌*◌, ℕ, List, length, Option, Some, sym, subst, arith}
+use Rattle.std.proofs.Common.{◌≡◌, ◌⊎◌, ◌<◌, ◌≤◌, ◌^◌, ◌*◌, ℕ, true, inl, inr, List, length, map, replicate, get_or, Option, Some, refl, sym, ap, ◌∙◌, subst, arith}
+use Rattle.std.proofs.lemmas.List.{get_or-replicate, length-replicate}
 use Rattle.std.specs.Prelude.{All, AllPairs, unsigned_abs}
 use Rattle.std.specs.Option.{ForSome}
 use Rattle.hd_feature.specs.declared.notation.Attribute.TheVariants.{Lpvh}
 use Rattle.hd_feature.specs.declared.notation.Notation.{Notation}
 use Rattle.hd_feature.specs.declared.notation.Statistic.TheVariants.{Mean}
 use Rattle.hd_feature.specs.declared.region.Region.{Region}
+use Rattle.hd_feature.specs.HeightsAlone.{height_alone, heights_serve}
 use Rattle.hd_feature.specs.Value.{IsValue}
 use Rattle.hd_map.specs.declared.types.SideName.{SideName}
 use Rattle.hd_map.specs.Map.{IsMap, Map, cell_count}
@@ -18,11 +20,12 @@ use Rattle.hd_prune.specs.declared.step.Owned.{Owned}
 use Rattle.hd_prune.specs.declared.step.Step.{Step}
 use Rattle.hd_engine.specs.declared.info.HeightRange.{HeightRange}
 use Rattle.hd_engine.specs.declared.tally.Tally.{Tally}
-use Rattle.hd_engine.specs.Features.{AreFeatures}
+use Rattle.hd_engine.specs.Features.{AreFeatures, AreHeightsAlone, feature_of}
 use Rattle.hd_engine.specs.Info.{present_heights, range_of}
 use Rattle.hd_engine.specs.Sums.{IsSmall}
-use Rattle.hd_engine.specs.Tallies.{AreFeaturesWith, AreOwnerPlaces, AreTallies, HasHeights}
-use Rattle.hd_engine.proofs.FeatureLists.{features_are, features_heights, features_points}
+use Rattle.hd_engine.specs.Tallies.{AreFeaturesWith, AreOwnerPlaces, AreTallies, HasHeights, no_tally}
+use Rattle.hd_engine.specs.Values.{AreServing, IsNotationValue}
+use Rattle.hd_engine.proofs.FeatureLists.{features_are, features_heights, features_points, heights_are}
 use Rattle.hd_engine.proofs.FeaturePoints.{kept_few, kept_heights, kept_inside, kept_ordered, owners_different, owners_owned, owners_pits, range_heights}
 use Rattle.hd_engine.proofs.Tallying.{tallies_few}
 
@@ -40,6 +43,13 @@ pub record Needs (roots : List (Option ℕ)) (kept : List Kept) (owners : List O
 -- what is known of the list of regions
 pub record Outcome (m : Map) (side : SideName) (thousandths : ℕ) (list : List Region) : Type 0 where
   pub are : AreFeatures m side thousandths list
+  pub points : All (λ r. r.points ≤ 4194304) list
+  pub heights : All (λ r. unsigned_abs r.lpvh ≤ 2 ^ 33) list
+  pub few : length list ≤ 4194304
+
+-- and of that of their local heights alone
+pub record HeightOutcome (m : Map) (side : SideName) (thousandths : ℕ) (list : List Region) : Type 0 where
+  pub are : AreHeightsAlone m side thousandths list
   pub points : All (λ r. r.points ≤ 4194304) list
   pub heights : All (λ r. unsigned_abs r.lpvh ≤ 2 ^ 33) list
   pub few : length list ≤ 4194304
@@ -87,6 +97,52 @@ module _ (m : Map) (side : SideName) (thousandths : ℕ) (whole : IsMap m) (root
         few = omega (arith, made.whole, known.most);
       }
 
+  -- the same of lists that are these
+  module _ (rs : List (Option ℕ)) (ks : List Kept) (os : List Owned) (same_roots : rs ≡ roots) (same_kept : ks ≡ kept) (same_owners : os ≡ owners) where
+    pub needs_as : Needs rs ks os
+    needs_as = subst (λ (xs : List (Option ℕ)). Needs xs ks os) (sym same_roots) (subst (λ (xs : List Kept). Needs roots xs os) (sym same_kept) (subst (λ (xs : List Owned). Needs roots kept xs) (sym same_owners) needs))
+
+    pub outcome_as : (count : ℕ) (places ps : List ℕ) (tallies ts : List Tally) (name : SideName) (range : Option HeightRange) (list : List Region) → AreOwnerPlaces ks os count places → ps ≡ places
+        → AreTallies m rs ps (length ks) (cell_count m.size) tallies → ts ≡ tallies → name ≡ side → range ≡ range_of (present_heights m) → AreFeaturesWith name range ks ts (length ks) list → Outcome m side thousandths list
+    outcome_as count places ps tallies ts name range list placed same_places tallied same_tallies same_side same_range listed =
+        outcome count places ps tallies ts name range list
+        (subst (λ (xs : List Kept). AreOwnerPlaces xs owners count places) same_kept (subst (λ (xs : List Owned). AreOwnerPlaces ks xs count places) same_owners placed)) same_places
+        (subst (λ (xs : List (Option ℕ)). AreTallies m xs ps (length kept) (cell_count m.size) tallies) same_roots (subst (λ (xs : List Kept). AreTallies m rs ps (length xs) (cell_count m.size) tallies) same_kept tallied)) same_tallies
+        same_side same_range (subst (λ (xs : List Kept). AreFeaturesWith name range xs ts (length xs) list) same_kept listed)
+
+  pub height_outcome : (ts : List Tally) (name : SideName) (range : Option HeightRange) (list : List Region) → ts ≡ replicate (length kept) no_tally → name ≡ side → range ≡ range_of (present_heights m)
+      → AreFeaturesWith name range kept ts (length kept) list → HeightOutcome m side thousandths list
+  height_outcome ts name range list none same_side same_range listed =
+      let made : AreFeaturesWith side (range_of (present_heights m)) kept ts (length kept) list =
+      subst (λ r. AreFeaturesWith side r kept ts (length kept) list) same_range (subst (λ s. AreFeaturesWith s range kept ts (length kept) list) same_side listed) in
+      let each : (i : ℕ) → i < length kept → get_or ts i no_tally ≡ no_tally = λ i below. ap (λ (xs : List Tally). get_or xs i no_tally) none ∙ get_or-replicate (length kept) i no_tally no_tally below in
+      let long : length ts ≡ length kept = ap length none ∙ length-replicate (length kept) no_tally in
+      let known = needs in
+      record {
+        are = (
+          map (feature_of m side pruned.owner roots) kept,
+          record {
+            roots = roots;
+            regions = regions;
+            steps = leavings_of steps;
+            last = pruned.last;
+            owner = pruned.owner;
+            pruning = pruned.pruning;
+            kept = kept;
+            are_kept = pruned.are_kept;
+            are = refl;
+          },
+          heights_are m side pruned.owner roots kept ts list each made,
+        );
+        points = features_points side (range_of (present_heights m)) kept ts list 0 long
+            (λ i d below. let none = ap (λ (t : Tally). t.points) (get_or-default i d below) in omega (arith, none)) made (omega arith);
+        heights = features_heights side (range_of (present_heights m)) kept ts list known.heights (λ r is. range_heights m r whole is) made;
+        few = omega (arith, made.whole, known.most);
+      }
+    where
+      get_or-default : (i : ℕ) (d : Tally) → i < length ts → get_or ts i d ≡ no_tally
+      get_or-default i d below = ap (λ (xs : List Tally). get_or xs i d) none ∙ get_or-replicate (length kept) i no_tally d (subst (λ n. i < n) (ap length none ∙ length-replicate (length kept) no_tally) below)
+
 -- the mean of small local heights is small
 pub small_value : ((n : Notation) (regions : List Region) (area bound : ℕ) (f : Frac) → n.attribute ≡ Lpvh → n.statistic ≡ Mean
     → All (λ r. unsigned_abs r.lpvh ≤ bound) regions → IsValue n regions area (Some f) → (unsigned_abs f.num ≤ length regions * bound) × (f.den ≤ length regions))
@@ -97,3 +153,12 @@ small_value law n regions area value attribute statistic heights few is f same =
     let num = b.0 in
     let den = b.1 in
     record { num = omega (arith, num, few); den = omega (arith, den, few) }
+
+-- a value over regions that serve a notation is its value
+pub served : ((n : Notation) (regions : List Region) (area : ℕ) (value : Option Frac) → heights_serve n ≡ true → IsValue n (map height_alone regions) area value → IsValue n regions area value)
+    → (m : Map) (n : Notation) (list : List Region) (area : ℕ) (value : Option Frac) → AreServing m n list → area ≡ length (present_heights m) → IsValue n list area value → IsNotationValue m n value
+served law m n list area value s e is = record { features = s.features; are = s.are; is = subst (λ a. IsValue n s.features a value) e (by s.serve) }
+  where
+    by : (list ≡ s.features) ⊎ ((heights_serve n ≡ true) × (list ≡ map height_alone s.features)) → IsValue n s.features area value
+    by (inl same) = subst (λ (rs : List Region). IsValue n rs area value) same is
+    by (inr alone) = law n s.features area value alone.0 (subst (λ (rs : List Region). IsValue n rs area value) alone.1 is)

@@ -1,7 +1,9 @@
 -- The saddle of two pits on a flood line.
-use Rattle.std.proofs.Common.{◌≡◌, ◌<◌, ◌&&◌, ◌∙◌, ℕ, Bool, true, false, List, Option, Some, None, inl, inr, refl, sym, ap, subst}
+use Rattle.std.proofs.Common.{◌≡◌, ◌<◌, ◌&&◌, ◌∙◌, ℕ, min, max, length, arith, Bool, true, false, List, Option, Some, None, inl, inr, refl, sym, ap, subst}
 use Rattle.std.proofs.Math.Dec.{eqb}
+use Rattle.std.proofs.lemmas.Bool.{cases_lt}
 use Rattle.std.proofs.lemmas.Bool.Decides.{eqb_tells}
+use Rattle.std.proofs.lemmas.Option.{slice_get_within}
 use Rattle.hd_map.specs.declared.types.Pos.{Pos}
 use Rattle.hd_map.specs.declared.types.Rank.{Rank}
 use Rattle.hd_map.specs.declared.types.SideName.{SideName}
@@ -36,25 +38,55 @@ saddle_back m side a b None h = λ xs path. let back = path_back m side b a xs p
 
 module _ (m : Map) (side : SideName) (line : List Stop) (tells : TellsSaddles m side line) (p q : Rank) (i j : ℕ) (first : IsPlaceOf line p i) (second : IsPlaceOf line q j) where
   -- the highest rise after the place of the first pit up to that of the second is their saddle
-  pub saddle_along : i < j → SaddleIs m side p q (rise_between (below_by side) line i j)
+  saddle_along : i < j → SaddleIs m side p q (rise_between (below_by side) line i j)
   saddle_along before =
       subst (λ (x : Rank). SaddleIs m side x q (rise_between (below_by side) line i j)) first.low
       (subst (λ (y : Rank). SaddleIs m side first.stop.low y (rise_between (below_by side) line i j)) second.low
       (tells.saddles i j first.stop second.stop before first.at_place second.at_place first.is_pit second.is_pit))
 
   -- two pits at one place are one
-  pub place_one : i ≡ j → p ≡ q
+  place_one : i ≡ j → p ≡ q
   place_one same =
       let e : first.stop ≡ second.stop = (let x = first.at_place in let y = second.at_place in cc) in
       sym first.low ∙ ap (λ (x : Stop). x.low) e ∙ second.low
 
 -- the same where the second pit stands first
-pub saddle_against : (m : Map) (side : SideName) (line : List Stop) → TellsSaddles m side line → (p q : Rank) (i j : ℕ) → IsPlaceOf line p i → IsPlaceOf line q j → j < i
+saddle_against : (m : Map) (side : SideName) (line : List Stop) → TellsSaddles m side line → (p q : Rank) (i j : ℕ) → IsPlaceOf line p i → IsPlaceOf line q j → j < i
     → SaddleIs m side p q (rise_between (below_by side) line j i)
 saddle_against m side line tells p q i j first second before = saddle_back m side q p _ (saddle_along m side line tells q p j i second first before)
 
+-- the two places of two pits, the lesser one first
+module _ (m : Map) (side : SideName) (line : List Stop) (tells : TellsSaddles m side line) (p q : Rank) (i j : ℕ) (first : IsPlaceOf line p i) (second : IsPlaceOf line q j) where
+  both_ordered : (p ≡ q → ⊥) → min i j < max i j
+  both_ordered apart = elim (cases_lt i j) [
+    | inl before ↦ omega (arith, before)
+    | inr not ↦ elim (cases_lt j i) [
+      | inl after ↦ omega (arith, after)
+      | inr nor ↦ absurd (apart (place_one m side line tells p q i j first second (omega (arith, not, nor))))
+    ]
+  ]
+
+  both_within : max i j < length line
+  both_within =
+      let one = slice_get_within line i first.stop first.at_place in
+      let other = slice_get_within line j second.stop second.at_place in
+      omega (arith, one, other)
+
+  both_saddle : min i j < max i j → SaddleIs m side p q (rise_between (below_by side) line (min i j) (max i j))
+  both_saddle ordered = elim (cases_lt i j) [
+    | inl before ↦
+        let low : min i j ≡ i = omega (arith, before) in
+        let high : max i j ≡ j = omega (arith, before) in
+        subst (λ n. SaddleIs m side p q (rise_between (below_by side) line n (max i j))) (sym low) (subst (λ n. SaddleIs m side p q (rise_between (below_by side) line i n)) (sym high) (saddle_along m side line tells p q i j first second before))
+    | inr not ↦
+        let low : min i j ≡ j = omega (arith, not) in
+        let high : max i j ≡ i = omega (arith, not) in
+        subst (λ n. SaddleIs m side p q (rise_between (below_by side) line n (max i j))) (sym low) (subst (λ n. SaddleIs m side p q (rise_between (below_by side) line j n)) (sym high)
+        (saddle_against m side line tells p q i j first second (omega (arith, not, ordered))))
+  ]
+
 -- a place on one list is a place on the same list
-pub same_list : (xs line : List Stop) (r p : Rank) (k : ℕ) → xs ≡ line → r ≡ p → IsPlaceOf xs r k → IsPlaceOf line p k
+same_list : (xs line : List Stop) (r p : Rank) (k : ℕ) → xs ≡ line → r ≡ p → IsPlaceOf xs r k → IsPlaceOf line p k
 same_list xs line r p k e f is = subst (λ (ys : List Stop). IsPlaceOf ys p k) e (subst (λ (q : Rank). IsPlaceOf xs q k) f is)
 
 -- a pit of the map stands on the list
@@ -90,3 +122,23 @@ found_same p q e = parts_same p.x p.y q.x q.y (number_same p.x q.x (and_left (eq
 -- and others are two
 pub found_apart : (p q : Pos) → false ≡ (eqb p.x q.x && eqb p.y q.y) → p ≡ q → ⊥
 found_apart p q e same = not_both_true (eqb p.x q.x) (eqb p.y q.y) (subst (λ (r : Pos). eqb p.x r.x ≡ true) same (number_itself p.x)) (subst (λ (r : Pos). eqb p.y r.y ≡ true) same (number_itself p.y)) e
+
+-- the same by lists that are the line, ranks that are the pits, and numbers that are the two places
+module _ (m : Map) (side : SideName) (line xs ys : List Stop) (p q r t : Rank) (i j low high : ℕ) (tells : TellsSaddles m side line) (one : xs ≡ line) (other : ys ≡ line) (this : r ≡ p) (that : t ≡ q)
+    (at : IsPlaceOf xs r i) (to : IsPlaceOf ys t j) (lesser : low ≡ min i j) (greater : high ≡ max i j) where
+  first_at : IsPlaceOf line p i
+  first_at = same_list xs line r p i one this at
+
+  second_at : IsPlaceOf line q j
+  second_at = same_list ys line t q j other that to
+
+  pub between_ordered : (p ≡ q → ⊥) → low < high
+  between_ordered apart = let ordered = both_ordered m side line tells p q i j first_at second_at apart in omega (arith, ordered, lesser, greater)
+
+  pub between_within : high < length line
+  between_within = let within = both_within m side line tells p q i j first_at second_at in omega (arith, within, greater)
+
+  pub between_saddle : (p ≡ q → ⊥) → SaddleIs m side p q (rise_between (below_by side) line low high)
+  between_saddle apart = subst (λ n. SaddleIs m side p q (rise_between (below_by side) line n high)) (sym lesser)
+      (subst (λ n. SaddleIs m side p q (rise_between (below_by side) line (min i j) n)) (sym greater)
+      (both_saddle m side line tells p q i j first_at second_at (both_ordered m side line tells p q i j first_at second_at apart)))

@@ -7,10 +7,12 @@ use Rattle.hd_map.specs.Map.{Map, InGrid, Present}
 use Rattle.hd_map.specs.Rank.{rank}
 use Rattle.hd_map.specs.Region.{IsRoot}
 use Rattle.hd_map.specs.Saddle.{IsSaddle, SaddleIs}
+use Rattle.hd_map.proofs.Nexts.{root-is_pit}
 use Rattle.hd_map.proofs.Points.{same_point}
 use Rattle.hd_check.specs.declared.types.Certificate.{Certificate}
 use Rattle.hd_check.specs.Text.{certificate_text}
-use Rattle.hd_cert.specs.Shown.{IsShownCertificate}
+use Rattle.hd_check.specs.Rules.{IsRight}
+use Rattle.hd_cert.specs.Shown.{AreTwoPits, IsShownCertificate}
 use Rattle.hd_engine.specs.Reply.{Reply, accepted_with}
 use Rattle.hd_engine.specs.Saddles.{Unless, ShowsSaddle, IsOneRegion, IsPairReply, IsSaddleReply, IsSaddleAnswer, PrintsRight}
 use Rattle.hd_engine.specs.State.{State}
@@ -77,14 +79,24 @@ pub saddle-one : DetermineSaddles → (s s' s'' : State) (number : ℕ) (side : 
     → (r ≡ t) × (s' ≡ s'')
 saddle-one one s s' s'' number side a b r t x y = (reply-one one s.map side number a b r t x.told y.told, x.stays ∙ sym y.stays)
 
-module _ (m : Map) (number : ℕ) (side : SideName) (a b : Pos) (reply : Reply) (accepted : reply.accepted ≡ true) where
+-- the shown certificate of two pits is right
+abbrev pub IsShownRight : Type 0
+IsShownRight = (m : Map) (side : SideName) (a b : Pos) (saddle : Option Rank) (c : Certificate) → AreTwoPits m side a b → IsShownCertificate m side a b saddle c → IsRight m c
+
+module _ (law : IsShownRight) (m : Map) (number : ℕ) (side : SideName) (a b : Pos) (reply : Reply) (accepted : reply.accepted ≡ true) where
   shows-right : ShowsSaddle m side a b reply → PrintsRight m side a b reply
   shows-right x = record {
     certificate = x.certificate;
     side_is = x.shown.side_is;
     from_root = subst (λ (p : Pos). IsRoot m side (rank m a) (rank m p)) (sym x.shown.from_is) x.from_root;
     to_root = subst (λ (p : Pos). IsRoot m side (rank m b) (rank m p)) (sym x.shown.to_is) x.to_root;
-    right = x.right;
+    right = law m side x.from x.to x.saddle x.certificate (record {
+      here = x.from_present;
+      there = x.to_present;
+      pit = root-is_pit m side (rank m a) (rank m x.from) x.from_root;
+      other = root-is_pit m side (rank m b) (rank m x.to) x.to_root;
+      apart = x.apart;
+    }) x.shown;
     text = ap (λ (r : Reply). r.text) x.printed;
   }
 

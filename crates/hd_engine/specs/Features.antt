@@ -3,6 +3,7 @@ use Rattle.std.specs.Prelude.{◌≡◌, ◌&&◌, ◌||◌, ◌==◌, ◌+◌, 
 use Rattle.std.specs.List.{filter_map, list_any, range_with_len}
 use Rattle.std.specs.Option.{is_some, option_map}
 use Rattle.hd_feature.specs.declared.region.Region.{Region}
+use Rattle.hd_feature.specs.HeightsAlone.{height_alone}
 use Rattle.hd_map.specs.declared.types.Pos.{Pos}
 use Rattle.hd_map.specs.declared.types.Rank.{Rank}
 use Rattle.hd_map.specs.declared.types.SideName.{SideName}
@@ -102,3 +103,7 @@ pub record AreFeatures (m : Map) (side : SideName) (thousandths : ℕ) (features
   pub kept : List Kept
   pub are_kept : AreKept m side last kept
   pub are : features ≡ map (feature_of m side owner roots) kept
+
+-- these regions by their pits and local heights alone
+abbrev pub AreHeightsAlone : Map → SideName → ℕ → List Region → Type 0
+AreHeightsAlone m side thousandths list = (features : List Region) × AreFeatures m side thousandths features × (list ≡ map height_alone features)

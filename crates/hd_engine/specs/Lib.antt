@@ -10,6 +10,7 @@ pub mod Trees
 pub mod Saddles
 pub mod Prunings
 pub mod Owned
+pub mod PitGraph
 pub mod Falls
 pub mod Info
 pub mod Presence

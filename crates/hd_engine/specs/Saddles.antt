@@ -32,7 +32,6 @@ pub record ShowsSaddle (m : Map) (side : SideName) (a b : Pos) (reply : Reply) :
   pub saddle : Option Rank
   pub certificate : Certificate
   pub shown : IsShownCertificate m side from to saddle certificate
-  pub right : IsRight m certificate
   pub printed : reply ≡ accepted_with (certificate_text certificate)
 
 -- the pit stands at this place of the line

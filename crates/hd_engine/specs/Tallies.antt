@@ -43,6 +43,10 @@ pub record AreTallies (m : Map) (roots : List (Option ℕ)) (places : List ℕ) 
   pub whole : length tallies ≡ count
   pub each : (i : ℕ) (d : Tally) → i < count → slice_index_or tallies i d ≡ tally_of m (placed_below roots places i n)
 
+-- the tally of no points
+abbrev pub no_tally : Tally
+no_tally = record { points = 0; edge = None }
+
 -- a tally with one more height of an edge point, or none
 abbrev pub edge_with : Option HeightRange → Option ℤ → Option HeightRange
 edge_with edge None = edge

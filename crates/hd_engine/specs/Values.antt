@@ -1,5 +1,5 @@
 -- The values of feature parameters, and the answers that tell them.
-use Rattle.std.specs.Prelude.{◌≡◌, ◌*◌, ◌++◌, ℕ, ℤ, List, [], ◌∷◌, length, Option, Some, None, Result, Ok, Err, codes, decimal, if◌then◌else◌}
+use Rattle.std.specs.Prelude.{◌≡◌, ◌*◌, ◌++◌, ◌⊎◌, ℕ, ℤ, true, List, [], ◌∷◌, length, map, Option, Some, None, Result, Ok, Err, codes, decimal, if◌then◌else◌}
 use Rattle.std.specs.Fmt.{signed_decimal}
 use Rattle.hd_feature.specs.declared.notation.Kind.{Kind}
 use Rattle.hd_feature.specs.declared.notation.Notation.{Notation}
@@ -8,6 +8,7 @@ use Rattle.hd_feature.specs.declared.notation.NotationError.TheVariants.{BadPart
 use Rattle.hd_feature.specs.declared.notation.Parameter.{Parameter}
 use Rattle.hd_feature.specs.declared.notation.Parameter.TheVariants.{One, Sum}
 use Rattle.hd_feature.specs.declared.region.Region.{Region}
+use Rattle.hd_feature.specs.HeightsAlone.{height_alone, heights_serve}
 use Rattle.hd_feature.specs.Notation.{notation_of, takes_hills}
 use Rattle.hd_feature.specs.Parameters.{parameter_of}
 use Rattle.hd_feature.specs.Value.{IsValue}
@@ -24,6 +25,12 @@ use Rattle.hd_engine.specs.State.{State}
 -- the side of a type: hills and peaks take the hills after pruning, dales and pits the dales
 abbrev pub side_of : Kind → SideName
 side_of kind = if takes_hills kind then Hills else Dales
+
+-- the regions of a notation's side after its pruning, or, where they serve it, their pits and local heights alone
+pub record AreServing (m : Map) (n : Notation) (list : List Region) : Type 0 where
+  pub features : List Region
+  pub are : AreFeatures m (side_of n.kind) n.percent.thousandths features
+  pub serve : (list ≡ features) ⊎ ((heights_serve n ≡ true) × (list ≡ map height_alone features))
 
 -- the value of a notation: that over the regions after its pruning, where the definition area is the number of
 -- present points

@@ -2,13 +2,13 @@
 ghost use Rattle.std.specs.Prelude.{◌≡◌, ◌-ℤ◌, Some, ◌≤◌, ◌<◌, ◌^◌, pos, length, All, IfOk, unsigned_abs};
 ghost use Rattle.std.specs.Option.{ForSome};
 ghost use Rattle.hd_map.specs.NearestSaddle.{local_height};
-ghost use Rattle.hd_engine.specs.Features.{AreFeatures, feature_with, lpvh, whole_height};
+ghost use Rattle.hd_engine.specs.Features.{AreFeatures, AreHeightsAlone, feature_with, lpvh, whole_height};
 ghost use Rattle.hd_engine.specs.Info.{present_heights, range_of};
 ghost use Rattle.hd_engine.specs.Tallies.{AreFeaturesWith, HasHeights, IsHeight, IsHeightRange};
 
 use crate::info::HeightRange;
 use crate::pruned::pruned_map;
-use crate::tally::{Tally, owner_places, tallies};
+use crate::tally::{Tally, empty_tallies, owner_places, tallies};
 use hd_base::{List, Memory};
 use hd_feature::Region;
 use hd_map::{Heights, Rank, Side, SideName};
@@ -35,6 +35,25 @@ pub fn features<S: Side, G: Heights>(
     let kept = all.pruned.kept.as_slice();
     let places = owner_places(alloc, roots.len(), kept, all.pruned.owners.as_slice())?;
     let tallies = tallies(alloc, grid, roots, places.as_slice(), kept.len())?;
+    list_features(alloc, S::NAME, range, kept, tallies.as_slice())
+}
+
+/// The same regions by their pits and local heights alone, as if they had no points: nothing is counted.
+pub fn heights_alone<S: Side, G: Heights>(
+    alloc: Global,
+    grid: &G,
+    percent: Percent,
+    range: Option<HeightRange>,
+) -> Result<List<Region>, Memory>
+    requires { range ≡ range_of (present_heights (G.map grid.now)) }
+    ensures are { IfOk result (AreHeightsAlone (G.map grid.now) S.NAME percent.thousandths) }
+    ensures points { IfOk result (All (λ r. r.points ≤ 4194304)) }
+    ensures heights { IfOk result (All (λ r. unsigned_abs r.lpvh ≤ 2 ^ 33)) }
+    ensures few { IfOk result (λ list. length list ≤ 4194304) }
+{
+    let all = pruned_map::<S, G>(alloc, grid, percent, range)?;
+    let kept = all.pruned.kept.as_slice();
+    let tallies = empty_tallies(alloc, kept.len())?;
     list_features(alloc, S::NAME, range, kept, tallies.as_slice())
 }
 

@@ -11,7 +11,7 @@ ghost use Rattle.hd_engine.specs.Reply.{Reply};
 ghost use Rattle.hd_engine.specs.Saddles.{PrintsRight};
 ghost use Rattle.hd_engine.specs.State.{State, IsState, first_state};
 
-use hd_cert::shown_certificate_is_determined;
+use hd_cert::{shown_certificate_is_determined, shown_certificate_is_right};
 use hd_edit::{edit_is_determined, edits_keep_maps, logs_keep_maps, undos_keep_maps};
 use hd_map::{change_tree_is_determined, pruning_is_determined, saddle_is_determined};
 use hd_num::reduced_fraction_is_determined;
@@ -54,4 +54,6 @@ pub fn answer_keeps_a_state()
 pub fn printed_certificate_is_right()
     ensures { (s : State) (number : ℕ) (line : List ℕ) (side : SideName) (a b : Pos) (reply : Reply) (after : State) → script_line line ≡ Ok (Some (Saddle side a b))
         → IsAnswer s number line reply after → reply.accepted ≡ true → PrintsRight s.map side a b reply }
-{}
+{
+    shown_certificate_is_right();
+}

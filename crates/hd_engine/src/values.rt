@@ -3,18 +3,18 @@ ghost use Rattle.std.specs.Prelude.{◌≡◌, ◌<◌, ◌≤◌, ◌^◌, ◌+
 ghost use Rattle.std.specs.Option.{ForSome};
 ghost use Rattle.hd_feature.specs.declared.notation.Attribute.TheVariants.{Lpvh};
 ghost use Rattle.hd_feature.specs.declared.notation.Statistic.TheVariants.{Mean};
-ghost use Rattle.hd_engine.specs.Features.{AreFeatures};
 ghost use Rattle.hd_engine.specs.Info.{IsPresence, present_heights, range_of};
 ghost use Rattle.hd_engine.specs.Sums.{IsSmall, IsSumOfMeans};
-ghost use Rattle.hd_engine.specs.Values.{feature_line, height_text, IsNotationValue, IsParameterValue, IsSum, notation_text, param_line, side_of, value_text};
+ghost use Rattle.hd_engine.specs.Values.{AreServing, feature_line, height_text, IsNotationValue, IsParameterValue, IsSum, notation_text, param_line, side_of, value_text};
 
-use crate::features::features;
+use crate::features::{features, heights_alone};
 use crate::info::{HeightRange, Presence, presence_of};
 use hd_base::{List, Memory};
 use hd_feature::{
-    Kind, Notation, NotationError, Parameter, Region, evaluate, mean_height_is_small,
+    Kind, Notation, NotationError, Parameter, Region, evaluate, heights_alone_serve, heights_serve,
+    mean_height_is_small,
 };
-use hd_map::{Down, Heights, Up};
+use hd_map::{Down, Heights, Side, Up};
 use hd_num::{Frac, push_frac, push_text, push_unsigned, push_whole};
 use std::alloc::Global;
 
@@ -126,11 +126,12 @@ fn notation_value<G: Heights>(
     ensures small { notation.now.attribute ≡ Lpvh → notation.now.statistic ≡ Mean → IfOk result (λ value. ForSome value IsSmall) }
 {
     mean_height_is_small();
+    heights_alone_serve();
     let regions = kind_features(alloc, grid, notation, presence.range)?;
     evaluate(alloc, notation, &regions, u64::from(presence.count))
 }
 
-// The regions of the notation's type after its pruning.
+// The regions of the notation's type after its pruning, as far as they serve it.
 fn kind_features<G: Heights>(
     alloc: Global,
     grid: &G,
@@ -138,14 +139,35 @@ fn kind_features<G: Heights>(
     range: Option<HeightRange>,
 ) -> Result<List<Region>, Memory>
     requires { range ≡ range_of (present_heights (G.map grid.now)) }
-    ensures are { IfOk result (AreFeatures (G.map grid.now) (side_of notation.now.kind) notation.now.percent.thousandths) }
+    ensures are { IfOk result (AreServing (G.map grid.now) notation.now) }
     ensures points { IfOk result (All (λ r. r.points ≤ 4194304)) }
     ensures heights { IfOk result (All (λ r. unsigned_abs r.lpvh ≤ 2 ^ 33)) }
     ensures few { IfOk result (λ list. length list ≤ 4194304) }
 {
     match notation.kind {
-        Kind::Hill | Kind::Peak => features::<Up, G>(alloc, grid, notation.percent, range),
-        Kind::Dale | Kind::Pit => features::<Down, G>(alloc, grid, notation.percent, range),
+        Kind::Hill | Kind::Peak => side_features::<Up, G>(alloc, grid, notation, range),
+        Kind::Dale | Kind::Pit => side_features::<Down, G>(alloc, grid, notation, range),
+    }
+}
+
+// The same of the side that is the notation's.
+fn side_features<S: Side, G: Heights>(
+    alloc: Global,
+    grid: &G,
+    notation: &Notation,
+    range: Option<HeightRange>,
+) -> Result<List<Region>, Memory>
+    requires side { S.NAME ≡ side_of notation.now.kind }
+    requires range { range ≡ range_of (present_heights (G.map grid.now)) }
+    ensures are { IfOk result (AreServing (G.map grid.now) notation.now) }
+    ensures points { IfOk result (All (λ r. r.points ≤ 4194304)) }
+    ensures heights { IfOk result (All (λ r. unsigned_abs r.lpvh ≤ 2 ^ 33)) }
+    ensures few { IfOk result (λ list. length list ≤ 4194304) }
+{
+    if heights_serve(notation) {
+        heights_alone::<S, G>(alloc, grid, notation.percent, range)
+    } else {
+        features::<S, G>(alloc, grid, notation.percent, range)
     }
 }
 

@@ -7,4 +7,4 @@ use Rattle.hd_engine.proofs.laws.printed_certificate_is_right.Goals as goal
 
 pub returns : goal.returns
 returns c = λ s number line side a b reply after read is accepted.
-    reply-right s.map number side a b reply accepted (subst (λ (r : Result (Option Command) LineError). IsReadAnswer s number r reply after) read is).told
+    reply-right c.shown_certificate_is_right.ensures s.map number side a b reply accepted (subst (λ (r : Result (Option Command) LineError). IsReadAnswer s number r reply after) read is).told

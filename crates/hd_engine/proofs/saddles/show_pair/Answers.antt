@@ -42,6 +42,5 @@ returns g c =
       saddle = told.0;
       certificate = told.1;
       shown = told.2;
-      right = told.3;
-      printed = c.with_text.ensures ∙ ap accepted_with told.4;
+      printed = c.with_text.ensures ∙ ap accepted_with told.3;
     })

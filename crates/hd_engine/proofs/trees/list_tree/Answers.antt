@@ -8,7 +8,7 @@ use Rattle.hd_engine.proofs.trees.list_tree.Goals as goal
 pub tree_lines-requires : goal.tree_lines-requires
 tree_lines-requires g c =
     let m = g.G.Heights.map c.args.grid.now in
-    let tree = c.in_ok-tree.ensures.of_map m c.in_ok-line.ensures in
+    let tree = c.in_ok-tree.ensures.of_map m c.in_ok-line.ensures.tells in
     rw (c.as_slice.ensures, c.size.ensures) (all_inside m g.S.Side.NAME c.in_ok-tree.tree.joins tree)
 
 pub returns : goal.returns
@@ -16,6 +16,6 @@ returns g c =
     let m = g.G.Heights.map c.args.grid.now in
     let joins : List Join = c.in_ok-tree.tree.joins in (
       map joining_of joins,
-      c.in_ok-tree.ensures.of_map m c.in_ok-line.ensures,
+      c.in_ok-tree.ensures.of_map m c.in_ok-line.ensures.tells,
       c.in_ok-text.ensures ∙ rw (c.NAME.ensures, c.size.ensures, c.as_slice.ensures) (tree_text_of g.S.Side.NAME m.size joins),
     )
