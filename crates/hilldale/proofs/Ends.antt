@@ -1,6 +1,5 @@
 -- How the program ends, from what its run came to and how its last text is written.
 use Rattle.std.proofs.Common.{◌≡◌, ◌++◌, ℕ, Bool, true, false, List, [], Option, Some, None, Result, Ok, Err, inl, inr, ◌⊎◌, ◌≢◌, refl, sym, ap, ◌∙◌, subst, append-nil, MatchOption, IsTrue}
-use Rattle.std.specs.Option.{option_map}
 use Rattle.std.specs.Io.KnownBytes.{Appends, Keeps}
 use Rattle.std.proofs.KnownBytes.{Appends-trans, Appends-nil, Appends-kept, Keeps-trans}
 use Rattle.hd_base.specs.Told.{AppendsStart}
@@ -20,10 +19,6 @@ use Rattle.hilldale.specs.Saving.{Saving, IsSavedAs, SavesLast, SavesInTurn}
 use Rattle.hilldale.specs.Texts.{usage_text, read_fault_text}
 use Rattle.hilldale.specs.Words.{Request, form_of, save_name, second_name, surface_name}
 use Rattle.hilldale.proofs.Answered.{AppendsStart-after}
-
--- the form of the words, as it was found
-pub form_found : {A : Type 0} (request : A → Request) (found : Option A) (job : A) (form : Option Request) → option_map request found ≡ form → found ≡ Some job → form ≡ Some (request job)
-form_found request found job form e is = sym e ∙ ap (option_map request) is
 
 -- nothing before, and then a text, or some first bytes of it
 kept_text : (old mid new : Option (List ℕ)) (text : List ℕ) → Keeps old mid → Appends mid new text → Appends old new text

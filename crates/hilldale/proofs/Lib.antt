@@ -3,6 +3,11 @@ pub mod Runs
 pub mod Checks
 pub mod Savings
 pub mod WordLemmas
+pub mod CommandForms
+pub mod ParsedCommands
+pub mod ParsedKeys
+pub mod ParsedRows
+pub mod ParsedWords
 pub mod Ends
 pub mod Drawings
 pub mod Demonstrations

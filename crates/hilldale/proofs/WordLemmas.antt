@@ -133,7 +133,7 @@ some_if : (test : Bool) (x value : List ℕ) → test ≡ true → x ≡ value �
 some_if true x value holds is = ap (λ xs. Some xs) is
 some_if false x value holds is = absurd (cc)
 
-same_byte : (a b : ℕ) → Decides (nat_eq a b) (a ≡ b)
+pub same_byte : (a b : ℕ) → Decides (nat_eq a b) (a ≡ b)
 same_byte a b = (λ t. grind (arith, nat_tests), λ e. grind (arith, nat_tests))
 
 -- a word without the text that it begins with

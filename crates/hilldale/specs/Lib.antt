@@ -1,6 +1,8 @@
 pub mod Status
 pub mod Words
 pub mod WordSteps
+pub mod CommandForms
+pub mod CommandLines
 pub mod Texts
 pub mod Refusals
 pub mod Outcome

@@ -7,10 +7,10 @@ use Rattle.std.specs.Str.Parse.{digits_value}
 use Rattle.hd_num.specs.Whole.{is_numeral}
 use Rattle.hilldale.specs.declared.demo.Demo.{Demo}
 use Rattle.hilldale.specs.declared.limits.TheConstants.{LEAST_TILE, GREATEST_TILE, USUAL_TILE}
-use Rattle.hilldale.specs.declared.words.CheckJob.{CheckJob}
-use Rattle.hilldale.specs.declared.words.Job.{Job}
-use Rattle.hilldale.specs.declared.words.Job.TheVariants as job
-use Rattle.hilldale.specs.declared.words.RunJob.{RunJob}
+use Rattle.hilldale.specs.declared.jobs.CheckJob.{CheckJob}
+use Rattle.hilldale.specs.declared.jobs.Job.{Job}
+use Rattle.hilldale.specs.declared.jobs.Job.TheVariants as job
+use Rattle.hilldale.specs.declared.jobs.RunJob.{RunJob}
 use Rattle.hilldale.specs.declared.words.Stage.{Stage}
 use Rattle.hilldale.specs.declared.words.Stage.TheVariants.{Options, TileValue, SaveValue, Names}
 use Rattle.hilldale.specs.Demo.{IsDemo}

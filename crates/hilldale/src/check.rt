@@ -9,10 +9,10 @@ ghost use Rattle.hilldale.specs.RunResult.{HasRunStop, IsCheck, IsJudged};
 ghost use Rattle.hilldale.specs.Words.{check_request_of};
 
 use crate::inputs::{read_second, read_surface};
+use crate::jobs::CheckJob;
 use crate::limits::CERTIFICATE_LIMIT;
 use crate::stop::{Refusal, Stop};
 use crate::texts::ACCEPTED;
-use crate::words::CheckJob;
 use hd_base::{Sink, Source, write_all};
 use hd_check::{CertificateError, Verdict, check, read_certificate, verdict_is_determined};
 use hd_map::Surface;

@@ -2,13 +2,31 @@
 ghost use Rattle.std.specs.Prelude.{IfSome};
 ghost use Rattle.hilldale.specs.Demo.{IsDemo};
 
+use crate::Status;
 use crate::demo::{Demo, demo_text};
 use crate::generator::{Draws, drawn_edit, drawn_file};
+use crate::trials::{Feed, expect, run, whole};
 use hd_engine::Session;
 use hd_map::Size;
 use hd_sdf_write::write_sdf;
 use std::process::Abort;
 use std::test::Fail;
+
+const DEMO: &str = "demo 3 1 7 1
+dales 2
+hills 1
+kept dales 2
+kept hills 1
+Spd 1/3
+S10z 4761/1
+edits 1
+dales 1
+hills 2
+kept dales 1
+kept hills 2
+Spd 2/3
+S10z 3847/1
+";
 
 const TEXTS: &str = "aBCR-1.0
 ManufacID =
@@ -70,7 +88,11 @@ fn demo_of(words: [&str; 4]) -> Option<Demo>
 }
 
 // Compares what a demo prints.
-fn expect(rt: &(impl Abort + AllocGlobal), words: [&str; 4], wanted: &str) -> Result<(), Fail> {
+fn expect_text(
+    rt: &(impl Abort + AllocGlobal),
+    words: [&str; 4],
+    wanted: &str,
+) -> Result<(), Fail> {
     let demo = demo_of(words).ok_or("no demo")?;
     let text = demo_text(rt.alloc(), demo)?;
     assert_eq!(rt; text.as_slice(), wanted.as_bytes());
@@ -79,23 +101,8 @@ fn expect(rt: &(impl Abort + AllocGlobal), words: [&str; 4], wanted: &str) -> Re
 
 #[test]
 fn a_demo_tells_its_surface_before_and_after_its_edits(rt: HostRuntime) -> Result<(), Fail> {
-    let wanted = "demo 3 1 7 1
-dales 2
-hills 1
-kept dales 2
-kept hills 1
-Spd 1/3
-S10z 4761/1
-edits 1
-dales 1
-hills 2
-kept dales 1
-kept hills 2
-Spd 2/3
-S10z 3847/1
-";
-    expect(&rt, ["3", "1", "7", "1"], wanted)?;
-    expect(&rt, ["03", "001", "007", "1"], wanted)
+    expect_text(&rt, ["3", "1", "7", "1"], DEMO)?;
+    expect_text(&rt, ["03", "001", "007", "1"], DEMO)
 }
 
 #[test]
@@ -123,6 +130,61 @@ fn numbers_outside_their_limits_make_no_demo(rt: HostRuntime) -> Result<(), Fail
     ];
     for words in taken {
         assert!(rt; demo_of(words).is_some(), "{words:?}");
+    }
+    Ok(())
+}
+
+#[test]
+fn a_demo_is_written_without_its_sources(rt: HostRuntime) -> Result<(), Fail> {
+    let cases: [&[&str]; 5] = [
+        &["demo", "3", "1", "7", "1"],
+        &["demo", "03", "001", "007", "1"],
+        &["demo", "--tile", "8", "3", "1", "7", "1"],
+        &["demo", "3", "1", "--tile=256", "7", "1"],
+        &["demo", "3", "--tile=064", "--", "1", "7", "1"],
+    ];
+    let feed = Feed {
+        surface_fails: &[0],
+        script_fails: &[0],
+        ..whole("", "")
+    };
+    for words in cases {
+        expect(&rt, words, &feed, Status::Done, DEMO)?;
+    }
+    Ok(())
+}
+
+#[test]
+fn a_demo_says_the_same_on_every_tile(rt: HostRuntime) -> Result<(), Fail> {
+    let feed = whole("", "");
+    let words = ["demo", "20", "12", "7", "3"];
+    let (status, text) = run(rt.alloc(), &words, &feed)?;
+    assert_eq!(rt; status, Status::Done);
+    for tile in ["--tile=8", "--tile=64", "--tile=256"] {
+        let words = ["demo", tile, "20", "12", "7", "3"];
+        expect(&rt, &words, &feed, Status::Done, text.as_str())?;
+    }
+    Ok(())
+}
+
+#[test]
+fn each_call_of_a_demo_that_fails_is_a_write_fault(rt: HostRuntime) -> Result<(), Fail> {
+    // The calls are a write for each piece of the 145 bytes, and a flush.
+    let cases: [(&[u64], Status, usize); 5] = [
+        (&[0], Status::WriteFault, 0),
+        (&[1], Status::WriteFault, 64),
+        (&[2], Status::WriteFault, 128),
+        (&[3], Status::WriteFault, 145),
+        (&[4], Status::Done, 145),
+    ];
+    for (sink_fails, wanted, count) in cases {
+        let feed = Feed {
+            sink_fails,
+            piece: 64,
+            ..whole("", "")
+        };
+        let written = DEMO.get(..count).unwrap_or(DEMO);
+        expect(&rt, &["demo", "3", "1", "7", "1"], &feed, wanted, written)?;
     }
     Ok(())
 }

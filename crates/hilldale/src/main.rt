@@ -1,29 +1,46 @@
-//! The program `hilldale`: measured surfaces, edited and reported on by scripts, each number of
-//! them proved.
+//! The program `hilldale`: measured surfaces, edited and reported on by scripts, their certificates
+//! checked, and demos.
+//!
+//! What a run writes and saves is proved to be what its words and the bytes that its sources tell
+//! come to, as far as no sink fails and memory is there.
 #![tactic(auto)]
 
 mod answers;
 mod causes;
+#[cfg(test)]
+mod certificate_tests;
 mod certificates;
 mod check;
+mod command_lines;
 mod demo;
 #[cfg(test)]
 mod demo_tests;
 mod demonstration;
+#[cfg(test)]
+mod fault_tests;
 mod generator;
 mod inputs;
+mod jobs;
 mod limits;
 #[cfg(test)]
 mod report_tests;
 mod run;
+#[cfg(test)]
+mod run_tests;
 mod save;
+#[cfg(test)]
+mod save_tests;
 mod status;
 mod stop;
 mod summary;
 #[cfg(test)]
-mod tests;
+mod surface_tests;
 mod texts;
 mod top;
+#[cfg(test)]
+mod trials;
+#[cfg(test)]
+mod word_tests;
 mod words;
 
 use hd_base::{FileSink, FileSource, Memory, StdoutSink};

@@ -1,6 +1,6 @@
 // What the reports of scripts print of small surfaces.
 use crate::Status;
-use crate::tests::{expect, file, whole};
+use crate::trials::{expect, file, whole};
 use std::process::Abort;
 use std::test::Fail;
 

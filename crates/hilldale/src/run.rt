@@ -14,10 +14,10 @@ ghost use Rattle.hilldale.specs.Words.{Run, run_request_of};
 
 use crate::answers::answer_lines;
 use crate::inputs::{read_second, read_surface};
+use crate::jobs::RunJob;
 use crate::limits::{GREATEST_TILE, LEAST_TILE, SCRIPT_LIMIT};
 use crate::save::save_file;
 use crate::stop::Stop;
-use crate::words::RunJob;
 use hd_base::{Sink, Source};
 use hd_engine::{Session, answer_keeps_a_state, answers_are_determined};
 use hd_sdf_read::SdfFile;

@@ -13,11 +13,12 @@ ghost use Rattle.hilldale.specs.Texts.{read_fault_text};
 
 use crate::check::check_certificate;
 use crate::demonstration::write_demo;
+use crate::jobs::{Job, job_of};
 use crate::run::run;
 use crate::status::Status;
 use crate::stop::Stop;
 use crate::texts::{READ_FAULT, USAGE};
-use crate::words::{Job, job_of};
+use crate::words::command_of;
 use hd_base::{Sink, Source, write_all};
 use std::alloc::Global;
 
@@ -79,8 +80,11 @@ pub fn top<S: Source, R: Source, W: Sink, V: Sink>(
         (over (W.faults out.old) (W.faults out.new))
         (saving (V.written saved.old) (V.written saved.new) (V.flushed saved.new) (over (V.faults saved.old) (V.faults saved.new))) }
 {
-    let Some(job) = job_of(words) else {
+    let Some(command) = command_of(words) else {
         return finish(out, USAGE.as_bytes(), Status::Usage);
+    };
+    let Ok(job) = job_of(alloc, command, words) else {
+        return Status::Memory;
     };
     match job {
         Job::Run(job) => {

@@ -1,45 +1,26 @@
 // The program's words, judged without taking memory.
-ghost use Rattle.std.specs.Prelude.{◌≡◌, ◌≤◌, [], ◌∷◌, ◌++◌, length, drop, map, codes, nat_eq, string_bytes, IfNone, IfSome, if◌then◌else◌};
+ghost use Rattle.std.specs.Prelude.{◌≡◌, ◌≤◌, [], ◌∷◌, ◌++◌, length, drop, map, codes, nat_eq, string_bytes, is_some, IfNone, IfSome, if◌then◌else◌};
 ghost use Rattle.std.specs.List.{starts_with};
-ghost use Rattle.std.specs.Option.{option_copied, option_map, option_to_list};
-ghost use Rattle.hilldale.specs.Words.{IsWithinLimits, begins_with_dash, check_form, dales_form, demo_form, filled, form_of, given_of, request_of, run_form, save_of, savable, tile_of};
+ghost use Rattle.std.specs.Option.{option_copied, option_to_list};
+ghost use Rattle.hilldale.specs.CommandForms.{HasForm, form_by, named_command};
+ghost use Rattle.hilldale.specs.Words.{begins_with_dash, check_form, dales_form, demo_form, form_of, given_of, run_form, save_of, tile_of};
 ghost use Rattle.hilldale.specs.WordSteps.{HasNoForm, IsNoOptionAlone, IsRefused, LeadsTo, at_stage, found_so_far};
 
 use crate::demo::Demo;
 use crate::limits::{GREATEST_TILE, LEAST_TILE, USUAL_TILE};
 use hd_num::read_count;
 
-/// What the words ask for.
+/// A command of the program, which the first word names.
 #[derive(Clone, Copy, Debug)]
-pub enum Job<'a> {
-    /// Answers to lines.
-    Run(RunJob<'a>),
-    /// The check of a certificate.
-    Check(CheckJob<'a>),
-    /// A demo, whose numbers are within their limits.
-    Demo(Demo),
-}
-
-/// A surface, the script to run or none, the side of a tile, and the name to save under or none.
-#[derive(Clone, Copy, Debug)]
-pub struct RunJob<'a> {
-    /// The name of the surface.
-    pub surface: &'a str,
-    /// The name of the script, where one is to run.
-    pub script: Option<&'a str>,
-    /// The side of a tile, in points.
-    pub tile: u32,
-    /// The name under which the file is saved, where it is.
-    pub save: Option<&'a str>,
-}
-
-/// A surface, and a certificate of it.
-#[derive(Clone, Copy, Debug)]
-pub struct CheckJob<'a> {
-    /// The name of the surface.
-    pub surface: &'a str,
-    /// The name of the certificate.
-    pub certificate: &'a str,
+pub enum CommandName {
+    /// `dales SURFACE`.
+    Dales,
+    /// `run SURFACE SCRIPT`.
+    Run,
+    /// `check SURFACE CERT`.
+    Check,
+    /// `demo W H NUMBER EDITS`.
+    Demo,
 }
 
 // What the next word may be: an option or a name, the value of `--tile` or of `--save`, or a name
@@ -77,23 +58,36 @@ struct Progress<'a> {
     found: Found<'a>,
 }
 
-/// What the words ask for: `dales SURFACE`, or `run SURFACE SCRIPT`, which may have `--tile SIDE`
-/// or `--tile=SIDE`, and `--save NAME` or `--save=NAME`, each at most once, or
+/// The command whose form the words have: `dales SURFACE`, or `run SURFACE SCRIPT`, which may have
+/// `--tile SIDE` or `--tile=SIDE`, and `--save NAME` or `--save=NAME`, each at most once, or
 /// `check SURFACE CERT`, or `demo W H NUMBER EDITS`, which may have `--tile` as `run` has. The word
 /// `--` ends the options. None comes exactly where the words have none of these forms.
-pub fn job_of(words: &[String]) -> Option<Job<'_>>
-    ensures form { option_map request_of result ≡ form_of (map string_bytes words.now) }
-    ensures limits { IfSome result IsWithinLimits }
+pub fn command_of(words: &[String]) -> Option<CommandName>
+    ensures none { IfNone result (form_of (map string_bytes words.now) ≡ None) }
+    ensures some { IfSome result (λ command. HasForm command (map string_bytes words.now)) }
 {
-    let (command, rest) = words.split_first()?;
-    if command.as_str() == "dales" {
-        dales_job(found_in(rest)?)
-    } else if command.as_str() == "run" {
-        run_job(found_in(rest)?)
-    } else if command.as_str() == "check" {
-        check_job(found_in(rest)?)
-    } else if command.as_str() == "demo" {
-        demo_job(found_in(rest)?)
+    let (first, rest) = words.split_first()?;
+    let command = named_command(first.as_str())?;
+    let found = found_in(rest)?;
+    if has_form(command, found) {
+        Some(command)
+    } else {
+        None
+    }
+}
+
+// The command that a word names.
+fn named_command(word: &str) -> Option<CommandName>
+    ensures { result ≡ named_command word.now }
+{
+    if word == "dales" {
+        Some(CommandName::Dales)
+    } else if word == "run" {
+        Some(CommandName::Run)
+    } else if word == "check" {
+        Some(CommandName::Check)
+    } else if word == "demo" {
+        Some(CommandName::Demo)
     } else {
         None
     }
@@ -258,102 +252,85 @@ fn with_name<'a>(found: Found<'a>, name: &'a str) -> Option<Found<'a>>
     })
 }
 
-// What `dales` asks for.
-fn dales_job(found: Found<'_>) -> Option<Job<'_>>
-    ensures form { option_map request_of result ≡ dales_form (found_so_far found.entry) }
-    ensures limits { IfSome result IsWithinLimits }
+// Whether what was found has the form of the command.
+fn has_form(command: CommandName, found: Found<'_>) -> bool
+    ensures { result ≡ is_some (form_by command (found_so_far found.entry)) }
 {
-    match (found.names, found.tile, found.save) {
-        (FoundNames::One(surface), None, None) => Some(Job::Run(RunJob {
-            surface: filled_name(surface)?,
-            script: None,
-            tile: USUAL_TILE,
-            save: None,
-        })),
-        _ => None,
+    match command {
+        CommandName::Dales => has_dales_form(found),
+        CommandName::Run => has_run_form(found),
+        CommandName::Check => has_check_form(found),
+        CommandName::Demo => has_demo_form(found),
     }
 }
 
-// What `run` asks for.
-fn run_job(found: Found<'_>) -> Option<Job<'_>>
-    ensures form { option_map request_of result ≡ run_form (found_so_far found.entry) }
-    ensures limits { IfSome result IsWithinLimits }
+// Whether what was found has the form of `dales`.
+fn has_dales_form(found: Found<'_>) -> bool
+    ensures { result ≡ is_some (dales_form (found_so_far found.entry)) }
+{
+    match (found.names, found.tile, found.save) {
+        (FoundNames::One(surface), None, None) => !surface.is_empty(),
+        _ => false,
+    }
+}
+
+// Whether what was found has the form of `run`.
+fn has_run_form(found: Found<'_>) -> bool
+    ensures { result ≡ is_some (run_form (found_so_far found.entry)) }
 {
     match found.names {
-        FoundNames::Two(surface, script) => Some(Job::Run(RunJob {
-            surface: filled_name(surface)?,
-            script: Some(filled_name(script)?),
-            tile: tile_side(found.tile)?,
-            save: save_name(found.save)?,
-        })),
-        _ => None,
+        FoundNames::Two(surface, script) => {
+            !surface.is_empty()
+                && !script.is_empty()
+                && tile_side(found.tile).is_some()
+                && is_savable(found.save)
+        }
+        _ => false,
     }
 }
 
-// What `check` asks for.
-fn check_job(found: Found<'_>) -> Option<Job<'_>>
-    ensures form { option_map request_of result ≡ check_form (found_so_far found.entry) }
-    ensures limits { IfSome result IsWithinLimits }
+// Whether what was found has the form of `check`.
+fn has_check_form(found: Found<'_>) -> bool
+    ensures { result ≡ is_some (check_form (found_so_far found.entry)) }
 {
     match (found.names, found.tile, found.save) {
-        (FoundNames::Two(surface, certificate), None, None) => Some(Job::Check(CheckJob {
-            surface: filled_name(surface)?,
-            certificate: filled_name(certificate)?,
-        })),
-        _ => None,
-    }
-}
-
-// What `demo` asks for.
-fn demo_job(found: Found<'_>) -> Option<Job<'_>>
-    ensures form { option_map request_of result ≡ demo_form (found_so_far found.entry) }
-    ensures limits { IfSome result IsWithinLimits }
-{
-    match (found.names, found.save) {
-        (FoundNames::Four(points, profiles, number, edits), None) => {
-            let tile = tile_side(found.tile)?;
-            Some(Job::Demo(Demo::read(
-                points.as_bytes(),
-                profiles.as_bytes(),
-                number.as_bytes(),
-                edits.as_bytes(),
-                tile,
-            )?))
+        (FoundNames::Two(surface, certificate), None, None) => {
+            !surface.is_empty() && !certificate.is_empty()
         }
-        _ => None,
+        _ => false,
     }
 }
 
-// A name that is not empty.
-fn filled_name(name: &str) -> Option<&str>
-    ensures { option_copied result ≡ filled name.now }
+// Whether what was found has the form of `demo`.
+fn has_demo_form(found: Found<'_>) -> bool
+    ensures { result ≡ is_some (demo_form (found_so_far found.entry)) }
 {
-    if name.is_empty() { None } else { Some(name) }
+    match (found.names, tile_side(found.tile), found.save) {
+        (FoundNames::Four(points, profiles, number, edits), Some(tile), None) => Demo::read(
+            points.as_bytes(),
+            profiles.as_bytes(),
+            number.as_bytes(),
+            edits.as_bytes(),
+            tile,
+        )
+        .is_some(),
+        _ => false,
+    }
 }
 
-// The name to save under, or none where none is given. It is not empty and begins with no `-`.
-fn save_name(value: Option<&str>) -> Option<Option<&str>>
-    ensures { option_map option_copied result ≡ save_of (option_to_list (option_copied value.entry)) }
+// Whether a name to save under is not empty and begins with no `-`, where one is given.
+fn is_savable(value: Option<&str>) -> bool
+    ensures { result ≡ is_some (save_of (option_to_list (option_copied value.entry))) }
 {
     match value {
-        None => Some(None),
-        Some(name) => Some(Some(savable_name(name)?)),
+        None => true,
+        Some(name) => !is_option(name) && !name.is_empty(),
     }
 }
 
-// A name to save under that is given.
-fn savable_name(name: &str) -> Option<&str>
-    ensures { option_copied result ≡ savable name.now }
-{
-    if is_option(name) {
-        None
-    } else {
-        filled_name(name)
-    }
-}
-
-// The side of a tile: the usual one where none is given, else a number of one to three digits.
-fn tile_side(value: Option<&str>) -> Option<u32>
+/// The side of a tile: the usual one where none is given, else a number of one to three digits
+/// from 8 to 256. None comes exactly where what is given is no such number.
+pub fn tile_side(value: Option<&str>) -> Option<u32>
     ensures form { result ≡ tile_of (option_to_list (option_copied value.entry)) }
     ensures bounds { IfSome result (λ side. LEAST_TILE ≤ side × side ≤ GREATEST_TILE) }
 {

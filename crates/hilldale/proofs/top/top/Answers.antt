@@ -1,63 +1,65 @@
-use Rattle.std.proofs.Common.{◌≡◌, ◌∙◌, ap, subst, map, string_bytes, Some, refl, sym}
-use Rattle.std.specs.Option.{option_map}
-use Rattle.hilldale.specs.declared.words.Job.TheVariants as job
+use Rattle.std.proofs.Common.{◌≡◌, ◌∙◌, ap, subst, map, string_bytes, IfNone, Option, None, Some, refl}
 use Rattle.hilldale.specs.FaultCounts.{over}
 use Rattle.hilldale.specs.Words.{Request, Run, Check, Demonstrate, IsWithinLimits, check_request_of, form_of, request_of, run_request_of}
 use Rattle.hilldale.specs.Texts.{usage_text}
 use Rattle.hilldale.proofs.Checks.{check_is_run}
 use Rattle.hilldale.proofs.Demonstrations.{demo_is_run, demo_reads_nothing}
-use Rattle.hilldale.proofs.Ends.{form_found, run_cause, run_ends, run_flushed, run_has_form, run_in_order, run_read_fault, run_saves, unformed_in_order, unformed_saves, unnamed_in_order, usage_ends}
+use Rattle.hilldale.proofs.Ends.{run_cause, run_ends, run_flushed, run_has_form, run_in_order, run_read_fault, run_saves, unformed_in_order, unformed_saves, unnamed_in_order, usage_ends}
 use Rattle.hilldale.proofs.Savings.{last_untouched}
 use Rattle.hilldale.proofs.top.top.Goals as goal
+
+none_then : {A P : Type 0} (r : Option A) → IfNone r P → r ≡ None → P
+none_then None h is = h
+none_then (Some x) h is = absurd (cc)
 
 pub returns-in_default-clause-outcome : goal.returns-in_default-clause-outcome
 unfolding usage_text
 returns-in_default-clause-outcome g c = λ bytes second told.
-    usage_ends (map string_bytes c.args.words.now) bytes second _ _ _ _ _ _ _ _ _ (sym c.job_of.ensures.form ∙ ap (option_map request_of) c.in_default.is) c.as_bytes.ensures.value refl c.finish.ensures
+    usage_ends (map string_bytes c.args.words.now) bytes second _ _ _ _ _ _ _ _ _ (none_then c.command_of.result c.command_of.ensures.none c.in_default.is) c.as_bytes.ensures.value refl c.finish.ensures
 
 pub returns-in_default-clause-order : goal.returns-in_default-clause-order
-returns-in_default-clause-order g c = unformed_in_order _ (g.S.Source.files c.args.surface.now) _ c.args.surface.now c.args.script.now (sym c.job_of.ensures.form ∙ ap (option_map request_of) c.in_default.is)
+returns-in_default-clause-order g c = unformed_in_order _ (g.S.Source.files c.args.surface.now) _ c.args.surface.now c.args.script.now (none_then c.command_of.result c.command_of.ensures.none c.in_default.is)
 
 pub returns-in_default-clause-saved : goal.returns-in_default-clause-saved
-returns-in_default-clause-saved g c = unformed_saves _ _ _ _ _ _ _ (sym c.job_of.ensures.form ∙ ap (option_map request_of) c.in_default.is) refl refl
+returns-in_default-clause-saved g c = unformed_saves _ _ _ _ _ _ _ (none_then c.command_of.result c.command_of.ensures.none c.in_default.is) refl refl
 
 pub run-ran-requires-clause-tile : goal.run-ran-requires-clause-tile
-run-ran-requires-clause-tile g c = subst IsWithinLimits c.in-Run.is c.in-Some.ensures.limits
+run-ran-requires-clause-tile g c = subst IsWithinLimits c.in-Run.is c.in-Ok.ensures.limits
 
 pub run-ran-requires-clause-surface : goal.run-ran-requires-clause-surface
 run-ran-requires-clause-surface g c =
     let request : Request = Run (run_request_of c.in-Run.job) in
-    let named : form_of (map string_bytes c.args.words.now) ≡ Some request = form_found request_of c.job_of.result (job.Run c.in-Run.job) _ c.job_of.ensures.form (c.in-Some.is ∙ ap Some c.in-Run.is) in
+    let named : form_of (map string_bytes c.args.words.now) ≡ Some request = c.in-Ok.ensures.form ∙ ap (λ j. Some (request_of j)) c.in-Run.is in
     c.requires.surface request named c.in-Run.job.surface.now refl
 
 pub run-ran-requires-clause-script : goal.run-ran-requires-clause-script
 run-ran-requires-clause-script g c =
     let request : Request = Run (run_request_of c.in-Run.job) in
-    let named : form_of (map string_bytes c.args.words.now) ≡ Some request = form_found request_of c.job_of.result (job.Run c.in-Run.job) _ c.job_of.ensures.form (c.in-Some.is ∙ ap Some c.in-Run.is) in
+    let named : form_of (map string_bytes c.args.words.now) ≡ Some request = c.in-Ok.ensures.form ∙ ap (λ j. Some (request_of j)) c.in-Run.is in
     c.requires.script request named
 
 pub run-ran-requires-clause-saved : goal.run-ran-requires-clause-saved
 run-ran-requires-clause-saved g c =
     let request : Request = Run (run_request_of c.in-Run.job) in
-    let named : form_of (map string_bytes c.args.words.now) ≡ Some request = form_found request_of c.job_of.result (job.Run c.in-Run.job) _ c.job_of.ensures.form (c.in-Some.is ∙ ap Some c.in-Run.is) in
+    let named : form_of (map string_bytes c.args.words.now) ≡ Some request = c.in-Ok.ensures.form ∙ ap (λ j. Some (request_of j)) c.in-Run.is in
     c.requires.saved request named
 
 pub check_certificate-checked-requires-clause-surface : goal.check_certificate-checked-requires-clause-surface
 check_certificate-checked-requires-clause-surface g c =
     let request : Request = Check (check_request_of c.in-Check.job) in
-    let named : form_of (map string_bytes c.args.words.now) ≡ Some request = form_found request_of c.job_of.result (job.Check c.in-Check.job) _ c.job_of.ensures.form (c.in-Some.is ∙ ap Some c.in-Check.is) in
+    let named : form_of (map string_bytes c.args.words.now) ≡ Some request = c.in-Ok.ensures.form ∙ ap (λ j. Some (request_of j)) c.in-Check.is in
     c.requires.surface request named c.in-Check.job.surface.now refl
 
 pub check_certificate-checked-requires-clause-certificate : goal.check_certificate-checked-requires-clause-certificate
 check_certificate-checked-requires-clause-certificate g c =
     let request : Request = Check (check_request_of c.in-Check.job) in
-    let named : form_of (map string_bytes c.args.words.now) ≡ Some request = form_found request_of c.job_of.result (job.Check c.in-Check.job) _ c.job_of.ensures.form (c.in-Some.is ∙ ap Some c.in-Check.is) in
+    let named : form_of (map string_bytes c.args.words.now) ≡ Some request = c.in-Ok.ensures.form ∙ ap (λ j. Some (request_of j)) c.in-Check.is in
     c.requires.script request named c.in-Check.job.certificate.now refl
 
 pub returns-in-Run-clause-outcome : goal.returns-in-Run-clause-outcome
 returns-in-Run-clause-outcome g c = λ bytes second told.
     let request : Request = Run (run_request_of c.in-Run.job) in
-    let named : form_of (map string_bytes c.args.words.now) ≡ Some request = form_found request_of c.job_of.result (job.Run c.in-Run.job) _ c.job_of.ensures.form (c.in-Some.is ∙ ap Some c.in-Run.is) in
+    let named : form_of (map string_bytes c.args.words.now) ≡ Some request = c.in-Ok.ensures.form ∙ ap (λ j. Some (request_of j)) c.in-Run.is in
     let inputs = told request named in
     run_ends (map string_bytes c.args.words.now) bytes second _ _ _ request named c.run-ran.result c.end_run.result (g.W.Sink.written c.args.out.now) (g.W.Sink.written c.run-ran.new.out) (g.W.Sink.written c.end_run.new.out) (g.W.Sink.flushed c.end_run.new.out) _
     (c.run-ran.ensures.failed bytes (inputs.0 c.in-Run.job.surface.now refl)) c.run-ran.ensures.saved.stopped (c.run-ran.ensures.told bytes second (inputs.0 c.in-Run.job.surface.now refl) inputs.1) c.end_run.ensures
@@ -68,13 +70,13 @@ returns-in-Run-clause-usage g c = λ is. absurd (run_has_form c.run-ran.result c
 pub returns-in-Run-clause-unformed : goal.returns-in-Run-clause-unformed
 returns-in-Run-clause-unformed g c = λ none.
     let request : Request = Run (run_request_of c.in-Run.job) in
-    let named : form_of (map string_bytes c.args.words.now) ≡ Some request = form_found request_of c.job_of.result (job.Run c.in-Run.job) _ c.job_of.ensures.form (c.in-Some.is ∙ ap Some c.in-Run.is) in
+    let named : form_of (map string_bytes c.args.words.now) ≡ Some request = c.in-Ok.ensures.form ∙ ap (λ j. Some (request_of j)) c.in-Run.is in
     absurd (cc)
 
 pub returns-in-Run-clause-order : goal.returns-in-Run-clause-order
 returns-in-Run-clause-order g c =
     let request : Request = Run (run_request_of c.in-Run.job) in
-    let named : form_of (map string_bytes c.args.words.now) ≡ Some request = form_found request_of c.job_of.result (job.Run c.in-Run.job) _ c.job_of.ensures.form (c.in-Some.is ∙ ap Some c.in-Run.is) in
+    let named : form_of (map string_bytes c.args.words.now) ≡ Some request = c.in-Ok.ensures.form ∙ ap (λ j. Some (request_of j)) c.in-Run.is in
     run_in_order _ request c.in-Run.job.surface.now (g.S.Source.files c.args.surface.now) _ c.args.surface.now c.run-ran.new.surface c.args.script.now c.run-ran.new.script named refl c.run-ran.ensures.order
 
 pub returns-in-Run-clause-cause : goal.returns-in-Run-clause-cause
@@ -91,13 +93,13 @@ returns-in-Run-clause-flushed g c = λ bytes told fine kept.
 pub returns-in-Run-clause-saved : goal.returns-in-Run-clause-saved
 returns-in-Run-clause-saved g c =
     let request : Request = Run (run_request_of c.in-Run.job) in
-    let named : form_of (map string_bytes c.args.words.now) ≡ Some request = form_found request_of c.job_of.result (job.Run c.in-Run.job) _ c.job_of.ensures.form (c.in-Some.is ∙ ap Some c.in-Run.is) in
+    let named : form_of (map string_bytes c.args.words.now) ≡ Some request = c.in-Ok.ensures.form ∙ ap (λ j. Some (request_of j)) c.in-Run.is in
     run_saves _ request c.run-ran.result c.end_run.result _ _ _ _ _ _ _ _ _ _ named c.run-ran.ensures.saved c.end_run.ensures
 
 pub returns-in-Check-clause-outcome : goal.returns-in-Check-clause-outcome
 returns-in-Check-clause-outcome g c = λ bytes second told.
     let request : Request = Check (check_request_of c.in-Check.job) in
-    let named : form_of (map string_bytes c.args.words.now) ≡ Some request = form_found request_of c.job_of.result (job.Check c.in-Check.job) _ c.job_of.ensures.form (c.in-Some.is ∙ ap Some c.in-Check.is) in
+    let named : form_of (map string_bytes c.args.words.now) ≡ Some request = c.in-Ok.ensures.form ∙ ap (λ j. Some (request_of j)) c.in-Check.is in
     let inputs = told request named in
     run_ends (map string_bytes c.args.words.now) bytes second _ _ _ request named c.check_certificate-checked.result c.end_run-in-Check.result (g.W.Sink.written c.args.out.now) (g.W.Sink.written c.check_certificate-checked.new.out) (g.W.Sink.written c.end_run-in-Check.new.out) (g.W.Sink.flushed c.end_run-in-Check.new.out) _
     (c.check_certificate-checked.ensures.failed bytes (inputs.0 c.in-Check.job.surface.now refl)) (λ why is other. refl) (check_is_run (check_request_of c.in-Check.job) bytes second _ _ c.check_certificate-checked.result (g.W.Sink.written c.args.out.now) (g.W.Sink.written c.check_certificate-checked.new.out) refl (c.check_certificate-checked.ensures.told bytes second (inputs.0 c.in-Check.job.surface.now refl) (inputs.1 c.in-Check.job.certificate.now refl))) c.end_run-in-Check.ensures
@@ -108,13 +110,13 @@ returns-in-Check-clause-usage g c = λ is. absurd (run_has_form c.check_certific
 pub returns-in-Check-clause-unformed : goal.returns-in-Check-clause-unformed
 returns-in-Check-clause-unformed g c = λ none.
     let request : Request = Check (check_request_of c.in-Check.job) in
-    let named : form_of (map string_bytes c.args.words.now) ≡ Some request = form_found request_of c.job_of.result (job.Check c.in-Check.job) _ c.job_of.ensures.form (c.in-Some.is ∙ ap Some c.in-Check.is) in
+    let named : form_of (map string_bytes c.args.words.now) ≡ Some request = c.in-Ok.ensures.form ∙ ap (λ j. Some (request_of j)) c.in-Check.is in
     absurd (cc)
 
 pub returns-in-Check-clause-order : goal.returns-in-Check-clause-order
 returns-in-Check-clause-order g c =
     let request : Request = Check (check_request_of c.in-Check.job) in
-    let named : form_of (map string_bytes c.args.words.now) ≡ Some request = form_found request_of c.job_of.result (job.Check c.in-Check.job) _ c.job_of.ensures.form (c.in-Some.is ∙ ap Some c.in-Check.is) in
+    let named : form_of (map string_bytes c.args.words.now) ≡ Some request = c.in-Ok.ensures.form ∙ ap (λ j. Some (request_of j)) c.in-Check.is in
     run_in_order _ request c.in-Check.job.surface.now (g.S.Source.files c.args.surface.now) _ c.args.surface.now c.check_certificate-checked.new.surface c.args.script.now c.check_certificate-checked.new.script named refl c.check_certificate-checked.ensures.order
 
 pub returns-in-Check-clause-cause : goal.returns-in-Check-clause-cause
@@ -131,16 +133,16 @@ returns-in-Check-clause-flushed g c = λ bytes told fine kept.
 pub returns-in-Check-clause-saved : goal.returns-in-Check-clause-saved
 returns-in-Check-clause-saved g c =
     let request : Request = Check (check_request_of c.in-Check.job) in
-    let named : form_of (map string_bytes c.args.words.now) ≡ Some request = form_found request_of c.job_of.result (job.Check c.in-Check.job) _ c.job_of.ensures.form (c.in-Some.is ∙ ap Some c.in-Check.is) in
+    let named : form_of (map string_bytes c.args.words.now) ≡ Some request = c.in-Ok.ensures.form ∙ ap (λ j. Some (request_of j)) c.in-Check.is in
     run_saves _ request c.check_certificate-checked.result c.end_run-in-Check.result _ _ _ _ _ _ _ _ _ _ named (last_untouched _ _ _ _ _ _ _ refl refl (λ accepted name is asked. cc)) c.end_run-in-Check.ensures
 
 pub write_demo-shown-requires-clause-demo : goal.write_demo-shown-requires-clause-demo
-write_demo-shown-requires-clause-demo g c = subst IsWithinLimits c.in-Demo.is c.in-Some.ensures.limits
+write_demo-shown-requires-clause-demo g c = subst IsWithinLimits c.in-Demo.is c.in-Ok.ensures.limits
 
 pub returns-in-Demo-clause-outcome : goal.returns-in-Demo-clause-outcome
 returns-in-Demo-clause-outcome g c = λ bytes second told.
     let request : Request = Demonstrate c.in-Demo.demo in
-    let named : form_of (map string_bytes c.args.words.now) ≡ Some request = form_found request_of c.job_of.result (job.Demo c.in-Demo.demo) _ c.job_of.ensures.form (c.in-Some.is ∙ ap Some c.in-Demo.is) in
+    let named : form_of (map string_bytes c.args.words.now) ≡ Some request = c.in-Ok.ensures.form ∙ ap (λ j. Some (request_of j)) c.in-Demo.is in
     run_ends (map string_bytes c.args.words.now) bytes second _ _ _ request named c.write_demo-shown.result c.end_run-in-Demo.result (g.W.Sink.written c.args.out.now) (g.W.Sink.written c.write_demo-shown.new.out) (g.W.Sink.written c.end_run-in-Demo.new.out) (g.W.Sink.flushed c.end_run-in-Demo.new.out) _
     (demo_reads_nothing c.in-Demo.demo _ c.write_demo-shown.result _ _ c.write_demo-shown.ensures.told) (λ why is other. refl) (demo_is_run c.in-Demo.demo bytes second _ _ c.write_demo-shown.result (g.W.Sink.written c.args.out.now) (g.W.Sink.written c.write_demo-shown.new.out) refl c.write_demo-shown.ensures.told) c.end_run-in-Demo.ensures
 
@@ -150,13 +152,13 @@ returns-in-Demo-clause-usage g c = λ is. absurd (run_has_form c.write_demo-show
 pub returns-in-Demo-clause-unformed : goal.returns-in-Demo-clause-unformed
 returns-in-Demo-clause-unformed g c = λ none.
     let request : Request = Demonstrate c.in-Demo.demo in
-    let named : form_of (map string_bytes c.args.words.now) ≡ Some request = form_found request_of c.job_of.result (job.Demo c.in-Demo.demo) _ c.job_of.ensures.form (c.in-Some.is ∙ ap Some c.in-Demo.is) in
+    let named : form_of (map string_bytes c.args.words.now) ≡ Some request = c.in-Ok.ensures.form ∙ ap (λ j. Some (request_of j)) c.in-Demo.is in
     absurd (cc)
 
 pub returns-in-Demo-clause-order : goal.returns-in-Demo-clause-order
 returns-in-Demo-clause-order g c =
     let request : Request = Demonstrate c.in-Demo.demo in
-    let named : form_of (map string_bytes c.args.words.now) ≡ Some request = form_found request_of c.job_of.result (job.Demo c.in-Demo.demo) _ c.job_of.ensures.form (c.in-Some.is ∙ ap Some c.in-Demo.is) in
+    let named : form_of (map string_bytes c.args.words.now) ≡ Some request = c.in-Ok.ensures.form ∙ ap (λ j. Some (request_of j)) c.in-Demo.is in
     unnamed_in_order _ request (g.S.Source.files c.args.surface.now) _ c.args.surface.now c.args.script.now named refl
 
 pub returns-in-Demo-clause-cause : goal.returns-in-Demo-clause-cause
@@ -178,5 +180,5 @@ returns-in-Demo-clause-flushed g c = λ bytes told fine kept.
 pub returns-in-Demo-clause-saved : goal.returns-in-Demo-clause-saved
 returns-in-Demo-clause-saved g c =
     let request : Request = Demonstrate c.in-Demo.demo in
-    let named : form_of (map string_bytes c.args.words.now) ≡ Some request = form_found request_of c.job_of.result (job.Demo c.in-Demo.demo) _ c.job_of.ensures.form (c.in-Some.is ∙ ap Some c.in-Demo.is) in
+    let named : form_of (map string_bytes c.args.words.now) ≡ Some request = c.in-Ok.ensures.form ∙ ap (λ j. Some (request_of j)) c.in-Demo.is in
     run_saves _ request c.write_demo-shown.result c.end_run-in-Demo.result _ _ _ _ _ _ _ _ _ _ named (last_untouched _ _ _ _ _ _ _ refl refl (λ accepted name is asked. cc)) c.end_run-in-Demo.ensures
