@@ -1,27 +1,40 @@
 #!/usr/bin/env python3
-"""Times the built program on surfaces that it makes, against `wc -l` of the same file.
+"""Times the jobs that users run, and prints the page docs/BENCH.md:
 
-    bench/bench.py [--binary PATH] [--rounds N] [SIZE ..]
+    bench/bench.py [--binary PATH] [--rounds N] [SIZE ..] > docs/BENCH.md
 
-For each size (512, 1024 and 2048 points each way where none is given) it makes a surface of independent heights (noise)
-and a smooth one (waves), runs `dales` on each and prints the median of the seconds and the greatest memory, each also as
-a ratio to that of `wc -l`, and the dales. The last row is a script of 200,000 sets and one `dales` on 1024 by 1024 points,
-with its ratios to `dales` alone. The memory is measured by GNU time, and is left out where /usr/bin/time is missing. It is
-no test: absolute times differ from machine to machine."""
+The surfaces are made by this script, 512, 1024 and 2048 points each way where no size is given. A job's seconds are those
+of the processor, the least of its rounds. Its ratio is to reading the same surface, and that of reading is to `wc -w` of the same file; so
+a later loss shows on any machine. The memory is measured by GNU time, and left out where /usr/bin/time is missing."""
 import argparse
 import math
 import os
 import pathlib
-import statistics
+import platform
+import resource
 import subprocess
 import sys
 import tempfile
-import time
 
 ROOT = pathlib.Path(__file__).resolve().parent.parent
 GNU_TIME = '/usr/bin/time'
 sys.path.insert(0, str(ROOT / 'examples'))
 import make  # noqa: E402
+
+HEAD = """# Times
+
+What `bench/bench.py` printed last, on a machine of {processors} processors ({machine}): the seconds of the processor, the least of {rounds} rounds. A job has one thread. It is no test and no promise: times differ from machine to machine. The ratios tell a later loss of speed: that of `read` is to `wc -w` of the same file, those of the other jobs are to `read` of the same surface. MB is the greatest memory of the job.
+
+The surfaces are independent heights (noise), where nearly each ninth point is a pit, and a smooth surface (waves). The jobs are
+
+- `read`: a script without lines, so the surface is read and nothing is answered;
+- `dales`, `tree`, `prune`, `param`: the lines `dales`, `tree D`, `prune D 5%` and `param S10z`;
+- `open, flat` and `open, ball`: an opening by an element of 15 by 15 points, of zeros and of a ball of radius 12;
+- `save`: reading, and saving the file;
+- `certificate`: the saddle of the two deepest dales, printed with its certificate; `check`: that certificate, checked;
+- `demo`: a demonstration of as many points, which are noise too, with 200 edits;
+- `sets`: 200,000 lines `set` and a line `dales`.
+"""
 
 
 def draws(s):
@@ -39,64 +52,109 @@ def rows(kind, n):
             yield [round(30000 * math.sin(x / 19) * math.cos(y / 27) + 7000 * math.sin((2 * x + y) / 11) + next(d) / 64) for x in range(n)]
 
 
-def write_surface(name, kind, n):
-    make.write_surface(name, 'bench', ('1e-6', '1e-6'), 6, n, n, rows(kind, n))
+def element_line(name, height):
+    """The line of an element of 15 by 15 numbers."""
+    numbers = [str(height(x, y)) for y in range(-7, 8) for x in range(-7, 8)]
+    return f'element {name} 15 15 {" ".join(numbers)}\n'
 
 
-def timed(words, rounds):
-    """The median of the seconds, and what was printed."""
-    seconds, output = [], b''
+def script_of(folder, name, text):
+    path = f'{folder}/{name}.txt'
+    pathlib.Path(path).write_text(text)
+    return path
+
+
+def sets(n):
+    d = draws(11)
+    return ''.join(f'set {next(d) % n} {next(d) % n} {next(d)}\n' for _ in range(200000)) + 'dales\n'
+
+
+def deepest_of(binary, surface):
+    """The positions of the two lowest pits."""
+    lines = subprocess.run([binary, 'dales', surface], stdout=subprocess.PIPE).stdout.decode().splitlines()[1:]
+    deepest = sorted((line.split()[1:4] for line in lines), key=lambda pit: int(pit[2]))[:2]
+    return ' '.join(f'{x} {y}' for x, y, _ in deepest)
+
+
+def jobs(binary, folder, surface, kind, n):
+    """The name and the words of each job on a surface, reading first; a demonstration only beside noise, which it is."""
+    certificate = f'{folder}/certificate'
+    flat, ball = element_line('e', lambda x, y: 0), element_line('e', lambda x, y: round(1000 * (math.sqrt(144 - x * x - y * y) - 12)))
+    lines = {
+        'read': '', 'dales': 'dales\n', 'tree': 'tree D\n', 'prune': 'prune D 5%\n', 'param': 'param S10z\n',
+        'open, flat': flat + 'open e\n', 'open, ball': ball + 'open e\n', 'save': '',
+        'certificate': f'saddle D {deepest_of(binary, surface)}\n',
+    }
+    for name, text in lines.items():
+        words = [binary, 'run', surface, script_of(folder, name, text)]
+        yield name, words + (['--save', f'{folder}/saved'] if name == 'save' else [])
+        if name == 'certificate':
+            with open(certificate, 'wb') as out:
+                subprocess.run(words, stdout=out)
+    yield 'check', [binary, 'check', surface, certificate]
+    if kind == 'noise':
+        yield 'demo', [binary, 'demo', str(n), str(n), '7', '200']
+    yield 'sets', [binary, 'run', surface, script_of(folder, 'sets', sets(n))]
+
+
+def processor_seconds():
+    """What ended children took, in user and system mode."""
+    used = resource.getrusage(resource.RUSAGE_CHILDREN)
+    return used.ru_utime + used.ru_stime
+
+
+def seconds_of(words, rounds):
+    least = math.inf
     for _ in range(rounds):
-        begun = time.perf_counter()
-        output = subprocess.run(words, stdout=subprocess.PIPE).stdout
-        seconds.append(time.perf_counter() - begun)
-    return statistics.median(seconds), output
+        begun = processor_seconds()
+        done = subprocess.run(words, stdout=subprocess.DEVNULL, env={**os.environ, 'LC_ALL': 'C'})
+        least = min(least, processor_seconds() - begun)
+        if done.returncode != 0:
+            sys.exit(f'status {done.returncode}: {" ".join(words)}')
+    return least
 
 
 def memory_of(words):
-    """The greatest memory in MB, or nothing. A child of this process would be charged with what Python itself takes."""
+    """The greatest memory in MB. A child of this process would be charged with what Python itself takes."""
     if not os.access(GNU_TIME, os.X_OK):
-        return None
+        return '-'
     with tempfile.NamedTemporaryFile('r') as told:
         subprocess.run([GNU_TIME, '-f', '%M', '-o', told.name, *words], stdout=subprocess.DEVNULL)
-        return int(told.read().split()[-1]) / 1024
+        return f'{int(told.read().split()[-1]) / 1024:.0f}'
 
 
-def print_row(name, words, beside, rounds):
-    """Prints the row of these words, with the ratios to the words beside them."""
-    seconds, output = timed(words, rounds)
-    memory, least = memory_of(words), memory_of(beside)
-    ratio = seconds / timed(beside, rounds)[0]
-    megabytes = f'{memory:.1f} | {memory / least:.1f}' if memory and least else '- | -'
-    print(f'| {name} | {seconds:.3f} | {ratio:.1f} | {megabytes} | {dales_in(output)} |', flush=True)
+def measured(binary, folder, kind, n, rounds):
+    """Of each job on a surface its seconds, their ratio, and its memory, as cells of a table."""
+    surface = f'{folder}/surface.sdf'
+    make.write_surface(surface, 'bench', ('1e-6', '1e-6'), 6, n, n, rows(kind, n))
+    beside, cells = seconds_of(['wc', '-w', surface], rounds), {}
+    for name, words in jobs(binary, folder, surface, kind, n):
+        seconds = seconds_of(words, rounds)
+        cells[name] = f'{seconds:.3f} | {seconds / beside:.1f} | {memory_of(words)}'
+        if name == 'read':
+            beside = seconds
+    return cells
 
 
-def dales_in(output):
-    begin = output.index(b'dales ') + 6
-    return output[begin:output.index(b'\n', begin)].decode()
+def print_table(binary, kind, sizes, rounds):
+    with tempfile.TemporaryDirectory() as folder:
+        columns = [measured(binary, folder, kind, n, rounds) for n in sizes]
+    print(f'\n## {kind.capitalize()}\n')
+    print('| Job |' + ''.join(f' {n} by {n}: seconds | ratio | MB |' for n in sizes))
+    print('|---' * (1 + 3 * len(sizes)) + '|')
+    for name in columns[0]:
+        print(f'| {name} |' + ''.join(f' {cells[name]} |' for cells in columns), flush=True)
 
 
 def main():
     words = argparse.ArgumentParser(description=__doc__, formatter_class=argparse.RawDescriptionHelpFormatter)
     words.add_argument('--binary', default=str(ROOT / 'crates/hilldale/out/hilldale'))
     words.add_argument('--rounds', type=int, default=5)
-    words.add_argument('sizes', nargs='*', type=int, default=[512, 1024, 2048])
+    words.add_argument('sizes', nargs='*', type=int)
     given = words.parse_args()
-    print('| Surface | Seconds | Ratio | MB | Ratio | Dales |\n|---|---|---|---|---|---|')
-    with tempfile.TemporaryDirectory() as folder:
-        name, script = f'{folder}/surface.sdf', f'{folder}/script.txt'
-        dales = [given.binary, 'dales', name]
-        for n in given.sizes or [512, 1024, 2048]:
-            for kind in ('noise', 'waves'):
-                write_surface(name, kind, n)
-                print_row(f'{kind} {n} by {n}', dales, ['wc', '-l', name], given.rounds)
-        write_surface(name, 'noise', 1024)
-        d = draws(11)
-        with open(script, 'w') as out:
-            for _ in range(200000):
-                out.write(f'set {next(d) % 1024} {next(d) % 1024} {next(d)}\n')
-            out.write('dales\n')
-        print_row('200,000 sets and `dales`, to `dales` alone', [given.binary, 'run', name, script], dales, given.rounds)
+    print(HEAD.format(processors=os.cpu_count(), machine=platform.machine(), rounds=given.rounds), end='')
+    for kind in ('noise', 'waves'):
+        print_table(given.binary, kind, given.sizes or [512, 1024, 2048], given.rounds)
 
 
 main()

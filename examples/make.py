@@ -22,6 +22,27 @@ CheckType = 0
 """
 
 
+INSTRUMENT_HEADER = """aBCR-1.0
+; bearing shell 12, upper half
+CreateDate  = 271120261012
+ModDate     = 271120261015
+ManufacID   = Lab 7
+NumProfiles = {profiles}
+NumPoints   = {points}
+Yscale      = 5.0E-006
+Xscale      = 5.0E-006
+Zscale      = 1.0E-009
+Zresolution = -1
+DataType    = 6
+Compression = 0
+CheckType   = 0
+; the optics
+Objective   = 20x
+Aperture    = 0.40
+*
+"""
+
+
 def write_surface(name, maker, scales, code, points, profiles, rows):
     """Writes a surface file: rows of heights, None for a point that was not measured."""
     with open(name, 'w') as out:
@@ -31,9 +52,57 @@ def write_surface(name, maker, scales, code, points, profiles, rows):
         out.write('*\n')
 
 
+def write_as_instrument(name, rows):
+    """Writes a surface file as an instrument may: CRLF, comments, keys in its own order and keys of its own, data in
+    lines of ten, and a trailer."""
+    data = ['BAD' if z is None else str(z) for row in rows for z in row]
+    lines = INSTRUMENT_HEADER.format(points=len(rows[0]), profiles=len(rows)).splitlines()
+    lines += [' '.join(data[k:k + 10]) for k in range(0, len(data), 10)]
+    lines += ['*', 'Measured after running in.', 'Operator: A. N.']
+    with open(name, 'wb') as out:
+        out.write(''.join(line + '\r\n' for line in lines).encode())
+
+
 def profile(_):
     """Three points: two dales and the hill between them."""
     return [[0, 5, 1]]
+
+
+def small(_):
+    """Forty points, few enough to look at each: three dales, of which a pruning keeps two."""
+    return [
+        [30, 28, 24, 27, 31, 33, 30, 29],
+        [26, 18, 15, 22, 29, 27, 21, 24],
+        [22, 12, 9, 19, 30, 25, 14, 20],
+        [25, 16, 11, 20, 28, 24, 15, 22],
+        [29, 24, 10, 26, 27, 17, 16, 28],
+    ]
+
+
+def seal(random):
+    """A turned sealing face: feed marks of 9 points at a slant, and a dent that is no part of the surface."""
+    heights = [[round(180 * math.sin(2 * math.pi * (x - 0.4 * y + 2) / 9) + 8 * y) + random.randint(-4, 4) for x in range(24)] for y in range(9)]
+    for y in range(3, 6):
+        for x in range(12, 16):
+            heights[y][x] -= random.randint(380, 460)
+    return heights
+
+
+def pockets(random):
+    """A wavy bearing shell with four oil pockets, points in their walls that could not be measured, and a grain of
+    dust of two points."""
+    centres = ((6, 4), (17, 5), (11, 11), (21, 12))
+
+    def height(x, y):
+        wave = 60 * math.sin(2 * math.pi * (x + 1) / 15) * math.cos(2 * math.pi * (y + 2) / 13)
+        depth = 420 * sum(math.exp(-((x - a) ** 2 + (y - b) ** 2) / 5) for a, b in centres)
+        z = round(wave - depth) + random.randint(-5, 5)
+        is_wall = any(2.2 < math.hypot(x - a, y - b) < 3 for a, b in centres)
+        return None if is_wall and random.random() < 0.2 else z
+
+    heights = [[height(x, y) for x in range(24)] for y in range(16)]
+    heights[9][3:5] = 1460, 1385
+    return heights
 
 
 def turned(random):
@@ -75,10 +144,11 @@ def plateau(random):
 
 def main():
     folder = pathlib.Path(sys.argv[1] if len(sys.argv) > 1 else pathlib.Path(__file__).parent)
-    for make in (profile, turned, ground, dimples, plateau):
+    for make in (profile, small, turned, ground, dimples, plateau, seal):
         rows = make(random.Random(2026))
-        scales = {'profile': ('1e-6', '1e-6'), 'turned': ('5e-6', '9e-6')}.get(make.__name__, ('2e-6', '2e-6'))
+        scales = {'profile': ('1e-6', '1e-6'), 'small': ('1e-6', '1e-6'), 'turned': ('5e-6', '9e-6')}.get(make.__name__, ('2e-6', '2e-6'))
         write_surface(folder / f'{make.__name__}.sdf', make.__name__, scales, 5, len(rows[0]), len(rows), rows)
+    write_as_instrument(folder / 'pockets.sdf', pockets(random.Random(2026)))
 
 
 if __name__ == '__main__':
