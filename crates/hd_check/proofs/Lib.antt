@@ -1,4 +1,5 @@
-mod Searching
+-- hd_cert, which makes certificates, cites these
+pub mod Searching
 mod Leaks
 mod Verdicts
 mod Across

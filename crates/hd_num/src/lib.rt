@@ -23,4 +23,4 @@ pub use percent::{Percent, percent_less, push_percent, read_percent};
 pub use print::{push_text, push_unsigned, push_whole};
 pub use span::Span;
 pub use whole::{Whole, is_negative, read_count, read_whole, unsigned_part};
-pub use words::split_words;
+pub use words::{first_word, split_words};

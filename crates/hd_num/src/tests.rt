@@ -1,8 +1,8 @@
 // What no clause says: the outcomes that the rules give for words and texts from outside.
 use crate::{
-    Frac, Percent, Whole, leading_digits, next_line, percent_less, push_frac, push_percent,
-    push_text, push_unsigned, push_whole, read_count, read_decimal, read_percent, read_whole,
-    split_words, trim,
+    Frac, Percent, Whole, first_word, leading_digits, next_line, percent_less, push_frac,
+    push_percent, push_text, push_unsigned, push_whole, read_count, read_decimal, read_percent,
+    read_whole, split_words, trim,
 };
 use hd_base::List;
 use std::test::Fail;
@@ -144,6 +144,41 @@ fn words_of_lines(rt: HostRuntime) -> Result<(), Fail> {
     ];
     for (line, words) in &cases {
         assert_eq!(rt; barred_words(&rt, line)?.as_slice(), *words, "at {line:?}");
+    }
+    Ok(())
+}
+
+// The words of a line, each taken from what the one before it leaves, with `|` after it.
+fn barred_first_words(rt: &HostRuntime, line: &[u8]) -> Result<Vec<u8>, Fail> {
+    let mut out = List::new(rt.alloc());
+    let mut rest = line;
+    for _ in 0..=line.len() {
+        let Some((word, left)) = first_word(rest) else {
+            return Ok(out.into_vec());
+        };
+        push_text(&mut out, word)?;
+        push_text(&mut out, b"|")?;
+        rest = left;
+    }
+    Err("more words than bytes".into())
+}
+
+#[test]
+fn first_words_of_lines(rt: HostRuntime) -> Result<(), Fail> {
+    let cases: [(&[u8], &[u8]); 6] = [
+        (b"", b""),
+        (b" \t\r", b""),
+        (b"a", b"a|"),
+        (b"12 7", b"12|7|"),
+        (b"  a\t\tbc \r", b"a|bc|"),
+        (b"\xC2\xA0 \xFF", b"\xC2\xA0|\xFF|"),
+    ];
+    for (line, words) in &cases {
+        assert_eq!(rt;
+            barred_first_words(&rt, line)?.as_slice(),
+            *words,
+            "at {line:?}"
+        );
     }
     Ok(())
 }

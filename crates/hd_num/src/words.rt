@@ -1,5 +1,5 @@
 // The words of a line.
-ghost use Rattle.std.specs.Prelude.{◌≡◌, ◌≤◌, All, IfOk, length, map};
+ghost use Rattle.std.specs.Prelude.{◌≡◌, ◌≤◌, ◌∷◌, [], All, IfOk, MatchOption, length, map};
 ghost use Rattle.hd_num.specs.Lines.{IsPieceEnd, is_blank, words_of};
 ghost use Rattle.hd_num.specs.Span.{IsBefore, IsPart, text_at};
 ghost use Rattle.std.specs.List.{AllPairs};
@@ -27,6 +27,22 @@ pub fn split_words(alloc: Global, line: &[u8]) -> Result<List<Span>, Memory>
         start = end + 1;
     }
     Ok(words)
+}
+
+/// The first word of a line, and the line after it, or None where the line has no word. It takes no
+/// memory.
+pub fn first_word(line: &[u8]) -> Option<(&[u8], &[u8])>
+    ensures { MatchOption result (words_of line.now ≡ []) (λ found. words_of line.now ≡ found.0.now ∷ words_of found.1.now) }
+{
+    let mut start = 0;
+    'pieces: while start < line.len() {
+        let end = word_end(line, start);
+        if start < end {
+            return Some((&line[start..end], &line[(end + 1).min(line.len())..]));
+        }
+        start = end + 1;
+    }
+    None
 }
 
 // The index of the first blank from an index on, or the length of the line.
