@@ -1,5 +1,4 @@
 mod Tops
-mod Searching
 mod Walks
 mod Flooding
 mod Nearest

@@ -6,8 +6,8 @@ use Rattle.std.proofs.lemmas.List.{get_or_append_left, get_or_push, length_push}
 use Rattle.hd_map.specs.declared.types.Pos.{Pos}
 use Rattle.hd_map.specs.Map.{Map, place_of}
 use Rattle.hd_check.specs.Rules.{point_of}
+use Rattle.hd_check.proofs.Searching.{place_found}
 use Rattle.hd_cert.specs.Nearer.{IsFirstNearer, GoesNearer}
-use Rattle.hd_cert.proofs.Searching.{place_found}
 
 -- the first of a rising list that has the property
 pub first_of : (m : Map) (P : Pos → Type 0) (round : List Pos) → AllPairs (λ (a b : Pos). place_of m.size a < place_of m.size b) round → (k : ℕ) → ((i : ℕ) → i < k → P (point_of round i) → ⊥)

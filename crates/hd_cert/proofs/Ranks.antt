@@ -16,10 +16,10 @@ use Rattle.hd_map.proofs.Levels.{Contains-head, Contains-tail, Contains-cases, C
 use Rattle.hd_map.proofs.Points.{same_point, point_at}
 use Rattle.hd_check.specs.declared.types.Certificate.{Certificate}
 use Rattle.hd_check.specs.Rules.{point_of}
+use Rattle.hd_check.proofs.Searching.{place_at, rises_far}
 use Rattle.hd_cert.specs.Marks.{within}
 use Rattle.hd_cert.specs.Routes.{IsRouteOver, IsShownRoute, IsLowStep, IsRouteCut, IsMade}
 use Rattle.hd_cert.specs.Shown.{AreTwoPits, IsPathAt, IsCutAt, IsShownCertificate}
-use Rattle.hd_cert.proofs.Searching.{place_at, rises_far}
 use Rattle.hd_cert.proofs.Shown.{leads_present}
 use Rattle.hd_cert.proofs.Sound.{leads_ranks, route_present}
 use Rattle.hd_cert.proofs.Walks.{path_leads}

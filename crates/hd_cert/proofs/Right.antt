@@ -13,12 +13,12 @@ use Rattle.hd_map.specs.Shown.{IsBelowSaddle, IsReachedBelow}
 use Rattle.hd_map.proofs.Points.{point_at, same_point}
 use Rattle.hd_check.specs.declared.types.Certificate.{Certificate}
 use Rattle.hd_check.specs.Rules.{IsRight}
+use Rattle.hd_check.proofs.Searching.{place_found}
 use Rattle.hd_cert.specs.Marks.{within}
 use Rattle.hd_cert.specs.Routes.{IsRouteOver, IsLowStep, IsRouteCut}
 use Rattle.hd_cert.specs.Shown.{AreTwoPits, IsPathAt, IsCutAt, IsShownCertificate}
 use Rattle.hd_cert.proofs.Determined.{same_places}
 use Rattle.hd_cert.proofs.Ranks.{route_of, all_present, over_route, Contains-map, Contains-rank, rank_place, all_below, low_route}
-use Rattle.hd_cert.proofs.Searching.{place_found}
 use Rattle.hd_cert.proofs.Shown.{leads_present, pit_within}
 use Rattle.hd_cert.proofs.Sound.{leads_ranks, right_of, route_present}
 

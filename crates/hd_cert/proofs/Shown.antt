@@ -11,13 +11,14 @@ use Rattle.hd_map.specs.Neighbour.{Neighbour}
 use Rattle.hd_map.specs.Order.{IsNotAbove}
 use Rattle.hd_map.specs.Path.{Leads, IsTop}
 use Rattle.hd_map.proofs.Levels.{top_of}
+use Rattle.hd_check.specs.Rules.{point_of}
+use Rattle.hd_check.proofs.Searching.{place_found}
 use Rattle.hd_cert.proofs.Tops.{IsOneOf, NoneAbove, one_from, none_from, one_of-not_above}
 use Rattle.hd_map.specs.Rank.{rank, below_by, IsPoint, Near}
 use Rattle.hd_map.specs.Region.{IsPit}
 use Rattle.hd_map.proofs.Points.{same_place, same_point, point_at, place_inside, Near-to}
 use Rattle.hd_map.specs.SideLaws.{below_by-order}
 use Rattle.hd_map.proofs.Sides.{not_above-trans}
-use Rattle.hd_check.specs.Rules.{point_of}
 use Rattle.hd_map.specs.Saddle.{IsSaddle, SaddleIs}
 use Rattle.hd_cert.specs.Steps.{IsOpen, IsWanted, OpenStep, steps_at, AreSteps}
 use Rattle.hd_cert.specs.Marks.{within, AreMarks}
@@ -25,7 +26,6 @@ use Rattle.hd_cert.specs.Nearer.{IsNearer, IsFirstNearer, GoesNearer}
 use Rattle.hd_cert.specs.Listed.{AreListed}
 use Rattle.hd_cert.specs.Routes.{IsRouteOver, IsShownRoute, IsLowStep, IsRouteCut}
 use Rattle.hd_map.specs.Shown.{IsNotAfter}
-use Rattle.hd_cert.proofs.Searching.{place_found}
 use Rattle.hd_cert.proofs.Flooding.{turned, some_of}
 use Rattle.hd_cert.proofs.Walks.{leads_turn, leads_of, path_leads, none_above-listed}
 
