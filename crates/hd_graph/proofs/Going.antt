@@ -1,4 +1,4 @@
--- Going along a line over rises of a kind, with or without the stops that are no pits.
+-- Going along a line over rises of a kind, with or without the stops that do not stay.
 use Rattle.std.proofs.Common.{◌≡◌, ℕ, zero, suc, ◌<◌, ◌≤◌, ◌⊎◌, inl, inr, Bool, true, false, List, [], ◌∷◌, cond, Option, Some, None, refl, ap, subst, arith, slice_get}
 use Rattle.std.specs.Prelude.{Contains, ◌↔◌}
 use Rattle.std.proofs.lemmas.Option.{same_Some}
@@ -6,7 +6,7 @@ use Rattle.hd_map.specs.declared.types.Rank.{Rank}
 use Rattle.hd_map.proofs.Levels.{Contains-head, Contains-tail}
 use Rattle.hd_graph.specs.declared.line.Stop.{Stop}
 use Rattle.hd_graph.specs.Line.{higher_rise}
-use Rattle.hd_graph.specs.Parts.{over, only_pits}
+use Rattle.hd_graph.specs.Parts.{over, only}
 
 module _ (P : Option Rank → Type 0) where
   -- over such rises the low q is reached
@@ -91,14 +91,14 @@ module _ (P : Option Rank → Type 0) where
   to_going (w ∷ ws) zero (suc j) x y less atx aty f = inl (ap (λ (v : Stop). v.low) (same_Some w x atx), to_goes ws j y aty (λ k z le at. f (suc k) z (omega arith) (omega arith) at))
   to_going (w ∷ ws) (suc i) (suc j) x y less atx aty f = inr (to_going ws i j x y (omega arith) atx aty (λ k z lo hi at. f (suc k) z (omega arith) (omega arith) at))
 
--- each stop of the low q is a pit
-abbrev pub IsPitIn : List Stop → Rank → Type 0
-IsPitIn line q = (x : Stop) → Contains line x → x.low ≡ q → x.pit ≡ true
+-- each stop of the low q stays
+abbrev pub StaysIn : (Stop → Bool) → List Stop → Rank → Type 0
+StaysIn stays line q = (x : Stop) → Contains line x → x.low ≡ q → stays x ≡ true
 
-pit_in-tail : (x : Stop) (xs : List Stop) (q : Rank) → IsPitIn (x ∷ xs) q → IsPitIn xs q
-pit_in-tail x xs q h = λ y at e. h y (Contains-tail x y xs at) e
+stays-tail : (stays : Stop → Bool) (x : Stop) (xs : List Stop) (q : Rank) → StaysIn stays (x ∷ xs) q → StaysIn stays xs q
+stays-tail stays x xs q h = λ y at e. h y (Contains-tail x y xs at) e
 
-module _ (below : Rank → Rank → Bool) (P : Option Rank → Type 0) (split : (a b : Option Rank) → P (higher_rise below a b) ↔ (P a × P b)) where
+module _ (below : Rank → Rank → Bool) (stays : Stop → Bool) (P : Option Rank → Type 0) (split : (a b : Option Rank) → P (higher_rise below a b) ↔ (P a × P b)) where
   abbrev Passed : Option (Option Rank) → Type 0
   Passed None = Unit {0}
   Passed (Some g) = P g
@@ -111,39 +111,39 @@ module _ (below : Rank → Rank → Bool) (P : Option Rank → Type 0) (split : 
   from_over None g h = (tt, h)
   from_over (Some a) g h = (split a g).0 h
 
-  goes-short : (c : Option (Option Rank)) (xs : List Stop) (q : Rank) → IsPitIn xs q → Passed c → Goes P xs q → Goes P (only_pits below c xs) q
+  goes-short : (c : Option (Option Rank)) (xs : List Stop) (q : Rank) → StaysIn stays xs q → Passed c → Goes P xs q → Goes P (only below stays c xs) q
   goes-short c [] q pit pc h = h
-  goes-short c (x ∷ xs) q pit pc h = elim (x.pit) as (λ v. x.pit ≡ v → Goes P (cond v (record { low = x.low; pit = x.pit; rise = over below c x.rise } ∷ only_pits below None xs) (only_pits below (Some (over below c x.rise)) xs)) q) [
-    | true ↦ λ e. (to_over c x.rise pc h.0, elim (h.1) [ inl is ↦ inl is | inr later ↦ inr (goes-short None xs q (pit_in-tail x xs q pit) tt later) ])
+  goes-short c (x ∷ xs) q pit pc h = elim (stays x) as (λ v. stays x ≡ v → Goes P (cond v (record { low = x.low; pit = x.pit; rise = over below c x.rise } ∷ only below stays None xs) (only below stays (Some (over below c x.rise)) xs)) q) [
+    | true ↦ λ e. (to_over c x.rise pc h.0, elim (h.1) [ inl is ↦ inl is | inr later ↦ inr (goes-short None xs q (stays-tail stays x xs q pit) tt later) ])
     | false ↦ λ e. elim (h.1) [
       | inl is ↦ absurd (let t = pit x (Contains-head x xs) is in cc)
-      | inr later ↦ goes-short (Some (over below c x.rise)) xs q (pit_in-tail x xs q pit) (to_over c x.rise pc h.0) later
+      | inr later ↦ goes-short (Some (over below c x.rise)) xs q (stays-tail stays x xs q pit) (to_over c x.rise pc h.0) later
     ]
   ] refl
 
-  goes-long : (c : Option (Option Rank)) (xs : List Stop) (q : Rank) → Goes P (only_pits below c xs) q → Passed c × Goes P xs q
+  goes-long : (c : Option (Option Rank)) (xs : List Stop) (q : Rank) → Goes P (only below stays c xs) q → Passed c × Goes P xs q
   goes-long c [] q h = absurd h
-  goes-long c (x ∷ xs) q h = elim (x.pit) as (λ v. Goes P (cond v (record { low = x.low; pit = x.pit; rise = over below c x.rise } ∷ only_pits below None xs) (only_pits below (Some (over below c x.rise)) xs)) q → Passed c × Goes P (x ∷ xs) q) [
+  goes-long c (x ∷ xs) q h = elim (stays x) as (λ v. Goes P (cond v (record { low = x.low; pit = x.pit; rise = over below c x.rise } ∷ only below stays None xs) (only below stays (Some (over below c x.rise)) xs)) q → Passed c × Goes P (x ∷ xs) q) [
     | true ↦ λ k. (let o = from_over c x.rise k.0 in (o.0, (o.1, elim (k.1) [ inl is ↦ inl is | inr later ↦ inr (goes-long None xs q later).1 ])))
     | false ↦ λ k. (let r = goes-long (Some (over below c x.rise)) xs q k in let o = from_over c x.rise r.0 in (o.0, (o.1, inr r.1)))
   ] h
 
-  pub going-short : (c : Option (Option Rank)) (xs : List Stop) (p q : Rank) → IsPitIn xs p → IsPitIn xs q → GoesFrom P xs p q → GoesFrom P (only_pits below c xs) p q
+  pub going-short : (c : Option (Option Rank)) (xs : List Stop) (p q : Rank) → StaysIn stays xs p → StaysIn stays xs q → GoesFrom P xs p q → GoesFrom P (only below stays c xs) p q
   going-short c [] p q pp pq h = h
-  going-short c (x ∷ xs) p q pp pq h = elim (x.pit) as (λ v. x.pit ≡ v → GoesFrom P (cond v (record { low = x.low; pit = x.pit; rise = over below c x.rise } ∷ only_pits below None xs) (only_pits below (Some (over below c x.rise)) xs)) p q) [
+  going-short c (x ∷ xs) p q pp pq h = elim (stays x) as (λ v. stays x ≡ v → GoesFrom P (cond v (record { low = x.low; pit = x.pit; rise = over below c x.rise } ∷ only below stays None xs) (only below stays (Some (over below c x.rise)) xs)) p q) [
     | true ↦ λ e. elim h [
-      | inl now ↦ inl (now.0, goes-short None xs q (pit_in-tail x xs q pq) tt now.1)
-      | inr later ↦ inr (going-short None xs p q (pit_in-tail x xs p pp) (pit_in-tail x xs q pq) later)
+      | inl now ↦ inl (now.0, goes-short None xs q (stays-tail stays x xs q pq) tt now.1)
+      | inr later ↦ inr (going-short None xs p q (stays-tail stays x xs p pp) (stays-tail stays x xs q pq) later)
     ]
     | false ↦ λ e. elim h [
       | inl now ↦ absurd (let t = pp x (Contains-head x xs) now.0 in cc)
-      | inr later ↦ going-short (Some (over below c x.rise)) xs p q (pit_in-tail x xs p pp) (pit_in-tail x xs q pq) later
+      | inr later ↦ going-short (Some (over below c x.rise)) xs p q (stays-tail stays x xs p pp) (stays-tail stays x xs q pq) later
     ]
   ] refl
 
-  pub going-long : (c : Option (Option Rank)) (xs : List Stop) (p q : Rank) → GoesFrom P (only_pits below c xs) p q → GoesFrom P xs p q
+  pub going-long : (c : Option (Option Rank)) (xs : List Stop) (p q : Rank) → GoesFrom P (only below stays c xs) p q → GoesFrom P xs p q
   going-long c [] p q h = h
-  going-long c (x ∷ xs) p q h = elim (x.pit) as (λ v. GoesFrom P (cond v (record { low = x.low; pit = x.pit; rise = over below c x.rise } ∷ only_pits below None xs) (only_pits below (Some (over below c x.rise)) xs)) p q → GoesFrom P (x ∷ xs) p q) [
+  going-long c (x ∷ xs) p q h = elim (stays x) as (λ v. GoesFrom P (cond v (record { low = x.low; pit = x.pit; rise = over below c x.rise } ∷ only below stays None xs) (only below stays (Some (over below c x.rise)) xs)) p q → GoesFrom P (x ∷ xs) p q) [
     | true ↦ λ k. elim k [ inl now ↦ inl (now.0, (goes-long None xs q now.1).1) | inr later ↦ inr (going-long None xs p q later) ]
     | false ↦ λ k. inr (going-long (Some (over below c x.rise)) xs p q k)
   ] h

@@ -1,3 +1,4 @@
+-- hd_prune cites Places, Lows, Rises, Going and Literals
 pub mod Places
 pub mod Steps
 pub mod Unions
@@ -11,6 +12,11 @@ pub mod Keeping
 pub mod Thinned
 pub mod Stops
 pub mod Orders
+pub mod Linked
+pub mod Growing
+pub mod Connected
+pub mod Merging
+pub mod Meeting
 pub mod Lows
 pub mod Highest
 pub mod Stacks
@@ -26,4 +32,5 @@ pub mod PitLines
 pub mod MapTrees
 pub mod Basins
 pub mod Regional
+pub mod Merged
 pub mod Literals

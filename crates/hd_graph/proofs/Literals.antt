@@ -12,15 +12,16 @@ use Rattle.hd_graph.specs.declared.graph.Low.{Low}
 use Rattle.hd_graph.specs.Graph.{IsGraph, IsPassOf, IsLow}
 use Rattle.hd_graph.specs.Literal.{same_rank, has_low, lacks_index, are_different, is_pass, are_passes, is_graph}
 
-first : (a b : Bool) → (a && b) ≡ true → a ≡ true
+-- the parts of a test of two
+pub first : (a b : Bool) → (a && b) ≡ true → a ≡ true
 first true b e = refl
 first false b e = e
 
-second : (a b : Bool) → (a && b) ≡ true → b ≡ true
+pub second : (a b : Bool) → (a && b) ≡ true → b ≡ true
 second true b e = e
 second false b e = absurd cc
 
-is_false : (a : Bool) → not a ≡ true → a ≡ false
+pub is_false : (a : Bool) → not a ≡ true → a ≡ false
 is_false true e = sym e
 is_false false e = refl
 

@@ -9,9 +9,9 @@ use Rattle.hd_map.proofs.Levels.{Contains-head, Contains-tail, Contains-cases}
 use Rattle.hd_map.proofs.Trees.{tree-agrees}
 use Rattle.hd_graph.specs.declared.line.Stop.{Stop}
 use Rattle.hd_graph.specs.Line.{higher_rise}
-use Rattle.hd_graph.specs.Parts.{over, only_pits, lows_of}
+use Rattle.hd_graph.specs.Parts.{over, only_pits, is_flagged, lows_of}
 use Rattle.hd_graph.specs.Tells.{IsPitOn, IsSaddleOn}
-use Rattle.hd_graph.proofs.Going.{GoesFrom, Between, IsPitIn, from_going, to_going, going-short, going-long}
+use Rattle.hd_graph.proofs.Going.{GoesFrom, Between, StaysIn, from_going, to_going, going-short, going-long}
 use Rattle.hd_graph.proofs.Highest.{OnePlace, TellsLevels, IsLowestLevel, line-tells, levels-tell, told-agree}
 use Rattle.hd_graph.proofs.Lows.{IsLowOn, place_of_low, low_of_place}
 use Rattle.hd_graph.proofs.Places.{less_same_more, place_of, at_place}
@@ -60,7 +60,7 @@ module _ (below : Rank → Rank → Bool) (order : IsStrictOrder below) (line : 
   any-splits a b = (λ h. (tt, tt), λ h. tt)
 
   -- the lows of the short line are pits
-  pit_in : (i : ℕ) (x : Stop) → slice_get short i ≡ Some x → IsPitIn line x.low
+  pit_in : (i : ℕ) (x : Stop) → slice_get short i ≡ Some x → StaysIn is_flagged line x.low
   pit_in i x at y aty e =
       let r = stop_of below None line i x at in
       let k = place_of line y aty in
@@ -70,7 +70,7 @@ module _ (below : Rank → Rank → Bool) (order : IsStrictOrder below) (line : 
 
   -- in the short line the order is that of the long one
   far_apart : (i j : ℕ) (x y : Stop) → i < j → slice_get short i ≡ Some x → slice_get short j ≡ Some y → Between Any line x.low y.low
-  far_apart i j x y less atx aty = from_going Any line x.low y.low (going-long below Any any-splits None line x.low y.low (to_going Any short i j x y less atx aty (λ k z lo hi at. tt)))
+  far_apart i j x y less atx aty = from_going Any line x.low y.low (going-long below is_flagged Any any-splits None line x.low y.low (to_going Any short i j x y less atx aty (λ k z lo hi at. tt)))
 
   pub once-short : OnePlace short
   once-short i j x y atx aty e = elim (less_same_more i j) [
@@ -92,12 +92,12 @@ module _ (below : Rank → Rank → Bool) (order : IsStrictOrder below) (line : 
               let joined : Joined t u.low v.low = subst (λ p. Joined t p v.low) (sym far.is_p) (subst (λ q. Joined t x.low q) (sym far.is_q) m) in
               let long : GoesFrom (RiseWithin below t) line x.low y.low = subst (λ p. GoesFrom (RiseWithin below t) line p y.low) far.is_p (subst (λ q. GoesFrom (RiseWithin below t) line u.low q) far.is_q
               (to_going (RiseWithin below t) line far.i far.j u v far.before far.at_i far.at_j (here.0 joined))) in
-              let b = from_going (RiseWithin below t) short x.low y.low (going-short below (RiseWithin below t) (within-splits t) None line x.low y.low (pit_in i x atx) (pit_in j y aty) long) in
+              let b = from_going (RiseWithin below t) short x.low y.low (going-short below is_flagged (RiseWithin below t) (within-splits t) None line x.low y.low (pit_in i x atx) (pit_in j y aty) long) in
               let ei : b.i ≡ i = once-short b.i i b.x x b.at_i atx b.is_p in
               let ej : b.j ≡ j = once-short b.j j b.y y b.at_j aty b.is_q in
               b.all k z (omega arith) (omega arith) at,
           λ h.
-              let b = from_going (RiseWithin below t) line x.low y.low (going-long below (RiseWithin below t) (within-splits t) None line x.low y.low (to_going (RiseWithin below t) short i j x y less atx aty h)) in
+              let b = from_going (RiseWithin below t) line x.low y.low (going-long below is_flagged (RiseWithin below t) (within-splits t) None line x.low y.low (to_going (RiseWithin below t) short i j x y less atx aty h)) in
               let w : Stop = b.x in
               let z : Stop = b.y in
               subst (λ p. Joined t p y.low) b.is_p (subst (λ q. Joined t w.low q) b.is_q ((tells b.i b.j w z t b.before b.at_i b.at_j).1 b.all)),

@@ -1,6 +1,7 @@
 -- Classes by parents: what a parent further on and a parent for a least number do.
 use Rattle.std.proofs.Common.{◌≡◌, ◌≢◌, ◌⊎◌, ℕ, ◌≤◌, inl, inr, List, Some, refl, sym, ◌∙◌, ap, subst, arith, slice_get, set}
 use Rattle.std.proofs.lemmas.Option.{same_Some}
+use Rattle.std.specs.Prelude.{◌↔◌}
 use Rattle.hd_map.proofs.Levels.{Reach, here, step, reach-trans, reach-sym}
 use Rattle.hd_graph.specs.Classes.{AreFalling, AreNext, AreOneClass, AreJoined, Joins}
 use Rattle.hd_graph.proofs.Places.{get-set_same, get-set_other, same_number}
@@ -15,6 +16,13 @@ class-sym parents x y h = reach-sym (AreNext parents) (next-both parents) h
 
 pub class-trans : (parents : List ℕ) (x y z : ℕ) → AreOneClass parents x y → AreOneClass parents y z → AreOneClass parents x z
 class-trans parents x y z h k = reach-trans (AreNext parents) h k
+
+-- the classes are the same ones
+abbrev pub AreSame : List ℕ → List ℕ → Type 0
+AreSame old new = (x y : ℕ) → AreOneClass new x y ↔ AreOneClass old x y
+
+pub same-trans : (old mid new : List ℕ) → AreSame old mid → AreSame mid new → AreSame old new
+same-trans old mid new first second x y = (λ h. (first x y).0 ((second x y).0 h), λ h. (second x y).1 ((first x y).1 h))
 
 -- each new parent is in one of the old classes with its child
 abbrev pub Refines : List ℕ → List ℕ → Type 0
@@ -70,6 +78,11 @@ refines-least parents x y at u v h = elim (same_number x u) [
   | inr other ↦ step (inl (get-set_other parents x u y other ∙ h)) here
 ]
 
+pub joined-both : (old : List ℕ) (a b p q : ℕ) → AreJoined old a b p q → AreJoined old a b q p
+joined-both old a b p q (inl h) = inl (class-sym old p q h)
+joined-both old a b p q (inr (inl h)) = inr (inr (h.1, h.0))
+joined-both old a b p q (inr (inr h)) = inr (inl (h.1, h.0))
+
 -- a class has one least number, to which the parents lead
 abbrev IsUnder : List ℕ → ℕ → ℕ → Type 0
 IsUnder parents x y = slice_get parents x ≡ Some y
@@ -91,60 +104,93 @@ at_least parents least (step {a} {b} {c} e q) =
 pub least-same : (parents : List ℕ) (x y : ℕ) → slice_get parents x ≡ Some x → slice_get parents y ≡ Some y → AreOneClass parents x y → x ≡ y
 least-same parents x y least_x least_y h = sym (at_least parents least_y (to_least parents x least_x h here))
 
--- of the least numbers of the classes of a and b one gets the other as its parent
-module _ (old parents : List ℕ) (so : Refines old parents) (back : Refines parents old) (a b first second : ℕ) (one : AreOneClass old a first) (other : AreOneClass old b second)
-    (least_first : slice_get parents first ≡ Some first) (least_second : slice_get parents second ≡ Some second) (x y : ℕ) (pair : ((x ≡ first) × (y ≡ second)) ⊎ ((x ≡ second) × (y ≡ first))) where
-  least : slice_get parents x ≡ Some x
-  least = elim pair [
+-- of two least numbers one gets the other as its parent
+module _ (parents : List ℕ) (first second : ℕ) (least_first : slice_get parents first ≡ Some first) (least_second : slice_get parents second ≡ Some second)
+    (x y : ℕ) (pair : ((x ≡ first) × (y ≡ second)) ⊎ ((x ≡ second) × (y ≡ first))) where
+  pub least-number : slice_get parents x ≡ Some x
+  least-number = elim pair [
     | inl e ↦ subst (λ k. slice_get parents k ≡ Some k) (sym e.0) least_first
     | inr e ↦ subst (λ k. slice_get parents k ≡ Some k) (sym e.0) least_second
   ]
 
-  joined_both : (p q : ℕ) → AreJoined old a b p q → AreJoined old a b q p
-  joined_both p q (inl h) = inl (class-sym old p q h)
-  joined_both p q (inr (inl h)) = inr (inr (h.1, h.0))
-  joined_both p q (inr (inr h)) = inr (inl (h.1, h.0))
+  joined : Reach (AreJoined parents first second) x y
+  joined = elim pair [ inl e ↦ rw (e.0, e.1) (step (inr (inl (refl, refl))) here) | inr e ↦ rw (e.0, e.1) (step (inr (inr (refl, refl))) here) ]
 
-  -- by way of a and b
-  way : Reach (AreJoined old a b) first second
-  way = step (inl (class-sym old a first one)) (step (inr (inl (refl, refl))) (step (inl other) here))
-
-  joined : Reach (AreJoined old a b) x y
-  joined = elim pair [
-    | inl e ↦ rw (e.0, e.1) way
-    | inr e ↦ rw (e.0, e.1) (reach-sym (AreJoined old a b) joined_both way)
-  ]
-
-  parent : (p q : ℕ) → slice_get (set parents x y) p ≡ Some q → Reach (AreJoined old a b) p q
+  parent : (p q : ℕ) → slice_get (set parents x y) p ≡ Some q → Reach (AreJoined parents first second) p q
   parent p q e = elim (same_number x p) [
     | inl same ↦ (
-        let is : y ≡ q = same_Some y q (sym (get-set_same parents x y x least) ∙ ap (λ k. slice_get (set parents x y) k) same ∙ e) in
-        subst (λ k. Reach (AreJoined old a b) k q) same (subst (λ k. Reach (AreJoined old a b) x k) is joined))
-    | inr apart ↦ step (inl (so p q (sym (get-set_other parents x p y apart) ∙ e))) here
+        let is : y ≡ q = same_Some y q (sym (get-set_same parents x y x least-number) ∙ ap (λ k. slice_get (set parents x y) k) same ∙ e) in
+        subst (λ k. Reach (AreJoined parents first second) k q) same (subst (λ k. Reach (AreJoined parents first second) x k) is joined))
+    | inr apart ↦ step (inl (refines-same parents p q (sym (get-set_other parents x p y apart) ∙ e))) here
   ]
 
-  edge : (p q : ℕ) → AreNext (set parents x y) p q → Reach (AreJoined old a b) p q
+  edge : (p q : ℕ) → AreNext (set parents x y) p q → Reach (AreJoined parents first second) p q
   edge p q (inl e) = parent p q e
-  edge p q (inr e) = reach-sym (AreJoined old a b) joined_both (parent q p e)
+  edge p q (inr e) = reach-sym (AreJoined parents first second) (joined-both parents first second) (parent q p e)
 
-  still : (p q : ℕ) → AreOneClass old p q → AreOneClass (set parents x y) p q
-  still p q h = refines-within (set parents x y) parents (refines-least parents x y least) p q (refines-within parents old back p q h)
+  still : (p q : ℕ) → AreOneClass parents p q → AreOneClass (set parents x y) p q
+  still p q h = refines-within (set parents x y) parents (refines-least parents x y least-number) p q h
 
   linked : AreOneClass (set parents x y) first second
   linked =
-      let up : AreOneClass (set parents x y) x y = step (inl (get-set_same parents x y x least)) here in
+      let up : AreOneClass (set parents x y) x y = step (inl (get-set_same parents x y x least-number)) here in
       elim pair [
         | inl e ↦ subst (λ k. AreOneClass (set parents x y) k second) e.0 (subst (λ k. AreOneClass (set parents x y) x k) e.1 up)
         | inr e ↦ class-sym (set parents x y) second first (subst (λ k. AreOneClass (set parents x y) k first) e.0 (subst (λ k. AreOneClass (set parents x y) x k) e.1 up))
       ]
 
-  together : AreOneClass (set parents x y) a b
-  together = class-trans (set parents x y) a first b (still a first one) (class-trans (set parents x y) first second b linked (class-sym (set parents x y) b second (still b second other)))
-
-  stays_joined : (p q : ℕ) → AreJoined old a b p q → AreOneClass (set parents x y) p q
+  stays_joined : (p q : ℕ) → AreJoined parents first second p q → AreOneClass (set parents x y) p q
   stays_joined p q (inl h) = still p q h
-  stays_joined p q (inr (inl e)) = subst (λ k. AreOneClass (set parents x y) k q) (sym e.0) (subst (λ k. AreOneClass (set parents x y) a k) (sym e.1) together)
-  stays_joined p q (inr (inr e)) = subst (λ k. AreOneClass (set parents x y) k q) (sym e.0) (subst (λ k. AreOneClass (set parents x y) b k) (sym e.1) (class-sym (set parents x y) a b together))
+  stays_joined p q (inr (inl e)) = subst (λ k. AreOneClass (set parents x y) k q) (sym e.0) (subst (λ k. AreOneClass (set parents x y) first k) (sym e.1) linked)
+  stays_joined p q (inr (inr e)) = subst (λ k. AreOneClass (set parents x y) k q) (sym e.0) (subst (λ k. AreOneClass (set parents x y) second k) (sym e.1) (class-sym (set parents x y) first second linked))
 
-  pub joins-set : Joins old a b (set parents x y)
-  joins-set u v = (λ h. reach-by (AreNext (set parents x y)) (AreJoined old a b) edge h, λ h. reach-by (AreJoined old a b) (AreNext (set parents x y)) stays_joined h)
+  pub joins-set : Joins parents first second (set parents x y)
+  joins-set u v = (λ h. reach-by (AreNext (set parents x y)) (AreJoined parents first second) edge h, λ h. reach-by (AreJoined parents first second) (AreNext (set parents x y)) stays_joined h)
+
+  -- both are in the class of the parent, which is its least number
+  pub one-set : AreOneClass (set parents x y) first y
+  one-set =
+      let up : AreOneClass (set parents x y) x y = step (inl (get-set_same parents x y x least-number)) here in
+      elim pair [
+        | inl e ↦ subst (λ k. AreOneClass (set parents x y) k y) e.0 up
+        | inr e ↦ subst (λ k. AreOneClass (set parents x y) first k) (sym e.1) here
+      ]
+
+  pub least-set : slice_get (set parents x y) y ≡ Some y
+  least-set = elim (same_number x y) [
+    | inl same ↦ subst (λ k. slice_get (set parents x y) k ≡ Some y) same (get-set_same parents x y x least-number)
+    | inr apart ↦ get-set_other parents x y y apart ∙ elim pair [
+      | inl e ↦ subst (λ k. slice_get parents k ≡ Some k) (sym e.1) least_second
+      | inr e ↦ subst (λ k. slice_get parents k ≡ Some k) (sym e.1) least_first
+    ]
+  ]
+
+  -- each least number was one before
+  pub leasts-set : (k : ℕ) → slice_get (set parents x y) k ≡ Some k → slice_get parents k ≡ Some k
+  leasts-set k h = elim (same_number x k) [
+    | inl same ↦ subst (λ i. slice_get parents i ≡ Some i) same least-number
+    | inr apart ↦ sym (get-set_other parents x k y apart) ∙ h
+  ]
+
+-- other parents of the same classes, and the least numbers of those that are put together
+module _ (old parents new : List ℕ) (a b first second : ℕ) (same : AreSame old parents) (one : AreOneClass old a first) (other : AreOneClass old b second) where
+  forth : (p q : ℕ) → AreJoined parents first second p q → Reach (AreJoined old a b) p q
+  forth p q h = elim h [
+    | inl k ↦ step (inl ((same p q).0 k)) here
+    | inr k ↦ elim k [ inl e ↦ rw (e.0, e.1) way | inr e ↦ rw (e.0, e.1) (reach-sym (AreJoined old a b) (joined-both old a b) way) ]
+  ]
+    where
+      way : Reach (AreJoined old a b) first second
+      way = step (inl (class-sym old a first one)) (step (inr (inl (refl, refl))) (step (inl other) here))
+
+  back : (p q : ℕ) → AreJoined old a b p q → Reach (AreJoined parents first second) p q
+  back p q h = elim h [
+    | inl k ↦ step (inl ((same p q).1 k)) here
+    | inr k ↦ elim k [ inl e ↦ rw (e.0, e.1) way | inr e ↦ rw (e.0, e.1) (reach-sym (AreJoined parents first second) (joined-both parents first second) way) ]
+  ]
+    where
+      way : Reach (AreJoined parents first second) a b
+      way = step (inl ((same a first).1 one)) (step (inr (inl (refl, refl))) (step (inl ((same second b).1 (class-sym old b second other))) here))
+
+  pub joins-as : Joins parents first second new → Joins old a b new
+  joins-as joins x y = (λ h. reach-by (AreJoined parents first second) (AreJoined old a b) forth ((joins x y).0 h), λ h. (joins x y).1 (reach-by (AreJoined old a b) (AreJoined parents first second) back h))

@@ -6,6 +6,7 @@ pub mod Basins
 pub mod Links
 pub mod Classes
 pub mod Thinning
+pub mod Merges
 pub mod Candidates
 pub mod Ends
 pub mod Flood

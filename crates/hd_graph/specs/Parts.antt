@@ -111,10 +111,18 @@ abbrev pub over : (Rank → Rank → Bool) → Option (Option Rank) → Option R
 over below None rise = rise
 over below (Some passed) rise = higher_rise below passed rise
 
+-- the stops that stay, each with the highest rise since the one before it
+abbrev pub only : (Rank → Rank → Bool) → (Stop → Bool) → Option (Option Rank) → List Stop → List Stop
+only below stays passed [] = []
+only below stays passed (x ∷ xs) = if stays x then (record { low = x.low; pit = x.pit; rise = over below passed x.rise } ∷ only below stays None xs) else only below stays (Some (over below passed x.rise)) xs
+
+-- whether a stop is flagged as a pit
+abbrev pub is_flagged : Stop → Bool
+is_flagged x = x.pit
+
 -- the pits alone, each with the highest rise since the pit before it
 abbrev pub only_pits : (Rank → Rank → Bool) → Option (Option Rank) → List Stop → List Stop
-only_pits below passed [] = []
-only_pits below passed (x ∷ xs) = if x.pit then (record { low = x.low; pit = x.pit; rise = over below passed x.rise } ∷ only_pits below None xs) else only_pits below (Some (over below passed x.rise)) xs
+only_pits below passed line = only below is_flagged passed line
 
 -- the part is in one of the joins
 abbrev pub IsListed : List Joining → Part → Type 0

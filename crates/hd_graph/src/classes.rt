@@ -45,14 +45,31 @@ impl Classes {
         if first == second {
             return false;
         }
-        let least = first.min(second);
-        let greater = first.max(second);
-        self.parents[greater as usize] = least;
+        self.unite(first, second);
         true
     }
 
-    // The least number of the class. Those on the way get parents further on, so that later ways are short.
-    fn least_of(&mut self, number: u32) -> u32
+    /// Puts two classes together, which are given by their least numbers. The answer is the least number of both.
+    pub fn unite(&mut self, first: u32, second: u32) -> u32
+        requires falling { AreFalling self.old.parents.items }
+        requires first { slice_get self.old.parents.items first ≡ Some first }
+        requires second { slice_get self.old.parents.items second ≡ Some second }
+        ensures falling { AreFalling self.new.parents.items }
+        ensures long { length self.new.parents.items ≡ length self.old.parents.items }
+        ensures joins { Joins self.old.parents.items first second self.new.parents.items }
+        ensures one { AreOneClass self.new.parents.items first result }
+        ensures least { slice_get self.new.parents.items result ≡ Some result }
+        ensures leasts { (x : ℕ) → slice_get self.new.parents.items x ≡ Some x
+            → slice_get self.old.parents.items x ≡ Some x }
+    {
+        let least = first.min(second);
+        let greater = first.max(second);
+        self.parents[greater as usize] = least;
+        least
+    }
+
+    /// The least number of a class. Those on the way get parents further on, so that later ways are short.
+    pub fn least_of(&mut self, number: u32) -> u32
         requires falling { AreFalling self.old.parents.items }
         requires inside { number < length self.old.parents.items }
         ensures falling { AreFalling self.new.parents.items }
@@ -60,8 +77,8 @@ impl Classes {
         ensures inside { result < length self.new.parents.items }
         ensures one { AreOneClass self.old.parents.items number result }
         ensures least { slice_get self.new.parents.items result ≡ Some result }
-        ensures stays { (x : ℕ) → slice_get self.old.parents.items x ≡ Some x
-            → slice_get self.new.parents.items x ≡ Some x }
+        ensures leasts { (x : ℕ) → slice_get self.new.parents.items x ≡ Some x
+            ↔ slice_get self.old.parents.items x ≡ Some x }
         ensures same { (x y : ℕ) → AreOneClass self.new.parents.items x y ↔ AreOneClass self.old.parents.items x y }
     {
         let mut least = number;

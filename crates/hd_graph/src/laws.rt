@@ -11,9 +11,11 @@ ghost use Rattle.hd_map.specs.Region.{AreRegions};
 ghost use Rattle.hd_map.specs.Saddle.{SaddleIs};
 ghost use Rattle.hd_graph.specs.declared.graph.Low.{Low};
 ghost use Rattle.hd_graph.specs.declared.line.Stop.{Stop};
+ghost use Rattle.hd_graph.specs.declared.merges.Merge.{Merge};
 ghost use Rattle.hd_graph.specs.Basins.{AreBasins, AreLowsOf, ArePitsOf};
 ghost use Rattle.hd_graph.specs.Graph.{IsGraph};
 ghost use Rattle.hd_graph.specs.Line.{IsFloodLine};
+ghost use Rattle.hd_graph.specs.Merges.{AreMerges};
 ghost use Rattle.hd_graph.specs.Tells.{TellsSaddles};
 ghost use Rattle.hd_graph.specs.Walks.{LeastHighestIs};
 
@@ -54,4 +56,13 @@ pub fn flood_line_tells_the_saddles()
         → AreBasins m side (IsLabelled m labels) → AreCrossingsUnder m side labels passes
         → AreLowsOf m side (IsLabelled m labels) lows
         → IsFloodLine (below_by side) lows passes line → TellsSaddles m side line }
+{}
+
+/// The merges of the lows of such a graph are at the saddles of these lows.
+pub fn merges_tell_the_saddles()
+    ensures { (m : Map) (side : SideName) (labels : List (Option ℕ)) (lows : List Low) (passes : List Pass) (merges : List Merge)
+        → AreBasins m side (IsLabelled m labels) → AreCrossingsUnder m side labels passes
+        → AreLowsOf m side (IsLabelled m labels) lows
+        → AreMerges (below_by side) (LeastHighestIs (below_by side) passes) lows merges
+        → AreMerges (below_by side) (SaddleIs m side) lows merges }
 {}

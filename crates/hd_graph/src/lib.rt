@@ -1,5 +1,5 @@
-//! The least highest pass between two lows of a graph, over all walks, and the change tree of those
-//! lows that are pits.
+//! The least highest pass between two lows of a graph, over all walks, the change tree of those lows
+//! that are pits, and the merges of lows as the water rises.
 #![tactic(auto)]
 
 mod candidate;
@@ -9,6 +9,7 @@ mod graph;
 mod laws;
 mod line;
 mod links;
+mod merges;
 mod parts;
 #[cfg(test)]
 mod tests;
@@ -19,8 +20,9 @@ mod ways;
 pub use flooding::flood;
 pub use graph::{Graph, Low};
 pub use laws::{
-    flood_line_tells_the_saddles, least_highest_pass_is_the_saddle, passes_are_crossings,
-    passes_of_basins_are_a_graph, regions_are_basins,
+    flood_line_tells_the_saddles, least_highest_pass_is_the_saddle, merges_tell_the_saddles,
+    passes_are_crossings, passes_of_basins_are_a_graph, regions_are_basins,
 };
 pub use line::{FloodLine, Stop};
+pub use merges::{Merge, merges_of};
 pub use trees::{ChangeTree, Join, tree};

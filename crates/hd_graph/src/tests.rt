@@ -1,10 +1,10 @@
-// Graphs that are written down: their trees as the saddles and lowest pits by index, and the least
-// highest passes between their stops.
+// Graphs that are written down: their trees as the saddles and lowest pits by index, the least highest
+// passes between their stops, and their merges.
 ghost use Rattle.std.specs.Prelude.{◌≡◌, ◌<◌, length, IsTrue};
 ghost use Rattle.hd_map.specs.Rank.{below_by};
 ghost use Rattle.hd_graph.specs.Literal.{is_graph};
 
-use crate::{FloodLine, Graph, Low, flood, tree};
+use crate::{FloodLine, Graph, Low, Merge, flood, merges_of, tree};
 use hd_base::{List, Memory};
 use hd_map::{Down, Pass, Rank, Side, Up};
 use std::alloc::Global;
@@ -37,15 +37,33 @@ macro_rules! pass {
     };
 }
 
-// The flood line of these lows and passes.
-fn line_of<S: Side>(alloc: Global, lows: &[Low], passes: &[Pass]) -> Result<FloodLine<S>, Memory>
+macro_rules! merge {
+    ($low:expr, $into:expr, $at:expr) => {
+        Merge {
+            low: $low,
+            into: $into,
+            at: $at,
+        }
+    };
+}
+
+// The graph of these lows and passes.
+fn graph_of<S: Side>(alloc: Global, lows: &[Low], passes: &[Pass]) -> Result<Graph<S>, Memory>
     requires { IsTrue (is_graph (below_by S.NAME) lows.now passes.now) }
 {
     let mut all_lows = List::new(alloc);
     all_lows.extend_from_slice(lows)?;
     let mut all_passes = List::new(alloc);
     all_passes.extend_from_slice(passes)?;
-    flood(alloc, &Graph::<S>::new(all_lows, all_passes))
+    Ok(Graph::new(all_lows, all_passes))
+}
+
+// Its flood line.
+fn line_of<S: Side>(alloc: Global, lows: &[Low], passes: &[Pass]) -> Result<FloodLine<S>, Memory>
+    requires { IsTrue (is_graph (below_by S.NAME) lows.now passes.now) }
+{
+    let graph = graph_of::<S>(alloc, lows, passes)?;
+    flood(alloc, &graph)
 }
 
 // The joins of the change tree: for each part the index of its saddle and of its lowest pit.
@@ -147,4 +165,33 @@ fn one_low_and_none(rt: HostRuntime) {
     assert_eq!(rt; joins.len(), 0);
     let none = line_of::<Up>(rt.alloc(), &[], &[]).expect(&rt, "memory");
     assert_eq!(rt; none.stops().len(), 0);
+}
+
+/// Five lows. Of two passes of one height that of the lesser index comes first; a higher pass between lows
+/// that lower ones have joined makes no merge; and what has run together is known by its lowest low.
+#[test]
+fn merges_of_five_lows(rt: HostRuntime) {
+    let lows = [
+        pit!(3, 0),
+        pit!(1, 5),
+        pit!(4, 10),
+        pit!(2, 15),
+        pit!(0, 20),
+    ];
+    let passes = [
+        pass!(rank!(2, 15), rank!(0, 20), rank!(9, 17)),
+        pass!(rank!(3, 0), rank!(4, 10), rank!(8, 8)),
+        pass!(rank!(4, 10), rank!(2, 15), rank!(6, 12)),
+        pass!(rank!(1, 5), rank!(4, 10), rank!(7, 7)),
+        pass!(rank!(1, 5), rank!(3, 0), rank!(6, 3)),
+    ];
+    let graph = graph_of::<Down>(rt.alloc(), &lows, &passes).expect(&rt, "memory");
+    let found = merges_of(rt.alloc(), &graph).expect(&rt, "memory");
+    let expected = [
+        merge!(0, 1, rank!(6, 3)),
+        merge!(2, 3, rank!(6, 12)),
+        merge!(3, 1, rank!(7, 7)),
+        merge!(1, 4, rank!(9, 17)),
+    ];
+    assert!(rt; found.as_slice() == expected.as_slice());
 }

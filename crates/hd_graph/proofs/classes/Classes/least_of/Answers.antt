@@ -1,8 +1,8 @@
-use Rattle.std.proofs.Common.{◌≡◌, ◌≢◌, ◌≤◌, ◌∙◌, refl, sym, ap, arith, List, ℕ, slice_get, set, Some}
+use Rattle.std.proofs.Common.{◌≡◌, ◌≢◌, ◌≤◌, ◌∙◌, inl, inr, refl, sym, ap, arith, List, ℕ, slice_get, set, Some}
 use Rattle.std.proofs.lemmas.List.{length-set}
 use Rattle.std.proofs.lemmas.Option.{same_Some}
 use Rattle.hd_map.proofs.Levels.{here}
-use Rattle.hd_graph.proofs.Places.{get-from_read, get-set_other}
+use Rattle.hd_graph.proofs.Places.{get-from_read, get-set_same, get-set_other, same_number}
 use Rattle.hd_graph.proofs.Unions.{class-trans, refines-further, refines-same, refines-set, refines-within, falling-set}
 use Rattle.hd_graph.proofs.classes.Classes.least_of.Goals as goal
 
@@ -14,7 +14,7 @@ loop-least-init c = record {
   one = here;
   so = refines-same c.args.self.now.parents.items;
   back = refines-same c.args.self.now.parents.items;
-  stays = λ x h. h;
+  leasts = λ x. (λ h. h, λ h. h);
 }
 
 pub index-next-requires : goal.index-next-requires
@@ -54,6 +54,7 @@ loop-least-preserved c =
     let tested : slice_get parents least ≡ Some c.index.result.now = get-from_read parents least _ _ inside (sym c.index.ensures) in
     let is : c.index.result.now ≡ parent = same_Some c.index.result.now parent (sym tested ∙ at) in
     let apart : parent ≢ least = λ e. (omega (arith, is, e, c.loop-least-test.true)) in
+    let below : next ≢ least = λ e. apart (omega (arith, e, first, second)) in
     let further = class-trans old least parent next (inv.so least parent at) (inv.so parent next at_parent) in
     record {
       inside = omega (arith, same, less, inside);
@@ -62,7 +63,15 @@ loop-least-preserved c =
       one = class-trans old c.args.number least next inv.one further;
       so = refines-set old parents inv.so inv.falling least next parent at further;
       back = λ x y h. refines-within (set parents least next) parents (refines-further parents least parent next at at_parent apart) x y (inv.back x y h);
-      stays = λ x h. get-set_other parents least x next (λ e. apart (same_Some parent least (sym at ∙ ap (λ k. slice_get parents k) e ∙ inv.stays x h ∙ ap Some (sym e)))) ∙ inv.stays x h;
+      leasts = λ x. (
+        λ h. elim (same_number least x) [
+          | inl e ↦ absurd (below (same_Some next least (sym (get-set_same parents least next parent at) ∙ ap (λ k. slice_get (set parents least next) k) e ∙ h ∙ ap Some (sym e))))
+          | inr ne ↦ (inv.leasts x).0 (sym (get-set_other parents least x next ne) ∙ h)
+        ],
+        λ h.
+            let was : slice_get parents x ≡ Some x = (inv.leasts x).1 h in
+            get-set_other parents least x next (λ e. apart (same_Some parent least (sym at ∙ ap (λ k. slice_get parents k) e ∙ was ∙ ap Some (sym e)))) ∙ was,
+      );
     }
 
 pub returns-clause-least : goal.returns-clause-least

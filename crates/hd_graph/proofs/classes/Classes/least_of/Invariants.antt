@@ -1,4 +1,5 @@
 use Rattle.std.proofs.Common.{◌≡◌, ◌<◌, ℕ, length, slice_get, Some}
+use Rattle.std.specs.Prelude.{◌↔◌}
 use Rattle.hd_graph.specs.Classes.{AreFalling, AreOneClass}
 use Rattle.hd_graph.proofs.Unions.{Refines}
 use Rattle.hd_graph.proofs.classes.Classes.least_of.Given as goal
@@ -11,7 +12,7 @@ invariant-loop-least l = record {
   one : AreOneClass l.fn.self.parents.items l.number l.least;
   so : Refines l.fn.self.parents.items l.self.parents.items;
   back : Refines l.self.parents.items l.fn.self.parents.items;
-  stays : (x : ℕ) → slice_get l.fn.self.parents.items x ≡ Some x → slice_get l.self.parents.items x ≡ Some x;
+  leasts : (x : ℕ) → slice_get l.self.parents.items x ≡ Some x ↔ slice_get l.fn.self.parents.items x ≡ Some x;
 }
 
 abbrev pub decreases-loop-least : goal.decreases-loop-least
