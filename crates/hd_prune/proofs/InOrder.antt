@@ -14,11 +14,11 @@ use Rattle.hd_map.specs.declared.types.Rank.{Rank}
 use Rattle.hd_map.specs.Map.{Map}
 use Rattle.hd_map.specs.Order.{IsStrictOrder}
 use Rattle.hd_map.specs.Rank.{IsPoint}
+use Rattle.hd_graph.proofs.Places.{one_place, pairs_from_places}
 use Rattle.hd_prune.specs.declared.line.PitStop.{PitStop}
 use Rattle.hd_prune.specs.declared.step.Owned.{Owned}
 use Rattle.hd_prune.specs.Line.{pits_of}
 use Rattle.hd_prune.proofs.Links.{one_point}
-use Rattle.hd_prune.proofs.Places.{one_place, pairs_from_places}
 use Rattle.hd_prune.proofs.Ordered.{same_test, same_test-decides, same_test-flips}
 use Rattle.hd_prune.specs.Pruned.{AreInOrder, index_less, owned_by}
 

@@ -4,14 +4,14 @@ use Rattle.std.specs.Prelude.{Contains, AllPairs, ◌↔◌}
 use Rattle.std.proofs.lemmas.Option.{slice_get_within, same_Some, none-some}
 use Rattle.hd_map.specs.declared.types.Rank.{Rank}
 use Rattle.hd_map.specs.Order.{IsNotAbove, IsStrictOrder}
+use Rattle.hd_graph.proofs.Places.{item_at, less_same_more, place_of, one_place}
+use Rattle.hd_graph.proofs.Rises.{slice_get-drop}
 use Rattle.hd_prune.specs.declared.line.PitStop.{PitStop}
 use Rattle.hd_prune.specs.declared.step.Kept.{Kept}
 use Rattle.hd_prune.specs.Kept.{kept_along}
 use Rattle.hd_prune.specs.Levels.{IsNearestSaddle}
 use Rattle.hd_prune.specs.Line.{lower, GapWithin, first_gap, pits_of, TellsLevels}
-use Rattle.hd_prune.proofs.Bounds.{item_at, slice_get-drop, place_of_pit, pit_of_place, lower-within, within-lower}
-use Rattle.hd_prune.proofs.Nearest.{less_same_more}
-use Rattle.hd_prune.proofs.Places.{place_of, one_place}
+use Rattle.hd_prune.proofs.Bounds.{place_of_pit, pit_of_place, lower-within, within-lower}
 
 -- the nearest saddle by levels, and none where a pit is joined to no other kept one
 abbrev pub NearestIs : {V : Type 0} → (V → V → Bool) → (V → V → V → Type 0) → List V → V → Option V → Type 0

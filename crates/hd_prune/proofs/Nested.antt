@@ -60,7 +60,7 @@ abbrev steps : List Leaving → List (Step Rank)
 steps xs = map {A = Leaving} {B = Step Rank} (λ x. record { pit = x.pit; saddle = x.saddle }) xs
 
 module _ (m : Map) (whole : IsMap m) (side : SideName) (thousandths : ℕ) (sz : ℤ) (pits : List Rank) (is_pit : (p : Rank) → Contains pits p ↔ IsPit m side p) where
-  prunable : HaveSaddles m whole side pits → IsPrunable (below_by side) (JoinedBy m side) (local_on side) (goes thousandths sz) pits
+  pub prunable : HaveSaddles m whole side pits → IsPrunable (below_by side) (JoinedBy m side) (local_on side) (goes thousandths sz) pits
   prunable have = record {
     order = below_by-order side;
     both_ways = joined_both m side;
@@ -81,9 +81,9 @@ module _ (m : Map) (whole : IsMap m) (side : SideName) (thousandths : ℕ) (sz :
     levels {kept} {last} {owner} w (map_over f) = over (λ x h.
         let small = smallest_by_paths m side kept (points m whole side thousandths sz pits is_pit laws kept owner w) (local_on side) (goes thousandths sz) (agree m whole side thousandths sz pits is_pit laws kept) x.pit x.saddle h.smallest in
         let is : local_on side x.pit x.saddle ≡ local_height x.pit x.saddle = agree m whole side thousandths sz pits is_pit laws kept x.pit x.saddle small.is_kept small.nearest in
-        taken_over m whole side owner x.pit x.saddle (beyond_exists m side pits is_pit (goes thousandths sz) laws kept owner x.pit x.saddle w h.smallest) (λ o t.
-        f (record { pit = x.pit; local = pos (local_height x.pit x.saddle); saddle = x.saddle; into = o })
-        (record { smallest = small; local_is = refl; goes_away = subst (λ n. goes thousandths sz n ≡ true) is h.goes_away; taken_over = t })))
+        let t = taken_over m whole side owner x.pit x.saddle (beyond_exists m side pits is_pit (goes thousandths sz) laws kept owner x.pit x.saddle w h.smallest) in
+        f (record { pit = x.pit; local = pos (local_height x.pit x.saddle); saddle = x.saddle; into = t.0 })
+        (record { smallest = small; local_is = refl; goes_away = subst (λ n. goes thousandths sz n ≡ true) is h.goes_away; taken_over = t.1 }))
     levels {kept} {last} {owner} w (map_goes_on {x = x} {steps = xs} h r) =
         let small = smallest_by_levels m side kept (points m whole side thousandths sz pits is_pit laws kept owner w) (local_on side) (goes thousandths sz) (agree m whole side thousandths sz pits is_pit laws kept) x.pit x.saddle h.smallest in
         let is : local_on side x.pit x.saddle ≡ local_height x.pit x.saddle = agree m whole side thousandths sz pits is_pit laws kept x.pit x.saddle h.smallest.is_kept h.smallest.nearest in

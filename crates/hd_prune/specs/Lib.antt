@@ -8,4 +8,6 @@ pub mod Taken
 pub mod Pruned
 pub mod Kept
 pub mod Answer
+pub mod Staying
+pub mod Notes
 pub mod Literal

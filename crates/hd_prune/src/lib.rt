@@ -3,6 +3,7 @@
 
 mod around;
 mod elders;
+mod keeping;
 mod kept;
 mod laws;
 mod leaving;
@@ -15,6 +16,7 @@ mod taking;
 mod tests;
 
 pub use around::Around;
+pub use keeping::keep;
 pub use laws::{pruning_is_nested, pruning_keeps_what_is_not_undercut};
 pub use pruning::{Pruned, prune};
 pub use step::{Kept, Owned, Step};

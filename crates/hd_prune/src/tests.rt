@@ -1,13 +1,15 @@
-// Flood lines that are written down: the steps as the pit's index, its local height and the saddle's
-// index, and the kept pits as their indexes with those of their nearest saddles.
-ghost use Rattle.std.specs.Prelude.{IsTrue};
-ghost use Rattle.hd_prune.specs.Literal.{are_apart};
+// Flood lines and merges that are written down: the steps as the pit's index, its local height and the
+// saddle's index, and the kept pits as their indexes with those of their nearest saddles.
+ghost use Rattle.std.specs.Prelude.{length, IsTrue};
+ghost use Rattle.hd_prune.specs.Literal.{are_apart, are_within};
 
+use crate::keep;
 use crate::kept::kept_in_order;
 use crate::leaving::{Limit, steps};
 use crate::line::{left_line, pit_line};
+use crate::step::Kept;
 use hd_base::Memory;
-use hd_graph::Stop;
+use hd_graph::{Low, Merge, Stop};
 use hd_map::{Down, Rank, Side, Up};
 use hd_num::Percent;
 use std::alloc::Global;
@@ -35,6 +37,31 @@ macro_rules! pit {
                 height: $rise,
                 index: $at,
             }),
+        }
+    };
+}
+
+macro_rules! low {
+    ($height:expr, $index:expr) => {
+        Low {
+            rank: Rank {
+                height: $height,
+                index: $index,
+            },
+            pit: true,
+        }
+    };
+}
+
+macro_rules! merge {
+    ($low:expr, $into:expr, $height:expr, $at:expr) => {
+        Merge {
+            low: $low,
+            into: $into,
+            at: Rank {
+                height: $height,
+                index: $at,
+            },
         }
     };
 }
@@ -79,11 +106,30 @@ fn kept_without<S: Side>(
     }
     let line = left_line::<S>(alloc, stops, &links)?;
     let in_order = kept_in_order::<S>(alloc, &line)?;
-    let mut all = Vec::new(alloc);
-    for kept in in_order.as_slice() {
-        all.push((kept.pit.index, index_of(kept.nearest)))?;
+    indexes_of(alloc, in_order.as_slice())
+}
+
+// The pits kept below so many thousandths of a percent of Sz, by the merges of all of them.
+fn kept_by<S: Side>(
+    alloc: Global,
+    lows: &[Low],
+    merges: &[Merge],
+    thousandths: u32,
+    sz: i64,
+) -> Result<Vec<(u32, Option<u32>)>, Memory>
+    requires { IsTrue (are_within (length lows.now) merges.now) }
+{
+    let kept = keep::<S>(alloc, lows, merges, Percent { thousandths }, sz)?;
+    indexes_of(alloc, kept.as_slice())
+}
+
+// The indexes of kept pits and of their nearest saddles.
+fn indexes_of(alloc: Global, all: &[Kept]) -> Result<Vec<(u32, Option<u32>)>, Memory> {
+    let mut indexes = Vec::new(alloc);
+    for kept in all {
+        indexes.push((kept.pit.index, index_of(kept.nearest)))?;
     }
-    Ok(all)
+    Ok(indexes)
 }
 
 // The index of a saddle.
@@ -167,4 +213,29 @@ fn equal_local_heights_at_two_places(rt: HostRuntime) {
     assert!(rt; steps.as_slice() == [(4, 4, 5), (2, 4, 1)].as_slice());
     let kept = kept_without::<Down>(rt.alloc(), &stops, &[2, 4]).expect(&rt, "memory");
     assert!(rt; kept.as_slice() == [(0, Some(3)), (6, Some(3))].as_slice());
+}
+
+/// Heights `0 5 1 8 2 4 3 BAD 6` as 9x1: the local heights are 4, 6 and 1, of which that of the dale at 6 is
+/// below 25% of 8, and not below 12.5%. As it leaves, the dale at 4 is left with the saddle at 3. The last
+/// dale has no saddle.
+#[test]
+fn dales_are_kept_by_merges(rt: HostRuntime) {
+    let lows = [low!(0, 0), low!(1, 2), low!(2, 4), low!(3, 6), low!(6, 8)];
+    let merges = [merge!(3, 2, 4, 5), merge!(1, 0, 5, 1), merge!(2, 0, 8, 3)];
+    let kept = kept_by::<Down>(rt.alloc(), &lows, &merges, 25_000, 8).expect(&rt, "memory");
+    assert!(rt;
+        kept.as_slice() == [(0, Some(1)), (2, Some(1)), (4, Some(3)), (8, None)].as_slice()
+    );
+    let kept = kept_by::<Down>(rt.alloc(), &lows, &merges, 12_500, 8).expect(&rt, "memory");
+    assert!(rt;
+        kept.as_slice()
+            == [
+                (0, Some(1)),
+                (2, Some(1)),
+                (4, Some(5)),
+                (6, Some(5)),
+                (8, None)
+            ]
+            .as_slice()
+    );
 }

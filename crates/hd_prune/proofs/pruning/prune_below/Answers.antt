@@ -4,6 +4,7 @@ use Rattle.hd_map.specs.declared.types.Rank.{Rank}
 use Rattle.hd_map.specs.Map.{Map}
 use Rattle.hd_map.specs.Rank.{below_by}
 use Rattle.hd_graph.specs.declared.line.Stop.{Stop}
+use Rattle.hd_graph.proofs.Places.{one_place}
 use Rattle.hd_prune.specs.declared.leaving.Leaver.{Leaver}
 use Rattle.hd_prune.specs.declared.line.PitStop.{PitStop}
 use Rattle.hd_prune.specs.Heights.{local_on}
@@ -16,7 +17,6 @@ use Rattle.hd_prune.specs.Taken.{is_left, owner_after}
 use Rattle.hd_prune.proofs.InOrder.{in_order-same}
 use Rattle.hd_prune.proofs.MapLine.{is_pit}
 use Rattle.hd_prune.proofs.PitLine.{OnePlace, each_once}
-use Rattle.hd_prune.proofs.Places.{one_place}
 use Rattle.hd_prune.proofs.TakeOver.{pruned}
 use Rattle.hd_prune.proofs.pruning.prune_below.Given.{Over}
 use Rattle.hd_prune.proofs.pruning.prune_below.Goals as goal

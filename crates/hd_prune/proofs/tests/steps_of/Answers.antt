@@ -3,11 +3,11 @@ use Rattle.std.specs.Prelude.{AllPairs}
 use Rattle.hd_map.specs.declared.types.Rank.{Rank}
 use Rattle.hd_map.specs.Rank.{below_by}
 use Rattle.hd_graph.specs.declared.line.Stop.{Stop}
+use Rattle.hd_graph.proofs.Places.{one_place}
 use Rattle.hd_prune.specs.declared.line.PitStop.{PitStop}
 use Rattle.hd_prune.specs.Line.{is_flagged, pit_line}
 use Rattle.hd_prune.proofs.Literals.{apart-from}
 use Rattle.hd_prune.proofs.PitLine.{each_once}
-use Rattle.hd_prune.proofs.Places.{one_place}
 use Rattle.hd_prune.proofs.tests.steps_of.Goals as goal
 
 pub steps-requires : goal.steps-requires
