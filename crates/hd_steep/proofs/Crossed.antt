@@ -1,7 +1,7 @@
 -- Lists of passes that are gathered point by point, and what they are in the end.
-use Rattle.std.proofs.Common.{◌≡◌, ◌<◌, ℕ, Bool, true, false, List, [], ◌∷◌, ◌++◌, Option, ◌⊎◌, inl, inr, ap, ◌∙◌, sym, subst, refl}
+use Rattle.std.proofs.Common.{◌≡◌, ◌<◌, ◌+◌, ℕ, Bool, true, false, List, [], ◌∷◌, ◌++◌, Option, ◌⊎◌, inl, inr, ap, ◌∙◌, sym, subst, refl, arith}
 use Rattle.std.specs.Prelude.{Contains}
-use Rattle.std.proofs.lemmas.Bool.{both_ways}
+use Rattle.std.proofs.lemmas.Bool.{cases_eq}
 use Rattle.std.proofs.lemmas.List.Elements.{Contains-push, Contains-push_cases, Contains-append_left}
 use Rattle.hd_map.specs.declared.types.Pass.{Pass}
 use Rattle.hd_map.specs.declared.types.Pos.{Pos}
@@ -22,6 +22,7 @@ use Rattle.hd_map.proofs.Saddles.{near-sym}
 use Rattle.hd_map.proofs.Sides.{below-not_above}
 use Rattle.hd_steep.specs.Crossed.{IsPitOf, AreInOne, IsPassTo, IsCrossing, Extends, IsCrossed, IsServed, Gathers}
 use Rattle.hd_steep.specs.Ring.{is_marked}
+use Rattle.hd_steep.specs.Rows.{rank_in}
 use Rattle.hd_steep.proofs.Labelled.{to_label, from_label}
 use Rattle.hd_steep.proofs.Round.{same_or_below}
 use Rattle.hd_steep.proofs.Enough.{meeting_joined}
@@ -200,6 +201,25 @@ module _ (m : Map) (side : SideName) where
   pub crossed_in_one : (xs : List Pass) (x y : Rank) → AreInOne m side x y → IsCrossed m side xs x y
   crossed_in_one xs x y one = record { a = one.root; b = one.root; from = one.from; to = one.to; by = inl refl }
 
--- one place is not marked and marked
-pub not_marked : (marks : List Bool) (i j : ℕ) → i ≡ j → is_marked marks j ≡ false → is_marked marks i ≡ true → ⊥
-not_marked marks i j same clear set = both_ways (is_marked marks j) clear (ap (λ k. is_marked marks k) (sym same) ∙ set)
+-- of the first n places round x the marked ones are crossed by what was added
+pub record AreCrossedTo (m : Map) (side : SideName) (old new : List Pass) (x : Rank) (ring : List Rank) (marks : List Bool) (n : ℕ) : Type 0 where
+  pub extends : Extends m side old new
+  pub crossed : (k : ℕ) → k < n → is_marked marks k ≡ true → IsCrossed m side new x (rank_in ring k)
+
+module _ (m : Map) (side : SideName) (old : List Pass) (x : Rank) (ring : List Rank) (marks : List Bool) where
+  -- none of them
+  pub crossed_to_none : AreCrossedTo m side old old x ring marks 0
+  crossed_to_none = record { extends = extends_none m side old; crossed = λ k below marked. absurd (omega (arith, below)) }
+
+  -- and the next one
+  pub crossed_to_more : (now new : List Pass) (n : ℕ) (y : Rank) → y ≡ rank_in ring n → Extends m side now new → (is_marked marks n ≡ true → IsCrossed m side new x y)
+      → AreCrossedTo m side old now x ring marks n → AreCrossedTo m side old new x ring marks (n + 1)
+  crossed_to_more now new n y is extends crossed before = record {
+    extends = extends_on m side old now new before.extends extends;
+    crossed = λ k below marked. elim (cases_eq k n) [
+      | inl same ↦
+          let there : IsCrossed m side new x (rank_in ring n) = subst (λ (r : Rank). IsCrossed m side new x r) is (crossed (subst (λ i. is_marked marks i ≡ true) same marked)) in
+          subst (λ i. IsCrossed m side new x (rank_in ring i)) (sym same) there
+      | inr other ↦ crossed_kept m side now new x (rank_in ring k) extends (before.crossed k (omega (arith, below, other)) marked)
+    ];
+  }

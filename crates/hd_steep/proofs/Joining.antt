@@ -54,6 +54,13 @@ contains_set xs k x z inside (j, within, is) = elim (cases_eq j k) [
   | inr other ↦ inl (j, (let l = length-set xs k x in omega (arith, within, l)), sym (get_or-set_other xs k j x z other) ∙ is)
 ]
 
+-- the last meeting of a list stands at this place and is of the regions of another
+pub record IsLastOf (xs : List Meeting) (k : ℕ) (last x : Meeting) : Type 0 where
+  pub end : k + 1 ≡ length xs
+  pub is : last ≡ get_or xs k last
+  pub a : last.a ≡ x.a
+  pub b : last.b ≡ x.b
+
 module _ (side : SideName) where
   covers_refl : (x : Meeting) → Covers side x x
   covers_refl x = record { a = refl; b = refl; low = not_above-refl (below_by side) (below_by-order side) x.at }
@@ -97,15 +104,15 @@ module _ (side : SideName) where
     ];
   }
 
-  module _ (xs : List Meeting) (k : ℕ) (last x d : Meeting) (end : k + 1 ≡ length xs) (is : last ≡ get_or xs k d) (a : last.a ≡ x.a) (b : last.b ≡ x.b) where
+  module _ (xs : List Meeting) (k : ℕ) (last x : Meeting) (standing : IsLastOf xs k last x) where
     -- the last meeting stands at the last place
     at_last : (z : Meeting) (j : ℕ) → j ≡ k → get_or xs j z ≡ z → last ≡ z
-    at_last z j e there = is ∙ get_or_default xs k d z (omega (arith, end)) ∙ ap (λ i. get_or xs i z) (sym e) ∙ there
+    at_last z j e there = standing.is ∙ get_or_default xs k last z (omega (arith, standing.end)) ∙ ap (λ i. get_or xs i z) (sym e) ∙ there
 
     -- the last meeting is set to one of the same regions below it
     pub keeps_set : below_by side x.at last.at ≡ true → Keeps side (xs ++ x ∷ []) (set xs k x)
     keeps_set below =
-        let inside : k < length xs = omega (arith, end) in
+        let inside : k < length xs = omega (arith, standing.end) in
         let here : Contains (set xs k x) x = (k, (rw length-set inside), get_or-set_same xs k x x inside) in
         record {
           from = λ z h. elim (contains_set xs k x z inside h) [
@@ -115,7 +122,7 @@ module _ (side : SideName) where
           covers = λ z h. elim (Contains-push_cases xs x z h) [
             | inl (j, within, there) ↦ elim (cases_eq j k) [
               | inl e ↦
-                  let covers : Covers side last x = record { a = sym a; b = sym b; low = below-not_above (below_by side) (below_by-order side) x.at last.at below } in
+                  let covers : Covers side last x = record { a = sym standing.a; b = sym standing.b; low = below-not_above (below_by side) (below_by-order side) x.at last.at below } in
                   (x, here, subst (λ (w : Meeting). Covers side w x) (at_last z j e there) covers)
               | inr other ↦ (z, (j, (rw length-set within), get_or-set_other xs k j x z other ∙ there), covers_refl z)
             ]
@@ -126,42 +133,42 @@ module _ (side : SideName) where
     -- the last meeting covers one of the same regions that is not below it
     pub keeps_stay : below_by side x.at last.at ≡ false → Keeps side (xs ++ x ∷ []) xs
     keeps_stay not =
-        let inside : k < length xs = omega (arith, end) in
-        let here : Contains xs last = subst (λ (w : Meeting). Contains xs w) (sym is) (Contains-get_or xs k d inside) in
+        let inside : k < length xs = omega (arith, standing.end) in
+        let here : Contains xs last = subst (λ (w : Meeting). Contains xs w) (sym standing.is) (Contains-get_or xs k last inside) in
         record {
           from = λ z h. Contains-append_left xs (x ∷ []) z h;
           covers = λ z h. elim (Contains-push_cases xs x z h) [
             | inl old ↦ (z, old, covers_refl z)
-            | inr e ↦ (last, here, subst (λ (w : Meeting). Covers side w last) e (record { a = a; b = b; low = not }))
+            | inr e ↦ (last, here, subst (λ (w : Meeting). Covers side w last) e (record { a = standing.a; b = standing.b; low = not }))
           ];
         }
 
     -- it stands last either way
     pub ends_set : EndsWith (set xs k x) x
     ends_set j e at =
-        let inside : k < length xs = omega (arith, end) in
-        let same : j ≡ k = let l = length-set xs k x in omega (arith, at, end, l) in
+        let inside : k < length xs = omega (arith, standing.end) in
+        let same : j ≡ k = let l = length-set xs k x in omega (arith, at, standing.end, l) in
         let there : get_or (set xs k x) j e ≡ x = ap (λ i. get_or (set xs k x) i e) same ∙ get_or-set_same xs k x e inside in
         (ap (λ (w : Meeting). w.a) there, ap (λ (w : Meeting). w.b) there)
 
     pub ends_stay : EndsWith xs x
     ends_stay j e at =
-        let same : j ≡ k = omega (arith, at, end) in
-        let there : get_or xs j e ≡ last = ap (λ i. get_or xs i e) same ∙ get_or_default xs k e d (omega (arith, end)) ∙ sym is in
-        (ap (λ (w : Meeting). w.a) there ∙ a, ap (λ (w : Meeting). w.b) there ∙ b)
+        let same : j ≡ k = omega (arith, at, standing.end) in
+        let there : get_or xs j e ≡ last = ap (λ i. get_or xs i e) same ∙ get_or_default xs k e last (omega (arith, standing.end)) ∙ sym standing.is in
+        (ap (λ (w : Meeting). w.a) there ∙ standing.a, ap (λ (w : Meeting). w.b) there ∙ standing.b)
 
     -- and the order stays
     pub ordered_set : AllPairs ComesBefore xs → AllPairs ComesBefore (set xs k x)
     ordered_set ordered i j e less within =
-        let inside : k < length xs = omega (arith, end) in
+        let inside : k < length xs = omega (arith, standing.end) in
         let long = length-set xs k x in
         let before : ComesBefore (get_or xs i e) (get_or xs j e) = ordered i j e less (omega (arith, within, long)) in
-        let first : get_or (set xs k x) i e ≡ get_or xs i e = get_or-set_other xs k i x e (λ same. omega (arith, same, less, within, long, end)) in
+        let first : get_or (set xs k x) i e ≡ get_or xs i e = get_or-set_other xs k i x e (λ same. omega (arith, same, less, within, long, standing.end)) in
         elim (cases_eq j k) [
           | inl same ↦
               let there : get_or (set xs k x) j e ≡ x = ap (λ n. get_or (set xs k x) n e) same ∙ get_or-set_same xs k x e inside in
-              let was : get_or xs j e ≡ last = ap (λ n. get_or xs n e) same ∙ get_or_default xs k e d inside ∙ sym is in
-              rw (first, there) (same_before (get_or xs i e) last x a b (subst (λ (w : Meeting). ComesBefore (get_or xs i e) w) was before))
+              let was : get_or xs j e ≡ last = ap (λ n. get_or xs n e) same ∙ get_or_default xs k e last inside ∙ sym standing.is in
+              rw (first, there) (same_before (get_or xs i e) last x standing.a standing.b (subst (λ (w : Meeting). ComesBefore (get_or xs i e) w) was before))
           | inr other ↦ rw (first, get_or-set_other xs k j x e other) before
         ]
 

@@ -12,6 +12,7 @@ pub mod Adding
 pub mod Passing
 pub mod Labelled
 pub mod Ring
+pub mod Marks
 pub mod Around
 pub mod Heights
 pub mod Enough

@@ -1,5 +1,5 @@
 -- Crossings as they are gathered, point by point.
-use Rattle.std.specs.Prelude.{◌≡◌, ◌⊎◌, ◌+◌, ℕ, true, List, Contains}
+use Rattle.std.specs.Prelude.{◌≡◌, ◌<◌, ◌⊎◌, ◌+◌, ℕ, true, List, Contains, length}
 use Rattle.hd_map.specs.declared.types.Pass.{Pass}
 use Rattle.hd_map.specs.declared.types.Pos.{Pos}
 use Rattle.hd_map.specs.declared.types.Rank.{Rank}
@@ -10,7 +10,18 @@ use Rattle.hd_map.specs.Rank.{rank, below_by, Near}
 use Rattle.hd_map.specs.Region.{LowerNeighbour, IsRoot}
 use Rattle.hd_map.specs.Walks.{HasPass}
 use Rattle.hd_steep.specs.declared.rolling.Rows.{Rows}
+use Rattle.hd_steep.specs.Ring.{ring_of}
 use Rattle.hd_steep.specs.Rows.{IsFramed, IsRowOf}
+
+-- each row has the place of a column, and one on each side of it
+pub record AreWide (rows : Rows) (x : ℕ) : Type 0 where
+  pub above : x + 2 < length rows.above.items
+  pub level : x + 2 < length rows.level.items
+  pub below : x + 2 < length rows.below.items
+
+-- the ranks round that place of the middle row
+abbrev pub ring_round : Rows → ℕ → List Rank
+ring_round rows x = ring_of rows.above.items rows.level.items rows.below.items x
 
 module _ (m : Map) (side : SideName) where
   -- the rows of a profile, the one before it and the one after it

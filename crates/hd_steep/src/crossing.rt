@@ -6,10 +6,10 @@ ghost use Rattle.hd_map.specs.Rank.{IsPoint};
 ghost use Rattle.hd_map.specs.Region.{LowerNeighbour, AreRegions, IsRoot};
 ghost use Rattle.hd_steep.specs.Rows.{rank_in};
 ghost use Rattle.hd_steep.specs.Ring.{is_marked};
-ghost use Rattle.hd_steep.specs.Crossed.{AreRowsRound, IsPitOf, AreInOne, IsPassTo, Extends, IsCrossed, Gathers};
+ghost use Rattle.hd_steep.specs.Crossed.{AreRowsRound, AreWide, ring_round, IsPitOf, AreInOne, IsPassTo, Extends, IsCrossed, Gathers};
 
 use crate::lowest::is_missing;
-use crate::places::{are_several, firsts, lower_at, ring_at};
+use crate::places::{are_several, firsts, lower_at};
 use crate::rolling::Rows;
 use hd_base::{List, Memory};
 use hd_map::{Heights, Pass, Pos, Rank, Side, position_of, rank_of};
@@ -94,34 +94,63 @@ fn gather_point<S: Side, G: Heights>(
         return Ok(());
     }
     let lower = lower_at::<S>(&rows.above, &rows.level, &rows.below, x, own);
-    let first = firsts(&lower);
-    if are_several(&first) {
-        let ring = ring_at(&rows.above, &rows.level, &rows.below, x);
-        cross::<S, G>(grid, labels, own, &ring, &first, passes)?;
+    if are_several(&firsts(&lower)) {
+        cross::<S, G>(grid, labels, own, rows, x, &firsts(&lower), passes)?;
     }
     Ok(())
 }
 
-// Adds the passes at a point to the marked ones of its lower neighbours.
+// Adds the passes at a point to the marked ones of its lower neighbours. Each place is written out:
+// a loop would have to store the marks, and to look for the row of each place.
+#[inline]
 fn cross<S: Side, G: Heights>(
     grid: &G,
     labels: &[Option<u32>],
     own: Rank,
-    ring: &[Rank; 8],
+    rows: &Rows,
+    x: usize,
     marks: &[bool; 8],
     passes: &mut Vec<Pass>,
 ) -> Result<(), Memory>
     requires regions { AreRegions (G.map grid.now) S.NAME labels.now }
     requires point { IsPoint (G.map grid.now) own }
-    requires lower { (k : ℕ) → is_marked marks.now k ≡ true → LowerNeighbour (G.map grid.now) S.NAME own (rank_in ring.now k) }
+    requires wide { AreWide rows.now x }
+    requires lower { (k : ℕ) → is_marked marks.now k ≡ true → LowerNeighbour (G.map grid.now) S.NAME own (rank_in (ring_round rows.now x) k) }
     ensures extends { OnOk result (Extends (G.map grid.now) S.NAME passes.old.items passes.new.items) }
-    ensures crossed { OnOk result ((k : ℕ) → is_marked marks.now k ≡ true → IsCrossed (G.map grid.now) S.NAME passes.new.items own (rank_in ring.now k)) }
+    ensures crossed { OnOk result ((k : ℕ) → is_marked marks.now k ≡ true → IsCrossed (G.map grid.now) S.NAME passes.new.items own (rank_in (ring_round rows.now x) k)) }
 {
     let pit = pit_rank::<S, G>(grid, own, pit_of::<S, G>(grid, labels, own));
-    for place in 0..8 {
-        if marks[place] {
-            cross_to::<S, G>(grid, labels, own, pit, ring[place], passes)?;
-        }
+    cross_if::<S, G>(grid, labels, own, pit, marks[0], rows.around(x, 0), passes)?;
+    cross_if::<S, G>(grid, labels, own, pit, marks[1], rows.around(x, 1), passes)?;
+    cross_if::<S, G>(grid, labels, own, pit, marks[2], rows.around(x, 2), passes)?;
+    cross_if::<S, G>(grid, labels, own, pit, marks[3], rows.around(x, 3), passes)?;
+    cross_if::<S, G>(grid, labels, own, pit, marks[4], rows.around(x, 4), passes)?;
+    cross_if::<S, G>(grid, labels, own, pit, marks[5], rows.around(x, 5), passes)?;
+    cross_if::<S, G>(grid, labels, own, pit, marks[6], rows.around(x, 6), passes)?;
+    cross_if::<S, G>(grid, labels, own, pit, marks[7], rows.around(x, 7), passes)?;
+    Ok(())
+}
+
+// Adds the pass at a point to one of its lower neighbours, if that is marked and lies in another
+// region.
+#[inline(always)]
+fn cross_if<S: Side, G: Heights>(
+    grid: &G,
+    labels: &[Option<u32>],
+    own: Rank,
+    pit: Rank,
+    marked: bool,
+    other: Rank,
+    passes: &mut Vec<Pass>,
+) -> Result<(), Memory>
+    requires regions { AreRegions (G.map grid.now) S.NAME labels.now }
+    requires pit { IsRoot (G.map grid.now) S.NAME own pit }
+    requires lower { marked ≡ true → LowerNeighbour (G.map grid.now) S.NAME own other }
+    ensures extends { OnOk result (Extends (G.map grid.now) S.NAME passes.old.items passes.new.items) }
+    ensures crossed { OnOk result (marked ≡ true → IsCrossed (G.map grid.now) S.NAME passes.new.items own other) }
+{
+    if marked {
+        cross_to::<S, G>(grid, labels, own, pit, other, passes)?;
     }
     Ok(())
 }

@@ -7,28 +7,8 @@ ghost use Rattle.hd_steep.specs.Ring.{ring_of, are_lower_heights, firsts_of, IsO
 
 use hd_map::{Rank, Side};
 
-/// The ranks round a place of the middle one of three rows. Their first places are left of it.
-#[inline]
-pub fn ring_at(above: &[Rank], level: &[Rank], below: &[Rank], x: usize) -> [Rank; 8]
-    requires above { x + 2 < length above.now }
-    requires level { x + 2 < length level.now }
-    requires below { x + 2 < length below.now }
-    ensures { result ≡ ring_of above.now level.now below.now x }
-{
-    [
-        above[x + 1],
-        above[x + 2],
-        level[x + 2],
-        below[x + 2],
-        below[x + 1],
-        below[x],
-        level[x],
-        above[x],
-    ]
-}
-
-/// Which of the ranks round a place of the middle row are below the one that stands there, by heights
-/// alone: those before it have lesser indexes, and those after it greater ones.
+/// Which of the ranks round a place of the middle one of three rows are below the one that stands
+/// there, by heights alone: those before it have lesser indexes, and those after it greater ones.
 #[inline]
 pub fn lower_at<S: Side>(
     above: &[Rank],
@@ -113,11 +93,13 @@ pub fn firsts(lower: &[bool; 8]) -> [bool; 8]
 pub fn are_several(marks: &[bool; 8]) -> bool
     ensures { OnFalse result (IsOneAtMost marks.now) }
 {
-    let mut count = 0u32;
-    for place in 0..8 {
-        if marks[place] {
-            count += 1;
-        }
-    }
+    let count = u32::from(marks[0])
+        + u32::from(marks[1])
+        + u32::from(marks[2])
+        + u32::from(marks[3])
+        + u32::from(marks[4])
+        + u32::from(marks[5])
+        + u32::from(marks[6])
+        + u32::from(marks[7]);
     count > 1
 }

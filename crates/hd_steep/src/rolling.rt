@@ -1,6 +1,7 @@
 // The rows of three profiles, which roll over the map.
-ghost use Rattle.std.specs.Prelude.{◌<◌, ◌+◌, IfOk};
-ghost use Rattle.hd_steep.specs.Crossed.{AreRowsRound, AreRowsBefore};
+ghost use Rattle.std.specs.Prelude.{◌≡◌, ◌<◌, ◌+◌, IfOk};
+ghost use Rattle.hd_steep.specs.Crossed.{AreRowsRound, AreRowsBefore, AreWide, ring_round};
+ghost use Rattle.hd_steep.specs.Rows.{rank_in};
 
 use crate::lowest::missing_rank;
 use crate::profile::fill_row;
@@ -44,5 +45,25 @@ impl Rows {
         swap(&mut self.above, &mut self.level);
         swap(&mut self.level, &mut self.below);
         fill_row::<S, G>(grid, y + 1, &mut self.below);
+    }
+
+    /// The rank at one of the eight places round that of a column in the middle row, counted clockwise
+    /// from the one above it.
+    #[inline]
+    pub fn around(&self, x: usize, place: usize) -> Rank
+        requires wide { AreWide self.now x }
+        requires place { place < 8 }
+        ensures { result ≡ rank_in (ring_round self.now x) place }
+    {
+        match place {
+            0 => self.above[x + 1],
+            1 => self.above[x + 2],
+            2 => self.level[x + 2],
+            3 => self.below[x + 2],
+            4 => self.below[x + 1],
+            5 => self.below[x],
+            6 => self.level[x],
+            _ => self.above[x],
+        }
     }
 }

@@ -1,8 +1,30 @@
-use Rattle.std.proofs.Common.{◌≡◌, ◌∙◌, sym, refl}
+use Rattle.std.proofs.Common.{◌≡◌, ◌∙◌, List, Bool, sym, refl, arith}
 use Rattle.std.proofs.lemmas.Bool.{OnFalse_at}
-use Rattle.hd_steep.specs.Ring.{ring_of, are_lower_heights}
-use Rattle.hd_steep.proofs.Served.{read_middle, gathers_absent, present_in_middle, looked_lower, point_in_middle, gathers_crossed, gathers_alone, firsts_at}
+use Rattle.hd_steep.specs.Crossed.{ring_round}
+use Rattle.hd_steep.specs.Ring.{firsts_of}
+use Rattle.hd_steep.proofs.Served.{IsLooked, read_middle, gathers_absent, present_in_middle, looked_lower, point_in_middle, gathers_crossed, gathers_alone, firsts_at}
+use Rattle.hd_steep.proofs.crossing.gather_point.Given.{Over}
 use Rattle.hd_steep.proofs.crossing.gather_point.Goals as goal
+use Rattle.hd_steep.proofs.crossing.gather_point.Goals.{After-lower_at-lower}
+
+-- what was looked at is the point with the ranks around it
+looked : (g : Over) (c : After-lower_at-lower g) (first : List Bool) → first ≡ firsts_of c.lower_at-lower.result
+    → IsLooked (g.G.Heights.map c.args.grid.now) g.S.Side.NAME (g.met.G.Heights.whole c.args.grid.now) c.args.rows.now c.args.at c.requires.inside c.requires.rows c.index-own.result.now (ring_round c.args.rows.now c.args.at.x) first
+looked g c first first_is =
+    let m = g.G.Heights.map c.args.grid.now in
+    let side = g.S.Side.NAME in
+    let whole = g.met.G.Heights.whole c.args.grid.now in
+    let rows = c.args.rows.now in
+    let own = c.index-own.result.now in
+    let own_is = read_middle m side whole rows c.args.at c.requires.inside c.requires.rows own c.index-own.ensures in
+    let here = present_in_middle m side whole rows c.args.at c.requires.inside c.requires.rows own own_is (sym c.is_missing.ensures ∙ c.if-is_missing.false) in
+    record {
+      here = here;
+      own_is = own_is;
+      ring_is = refl;
+      first_is = firsts_at m side whole rows c.args.at c.requires.inside c.requires.rows own c.lower_at-lower.result first here own_is
+          (rw (c.deref.ensures.value, c.deref-2.ensures.value, c.deref-3.ensures.value) at c.lower_at-lower.ensures) first_is;
+    }
 
 pub returns-then-is_missing : goal.returns-then-is_missing
 returns-then-is_missing g c =
@@ -12,67 +34,31 @@ returns-then-is_missing g c =
 
 pub cross-requires-clause-point : goal.cross-requires-clause-point
 cross-requires-clause-point g c =
-    let m = g.G.Heights.map c.args.grid.now in
-    let side = g.S.Side.NAME in
-    let whole = g.met.G.Heights.whole c.args.grid.now in
-    let rows = c.args.rows.now in
-    let own = c.index-own.result.now in
-    let own_is = read_middle m side whole rows c.args.at c.requires.inside c.requires.rows own c.index-own.ensures in
-    point_in_middle m side whole rows c.args.at c.requires.inside c.requires.rows own own_is
-    (present_in_middle m side whole rows c.args.at c.requires.inside c.requires.rows own own_is (sym c.is_missing.ensures ∙ c.if-is_missing.false))
+    let before = (goal.at.cross-requires-clause-point g c).After-lower_at-lower in
+    let seen = looked g before (firsts_of c.lower_at-lower.result) refl in
+    point_in_middle _ _ (g.met.G.Heights.whole c.args.grid.now) c.args.rows.now c.args.at c.requires.inside c.requires.rows c.index-own.result.now seen.own_is seen.here
+
+pub cross-requires-clause-wide : goal.cross-requires-clause-wide
+cross-requires-clause-wide g c =
+    let column = c.requires.inside.column in
+    let rows = c.requires.rows in
+    record {
+      above = (let long = rows.above.framed.whole in omega (arith, column, long));
+      level = (let long = rows.level.framed.whole in omega (arith, column, long));
+      below = (let long = rows.below.framed.whole in omega (arith, column, long));
+    }
 
 pub cross-requires-clause-lower : goal.cross-requires-clause-lower
 cross-requires-clause-lower g c =
-    let m = g.G.Heights.map c.args.grid.now in
-    let side = g.S.Side.NAME in
-    let whole = g.met.G.Heights.whole c.args.grid.now in
-    let rows = c.args.rows.now in
-    let own = c.index-own.result.now in
-    let around = ring_of rows.above.items rows.level.items rows.below.items c.args.at.x in
-    let own_is = read_middle m side whole rows c.args.at c.requires.inside c.requires.rows own c.index-own.ensures in
-    let here = present_in_middle m side whole rows c.args.at c.requires.inside c.requires.rows own own_is (sym c.is_missing.ensures ∙ c.if-is_missing.false) in
-    let lower_is : c.lower_at-lower.result ≡ are_lower_heights side own around = rw (c.deref.ensures.value, c.deref-2.ensures.value, c.deref-3.ensures.value) at c.lower_at-lower.ensures in
-    let ring_is : c.ring_at-ring.result ≡ around = rw (c.deref-then-are_several.ensures.value, c.deref-then-are_several-2.ensures.value, c.deref-then-are_several-3.ensures.value) at c.ring_at-ring.ensures in
-    looked_lower m side whole rows c.args.at c.requires.inside c.requires.rows own c.ring_at-ring.result c.firsts-first.result (record {
-      here = here;
-      own_is = own_is;
-      ring_is = ring_is;
-      first_is = firsts_at m side whole rows c.args.at c.requires.inside c.requires.rows own c.lower_at-lower.result c.firsts-first.result here own_is lower_is c.firsts-first.ensures;
-    })
+    let before = (goal.at.cross-requires-clause-lower g c).After-lower_at-lower in
+    looked_lower _ _ _ _ _ _ _ _ _ _ (looked g before c.firsts-then-are_several.result c.firsts-then-are_several.ensures)
 
 pub returns-in_ok-cross : goal.returns-in_ok-cross
 returns-in_ok-cross g c =
-    let m = g.G.Heights.map c.args.grid.now in
-    let side = g.S.Side.NAME in
-    let whole = g.met.G.Heights.whole c.args.grid.now in
-    let rows = c.args.rows.now in
-    let own = c.index-own.result.now in
-    let around = ring_of rows.above.items rows.level.items rows.below.items c.args.at.x in
-    let own_is = read_middle m side whole rows c.args.at c.requires.inside c.requires.rows own c.index-own.ensures in
-    let here = present_in_middle m side whole rows c.args.at c.requires.inside c.requires.rows own own_is (sym c.is_missing.ensures ∙ c.if-is_missing.false) in
-    let lower_is : c.lower_at-lower.result ≡ are_lower_heights side own around = rw (c.deref.ensures.value, c.deref-2.ensures.value, c.deref-3.ensures.value) at c.lower_at-lower.ensures in
-    let ring_is : c.ring_at-ring.result ≡ around = rw (c.deref-then-are_several.ensures.value, c.deref-then-are_several-2.ensures.value, c.deref-then-are_several-3.ensures.value) at c.ring_at-ring.ensures in
-    gathers_crossed m side whole rows c.args.at c.requires.inside c.requires.rows own c.ring_at-ring.result c.firsts-first.result (record {
-      here = here;
-      own_is = own_is;
-      ring_is = ring_is;
-      first_is = firsts_at m side whole rows c.args.at c.requires.inside c.requires.rows own c.lower_at-lower.result c.firsts-first.result here own_is lower_is c.firsts-first.ensures;
-    }) c.args.passes.now.items c.cross.new.passes.items c.in_ok-cross.ensures.extends c.in_ok-cross.ensures.crossed
+    let before = (goal.at.returns-in_ok-cross g c).After-lower_at-lower in
+    gathers_crossed _ _ _ _ _ _ _ _ _ _ (looked g before c.firsts-then-are_several.result c.firsts-then-are_several.ensures) c.args.passes.now.items c.cross.new.passes.items c.in_ok-cross.ensures.extends c.in_ok-cross.ensures.crossed
 
 pub returns-else-are_several : goal.returns-else-are_several
 returns-else-are_several g c =
-    let m = g.G.Heights.map c.args.grid.now in
-    let side = g.S.Side.NAME in
-    let whole = g.met.G.Heights.whole c.args.grid.now in
-    let rows = c.args.rows.now in
-    let own = c.index-own.result.now in
-    let around = ring_of rows.above.items rows.level.items rows.below.items c.args.at.x in
-    let own_is = read_middle m side whole rows c.args.at c.requires.inside c.requires.rows own c.index-own.ensures in
-    let here = present_in_middle m side whole rows c.args.at c.requires.inside c.requires.rows own own_is (sym c.is_missing.ensures ∙ c.if-is_missing.false) in
-    let lower_is : c.lower_at-lower.result ≡ are_lower_heights side own around = rw (c.deref.ensures.value, c.deref-2.ensures.value, c.deref-3.ensures.value) at c.lower_at-lower.ensures in
-    gathers_alone m side whole rows c.args.at c.requires.inside c.requires.rows own around c.firsts-first.result (record {
-      here = here;
-      own_is = own_is;
-      ring_is = refl;
-      first_is = firsts_at m side whole rows c.args.at c.requires.inside c.requires.rows own c.lower_at-lower.result c.firsts-first.result here own_is lower_is c.firsts-first.ensures;
-    }) c.args.labels.now c.requires.regions c.args.passes.now.items (OnFalse_at c.if-are_several.false c.are_several.ensures)
+    let before = (goal.at.returns-else-are_several g c).After-lower_at-lower in
+    gathers_alone _ _ _ _ _ _ _ _ _ _ (looked g before c.firsts.result c.firsts.ensures) c.args.labels.now c.requires.regions c.args.passes.now.items (OnFalse_at c.if-are_several.false c.are_several.ensures)

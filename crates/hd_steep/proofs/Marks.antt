@@ -1,0 +1,62 @@
+-- How many places of a list are marked, where that is one at most.
+use Rattle.std.proofs.Common.{◌≡◌, ◌<◌, ◌≤◌, ◌+◌, ℕ, zero, suc, Bool, true, false, List, length, inl, inr, ap, refl, subst, arith}
+use Rattle.std.specs.Int.{from_bool}
+use Rattle.std.proofs.lemmas.Bool.{cases_eq, cases_lt, both_ways}
+use Rattle.std.proofs.lemmas.List.{get_or_past}
+use Rattle.hd_steep.specs.Ring.{is_marked, IsOneAtMost}
+
+module _ (marks : List Bool) where
+  -- how many of the first n places are marked
+  abbrev count_to : ℕ → ℕ
+  count_to zero = 0
+  count_to (suc n) = count_to n + from_bool (is_marked marks n)
+
+  counted_on : (n : ℕ) → count_to (suc n) ≡ count_to n + from_bool (is_marked marks n)
+  counted_on n = refl
+
+  -- a marked place counts one
+  counts_one : (i n : ℕ) → i ≡ n → is_marked marks i ≡ true → from_bool (is_marked marks n) ≡ 1
+  counts_one i n same is = ap from_bool (subst (λ k. is_marked marks k ≡ true) same is)
+
+  -- one that is marked is counted
+  one_counted : (n i : ℕ) → i < n → is_marked marks i ≡ true → 1 ≤ count_to n
+  one_counted zero i below is = omega (arith, below)
+  one_counted (suc n) i below is = let more = counted_on n in elim (cases_eq i n) [
+    | inl same ↦ let one = counts_one i n same is in omega (arith, more, one)
+    | inr other ↦ let before = one_counted n i (omega (arith, below, other)) is in omega (arith, more, before)
+  ]
+
+  -- and so are two
+  two_counted : (n i j : ℕ) → i < j → j < n → is_marked marks i ≡ true → is_marked marks j ≡ true → 2 ≤ count_to n
+  two_counted zero i j less below is is' = omega (arith, below)
+  two_counted (suc n) i j less below is is' = let more = counted_on n in elim (cases_eq j n) [
+    | inl same ↦
+        let one = counts_one j n same is' in
+        let before = one_counted n i (omega (arith, less, same)) is in omega (arith, more, one, before)
+    | inr other ↦ let before = two_counted n i j less (omega (arith, below, other)) is is' in omega (arith, more, before)
+  ]
+
+  -- a place past the end is not marked
+  pub marked_inside : (i : ℕ) → is_marked marks i ≡ true → i < length marks
+  marked_inside i is = elim (cases_lt i (length marks)) [
+    | inl inside ↦ inside
+    | inr past ↦ absurd (both_ways (is_marked marks i) (get_or_past marks i false past) is)
+  ]
+
+  -- where one of eight places is marked at most, no two are
+  pub one_of_eight : length marks ≡ 8
+      → from_bool (is_marked marks 0) + from_bool (is_marked marks 1) + from_bool (is_marked marks 2) + from_bool (is_marked marks 3)
+      + from_bool (is_marked marks 4) + from_bool (is_marked marks 5) + from_bool (is_marked marks 6) + from_bool (is_marked marks 7) ≤ 1
+      → IsOneAtMost marks
+  one_of_eight long few i j is is' =
+      let inside = marked_inside i is in
+      let inside' = marked_inside j is' in
+      let all : count_to 8 ≡ 0 + from_bool (is_marked marks 0) + from_bool (is_marked marks 1) + from_bool (is_marked marks 2) + from_bool (is_marked marks 3)
+      + from_bool (is_marked marks 4) + from_bool (is_marked marks 5) + from_bool (is_marked marks 6) + from_bool (is_marked marks 7) = refl in
+      elim (cases_eq i j) [
+        | inl same ↦ same
+        | inr other ↦ elim (cases_lt i j) [
+          | inl less ↦ let two : 2 ≤ count_to 8 = two_counted 8 i j less (omega (arith, inside', long)) is is' in absurd (omega (arith, two, few, all))
+          | inr more ↦ let two : 2 ≤ count_to 8 = two_counted 8 j i (omega (arith, more, other)) (omega (arith, inside, long)) is' is in absurd (omega (arith, two, few, all))
+        ]
+      ]
