@@ -1,4 +1,4 @@
--- The first of the regions by one sort: the place of the last of them.
+-- The first of the regions, told by the place of the last of them.
 use Rattle.std.specs.Prelude.{◌≡◌, ◌&&◌, ◌||◌, Bool, true, not, nat_lt, int_lt, List, Option, Some, None}
 use Rattle.std.specs.Ordering.{int_eq}
 use Rattle.hd_feature.specs.declared.notation.Kind.{Kind}

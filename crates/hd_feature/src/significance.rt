@@ -119,8 +119,8 @@ fn last_of(alloc: Global, number: u32, regions: &[Region]) -> Result<Option<Plac
         return Ok(None);
     }
     let mut places = places_of(alloc, regions)?;
-    places.sort_unstable_by(|a, b| compare(a, b));
-    Ok(Some(places[count - 1]))
+    let (_, last, _) = places.select_nth_unstable_by(count - 1, |a, b| compare(a, b));
+    Ok(Some(*last))
 }
 
 // The places of the regions.
