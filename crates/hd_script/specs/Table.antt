@@ -14,21 +14,9 @@ pub record Row : Type 0 where
 abbrev pub row : List ℕ → Reading → Row
 row name reading = record { name = name; reading = reading }
 
--- the commands
-abbrev pub commands : List Row
-commands = row (codes "set") set_words
-    ∷ row (codes "bad") bad_words
-    ∷ row (codes "add") add_words
-    ∷ row (codes "mask") mask_words
-    ∷ row (codes "unmask") unmask_words
-    ∷ row (codes "dilate") (filter_words Dilate)
-    ∷ row (codes "erode") (filter_words Erode)
-    ∷ row (codes "open") (filter_words Open)
-    ∷ row (codes "close") (filter_words Close)
-    ∷ row (codes "undo") undo_words
-    ∷ row (codes "element") element_words
-    ∷ row (codes "elements") (no_words Elements)
-    ∷ row (codes "info") (no_words Info)
+-- the commands that only report
+unfoldable pub report_commands : List Row
+report_commands = row (codes "info") (no_words Info)
     ∷ row (codes "dales") (no_words Dales)
     ∷ row (codes "hills") (no_words Hills)
     ∷ row (codes "label") label_words
@@ -38,6 +26,26 @@ commands = row (codes "set") set_words
     ∷ row (codes "param") param_words
     ∷ row (codes "feature") feature_words
     ∷ []
+
+-- the filters, the undoing of edits and the elements, and then the reports
+unfoldable pub later_commands : List Row
+later_commands = row (codes "dilate") (filter_words Dilate)
+    ∷ row (codes "erode") (filter_words Erode)
+    ∷ row (codes "open") (filter_words Open)
+    ∷ row (codes "close") (filter_words Close)
+    ∷ row (codes "undo") undo_words
+    ∷ row (codes "element") element_words
+    ∷ row (codes "elements") (no_words Elements)
+    ∷ report_commands
+
+-- the commands: the edits of points, and then the later ones
+unfoldable pub commands : List Row
+commands = row (codes "set") set_words
+    ∷ row (codes "bad") bad_words
+    ∷ row (codes "add") add_words
+    ∷ row (codes "mask") mask_words
+    ∷ row (codes "unmask") unmask_words
+    ∷ later_commands
 
 -- what the words after a name give, by the first row of that name
 abbrev pub read_by : List Row → List ℕ → Reading

@@ -2,7 +2,7 @@
 ghost use Rattle.std.specs.Prelude.{◌≡◌, ◌⊎◌, ◌<◌, ◌^◌, Err, All, IfOk, length, map};
 ghost use Rattle.hd_num.specs.Span.{IsPart, text_at};
 ghost use Rattle.hd_script.specs.Line.{is_comment, script_line, words_give};
-ghost use Rattle.hd_script.specs.Table.{commands, read_by};
+ghost use Rattle.hd_script.specs.Table.{commands, later_commands, read_by, report_commands};
 ghost use Rattle.hd_script.specs.Whole.{IsWhole, IsWholeIfAny};
 
 use crate::element::element_words;
@@ -67,6 +67,7 @@ fn begins_comment(word: &[u8]) -> bool
 }
 
 // The command that the words after a name make.
+#[tactic(auto, unfolding(crate::specs::Table::commands))]
 fn read_command(
     alloc: Global,
     name: &[u8],
@@ -88,7 +89,25 @@ fn read_command(
         mask_words(line, words, true)
     } else if name == b"unmask".as_slice() {
         mask_words(line, words, false)
-    } else if name == b"dilate".as_slice() {
+    } else {
+        read_later_command(alloc, name, line, words)
+    }
+}
+
+// The command that the words make after the name of a later command.
+#[tactic(auto, unfolding(crate::specs::Table::later_commands))]
+fn read_later_command(
+    alloc: Global,
+    name: &[u8],
+    line: &[u8],
+    words: &[Span],
+) -> Result<Command, LineError>
+    requires parts { All (IsPart line.now) words.now }
+    requires few { length words.now < 2 ^ 16 }
+    ensures value { (result ≡ Err LineError.Memory) ⊎ (result ≡ read_by later_commands name.now (map (text_at line.now) words.now)) }
+    ensures whole { IfOk result IsWhole }
+{
+    if name == b"dilate".as_slice() {
         filter_words(alloc, line, words, Filter::Dilate)
     } else if name == b"erode".as_slice() {
         filter_words(alloc, line, words, Filter::Erode)
@@ -102,7 +121,24 @@ fn read_command(
         element_words(alloc, line, words)
     } else if name == b"elements".as_slice() {
         no_words(line, words, Command::Elements)
-    } else if name == b"info".as_slice() {
+    } else {
+        read_report_command(alloc, name, line, words)
+    }
+}
+
+// The command that the words make after the name of a report.
+#[tactic(auto, unfolding(crate::specs::Table::report_commands))]
+fn read_report_command(
+    alloc: Global,
+    name: &[u8],
+    line: &[u8],
+    words: &[Span],
+) -> Result<Command, LineError>
+    requires parts { All (IsPart line.now) words.now }
+    ensures value { (result ≡ Err LineError.Memory) ⊎ (result ≡ read_by report_commands name.now (map (text_at line.now) words.now)) }
+    ensures whole { IfOk result IsWhole }
+{
+    if name == b"info".as_slice() {
         no_words(line, words, Command::Info)
     } else if name == b"dales".as_slice() {
         no_words(line, words, Command::Dales)

@@ -33,8 +33,16 @@ pub fn set_words(line: &[u8], words: &[Span]) -> Result<Command, LineError>
     let [x, y, z] = words else {
         return Err(LineError::WordCount);
     };
-    let at = position_words(2, text(line, *x), text(line, *y))?;
-    let z = whole_word(4, text(line, *z))?;
+    set_command(text(line, *x), text(line, *y), text(line, *z))
+}
+
+// The command of the three words after `set`.
+fn set_command(x: &[u8], y: &[u8], z: &[u8]) -> Result<Command, LineError>
+    ensures value { result ≡ set_words (x.now ∷ y.now ∷ z.now ∷ []) }
+    ensures whole { IfOk result IsWhole }
+{
+    let at = position_words(2, x, y)?;
+    let z = whole_word(4, z)?;
     Ok(Command::Do(Edit::Set { at, z }))
 }
 
