@@ -15,15 +15,16 @@ use Rattle.hd_map.specs.Region.{AreRegions}
 use Rattle.hd_num.specs.declared.frac.Frac.{Frac}
 use Rattle.hd_prune.specs.Answer.{IsPruned}
 use Rattle.hd_prune.specs.Pruned.{leavings_of}
+use Rattle.hd_prune.specs.Staying.{AreKeptAlone}
 use Rattle.hd_prune.specs.declared.step.Kept.{Kept}
 use Rattle.hd_prune.specs.declared.step.Owned.{Owned}
 use Rattle.hd_prune.specs.declared.step.Step.{Step}
 use Rattle.hd_engine.specs.declared.info.HeightRange.{HeightRange}
 use Rattle.hd_engine.specs.declared.tally.Tally.{Tally}
-use Rattle.hd_engine.specs.Features.{AreFeatures, AreHeightsAlone, feature_of}
+use Rattle.hd_engine.specs.Features.{AreFeatures, AreHeightsAlone, feature_of, feature_with}
 use Rattle.hd_engine.specs.Info.{present_heights, range_of}
 use Rattle.hd_engine.specs.Sums.{IsSmall}
-use Rattle.hd_engine.specs.Tallies.{AreFeaturesWith, AreOwnerPlaces, AreTallies, HasHeights, no_tally}
+use Rattle.hd_engine.specs.Tallies.{AreFeaturesWith, AreHeightsWith, AreOwnerPlaces, AreTallies, HasHeights, no_tally}
 use Rattle.hd_engine.specs.Values.{AreServing, IsNotationValue}
 use Rattle.hd_engine.proofs.FeatureLists.{features_are, features_heights, features_points, heights_are}
 use Rattle.hd_engine.proofs.FeaturePoints.{kept_few, kept_heights, kept_inside, kept_ordered, owners_different, owners_owned, owners_pits, range_heights}
@@ -110,38 +111,52 @@ module _ (m : Map) (side : SideName) (thousandths : ℕ) (whole : IsMap m) (root
         (subst (λ (xs : List (Option ℕ)). AreTallies m xs ps (length kept) (cell_count m.size) tallies) same_roots (subst (λ (xs : List Kept). AreTallies m rs ps (length xs) (cell_count m.size) tallies) same_kept tallied)) same_tallies
         same_side same_range (subst (λ (xs : List Kept). AreFeaturesWith name range xs ts (length xs) list) same_kept listed)
 
-  pub height_outcome : (ts : List Tally) (name : SideName) (range : Option HeightRange) (list : List Region) → ts ≡ replicate (length kept) no_tally → name ≡ side → range ≡ range_of (present_heights m)
-      → AreFeaturesWith name range kept ts (length kept) list → HeightOutcome m side thousandths list
-  height_outcome ts name range list none same_side same_range listed =
-      let made : AreFeaturesWith side (range_of (present_heights m)) kept ts (length kept) list =
-      subst (λ r. AreFeaturesWith side r kept ts (length kept) list) same_range (subst (λ s. AreFeaturesWith s range kept ts (length kept) list) same_side listed) in
-      let each : (i : ℕ) → i < length kept → get_or ts i no_tally ≡ no_tally = λ i below. ap (λ (xs : List Tally). get_or xs i no_tally) none ∙ get_or-replicate (length kept) i no_tally no_tally below in
-      let long : length ts ≡ length kept = ap length none ∙ length-replicate (length kept) no_tally in
-      let known = needs in
+-- the same of the kept pits alone
+module _ (m : Map) (side : SideName) (thousandths : ℕ) (whole : IsMap m) (roots : List (Option ℕ)) (kept : List Kept) (regions : AreRegions m side roots) (alone : AreKeptAlone m side thousandths kept) where
+  pub heights_known : All HasHeights kept
+  heights_known = kept_heights m side thousandths whole alone.steps alone.last alone.owner alone.pruning kept alone.are_kept
+
+  few_kept : length kept ≤ 4194304
+  few_kept =
+      let ordered = kept_ordered m side thousandths whole alone.steps alone.last alone.owner alone.pruning kept alone.are_kept in
+      let inside = kept_inside m side thousandths whole alone.steps alone.last alone.owner alone.pruning kept alone.are_kept in
+      let count = kept_few kept (cell_count m.size) ordered inside in
+      omega (arith, count, whole.size.cells)
+
+  pub height_outcome : (ks : List Kept) (name : SideName) (range : Option HeightRange) (list : List Region) → ks ≡ kept → name ≡ side → range ≡ range_of (present_heights m)
+      → AreHeightsWith name range ks (length ks) list → HeightOutcome m side thousandths list
+  height_outcome ks name range list same_kept same_side same_range listed =
+      let heights : AreHeightsWith side (range_of (present_heights m)) kept (length kept) list =
+      subst (λ r. AreHeightsWith side r kept (length kept) list) same_range (subst (λ s. AreHeightsWith s range kept (length kept) list) same_side
+      (subst (λ (xs : List Kept). AreHeightsWith name range xs (length xs) list) same_kept listed)) in
+      let none : List Tally = replicate (length kept) no_tally in
+      let none_at : (i : ℕ) (t : Tally) → i < length kept → get_or none i t ≡ no_tally = λ i t below. get_or-replicate (length kept) i no_tally t below in
+      let made : AreFeaturesWith side (range_of (present_heights m)) kept none (length kept) list = record {
+        whole = heights.whole;
+        each = λ i d k t below. heights.each i d k below ∙ ap (feature_with side (range_of (present_heights m)) (get_or kept i k)) (sym (none_at i t below));
+      } in
+      let long : length none ≡ length kept = length-replicate (length kept) no_tally in
       record {
         are = (
-          map (feature_of m side pruned.owner roots) kept,
+          map (feature_of m side alone.owner roots) kept,
           record {
             roots = roots;
             regions = regions;
-            steps = leavings_of steps;
-            last = pruned.last;
-            owner = pruned.owner;
-            pruning = pruned.pruning;
+            steps = alone.steps;
+            last = alone.last;
+            owner = alone.owner;
+            pruning = alone.pruning;
             kept = kept;
-            are_kept = pruned.are_kept;
+            are_kept = alone.are_kept;
             are = refl;
           },
-          heights_are m side pruned.owner roots kept ts list each made,
+          heights_are m side alone.owner roots kept none list (λ i below. none_at i no_tally below) made,
         );
-        points = features_points side (range_of (present_heights m)) kept ts list 0 long
-            (λ i d below. let none = ap (λ (t : Tally). t.points) (get_or-default i d below) in omega (arith, none)) made (omega arith);
-        heights = features_heights side (range_of (present_heights m)) kept ts list known.heights (λ r is. range_heights m r whole is) made;
-        few = omega (arith, made.whole, known.most);
+        points = features_points side (range_of (present_heights m)) kept none list 0 long
+            (λ i d below. let e = ap (λ (t : Tally). t.points) (none_at i d (subst (λ n. i < n) long below)) in omega (arith, e)) made (omega arith);
+        heights = features_heights side (range_of (present_heights m)) kept none list heights_known (λ r is. range_heights m r whole is) made;
+        few = (let few = few_kept in omega (arith, made.whole, few));
       }
-    where
-      get_or-default : (i : ℕ) (d : Tally) → i < length ts → get_or ts i d ≡ no_tally
-      get_or-default i d below = ap (λ (xs : List Tally). get_or xs i d) none ∙ get_or-replicate (length kept) i no_tally d (subst (λ n. i < n) (ap length none ∙ length-replicate (length kept) no_tally) below)
 
 -- the mean of small local heights is small
 pub small_value : ((n : Notation) (regions : List Region) (area bound : ℕ) (f : Frac) → n.attribute ≡ Lpvh → n.statistic ≡ Mean

@@ -1,21 +1,25 @@
 -- The pits of a map as lows, index by index.
-use Rattle.std.proofs.Common.{◌≡◌, ◌≢◌, ◌<◌, ◌≤◌, ◌+◌, ◌++◌, ℕ, true, false, List, [], ◌∷◌, length, get_or, Option, Some, None, inl, inr, refl, sym, ap, ◌∙◌, subst, nat_eq, arith}
+use Rattle.std.proofs.Common.{◌≡◌, ◌<◌, ◌≤◌, ◌+◌, ◌++◌, ℕ, true, false, List, [], ◌∷◌, length, get_or, Option, Some, None, inl, inr, refl, sym, ap, ◌∙◌, subst, nat_eq, arith}
 use Rattle.std.specs.List.{Contains, AllPairs}
+use Rattle.std.specs.Prelude.{pos}
 use Rattle.std.proofs.lemmas.Bool.{cases_lt}
 use Rattle.std.proofs.lemmas.Bool.Decides.{nat_tests}
 use Rattle.std.proofs.lemmas.Option.{slice_get-get_or}
+use Rattle.std.proofs.lemmas.List.{get_or-map, length-map}
 use Rattle.std.proofs.lemmas.List.Elements.{Contains-push, Contains-push_cases, Contains-append_left, Contains-get_or}
 use Rattle.std.proofs.lemmas.List.Quantifiers.{all_pairs_push}
 use Rattle.hd_map.specs.declared.types.Pos.{Pos}
 use Rattle.hd_map.specs.declared.types.Rank.{Rank}
 use Rattle.hd_map.specs.declared.types.SideName.{SideName}
 use Rattle.hd_map.specs.Map.{Map, IsMap, InGrid, Present, place_of, position_at, cell_count}
+use Rattle.hd_map.specs.Pruning.{ArePits}
 use Rattle.hd_map.specs.Rank.{rank}
 use Rattle.hd_map.specs.Region.{AreRegions, IsPit}
 use Rattle.hd_map.proofs.Points.{position_at-place, position_at-inside, place_inside, same_index, point_at}
 use Rattle.hd_map.proofs.Nexts.{root-is_pit, root-of_pit}
 use Rattle.hd_graph.specs.declared.graph.Low.{Low}
 use Rattle.hd_graph.specs.Basins.{ArePitsOf}
+use Rattle.hd_prune.specs.Staying.{ranks_of}
 use Rattle.hd_engine.specs.Regions.{names}
 use Rattle.hd_engine.proofs.Roots.{rooted_present}
 
@@ -23,7 +27,7 @@ use Rattle.hd_engine.proofs.Roots.{rooted_present}
 pub record AreLowsBefore (m : Map) (side : SideName) (k : ℕ) (lows : List Low) : Type 0 where
   pub each : (x : Low) → Contains lows x → IsPit m side x.rank × (x.pit ≡ true) × (x.rank.index < k)
   pub all : (p : Rank) → IsPit m side p → p.index < k → Contains lows (record { rank = p; pit = true })
-  pub different : AllPairs (λ x y. x.rank.index ≢ y.rank.index) lows
+  pub in_order : AllPairs (λ x y. x.rank.index < y.rank.index) lows
 
 -- what is named is the root
 name_is : (root : Option ℕ) (k : ℕ) → names root k ≡ true → root ≡ Some k
@@ -89,9 +93,9 @@ module _ (m : Map) (side : SideName) (roots : List (Option ℕ)) (whole : IsMap 
               let e : low.rank ≡ p = same_index m low.rank p pit.point is_pit.point (omega (arith, place, not, less)) in
               subst (λ (r : Rank). Contains (lows ++ low ∷ []) (record { rank = r; pit = true })) e (Contains-push lows low)
         ];
-        different = all_pairs_push (λ x y. x.rank.index ≢ y.rank.index) lows low before.different (λ i d inside.
+        in_order = all_pairs_push (λ x y. x.rank.index < y.rank.index) lows low before.in_order (λ i d inside.
             let e = before.each (get_or lows i d) (Contains-get_or lows i d inside) in
-            λ same. omega (arith, e.2, place, same));
+            omega (arith, e.2, place));
       })
 
   -- the point of the index is no pit
@@ -105,7 +109,7 @@ module _ (m : Map) (side : SideName) (roots : List (Option ℕ)) (whole : IsMap 
           let own : names (get_or roots k None) k ≡ true = subst (λ i. names (get_or roots i None) i ≡ true) same (pit_own p is_pit) in
           absurd (let no = other in cc)
     ];
-    different = before.different;
+    in_order = before.in_order;
   }
 
   -- after the last index the lows are the pits of the map
@@ -115,3 +119,29 @@ module _ (m : Map) (side : SideName) (roots : List (Option ℕ)) (whole : IsMap 
     λ (pit, is). subst (λ t. Contains lows (record { rank = x.rank; pit = t })) (sym is)
         (before.all x.rank pit (let inside = place_inside m.size pit.point.at pit.point.present.in_grid in omega (arith, inside, last, regions.whole, ap (λ (r : Rank). r.index) pit.point.rank_is))),
   )
+
+no_low : Low
+no_low = record { rank = record { height = pos 0; index = 0 }; pit = true }
+
+abbrev rank_of : Low → Rank
+rank_of x = x.rank
+
+-- such lows are the pits of the map in position order
+pub lows_pits : (m : Map) (side : SideName) (lows : List Low) → ArePitsOf m side lows → AllPairs (λ x y. x.rank.index < y.rank.index) lows → ArePits m side (ranks_of lows)
+lows_pits m side lows pits in_order = record {
+  exactly = λ p. (
+    λ h. let inside : h.0 < length lows = subst (λ n. h.0 < n) long h.1 in
+        subst (IsPit m side) (sym (get_or-map rank_of lows h.0 no_low p inside) ∙ h.2) ((pits (get_or lows h.0 no_low)).0 (Contains-get_or lows h.0 no_low inside)).0,
+    λ pit. let x : Low = record { rank = p; pit = true } in
+        let h = (pits x).1 (pit, refl) in
+        (h.0, subst (λ n. h.0 < n) (sym long) h.1, get_or-map rank_of lows h.0 x p h.1 ∙ ap rank_of h.2),
+  );
+  in_order = λ i j d less inside.
+      let last : j < length lows = subst (λ n. j < n) long inside in
+      let first : i < length lows = omega (arith, less, last) in
+      subst (λ (a : Rank). a.index < (get_or (ranks_of lows) j d).index) (sym (get_or-map rank_of lows i no_low d first))
+      (subst (λ (b : Rank). (get_or lows i no_low).rank.index < b.index) (sym (get_or-map rank_of lows j no_low d last)) (in_order i j no_low less last));
+}
+  where
+    long : length (ranks_of lows) ≡ length lows
+    long = length-map lows rank_of

@@ -84,3 +84,8 @@ pub record IsHeightRange (range : HeightRange) : Type 0 where
 pub record AreFeaturesWith (side : SideName) (range : Option HeightRange) (kept : List Kept) (tallies : List Tally) (n : ℕ) (list : List Region) : Type 0 where
   pub whole : length list ≡ n
   pub each : (i : ℕ) (d : Region) (k : Kept) (t : Tally) → i < n → slice_index_or list i d ≡ feature_with side range (slice_index_or kept i k) (slice_index_or tallies i t)
+
+-- the regions of the first n kept pits by their pits and local heights alone
+pub record AreHeightsWith (side : SideName) (range : Option HeightRange) (kept : List Kept) (n : ℕ) (list : List Region) : Type 0 where
+  pub whole : length list ≡ n
+  pub each : (i : ℕ) (d : Region) (k : Kept) → i < n → slice_index_or list i d ≡ feature_with side range (slice_index_or kept i k) no_tally

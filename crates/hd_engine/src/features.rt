@@ -4,11 +4,11 @@ ghost use Rattle.std.specs.Option.{ForSome};
 ghost use Rattle.hd_map.specs.NearestSaddle.{local_height};
 ghost use Rattle.hd_engine.specs.Features.{AreFeatures, AreHeightsAlone, feature_with, lpvh, whole_height};
 ghost use Rattle.hd_engine.specs.Info.{present_heights, range_of};
-ghost use Rattle.hd_engine.specs.Tallies.{AreFeaturesWith, HasHeights, IsHeight, IsHeightRange};
+ghost use Rattle.hd_engine.specs.Tallies.{AreFeaturesWith, AreHeightsWith, HasHeights, IsHeight, IsHeightRange};
 
 use crate::info::HeightRange;
-use crate::pruned::pruned_map;
-use crate::tally::{Tally, empty_tallies, owner_places, tallies};
+use crate::pruned::{kept_pits, pruned_map};
+use crate::tally::{NO_TALLY, Tally, owner_places, tallies};
 use hd_base::{List, Memory};
 use hd_feature::Region;
 use hd_map::{Heights, Rank, Side, SideName};
@@ -39,6 +39,7 @@ pub fn features<S: Side, G: Heights>(
 }
 
 /// The same regions by their pits and local heights alone, as if they had no points: nothing is counted.
+/// `Memory` comes where the kept pits or the list are refused their memory.
 pub fn heights_alone<S: Side, G: Heights>(
     alloc: Global,
     grid: &G,
@@ -51,10 +52,26 @@ pub fn heights_alone<S: Side, G: Heights>(
     ensures heights { IfOk result (All (λ r. unsigned_abs r.lpvh ≤ 2 ^ 33)) }
     ensures few { IfOk result (λ list. length list ≤ 4194304) }
 {
-    let all = pruned_map::<S, G>(alloc, grid, percent, range)?;
-    let kept = all.pruned.kept.as_slice();
-    let tallies = empty_tallies(alloc, kept.len())?;
-    list_features(alloc, S::NAME, range, kept, tallies.as_slice())
+    let kept = kept_pits::<S, G>(alloc, grid, percent, range)?;
+    list_heights(alloc, S::NAME, range, kept.as_slice())
+}
+
+// The regions of the kept pits without any points.
+fn list_heights(
+    alloc: Global,
+    side: SideName,
+    range: Option<HeightRange>,
+    kept: &[Kept],
+) -> Result<List<Region>, Memory>
+    requires heights { All HasHeights kept.now }
+    requires range { ForSome range IsHeightRange }
+    ensures { IfOk result (AreHeightsWith side range kept.now (length kept.now)) }
+{
+    let mut list = List::with_capacity(alloc, kept.len())?;
+    'pits: for pit in kept {
+        list.push(feature_with(side, range, *pit, NO_TALLY))?;
+    }
+    Ok(list)
 }
 
 // The regions of the kept pits with these tallies.
@@ -70,7 +87,7 @@ fn list_features(
     requires range { ForSome range IsHeightRange }
     ensures { IfOk result (λ list. AreFeaturesWith side range kept.now tallies.now (length kept.now) list) }
 {
-    let mut list = List::new(alloc);
+    let mut list = List::with_capacity(alloc, kept.len())?;
     'pits: for (place, pit) in kept.iter().enumerate() {
         list.push(feature_with(side, range, *pit, tallies[place]))?;
     }

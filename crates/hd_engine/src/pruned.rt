@@ -1,18 +1,20 @@
 // The pruning of a map.
-ghost use Rattle.std.specs.Prelude.{◌≡◌, IfOk};
+ghost use Rattle.std.specs.Prelude.{◌≡◌, ℕ, List as Items, Option, IfOk};
 ghost use Rattle.hd_map.specs.Map.{IsMap, Map};
 ghost use Rattle.hd_map.specs.Pruning.{SzIs};
 ghost use Rattle.hd_map.specs.Region.{AreRegions};
 ghost use Rattle.hd_prune.specs.Answer.{IsPruned};
+ghost use Rattle.hd_prune.specs.Staying.{AreKeptAlone};
 ghost use Rattle.hd_engine.specs.Info.{present_heights, range_of};
 
 use crate::falls::Falls;
 use crate::info::HeightRange;
-use crate::survey::flood_line_of;
+use crate::survey::{flood_line_of, pit_graph};
 use hd_base::{List, Memory};
+use hd_graph::merges_of;
 use hd_map::{Heights, Side};
 use hd_num::Percent;
-use hd_prune::{Pruned, prune};
+use hd_prune::{Kept, Pruned, keep, prune};
 use hd_steep::regions;
 use std::alloc::Global;
 
@@ -42,6 +44,30 @@ pub fn pruned_map<S: Side, G: Heights>(
     let falls = Falls::<S, G>::new(alloc, grid, roots.as_slice());
     let pruned = prune::<S, Falls<'_, S, G>>(alloc, &line, &falls, percent, height_span(range))?;
     Ok(PrunedMap { roots, pruned })
+}
+
+/// The pits that this pruning keeps, with their nearest saddles, in position order. Neither the steps nor the
+/// owners are found for them. `Memory` comes where the regions, the merges of the pits or the list are refused
+/// their memory.
+pub fn kept_pits<S: Side, G: Heights>(
+    alloc: Global,
+    grid: &G,
+    percent: Percent,
+    range: Option<HeightRange>,
+) -> Result<List<Kept>, Memory>
+    requires { range ≡ range_of (present_heights (G.map grid.now)) }
+    ensures kept { IfOk result (AreKeptAlone (G.map grid.now) S.NAME percent.thousandths) }
+    ensures regions { IfOk result (λ _. (roots : Items (Option ℕ)) × AreRegions (G.map grid.now) S.NAME roots) }
+{
+    let graph = pit_graph::<S, G>(alloc, grid)?;
+    let merges = merges_of::<S>(alloc, &graph)?;
+    keep::<S>(
+        alloc,
+        graph.lows(),
+        merges.as_slice(),
+        percent,
+        height_span(range),
+    )
 }
 
 // The greatest height of a present point less the least, and 0 where no point is present.

@@ -36,12 +36,37 @@ pub fn list_pruning<S: Side, G: Heights>(
     let roots = all.roots.as_slice();
     let table = owner_table(alloc, roots.len(), all.pruned.owners.as_slice())?;
     let points = count_owned(alloc, roots, table.as_slice())?;
-    let pits = all.pruned.owners.as_slice().len();
+    pruning_text(
+        alloc,
+        S::NAME,
+        grid.size(),
+        percent,
+        &all.pruned,
+        points.as_slice(),
+    )
+}
+
+// The text of a pruning, with the number of the points of each pit by its index.
+fn pruning_text(
+    alloc: Global,
+    side: SideName,
+    size: Size,
+    percent: Percent,
+    pruned: &Pruned,
+    points: &[u32],
+) -> Result<List<u8>, Memory>
+    requires steps { All (IsStepInside size) pruned.now.steps }
+    requires kept { All (λ x. x.pit.index < cell_count size) pruned.now.kept }
+    requires whole { length points.now ≡ cell_count size }
+    ensures { IfOk result (λ text. text ≡ prune_heading side percent.thousandths (length pruned.now.steps) (length pruned.now.kept)
+        ++ flat_map (λ step. step_line size (leaving_of step)) pruned.now.steps
+        ++ flat_map (kept_line side size points.now) pruned.now.kept) }
+{
+    let pits = pruned.owners.as_slice().len();
     let mut text = List::with_capacity(alloc, pits.saturating_mul(PIT_BYTES))?;
-    push_heading(&mut text, S::NAME, percent, &all.pruned)?;
-    push_steps(&mut text, grid.size(), all.pruned.steps.as_slice())?;
-    let kept = all.pruned.kept.as_slice();
-    push_kept(&mut text, S::NAME, grid.size(), kept, points.as_slice())?;
+    push_heading(&mut text, side, percent, pruned)?;
+    push_steps(&mut text, size, pruned.steps.as_slice())?;
+    push_kept(&mut text, side, size, pruned.kept.as_slice(), points)?;
     Ok(text)
 }
 

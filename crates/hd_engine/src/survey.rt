@@ -1,5 +1,5 @@
 // What reports are made of, computed from the map.
-ghost use Rattle.std.specs.Prelude.{◌≡◌, ◌≢◌, ◌<◌, ◌^◌, ℕ, true, List as Items, length, map, Option, Some, None, All, IfOk, slice_index_or};
+ghost use Rattle.std.specs.Prelude.{◌≡◌, ◌<◌, ◌^◌, ℕ, true, List as Items, length, map, Option, Some, None, All, IfOk, slice_index_or};
 ghost use Rattle.std.specs.List.{AllPairs};
 ghost use Rattle.hd_map.specs.Map.{InGrid, Present, place_of, position_at, cell_count};
 ghost use Rattle.hd_map.specs.Rank.{rank};
@@ -11,8 +11,8 @@ ghost use Rattle.hd_engine.specs.Regions.{AreExtents, CountsPoints, extent_of, I
 
 use hd_base::{List, Memory};
 use hd_graph::{
-    FloodLine, Graph, Low, flood, flood_line_tells_the_saddles, passes_of_basins_are_a_graph,
-    regions_are_basins,
+    FloodLine, Graph, Low, flood, flood_line_tells_the_saddles, merges_tell_the_saddles,
+    passes_of_basins_are_a_graph, regions_are_basins,
 };
 use hd_map::{Heights, Rank, Side, position_of, rank_of};
 use hd_steep::{crossings, regions};
@@ -67,8 +67,9 @@ pub fn flood_line_of<S: Side, G: Heights>(
     Ok(line)
 }
 
-// The graph of the pits of a map and their crossings. The roots are given up before it is flooded.
-fn pit_graph<S: Side, G: Heights>(alloc: Global, grid: &G) -> Result<Graph<S>, Memory>
+/// The graph of the pits of a map on a side and their crossings. `Memory` comes where the regions, their
+/// crossings or the pits are refused their memory.
+pub fn pit_graph<S: Side, G: Heights>(alloc: Global, grid: &G) -> Result<Graph<S>, Memory>
     ensures { IfOk result (IsPitGraph (G.map grid.now) S.NAME) }
 {
     let roots = regions::<S, G>(alloc, grid)?;
@@ -90,10 +91,11 @@ fn pit_graph_of<S: Side, G: Heights>(
     regions_are_basins();
     passes_of_basins_are_a_graph();
     flood_line_tells_the_saddles();
+    merges_tell_the_saddles();
     Ok(Graph::<S>::new(lows, passes))
 }
 
-// The pits of these roots, as the lows of a graph.
+// The pits of these roots, as the lows of a graph, in position order.
 fn list_lows<S: Side, G: Heights>(
     alloc: Global,
     grid: &G,
@@ -101,7 +103,7 @@ fn list_lows<S: Side, G: Heights>(
 ) -> Result<List<Low>, Memory>
     requires { AreRegions (G.map grid.now) S.NAME roots.now }
     ensures pits { IfOk result (ArePitsOf (G.map grid.now) S.NAME) }
-    ensures different { IfOk result (AllPairs (λ x y. x.rank.index ≢ y.rank.index)) }
+    ensures in_order { IfOk result (AllPairs (λ x y. x.rank.index < y.rank.index)) }
 {
     let mut lows = List::with_capacity(alloc, roots.len() / POINTS_A_PIT)?;
     'roots: for (index, root) in roots.iter().enumerate() {

@@ -21,15 +21,17 @@ pub struct Tally {
     pub edge: Option<HeightRange>,
 }
 
-/// The tallies of no points, at this many places.
-pub fn empty_tallies(alloc: Global, count: usize) -> Result<Vec<Tally>, Memory>
+/// The tally of no points.
+pub const NO_TALLY: Tally = Tally {
+    points: 0,
+    edge: None,
+};
+
+// The tallies of no points, at this many places.
+fn empty_tallies(alloc: Global, count: usize) -> Result<Vec<Tally>, Memory>
     ensures { IfOk result (λ tallies. tallies.items ≡ replicate count no_tally) }
 {
-    let none = Tally {
-        points: 0,
-        edge: None,
-    };
-    let tallies = vec![in alloc; none; count]?;
+    let tallies = vec![in alloc; NO_TALLY; count]?;
     Ok(tallies)
 }
 

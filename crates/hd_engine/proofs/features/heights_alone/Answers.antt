@@ -1,58 +1,39 @@
-use Rattle.std.proofs.Common.{List, length, replicate, sym, subst, ap, ◌∙◌}
-use Rattle.std.specs.Prelude.{All}
+use Rattle.std.proofs.Common.{List, sym, subst, ◌∙◌}
+use Rattle.std.specs.Prelude.{All, IfOk}
 use Rattle.hd_prune.specs.declared.step.Kept.{Kept}
-use Rattle.hd_engine.specs.Tallies.{AreFeaturesWith, HasHeights, no_tally}
+use Rattle.hd_engine.specs.Tallies.{HasHeights}
 use Rattle.hd_engine.proofs.EditAnswers.{if_ok}
-use Rattle.hd_engine.proofs.FeatureNeeds.{height_outcome, needs}
+use Rattle.hd_engine.proofs.FeatureNeeds.{HeightOutcome, height_outcome, heights_known}
 use Rattle.hd_engine.proofs.FeaturePoints.{range_heights}
+use Rattle.hd_engine.proofs.features.heights_alone.Given.{Over}
 use Rattle.hd_engine.proofs.features.heights_alone.Goals as goal
+use Rattle.hd_engine.proofs.features.heights_alone.Goals.{After-list_heights}
 
-pub list_features-requires-clause-heights : goal.list_features-requires-clause-heights
-list_features-requires-clause-heights g c =
-    let m = g.G.Heights.map c.args.grid.now in
-    let all = c.in_ok-all.all in
-    subst (λ (ks : List Kept). All HasHeights ks) (sym c.as_slice-kept.ensures)
-    (needs m g.S.Side.NAME c.args.percent.thousandths (g.met.G.Heights.whole c.args.grid.now) all.roots all.pruned.steps all.pruned.kept all.pruned.owners c.in_ok-all.ensures.regions c.in_ok-all.ensures.pruned).heights
+-- what is known of the list, if it is made
+listed : (g : Over) (c : After-list_heights g) → IfOk c.list_heights.result (HeightOutcome (g.G.Heights.map c.args.grid.now) g.S.Side.NAME c.args.percent.thousandths)
+listed g c =
+    let found = c.in_ok-kept.ensures in
+    if_ok c.list_heights.result c.list_heights.ensures (λ list is.
+    height_outcome (g.G.Heights.map c.args.grid.now) g.S.Side.NAME c.args.percent.thousandths (g.met.G.Heights.whole c.args.grid.now) found.regions.0 c.in_ok-kept.kept found.regions.1 found.kept
+    c.as_slice.result.now c.NAME.result c.args.range list c.as_slice.ensures c.NAME.ensures c.requires is)
 
-pub list_features-requires-clause-range : goal.list_features-requires-clause-range
-list_features-requires-clause-range g c = λ r is. range_heights (g.G.Heights.map c.args.grid.now) r (g.met.G.Heights.whole c.args.grid.now) (sym c.requires ∙ is)
+pub list_heights-requires-clause-heights : goal.list_heights-requires-clause-heights
+list_heights-requires-clause-heights g c =
+    let found = c.in_ok-kept.ensures in
+    subst (λ (ks : List Kept). All HasHeights ks) (sym c.as_slice.ensures)
+    (heights_known (g.G.Heights.map c.args.grid.now) g.S.Side.NAME c.args.percent.thousandths (g.met.G.Heights.whole c.args.grid.now) found.regions.0 c.in_ok-kept.kept found.regions.1 found.kept)
+
+pub list_heights-requires-clause-range : goal.list_heights-requires-clause-range
+list_heights-requires-clause-range g c = λ r is. range_heights (g.G.Heights.map c.args.grid.now) r (g.met.G.Heights.whole c.args.grid.now) (sym c.requires ∙ is)
 
 pub returns-clause-are : goal.returns-clause-are
-returns-clause-are g c =
-    let m = g.G.Heights.map c.args.grid.now in
-    let all = c.in_ok-all.all in
-    if_ok c.list_features.result c.list_features.ensures (λ list is.
-    (height_outcome m g.S.Side.NAME c.args.percent.thousandths (g.met.G.Heights.whole c.args.grid.now) all.roots all.pruned.steps all.pruned.kept all.pruned.owners c.in_ok-all.ensures.regions c.in_ok-all.ensures.pruned
-    c.as_slice.result.now c.NAME.result c.args.range list
-    (c.as_slice.ensures.value ∙ c.in_ok-tallies.ensures ∙ ap (λ (ks : List Kept). replicate (length ks) no_tally) c.as_slice-kept.ensures) c.NAME.ensures c.requires
-    (subst (λ (ks : List Kept). AreFeaturesWith c.NAME.result c.args.range ks c.as_slice.result.now (length ks) list) c.as_slice-kept.ensures is)).are)
+returns-clause-are g c = if_ok c.list_heights.result (listed g (goal.at.returns-clause-are g c).After-list_heights) (λ list o. o.are)
 
 pub returns-clause-points : goal.returns-clause-points
-returns-clause-points g c =
-    let m = g.G.Heights.map c.args.grid.now in
-    let all = c.in_ok-all.all in
-    if_ok c.list_features.result c.list_features.ensures (λ list is.
-    (height_outcome m g.S.Side.NAME c.args.percent.thousandths (g.met.G.Heights.whole c.args.grid.now) all.roots all.pruned.steps all.pruned.kept all.pruned.owners c.in_ok-all.ensures.regions c.in_ok-all.ensures.pruned
-    c.as_slice.result.now c.NAME.result c.args.range list
-    (c.as_slice.ensures.value ∙ c.in_ok-tallies.ensures ∙ ap (λ (ks : List Kept). replicate (length ks) no_tally) c.as_slice-kept.ensures) c.NAME.ensures c.requires
-    (subst (λ (ks : List Kept). AreFeaturesWith c.NAME.result c.args.range ks c.as_slice.result.now (length ks) list) c.as_slice-kept.ensures is)).points)
+returns-clause-points g c = if_ok c.list_heights.result (listed g (goal.at.returns-clause-points g c).After-list_heights) (λ list o. o.points)
 
 pub returns-clause-heights : goal.returns-clause-heights
-returns-clause-heights g c =
-    let m = g.G.Heights.map c.args.grid.now in
-    let all = c.in_ok-all.all in
-    if_ok c.list_features.result c.list_features.ensures (λ list is.
-    (height_outcome m g.S.Side.NAME c.args.percent.thousandths (g.met.G.Heights.whole c.args.grid.now) all.roots all.pruned.steps all.pruned.kept all.pruned.owners c.in_ok-all.ensures.regions c.in_ok-all.ensures.pruned
-    c.as_slice.result.now c.NAME.result c.args.range list
-    (c.as_slice.ensures.value ∙ c.in_ok-tallies.ensures ∙ ap (λ (ks : List Kept). replicate (length ks) no_tally) c.as_slice-kept.ensures) c.NAME.ensures c.requires
-    (subst (λ (ks : List Kept). AreFeaturesWith c.NAME.result c.args.range ks c.as_slice.result.now (length ks) list) c.as_slice-kept.ensures is)).heights)
+returns-clause-heights g c = if_ok c.list_heights.result (listed g (goal.at.returns-clause-heights g c).After-list_heights) (λ list o. o.heights)
 
 pub returns-clause-few : goal.returns-clause-few
-returns-clause-few g c =
-    let m = g.G.Heights.map c.args.grid.now in
-    let all = c.in_ok-all.all in
-    if_ok c.list_features.result c.list_features.ensures (λ list is.
-    (height_outcome m g.S.Side.NAME c.args.percent.thousandths (g.met.G.Heights.whole c.args.grid.now) all.roots all.pruned.steps all.pruned.kept all.pruned.owners c.in_ok-all.ensures.regions c.in_ok-all.ensures.pruned
-    c.as_slice.result.now c.NAME.result c.args.range list
-    (c.as_slice.ensures.value ∙ c.in_ok-tallies.ensures ∙ ap (λ (ks : List Kept). replicate (length ks) no_tally) c.as_slice-kept.ensures) c.NAME.ensures c.requires
-    (subst (λ (ks : List Kept). AreFeaturesWith c.NAME.result c.args.range ks c.as_slice.result.now (length ks) list) c.as_slice-kept.ensures is)).few)
+returns-clause-few g c = if_ok c.list_heights.result (listed g (goal.at.returns-clause-few g c).After-list_heights) (λ list o. o.few)

@@ -1,6 +1,11 @@
 use Rattle.std.proofs.Common.{◌≡◌, ◌++◌, ℕ, List, length, map, Option, refl, ap, subst, ◌∙◌}
 use Rattle.std.specs.List.{flat_map}
+use Rattle.std.proofs.lemmas.Result.{IfOk-weaker}
+use Rattle.hd_map.specs.declared.types.SideName.{SideName}
+use Rattle.hd_map.specs.declared.types.Size.{Size}
+use Rattle.hd_prune.specs.declared.step.Kept.{Kept}
 use Rattle.hd_prune.specs.declared.step.Owned.{Owned}
+use Rattle.hd_prune.specs.declared.step.Step.{Step}
 use Rattle.hd_prune.specs.Pruned.{leaving_of, leavings_of}
 use Rattle.hd_engine.specs.Owned.{TellsOwners, kept_line, owner_in}
 use Rattle.hd_engine.specs.Prunings.{prune_heading, step_line}
@@ -26,19 +31,29 @@ count_owned-requires-clause-inside g c =
     (into_table m g.S.Side.NAME c.args.percent.thousandths all.steps all.kept all.owners (g.met.G.Heights.whole c.args.grid.now) c.in_ok-all.ensures.pruned
     c.in_ok-all.all.roots table c.in_ok-all.ensures.regions tells long)
 
-pub push_steps-requires : goal.push_steps-requires
-push_steps-requires g c =
+pub pruning_text-requires-clause-steps : goal.pruning_text-requires-clause-steps
+pruning_text-requires-clause-steps g c =
     let m = g.G.Heights.map c.args.grid.now in
     let all = c.in_ok-all.all.pruned in
-    rw (c.as_slice-3.ensures, c.size.ensures)
+    rw (c.size.ensures)
     (steps_of_map m g.S.Side.NAME c.args.percent.thousandths all.steps all.kept all.owners (g.met.G.Heights.whole c.args.grid.now) c.in_ok-all.ensures.pruned)
 
-pub push_kept-requires-clause-inside : goal.push_kept-requires-clause-inside
-push_kept-requires-clause-inside g c =
+pub pruning_text-requires-clause-kept : goal.pruning_text-requires-clause-kept
+pruning_text-requires-clause-kept g c =
     let m = g.G.Heights.map c.args.grid.now in
     let all = c.in_ok-all.all.pruned in
-    rw (c.as_slice-kept.ensures, c.size-2.ensures)
+    rw (c.size.ensures)
     (kept_of_map m g.S.Side.NAME c.args.percent.thousandths all.steps all.kept all.owners (g.met.G.Heights.whole c.args.grid.now) c.in_ok-all.ensures.pruned)
+
+-- the heading, a line for each step and a line for each kept pit
+abbrev lines_of : SideName → Size → List ℕ → ℕ → List Step → List Kept → List ℕ
+lines_of side size points thousandths steps kept = prune_heading side thousandths (length steps) (length kept) ++ flat_map (λ step. step_line size (leaving_of step)) steps ++ flat_map (kept_line side size points) kept
+
+-- the lines are the same for a side, a size and numbers of points that are the same
+same_lines : (s side : SideName) (z size : Size) (p points : List ℕ) (thousandths : ℕ) (steps : List Step) (kept : List Kept) → s ≡ side → z ≡ size → p ≡ points
+    → lines_of s z p thousandths steps kept ≡ lines_of side size points thousandths steps kept
+same_lines s side z size p points thousandths steps kept same_side same_size same_points =
+    ap (λ (x : SideName). lines_of x z p thousandths steps kept) same_side ∙ ap (λ (x : Size). lines_of side x p thousandths steps kept) same_size ∙ ap (λ (x : List ℕ). lines_of side size x thousandths steps kept) same_points
 
 pub returns : goal.returns
 returns g c =
@@ -54,13 +69,11 @@ returns g c =
     let counts : CountsPoints (map (owner_in table) roots) points =
     subst (λ (xs : List (Option ℕ)). CountsPoints (map (owner_in table) xs) points) c.as_slice-roots.ensures
     (subst (λ (ts : List ℕ). CountsPoints (map (owner_in ts) c.as_slice-roots.result.now) points) c.as_slice-2.ensures.value c.in_ok-points.ensures) in
-    let first : c.push_heading.new.text ≡ prune_heading side percent (length all.steps) (length all.kept) =
-    c.in_ok-push_heading.ensures ∙ rw (c.in_ok-text.ensures, c.NAME.ensures) refl in
-    let second : c.push_steps.new.text ≡ c.push_heading.new.text ++ flat_map (λ step. step_line m.size (leaving_of step)) all.steps =
-    c.in_ok-push_steps.ensures ∙ rw (c.size.ensures, c.as_slice-3.ensures) refl in
-    let third : c.push_kept.new.text ≡ c.push_steps.new.text ++ flat_map (kept_line side m.size points) all.kept =
-    c.in_ok-push_kept.ensures ∙ rw (c.NAME-2.ensures, c.size-2.ensures, c.as_slice-4.ensures.value, c.as_slice-kept.ensures) refl in
-    record {
+    let heading = prune_heading side percent (length all.steps) (length all.kept) in
+    let told = flat_map (λ step. step_line m.size (leaving_of step)) all.steps in
+    let same = same_lines _ side _ m.size _ points percent all.steps all.kept c.NAME.ensures c.size.ensures c.as_slice-3.ensures.value in
+    IfOk-weaker c.pruning_text.result _ _
+    (λ text is. record {
       steps = leavings_of all.steps;
       last = pruned.last;
       owner = pruned.owner;
@@ -68,5 +81,6 @@ returns g c =
       roots = roots;
       regions = c.in_ok-all.ensures.regions;
       text_is = text_of m side percent all.steps all.kept all.owners (g.met.G.Heights.whole c.args.grid.now) pruned roots table c.in_ok-all.ensures.regions tells points counts
-          c.push_heading.new.text c.push_steps.new.text c.push_kept.new.text first second third;
-    }
+          heading (heading ++ told) text refl refl (is ∙ same);
+    })
+    c.pruning_text.ensures
