@@ -1,8 +1,9 @@
 // The check of a certificate against a surface.
-ghost use Rattle.std.specs.Prelude.{◌≡◌, ℕ, List as Items, Some, Err, IsTrue};
+ghost use Rattle.std.specs.Prelude.{◌≡◌, ℕ, List as Items, Some, Ok, Err, IsTrue};
 ghost use Rattle.std.specs.Io.KnownBytes.{Keeps};
 ghost use Rattle.hd_map.specs.Surface.{map_of};
-ghost use Rattle.hilldale.specs.FaultCounts.{Count, SourceFailed, Stays, over};
+ghost use Rattle.hd_sdf_read.specs.FileOf.{file_of};
+ghost use Rattle.hilldale.specs.FaultCounts.{Count, RoseIn, SourceFailed, Stays, over};
 ghost use Rattle.hilldale.specs.Outcome.{surface_of};
 ghost use Rattle.hilldale.specs.ReadOrder.{SecondComesLast};
 ghost use Rattle.hilldale.specs.RunResult.{HasRunStop, IsCheck, IsJudged};
@@ -16,6 +17,7 @@ use crate::texts::ACCEPTED;
 use hd_base::{Sink, Source, write_all};
 use hd_check::{CertificateError, Verdict, check, read_certificate, verdict_is_determined};
 use hd_map::Surface;
+use hd_sdf_read::SdfFile;
 use std::alloc::Global;
 
 /// Reads the surface, then the certificate, and writes that it is accepted, where all rules hold of
@@ -44,11 +46,34 @@ pub fn check_certificate<S: Source, R: Source, W: Sink>(
     ensures cause { (saved : Count) → Stays saved → HasRunStop (over (S.faults surface.old) (S.faults surface.new))
         (over (R.faults script.old) (R.faults script.new)) (over (W.faults out.old) (W.faults out.new)) saved result }
 {
-    verdict_is_determined();
     let file = match read_surface(alloc, surface, job.surface) {
         Ok(file) => file,
         Err(stop) => return Err(stop),
     };
+    check_second(alloc, job, &file, script, out)
+}
+
+// Reads the certificate, and writes that it is accepted, where all rules hold of it on the surface of
+// a file.
+fn check_second<R: Source, W: Sink>(
+    alloc: Global,
+    job: &CheckJob<'_>,
+    file: &SdfFile,
+    script: &mut R,
+    out: &mut W,
+) -> Result<bool, Stop>
+    requires open { IsTrue (W.is_open out.old) }
+    requires certificate { IsTrue (R.allows script.old job.now.certificate.now) }
+    ensures open { IsTrue (W.is_open out.new) }
+    ensures told { (bytes second : Items ℕ) → surface_of bytes ≡ Ok (file_of file.now)
+        → R.files script.old job.now.certificate.now ≡ Some second
+        → IsCheck (check_request_of job.now) bytes second result (W.written out.old) (W.written out.new) }
+    ensures unwritten { result ≡ Err Stop.ReadFault → Keeps (W.written out.old) (W.written out.new) }
+    ensures failed { result ≡ Err Stop.ReadFault → RoseIn (over (R.faults script.old) (R.faults script.new)) }
+    ensures cause { (surface saved : Count) → Stays surface → Stays saved → HasRunStop surface
+        (over (R.faults script.old) (R.faults script.new)) (over (W.faults out.old) (W.faults out.new)) saved result }
+{
+    verdict_is_determined();
     let text = match read_second(alloc, script, job.certificate, CERTIFICATE_LIMIT) {
         Ok(text) => text,
         Err(stop) => return Err(stop),

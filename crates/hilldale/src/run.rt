@@ -103,14 +103,41 @@ fn answer_all<W: Sink, V: Sink>(
     let Ok(mut session) = Session::new(alloc, file, job.tile) else {
         return Err(Stop::Memory);
     };
-    let accepted = match answer_lines(&mut session, script, out) {
+    answer_and_save(alloc, &mut session, job, script, out, saved)
+}
+
+// Answers the lines in a session that was asked none, and saves the file that they leave, where the
+// words name one.
+fn answer_and_save<W: Sink, V: Sink>(
+    alloc: Global,
+    session: &mut Session,
+    job: &RunJob<'_>,
+    script: &[u8],
+    out: &mut W,
+    saved: &mut V,
+) -> Result<bool, Stop>
+    requires open { IsTrue (W.is_open out.old) }
+    requires few { length script.now ≤ SCRIPT_LIMIT }
+    requires fresh { session.old.asked ≡ 0 }
+    requires saved { ForSome (option_copied job.now.save) (λ name. IsTrue (V.allows saved.old name)) }
+    ensures open { IsTrue (W.is_open out.new) }
+    ensures answers { AnswersAndSaves (option_copied job.now.save) session.old.state (lines_of script.now)
+        (saved.new ≡ saved.old)
+        (saving (V.written saved.old) (V.written saved.new) (V.flushed saved.new) (over (V.faults saved.old) (V.faults saved.new)))
+        result (W.written out.old) (W.written out.new) }
+    ensures cause { HasSinkStop (over (W.faults out.old) (W.faults out.new)) (over (V.faults saved.old) (V.faults saved.new)) result }
+    ensures saved { (surface script : Count) → Stays surface → Stays script → SavesLast (option_copied job.now.save) result (saved.new ≡ saved.old) surface script
+        (over (W.faults out.old) (W.faults out.new))
+        (saving (V.written saved.old) (V.written saved.new) (V.flushed saved.new) (over (V.faults saved.old) (V.faults saved.new))) }
+{
+    let accepted = match answer_lines(session, script, out) {
         Ok(accepted) => accepted,
         Err(stop) => return Err(stop),
     };
     let Some(name) = job.save else {
         return Ok(accepted);
     };
-    match save_file(alloc, &session, name, saved) {
+    match save_file(alloc, session, name, saved) {
         Ok(()) => {}
         Err(stop) => return Err(stop),
     }

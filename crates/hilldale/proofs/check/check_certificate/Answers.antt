@@ -1,65 +1,17 @@
-use Rattle.std.proofs.Common.{◌≡◌, ◌∙◌, ℕ, List, Err, false, true, inl, refl, subst}
-use Rattle.std.specs.Prelude.{⊤, is_err}
-use Rattle.std.specs.Io.KnownBytes.{Appends}
-use Rattle.hd_base.specs.Told.{AppendsStart}
-use Rattle.hd_map.specs.Surface.{map_of}
+use Rattle.std.proofs.Common.{Some, inr, refl}
 use Rattle.hd_sdf_read.specs.FileOf.{file_of}
-use Rattle.hilldale.specs.Outcome.{IsOutcomeOfCertificate}
-use Rattle.hilldale.specs.RunResult.{IsJudged}
-use Rattle.hilldale.specs.Texts.{accepted_text}
-use Rattle.hilldale.specs.Words.{check_request_of}
-use Rattle.hilldale.proofs.Checks.{accepts, check_accepts, check_cut_short, check_judge_stops, of_err, of_ok}
+use Rattle.hilldale.proofs.Runs.{second_after}
 use Rattle.hilldale.proofs.check.check_certificate.Goals as goal
 
-pub returns-in-Err-judge-clause-told : goal.returns-in-Err-judge-clause-told
-returns-in-Err-judge-clause-told g c = λ bytes second told named.
-    let read = c.in-Ok-read_second.ensures.told second named in
-    let text_is : c.as_slice.result.now ≡ second = c.as_slice.ensures ∙ read.1 in
-    check_judge_stops (check_request_of c.args.job.now) bytes second (file_of c.in-Ok.file) (c.in-Ok.ensures.told bytes told) c.verdict_is_determined.ensures read.0 ⊤ c.in-Err-judge.stop (g.W.Sink.written c.args.out.now)
-    (subst (λ (text : List ℕ). IsJudged {T = ⊤} (map_of c.in-Ok.file.surface) text (Err c.in-Err-judge.stop)) text_is c.in-Err-judge.ensures)
-
-pub returns-then-is_err-clause-told : goal.returns-then-is_err-clause-told
-unfolding accepted_text
-returns-then-is_err-clause-told g c = λ bytes second told named.
-    let read = c.in-Ok-read_second.ensures.told second named in
-    let text_is : c.as_slice.result.now ≡ second = c.as_slice.ensures ∙ read.1 in
-    let old = g.W.Sink.written c.args.out.now in
-    let new = g.W.Sink.written c.write_all.new.sink in
-    check_cut_short (check_request_of c.args.job.now) bytes second (file_of c.in-Ok.file) (c.in-Ok.ensures.told bytes told) c.verdict_is_determined.ensures read.0 old new
-    (subst (λ (text : List ℕ). IsOutcomeOfCertificate (map_of c.in-Ok.file.surface) text accepts) text_is c.in-Ok-judge.ensures)
-    (subst (λ (text : List ℕ). AppendsStart old new text) c.as_bytes.ensures.value c.write_all.ensures.part)
-
-pub returns-then-is_err-clause-cause : goal.returns-then-is_err-clause-cause
-returns-then-is_err-clause-cause g c = λ saved kept.
-    let failed : is_err c.write_all.result ≡ true = cc in
-    record {
-      read = λ e. absurd (cc);
-      write = λ e. inl (of_err c.write_all.result failed c.write_all.ensures.cause.failed);
-      other = λ not_read not_write. absurd (not_write refl);
-    }
-
 pub returns-clause-told : goal.returns-clause-told
-unfolding accepted_text
-returns-clause-told g c = λ bytes second told named.
-    let read = c.in-Ok-read_second.ensures.told second named in
-    let text_is : c.as_slice.result.now ≡ second = c.as_slice.ensures ∙ read.1 in
-    let old = g.W.Sink.written c.args.out.now in
-    let new = g.W.Sink.written c.write_all.new.sink in
-    let fine : is_err c.write_all.result ≡ false = cc in
-    check_accepts (check_request_of c.args.job.now) bytes second (file_of c.in-Ok.file) (c.in-Ok.ensures.told bytes told) c.verdict_is_determined.ensures read.0 old new
-    (subst (λ (text : List ℕ). IsOutcomeOfCertificate (map_of c.in-Ok.file.surface) text accepts) text_is c.in-Ok-judge.ensures)
-    (subst (λ (text : List ℕ). Appends old new text) c.as_bytes.ensures.value (of_ok c.write_all.result fine c.write_all.ensures.all))
+returns-clause-told g c = λ bytes second told named. c.check_second.ensures.told bytes second (c.in-Ok.ensures.told bytes told) named
+
+pub returns-clause-order : goal.returns-clause-order
+returns-clause-order g c =
+    second_after (Some c.args.job.now.certificate.now) _ _ c.args.script.now _ c.args.job.now.certificate.now (file_of c.in-Ok.file) refl (c.in-Ok.ensures.cause.no_fault (λ e. cc)) c.in-Ok.ensures.told
+
+pub returns-clause-failed : goal.returns-clause-failed
+returns-clause-failed g c = λ bytes told e. inr (file_of c.in-Ok.file, c.in-Ok.ensures.told bytes told, c.check_second.ensures.failed e)
 
 pub returns-clause-cause : goal.returns-clause-cause
-returns-clause-cause g c = λ saved kept.
-    let fine : is_err c.write_all.result ≡ false = cc in
-    record {
-      read = λ e. absurd (cc);
-      write = λ e. absurd (cc);
-      other = λ not_read not_write. (
-        c.in-Ok.ensures.cause.no_fault (λ e. cc),
-        c.in-Ok-read_second.ensures.cause.no_fault (λ e. cc),
-        of_ok c.write_all.result fine c.write_all.ensures.cause.accepted,
-        kept,
-      );
-    }
+returns-clause-cause g c = λ saved kept. c.check_second.ensures.cause _ saved (c.in-Ok.ensures.cause.no_fault (λ e. cc)) kept

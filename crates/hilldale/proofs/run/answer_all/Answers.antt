@@ -1,60 +1,23 @@
-use Rattle.std.proofs.Common.{[], Ok, inl, ap, subst, refl}
+use Rattle.std.proofs.Common.{◌≡◌, ℕ, Bool, Option, List, Result, [], subst}
 use Rattle.std.specs.Option.{option_copied}
-use Rattle.std.specs.Prelude.{⊤}
 use Rattle.std.proofs.KnownBytes.{Appends-nil}
 use Rattle.hd_num.specs.Lines.{lines_of}
 use Rattle.hd_sdf_read.specs.FileOf.{file_of}
 use Rattle.hd_engine.specs.State.{State, first_state}
-use Rattle.hilldale.specs.WrittenAnswers.{WritesAnswers}
+use Rattle.hilldale.specs.declared.stop.Stop.{Stop}
+use Rattle.hilldale.specs.RunResult.{AnswersAndSaves}
+use Rattle.hilldale.specs.Saving.{Saving}
 use Rattle.hilldale.proofs.Answered.{no_answers}
-use Rattle.hilldale.proofs.Savings.{last_saved, last_stopped, lines_saved, saving_cause, saving_stops}
 use Rattle.hilldale.proofs.run.answer_all.Goals as goal
 
 pub returns-in_default-clause-answers : goal.returns-in_default-clause-answers
 returns-in_default-clause-answers g c = ([], no_answers _ _, Appends-nil (g.W.Sink.written c.args.out.now))
 
-pub returns-in-Err-clause-cause : goal.returns-in-Err-clause-cause
-returns-in-Err-clause-cause g c = record {
-  write = λ e. inl (c.in-Err.ensures.cause.fault e);
-  other = λ e. (c.in-Err.ensures.cause.no_fault e, refl);
-  only = c.in-Err.ensures.cause.only;
-}
-
-pub returns-in-Err-save_file-clause-answers : goal.returns-in-Err-save_file-clause-answers
-returns-in-Err-save_file-clause-answers g c =
-    let old = g.W.Sink.written c.args.out.now in
-    let new = g.W.Sink.written c.answer_lines.new.out in
-    let lines = lines_of c.args.script.now in
-    let first = first_state (file_of c.args.file) in
-    let after = c.answer_lines.new.session.state in
-    let accepted = c.in-Ok-answer_lines.accepted in
-    let answers = subst (λ (t : State). WritesAnswers t lines (Ok accepted) after old new) c.in-Ok.ensures.0 c.in-Ok-answer_lines.ensures.answers in
-    saving_stops (option_copied c.args.job.now.save) first lines _ _ old new accepted after c.in-Some.name.now (ap option_copied c.in-Some.is) ⊤ c.in-Err-save_file.stop answers c.in-Err-save_file.ensures
-
-pub returns-in-Err-save_file-clause-cause : goal.returns-in-Err-save_file-clause-cause
-returns-in-Err-save_file-clause-cause g c = saving_cause _ _ ⊤ c.in-Err-save_file.stop _ _ (c.in-Ok-answer_lines.ensures.cause.no_fault (λ e. cc)) c.in-Err-save_file.ensures
-
-pub returns-in-Err-save_file-clause-saved : goal.returns-in-Err-save_file-clause-saved
-returns-in-Err-save_file-clause-saved g c = λ surface script a b.
-    last_stopped _ _ _ surface script _ _ ⊤ c.in-Err-save_file.stop c.in-Some.name.now _ (ap option_copied c.in-Some.is) refl a b (c.in-Ok-answer_lines.ensures.cause.no_fault (λ e. cc)) c.in-Err-save_file.ensures
+from_state : (save : Option (List ℕ)) (before first : State) (lines : List (List ℕ)) (stays : Type 0) (s : Saving) (result : Result Bool Stop) (old new : Option (List ℕ)) → before ≡ first
+    → AnswersAndSaves save before lines stays s result old new → AnswersAndSaves save first lines stays s result old new
+from_state save before first lines stays s result old new same answers = subst (λ (t : State). AnswersAndSaves save t lines stays s result old new) same answers
 
 pub returns-clause-answers : goal.returns-clause-answers
 returns-clause-answers g c =
-    let old = g.W.Sink.written c.args.out.now in
-    let new = g.W.Sink.written c.answer_lines.new.out in
-    let lines = lines_of c.args.script.now in
-    let first = first_state (file_of c.args.file) in
-    let after = c.answer_lines.new.session.state in
-    let accepted = c.in-Ok-answer_lines.accepted in
-    let answers = subst (λ (t : State). WritesAnswers t lines (Ok accepted) after old new) c.in-Ok.ensures.0 c.in-Ok-answer_lines.ensures.answers in
-    lines_saved (option_copied c.args.job.now.save) first lines _ _ old new accepted after c.in-Some.name.now (ap option_copied c.in-Some.is) answers c.in-Ok-save_file.ensures
-
-pub returns-clause-cause : goal.returns-clause-cause
-returns-clause-cause g c = record {
-  write = λ e. absurd (cc);
-  other = λ e. (c.in-Ok-answer_lines.ensures.cause.no_fault (λ e. cc), c.in-Ok-save_file.ensures.count);
-  only = λ stop e. absurd (cc);
-}
-
-pub returns-clause-saved : goal.returns-clause-saved
-returns-clause-saved g c = λ surface script a b. last_saved _ _ _ surface script _ _ c.in-Ok-answer_lines.accepted c.in-Some.name.now _ (ap option_copied c.in-Some.is) refl a b c.in-Ok-save_file.ensures
+    from_state (option_copied c.args.job.now.save) _ (first_state (file_of c.args.file)) (lines_of c.args.script.now) _ _ c.answer_and_save.result (g.W.Sink.written c.args.out.now) (g.W.Sink.written c.answer_and_save.new.out)
+    c.in-Ok.ensures.0 c.answer_and_save.ensures.answers
