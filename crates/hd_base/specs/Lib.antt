@@ -1,5 +1,5 @@
 pub mod Causes
 pub mod Told
-pub mod FileState
+pub mod Adapters
 pub mod MemSource
 pub mod MemSink

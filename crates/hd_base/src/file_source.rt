@@ -1,6 +1,7 @@
-// A source over real files, which tells nothing of their content.
-ghost use Rattle.std.specs.Prelude.{◌≡◌, None, true, false, is_some};
-ghost use Rattle.hd_base.specs.FileState.{FileState};
+// A source over the files of a runtime.
+ghost use Rattle.std.specs.Prelude.{◌≡◌, Some, None, true, is_some, unwrap_or, OnOk, OnErr};
+ghost use Rattle.hd_base.specs.Causes.{HasCause, one_more};
+ghost use Rattle.hd_base.specs.Adapters.{left-untold};
 
 use crate::faults::Faults;
 use crate::{Failed, Source};
@@ -9,7 +10,9 @@ use std::io::Read;
 use std::marker::Model;
 use std::rt::Files;
 
-/// Files of the system. It tells nothing of their content, and counts each fault.
+/// Files of a runtime, one at a time.
+///
+/// The source tells what is left of the open file where the file tells it, and counts each fault.
 #[derive(Drop)]
 pub struct FileSource<'a, R: Files> {
     files: &'a R,
@@ -18,15 +21,21 @@ pub struct FileSource<'a, R: Files> {
 }
 
 impl<'a, R: Files> Model for FileSource<'a, R> {
-    ghost Value = { FileState };
+    ghost use Rattle.std.specs.Option.{option_map};
+    ghost use Rattle.hd_base.specs.Adapters.{FileSourceState};
 
-    ghost view = { λ s. record { has_file = is_some s.file; fault_count = s.faults } };
+    ghost Value = { FileSourceState };
+
+    ghost view = { λ s. record {
+      reading = option_map R.File.remaining s.file;
+      fault_count = s.faults;
+    } };
 }
 
 impl<'a, R: Files> FileSource<'a, R> {
     /// A source with no file open, that has not failed.
     pub fn new(files: &'a R) -> Self
-        ensures { result ≡ record { has_file = false; fault_count = 0 } }
+        ensures { result ≡ record { reading = None; fault_count = 0 } }
     {
         FileSource {
             files,
@@ -37,7 +46,7 @@ impl<'a, R: Files> FileSource<'a, R> {
 }
 
 impl<'a, R: Files> Source for FileSource<'a, R> {
-    ghost is_open = { λ s. s.has_file };
+    ghost is_open = { λ s. is_some s.reading };
 
     ghost faults = { λ s. s.fault_count };
 
@@ -45,9 +54,13 @@ impl<'a, R: Files> Source for FileSource<'a, R> {
 
     ghost files = { λ _ _. None };
 
-    ghost left = { λ _. None };
+    ghost left = { λ s. unwrap_or s.reading None };
 
-    fn open(&mut self, name: &str) -> Result<(), Failed> {
+    fn open(&mut self, name: &str) -> Result<(), Failed>
+        ensures file { OnOk result ((file : R.File) × (self.new.reading ≡ Some (R.File.remaining file))) }
+        ensures err { OnErr result (self.new ≡ record self.old { fault_count = one_more self.old.fault_count }) }
+        ensures cause { HasCause self.old.fault_count self.new.fault_count result }
+    {
         let Ok(file) = OpenOptions::new().read(true).open(self.files, name) else {
             return self.faults.fail();
         };
@@ -65,5 +78,5 @@ impl<'a, R: Files> Source for FileSource<'a, R> {
         }
     }
 
-    ghost closed = { λ _ _. tt };
+    ghost closed = { left-untold };
 }

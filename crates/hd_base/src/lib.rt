@@ -1,7 +1,7 @@
 //! Lists, and the traits through which the program reads and writes.
 //!
 //! A source or a sink counts its faults, so that a caller can tell which of them a call has met.
-//! Those in memory tell each byte; files and the standard output tell nothing of their content.
+//! Those in memory tell each byte; those over readers and writers of the library tell what these do.
 #![tactic(auto)]
 
 mod faults;
@@ -10,6 +10,8 @@ mod file_source;
 mod list;
 mod mem_sink;
 mod mem_source;
+#[cfg(test)]
+mod narrow;
 mod schedule;
 mod sink;
 mod source;

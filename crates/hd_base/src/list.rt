@@ -37,7 +37,7 @@ impl<T> Model for List<T> {
 }
 
 impl<T> List<T> {
-    /// A list with no items. It takes no memory.
+    /// A list with no items.
     pub fn new(alloc: Global) -> Self
         ensures { result ≡ [] }
     {
@@ -46,7 +46,7 @@ impl<T> List<T> {
         }
     }
 
-    /// A list with no items, and with the memory for this many. `Memory` comes where it is refused.
+    /// A list with no items. `Memory` comes where the memory for this many is refused.
     pub fn with_capacity(alloc: Global, capacity: usize) -> Result<Self, Memory>
         ensures { IfOk result (λ list. list ≡ []) }
     {

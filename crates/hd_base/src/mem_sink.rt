@@ -12,8 +12,7 @@ use std::marker::Model;
 /// Keeps the bytes that are written, as far as there is room, and tells each of them.
 ///
 /// Its calls are numbered from 0, and the number stays at its last value. The calls whose numbers
-/// are listed fail, and so does a write of some bytes where no room is left. Room comes from
-/// `reserve` alone: no open and no write takes memory.
+/// are listed fail, and so does a write of some bytes where no room is left.
 #[derive(Drop)]
 pub struct MemSink {
     bytes: Vec<u8>,

@@ -16,8 +16,8 @@ pub struct WriteFault;
 /// A place to write one file at a time to.
 ///
 /// A call that fails answers `Failed` and counts a fault; no other call changes the count, which
-/// starts at 0 and stands still at its last value. A call may change which names may be opened
-/// next, so one leave serves one open.
+/// stands still at its last value. A call may change which names may be opened next, so one leave
+/// serves one open.
 pub trait Sink {
     /// Whether a file is open.
     ghost is_open: { Self → Bool };

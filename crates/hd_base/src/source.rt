@@ -31,8 +31,8 @@ pub enum ReadError {
 /// A place to read files from, by their names, one at a time.
 ///
 /// A call that fails answers `Failed` and counts a fault; no other call changes the count, which
-/// starts at 0 and stands still at its last value. An open may change which names may be opened
-/// next, so one leave serves one open.
+/// stands still at its last value. An open may change which names may be opened next, so one leave
+/// serves one open.
 pub trait Source {
     /// Whether a file is open.
     ghost is_open: { Self → Bool };

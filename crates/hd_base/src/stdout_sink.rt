@@ -1,48 +1,67 @@
-// A sink over the standard output, which tells nothing of what it got.
-ghost use Rattle.std.specs.Prelude.{◌≡◌, ◌<◌, ◌≤◌, length, None, true, IsOk, IfOk, IsTrue};
+// A sink over one writer, as the standard output.
+ghost use Rattle.std.specs.Prelude.{◌≡◌, ◌+◌, ◌<◌, ◌≤◌, [], length, true, false, IsOk, IfOk, OnOk, IsTrue, MatchResult};
 ghost use Rattle.std.specs.Io.{WritesAtMost};
+ghost use Rattle.std.specs.Io.KnownBytes.{WriteAppends, Keeps};
 ghost use Rattle.hd_base.specs.Causes.{HasCause};
+ghost use Rattle.hd_base.specs.Adapters.{in_all, is_handed_on, last_told};
 
 use crate::faults::Faults;
 use crate::{Failed, Memory, Sink};
 use std::alloc::Global;
-use std::io;
-use std::io::{BufWriter, Printer, Write};
+use std::io::{BufWriter, Write};
 use std::marker::Model;
 
-/// The bytes that are gathered before they go to the system.
+/// The bytes that are gathered before they go to the writer.
 const GATHERED: usize = 65_536;
 
-/// The standard output. It tells nothing of what it got, and counts each fault. Contracts see it
-/// as that count.
+/// One writer, as the standard output, which is open from the start and takes each name.
 ///
-/// Bytes are gathered and go to the system once there are 65,536 of them, or at a flush; the call
-/// that cannot hand them on counts the fault. A write that a signal interrupts is tried again. What
-/// is not handed on when the sink is let go is handed on then, if it can be.
+/// Bytes are gathered for the writer, and handed on by a flush at the latest. The sink tells them
+/// where the writer tells its own, and counts each fault. A write that takes nothing of a piece with
+/// some bytes is a fault.
 #[derive(Drop)]
-pub struct StdoutSink<'a, P: Print> {
-    to: BufWriter<Printer<'a, P>>,
+pub struct StdoutSink<W: Write + Drop> {
+    to: BufWriter<W>,
+    // How many bytes were written since it was opened.
+    taken: usize,
+    has_flushed: bool,
     faults: Faults,
 }
 
-impl<'a, P: Print> Model for StdoutSink<'a, P> {
-    ghost use Rattle.std.specs.Prelude.{ℕ};
+impl<W: Write + Drop> Model for StdoutSink<W> {
+    ghost use Rattle.std.specs.Io.Buffered.{writer_buffer, writer_inner};
+    ghost use Rattle.hd_base.specs.Adapters.{StdoutState};
 
-    ghost Value = { ℕ };
+    ghost Value = { StdoutState };
 
-    ghost view = { λ s. s.faults };
+    ghost view = { λ s. record {
+      got = W.contents (writer_inner s.to);
+      gathered = writer_buffer s.to;
+      taken = s.taken;
+      has_flushed = s.has_flushed;
+      fault_count = s.faults;
+    } };
 }
 
-impl<'a, P: Print> StdoutSink<'a, P> {
-    /// A sink that is open and has not failed. `Memory` comes where the memory for the bytes that
-    /// are gathered is refused.
-    pub fn new(alloc: Global, to: &'a P) -> Result<Self, Memory>
-        ensures open { IfOk result (λ sink. IsTrue (⟦<StdoutSink<'a, P> as Sink>⟧.is_open sink)) }
-        ensures no_fault { IfOk result (λ sink. ⟦<StdoutSink<'a, P> as Sink>⟧.faults sink ≡ 0) }
+impl<W: Write + Drop> StdoutSink<W> {
+    /// A sink that is open, has gathered nothing and has not failed. `Memory` comes where the memory
+    /// for the bytes that are gathered is refused.
+    pub fn new(alloc: Global, to: W) -> Result<Self, Memory>
+        ensures open { IfOk result (λ sink. IsTrue (⟦<StdoutSink<W> as Sink>⟧.is_open sink)) }
+        ensures no_fault { IfOk result (λ sink. ⟦<StdoutSink<W> as Sink>⟧.faults sink ≡ 0) }
+        ensures value { IfOk result (λ sink. sink ≡ record {
+          got = W.contents to;
+          gathered = [];
+          taken = 0;
+          has_flushed = true;
+          fault_count = 0;
+        }) }
     {
-        match BufWriter::with_capacity(alloc, GATHERED, io::writer(to)) {
+        match BufWriter::with_capacity(alloc, GATHERED, to) {
             Ok(to) => Ok(StdoutSink {
                 to,
+                taken: 0,
+                has_flushed: true,
                 faults: Faults::none(),
             }),
             Err(_) => Err(Memory),
@@ -50,38 +69,58 @@ impl<'a, P: Print> StdoutSink<'a, P> {
     }
 }
 
-impl<'a, P: Print> Sink for StdoutSink<'a, P> {
+impl<W: Write + Drop> Sink for StdoutSink<W> {
     ghost is_open = { λ _. true };
 
-    ghost faults = { λ s. s };
+    ghost faults = { λ s. s.fault_count };
 
     ghost allows = { λ _ _. true };
 
-    ghost written = { λ _. None };
+    ghost written = { λ s. last_told s.taken (in_all s) };
 
-    ghost flushed = { λ _. true };
+    ghost flushed = { is_handed_on };
 
     fn open(&mut self, _name: &str) -> Result<(), Failed>
         ensures accepted { IsOk result }
-        ensures same { self.new ≡ self.old }
-        ensures cause { HasCause self.old self.new result }
+        ensures same { self.new ≡ record self.old { taken = 0 } }
+        ensures cause { HasCause self.old.fault_count self.new.fault_count result }
     {
+        self.taken = 0;
         Ok(())
     }
 
     // A piece that fits the buffer is never handed on by itself, which nothing would try again.
-    fn write(&mut self, piece: &[u8]) -> Result<usize, Failed> {
-        let part = &piece[..piece.len().min(GATHERED - 1)];
+    fn write(&mut self, piece: &[u8]) -> Result<usize, Failed>
+        ensures bound { WritesAtMost result piece.now }
+        ensures some { IfOk result (λ n. 0 < length piece.now → 0 < n) }
+        ensures bytes { WriteAppends (in_all self.old) (in_all self.new) result piece.now }
+        ensures taken { MatchResult result (λ n. self.new.taken ≡ self.old.taken + n)
+            (λ _. self.new.taken ≡ self.old.taken) }
+        ensures unflushed { IfOk result (λ n. 0 < n → is_handed_on self.new ≡ false) }
+        ensures cause { HasCause self.old.fault_count self.new.fault_count result }
+    {
+        let room = usize::MAX - self.taken;
+        let part = &piece[..piece.len().min(GATHERED - 1).min(room)];
         match self.to.write(part) {
-            Ok(count) if 0 < count || piece.is_empty() => Ok(count),
+            Ok(count) if 0 < count || piece.is_empty() => {
+                self.taken += count;
+                self.has_flushed = self.has_flushed && count == 0;
+                Ok(count)
+            }
             _ => self.faults.fail(),
         }
     }
 
-    fn flush(&mut self) -> Result<(), Failed> {
-        match self.to.flush() {
-            Ok(done) => Ok(done),
-            Err(_) => self.faults.fail(),
+    fn flush(&mut self) -> Result<(), Failed>
+        ensures flushed { OnOk result (IsTrue (is_handed_on self.new)) }
+        ensures bytes { Keeps (in_all self.old) (in_all self.new) }
+        ensures taken { self.new.taken ≡ self.old.taken }
+        ensures cause { HasCause self.old.fault_count self.new.fault_count result }
+    {
+        if self.to.flush().is_err() {
+            return self.faults.fail();
         }
+        self.has_flushed = true;
+        Ok(())
     }
 }

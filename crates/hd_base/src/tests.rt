@@ -1,10 +1,12 @@
 // The calls on their happy paths, and how a fault shows.
 ghost use Rattle.std.specs.Prelude.{◌<◌};
 
+use crate::narrow::{Narrow, Shelf};
 use crate::*;
 use std::alloc::Global;
+use std::cell::RefCell;
 use std::test::Fail;
-use std::{fs, process};
+use std::{fs, io, process};
 
 fn list_of<T: Copy>(alloc: Global, items: &[T]) -> Result<List<T>, Fail> {
     let mut list = List::new(alloc);
@@ -125,8 +127,84 @@ fn a_file_of_the_system_is_written_anew(rt: HostRuntime) -> Result<(), Fail> {
 
 #[test]
 fn the_standard_output_takes_all_bytes(rt: HostRuntime) -> Result<(), Fail> {
-    let mut sink = StdoutSink::new(rt.alloc(), &rt)?;
+    let mut sink = StdoutSink::new(rt.alloc(), io::writer(&rt))?;
     write_all(&mut sink, b"written\n".as_slice())?;
     sink.flush()?;
+    Ok(())
+}
+
+// More bytes than any sink or source takes at once.
+fn long_text(alloc: Global) -> Result<Vec<u8>, Fail> {
+    let mut text = Vec::new(alloc);
+    for index in 0..200_000u32 {
+        text.push((index % 251) as u8)?;
+    }
+    Ok(text)
+}
+
+#[test]
+fn all_bytes_reach_a_writer_that_takes_a_part_of_each_piece(rt: HostRuntime) -> Result<(), Fail> {
+    let text = long_text(rt.alloc())?;
+    for most in [1_000, 70_000] {
+        let got = RefCell::new(Vec::new(rt.alloc()));
+        let writer = Narrow::new(&[], &got, most, usize::MAX);
+        let mut sink = StdoutSink::new(rt.alloc(), writer)?;
+        write_all(&mut sink, text.as_slice())?;
+        sink.flush()?;
+        assert_eq!(rt;
+            got.try_borrow()?.as_slice(),
+            text.as_slice(),
+            "in pieces of {most}"
+        );
+    }
+    Ok(())
+}
+
+#[test]
+fn a_writer_that_fails_has_some_first_bytes(rt: HostRuntime) -> Result<(), Fail> {
+    let text = long_text(rt.alloc())?;
+    let got = RefCell::new(Vec::new(rt.alloc()));
+    let writer = Narrow::new(&[], &got, 1_000, 100_000);
+    let mut sink = StdoutSink::new(rt.alloc(), writer)?;
+    assert_eq!(rt; write_all(&mut sink, text.as_slice()), Err(WriteFault));
+    assert_eq!(rt; sink.flush(), Err(Failed));
+    let got = got.try_borrow()?;
+    assert_eq!(rt; got.len(), 100_000);
+    assert!(rt; text.as_slice().starts_with(got.as_slice()));
+    Ok(())
+}
+
+#[test]
+fn files_that_pass_a_part_of_each_piece_are_read_and_written_whole(
+    rt: HostRuntime,
+) -> Result<(), Fail> {
+    let text = long_text(rt.alloc())?;
+    let got = RefCell::new(Vec::new(rt.alloc()));
+    let shelf = Shelf(Narrow::new(text.as_slice(), &got, 1_000, usize::MAX));
+    let mut source = FileSource::new(&shelf);
+    let read = read_all(rt.alloc(), &mut source, "name", 200_000)?;
+    assert_eq!(rt; read.as_slice(), text.as_slice());
+    let mut sink = FileSink::new(&shelf);
+    sink.open("name")?;
+    write_all(&mut sink, text.as_slice())?;
+    sink.flush()?;
+    assert_eq!(rt; got.try_borrow()?.as_slice(), text.as_slice());
+    Ok(())
+}
+
+#[test]
+fn files_that_fail_are_read_and_written_in_part(rt: HostRuntime) -> Result<(), Fail> {
+    let text = long_text(rt.alloc())?;
+    let got = RefCell::new(Vec::new(rt.alloc()));
+    let shelf = Shelf(Narrow::new(text.as_slice(), &got, 1_000, 100_000));
+    let mut source = FileSource::new(&shelf);
+    let error = read_all(rt.alloc(), &mut source, "name", 200_000).err();
+    assert_eq!(rt; error, Some(ReadError::ReadFault));
+    let mut sink = FileSink::new(&shelf);
+    sink.open("name")?;
+    assert_eq!(rt; write_all(&mut sink, text.as_slice()), Err(WriteFault));
+    let got = got.try_borrow()?;
+    assert_eq!(rt; got.len(), 100_000);
+    assert!(rt; text.as_slice().starts_with(got.as_slice()));
     Ok(())
 }

@@ -46,6 +46,7 @@ mod words;
 use hd_base::{FileSink, FileSource, Memory, StdoutSink};
 pub use status::Status;
 use std::env;
+use std::io;
 use std::io::ErrorKind;
 use std::process::ExitCode;
 use std::rt::Env;
@@ -60,7 +61,7 @@ fn status_of_run(rt: &HostRuntime) -> Status {
     let Ok(words) = given_words(rt) else {
         return Status::Memory;
     };
-    let Ok(mut out) = StdoutSink::new(rt.alloc(), rt) else {
+    let Ok(mut out) = StdoutSink::new(rt.alloc(), io::writer(rt)) else {
         return Status::Memory;
     };
     let mut surface = FileSource::new(rt);

@@ -1,0 +1,31 @@
+use Rattle.std.proofs.Common.{ap}
+use Rattle.std.proofs.KnownBytes.{Keeps-refl}
+use Rattle.std.proofs.lemmas.Result.{on_ok_weaker, on_err_weaker}
+use Rattle.hd_base.proofs.LastTold.{kept_since, written_since}
+use Rattle.hd_base.proofs.file_sink.FileSinkSink.TheImpl.Goals as goal
+
+pub open-tells : goal.open-tells
+open-tells g c = record {
+  opened = on_ok_weaker c.result (λ e. ap (λ s. s.has_file) e) c.ensures.ok;
+  empty = c.ensures.empty;
+  refused = on_err_weaker c.result (λ e. rw e (Keeps-refl _)) c.ensures.err;
+  cause = c.ensures.cause;
+}
+
+pub write-tells : goal.write-tells
+write-tells g c = record {
+  «open» = c.ensures.open;
+  bound = c.ensures.bound;
+  some = c.ensures.some;
+  bytes = written_since c.args.self.now.got c.new.self.now.got c.args.self.now.taken c.new.self.now.taken c.result c.args.piece.now c.ensures.bound c.ensures.taken c.ensures.bytes;
+  unflushed = λ bytes told. c.ensures.unflushed;
+  cause = c.ensures.cause;
+}
+
+pub flush-tells : goal.flush-tells
+flush-tells g c = record {
+  «open» = c.ensures.open;
+  flushed = c.ensures.flushed;
+  written = kept_since c.args.self.now.got c.new.self.now.got c.args.self.now.taken c.new.self.now.taken c.ensures.taken c.ensures.bytes;
+  cause = c.ensures.cause;
+}
