@@ -8,4 +8,6 @@ pub mod Levels
 pub mod Saddles
 pub mod Trees
 pub mod Prunings
+pub mod Walks
+pub mod Presences
 mod Packed

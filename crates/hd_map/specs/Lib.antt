@@ -18,3 +18,4 @@ pub mod Undercut
 pub mod Walks
 pub mod Crossings
 pub mod Shown
+pub mod Presence

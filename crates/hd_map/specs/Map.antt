@@ -102,6 +102,10 @@ shown_height (Height h) false = Some h
 shown_height (Height h) true = None
 shown_height Bad masked = None
 
+-- the height of the point at a position, where one is present
+abbrev pub height_at : Map → Pos → Option ℤ
+height_at m p = shown_height (cell_at m p) (mask_at m p)
+
 -- the height of a measured cell
 abbrev pub height_or_zero : Cell → ℤ
 height_or_zero (Height h) = h

@@ -7,6 +7,7 @@ mod grid;
 mod laws;
 mod near;
 mod packing;
+mod presence;
 mod pruning_law;
 mod range;
 mod side;
@@ -24,8 +25,9 @@ pub use laws::{
     saddle_is_the_same_both_ways,
 };
 pub use near::neighbours;
+pub use presence::{HeightRange, Presence, presence_of};
 pub use pruning_law::pruning_is_determined;
 pub use range::{greatest_of, is_cell_of, least_of};
 pub use side::{Down, Side, Up};
 pub use surface::Surface;
-pub use types::{Cell, DataType, MapError, Pass, Pos, Rank, SideName, Size};
+pub use types::{Cell, DataType, MapError, Pass, Pos, Rank, RegionSize, SideName, Size};

@@ -66,6 +66,15 @@ pub struct Pass {
     pub at: Rank,
 }
 
+/// A region by its pit, and the number of its points.
+#[derive(Clone, Copy, Debug, PartialEq, Eq)]
+pub struct RegionSize {
+    /// Its pit.
+    pub pit: Rank,
+    /// The number of its points.
+    pub points: u32,
+}
+
 /// Which regions of ISO 25178-2 are meant.
 #[derive(Clone, Copy, Debug, PartialEq, Eq)]
 pub enum SideName {
