@@ -4,7 +4,10 @@ pub mod Points
 pub mod Depth
 pub mod Nexts
 pub mod Regions
+pub mod Least
 pub mod Levels
+pub mod Through
+pub mod Decided
 pub mod Saddles
 pub mod Trees
 pub mod Prunings

@@ -1,7 +1,10 @@
 -- Positions, present points, their ranks and neighbours.
-use Rattle.std.proofs.Common.{ℕ, ◌≡◌, ◌<◌, ◌≤◌, ◌+◌, Bool, true, false, ◌⊎◌, inl, inr, ap, ◌∙◌, sym, refl, arith}
+use Rattle.std.proofs.Common.{ℕ, ◌≡◌, List, map, ◌<◌, ◌≤◌, ◌+◌, Bool, true, false, ◌⊎◌, inl, inr, ap, ◌∙◌, sym, refl, arith}
+use Rattle.std.specs.Prelude.{Contains}
+use Rattle.std.specs.List.{range_with_len}
 use Rattle.std.proofs.Math.Nat.{mul-le-mul_right}
 use Rattle.std.proofs.lemmas.Bool.{cases_lt}
+use Rattle.std.proofs.lemmas.List.FromFn.{length-map-range_with_len, get_or-map-range_with_len}
 use Rattle.std.proofs.lemmas.Nat.{same_from_place}
 use Rattle.hd_map.specs.declared.types.Pos.{Pos}
 use Rattle.hd_map.specs.declared.types.Size.{Size}
@@ -55,6 +58,24 @@ same_index m a b one other e =
     let places : place_of m.size one.at ≡ place_of m.size other.at = ap (λ (r : Rank). r.index) (sym one.rank_is) ∙ e ∙ ap (λ (r : Rank). r.index) other.rank_is in
     one.rank_is ∙ ap (rank m) (same_place m.size one.at other.at one.present.in_grid other.present.in_grid places) ∙ sym other.rank_is
 
+-- the position of a present point's rank is that point's
+pub rank_position : (m : Map) (r : Rank) (p : Pos) → Present m p → r ≡ rank m p → position_at m.size r.index ≡ p
+rank_position m r p here e = ap (λ (t : Rank). position_at m.size t.index) e ∙ position_at-of m.size p here.in_grid
+
+-- the ranks of all positions, by index
+abbrev pub ranks_of : Map → List Rank
+ranks_of m = map (λ k. rank m (position_at m.size k)) (range_with_len 0 (cell_count m.size))
+
+-- each point is one of them
+pub point-listed : (m : Map) (r : Rank) → IsPoint m r → Contains (ranks_of m) r
+point-listed m r point =
+    let inside : r.index < cell_count m.size = rw point.rank_is (place_inside m.size point.at point.present.in_grid) in
+    let ranked : ℕ → Rank = λ k. rank m (position_at m.size k) in (
+      r.index,
+      rw length-map-range_with_len inside,
+      get_or-map-range_with_len ranked 0 (cell_count m.size) r.index r.index r inside (omega arith) ∙ ap (rank m) (rank_position m r point.at point.present point.rank_is) ∙ sym point.rank_is,
+    )
+
 -- whether a cell is measured
 measured_or_not : (c : Cell) → IsMeasured c ⊎ (IsMeasured c → ⊥)
 measured_or_not (Height h) = inl tt
@@ -86,6 +107,10 @@ Near-from m a b n = record { at = n.from; present = n.neighbour.from; rank_is = 
 -- what is near is a point
 pub Near-to : (m : Map) (a b : Rank) → Near m a b → IsPoint m b
 Near-to m a b n = record { at = n.to; present = n.neighbour.to; rank_is = n.to_rank }
+
+-- near ranks are different
+pub Near-apart : (m : Map) (a b : Rank) → Near m a b → a ≡ b → ⊥
+Near-apart m a b n e = n.neighbour.different (same_point m n.from n.to n.neighbour.from n.neighbour.to (sym n.from_rank ∙ e ∙ n.to_rank))
 
 -- the ranks of two neighbours are near
 pub Near-at : (m : Map) (p q : Pos) → Neighbour m p q → Near m (rank m p) (rank m q)

@@ -1,12 +1,12 @@
 -- Pruning is a function of the map, the side and the percent.
-use Rattle.std.proofs.Common.{◌≡◌, ◌≢◌, ℕ, ℤ, ◌<◌, ◌⊎◌, inl, inr, List, [], ◌∷◌, Bool, true, false, refl, sym, ◌∙◌, ap, subst, arith}
+use Rattle.std.proofs.Common.{◌≡◌, ℕ, ℤ, ◌<◌, inl, inr, List, ◌∷◌, refl, sym, ◌∙◌, ap, subst, arith}
 use Rattle.std.specs.Prelude.{pos, ◌-ℤ◌, ◌≤ℤ◌}
 use Rattle.std.proofs.lemmas.Int.{ints}
 use Rattle.hd_map.specs.declared.types.Rank.{Rank}
 use Rattle.hd_map.specs.declared.types.SideName.{SideName}
 use Rattle.hd_map.specs.Map.{Map}
 use Rattle.hd_map.specs.NearestSaddle.{local_height, IsNearestSaddle}
-use Rattle.hd_map.specs.Pruning.{Leaving, without, handed, GoesFirst, IsSmallest, IsAcross, IsTakenOver, IsPruneStep, Prunes, over, goes_on, SzIs, ArePits, IsPruning}
+use Rattle.hd_map.specs.Pruning.{Leaving, without, handed, GoesFirst, IsSmallest, IsTakenOver, IsPruneStep, Prunes, over, goes_on, SzIs, ArePits, IsPruning}
 use Rattle.hd_map.specs.Rank.{below_by}
 use Rattle.hd_map.specs.Region.{IsRoot}
 use Rattle.hd_map.specs.SideLaws.{below_by-order}

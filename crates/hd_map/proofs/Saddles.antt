@@ -1,18 +1,21 @@
 -- A saddle is the least level at which its two points are joined; so it is unique, and the same both ways.
-use Rattle.std.proofs.Common.{◌≡◌, ◌⊎◌, sym, subst, List, ◌∷◌}
-use Rattle.std.proofs.lemmas.List.Elements.{All-head}
+use Rattle.std.proofs.Common.{◌≡◌, ◌≢◌, ◌⊎◌, inl, inr, true, sym, subst, List, [], ◌∷◌}
+use Rattle.std.proofs.lemmas.List.Elements.{All-head, All-tail}
 use Rattle.hd_map.specs.declared.types.Rank.{Rank}
 use Rattle.hd_map.specs.declared.types.SideName.{SideName}
 use Rattle.hd_map.specs.Map.{Map}
 use Rattle.hd_map.specs.Neighbour.{Neighbour}
 use Rattle.hd_map.specs.Order.{IsNotAbove}
-use Rattle.hd_map.specs.Path.{IsTop}
+use Rattle.hd_map.specs.Path.{Leads, IsTop, IsPath}
 use Rattle.hd_map.specs.Rank.{IsPoint, Near, below_by}
+use Rattle.hd_map.specs.Region.{IsPit}
 use Rattle.hd_map.specs.Saddle.{IsSaddle}
-use Rattle.hd_map.proofs.Levels.{Reach, PointStep, IsLevel, here, step, reach-from_path, path-from_reach, top_of, top-not_above, level-unique, level-sym, level-ultrametric}
-use Rattle.hd_map.proofs.Points.{Near-to}
+use Rattle.hd_map.proofs.Levels.{Reach, PointStep, NoneAbove, IsLevel, here, step, reach-from_path, path-from_reach, top_of, top-not_above, level-unique, level-sym, level-ultrametric}
+use Rattle.hd_map.proofs.Decided.{near_or_not}
+use Rattle.hd_map.proofs.Points.{Near-to, Near-apart, ranks_of, point-listed}
 use Rattle.hd_map.specs.SideLaws.{below_by-order}
-use Rattle.hd_map.proofs.Sides.{not_above-trans}
+use Rattle.hd_map.proofs.Sides.{not_above-trans, compare, below-along}
+use Rattle.hd_map.proofs.Through.{level_exists}
 
 -- near is near both ways
 pub near-sym : (m : Map) (a b : Rank) → Near m a b → Near m b a
@@ -80,3 +83,31 @@ module _ (m : Map) (side : SideName) where
   pub saddle-ultrametric : (a b c s t u : Rank) → IsSaddle m side a b s → IsSaddle m side b c t → IsSaddle m side a c u → IsNotAbove (below_by side) u s ⊎ IsNotAbove (below_by side) u t
   saddle-ultrametric a b c s t u h k n =
       level-ultrametric (Near m) (below_by side) (below_by-order side) a b c s t u (level-from_saddle a b s h) (level-from_saddle b c t k) (level-from_saddle a c u n)
+
+  -- where a path joins two there is a saddle
+  pub saddle-exists : (a b : Rank) (xs : List Rank) → IsPath m a xs b → (s : Rank) × IsSaddle m side a b s
+  saddle-exists a b xs path =
+      let top = top_of (below_by side) (below_by-order side) a xs in
+      let level = level_exists (Near m) (below_by side) (below_by-order side) (near_or_not m) (ranks_of m) (λ x y near. point-listed m y (Near-to m x y near))
+      top.0 a b (top-head a xs top.0 top.1) (reach-from_path (Near m) (below_by side) (below_by-order side) top.0 a b xs path.leads top.1.none_above) in
+      (level.0, saddle-from_level a b level.0 path.point level.1)
+
+  -- a path that leads away from a pit rises above it
+  path-rises : (p q s : Rank) (xs : List Rank) → IsPit m side p → p ≢ q → Leads (Near m) p xs q → NoneAbove (below_by side) s (p ∷ xs) → below_by side p s ≡ true
+  path-rises p q s [] pit apart l none = absurd (apart l)
+  path-rises p q s (x ∷ xs) pit apart l none = elim (compare (below_by side) (below_by-order side) p x) [
+    | inl up ↦
+        let P : Rank → Type 0 = λ y. IsNotAbove (below_by side) y s in
+        below-along (below_by side) (below_by-order side) p x s up (All-head P x xs (All-tail P p (x ∷ xs) none))
+    | inr r ↦ elim r [
+      | inl down ↦ absurd (pit.alone x (record { near = l.0; below = down }))
+      | inr same ↦ absurd (Near-apart m p x l.0 same)
+    ]
+  ]
+
+  above_pit : (p q s : Rank) → IsPit m side p → p ≢ q → IsSaddle m side p q s → below_by side p s ≡ true
+  above_pit p q s pit apart h = let reached = h.reached in path-rises p q s reached.0 pit apart reached.1.leads reached.2.none_above
+
+  -- the saddle of two different pits is above both
+  pub saddle-above_pits : (p q s : Rank) → IsPit m side p → IsPit m side q → p ≢ q → IsSaddle m side p q s → (below_by side p s ≡ true) × (below_by side q s ≡ true)
+  saddle-above_pits p q s pit pit' apart h = (above_pit p q s pit apart h, above_pit q p s pit' (λ e. apart (sym e)) (saddle-sym p q s h))

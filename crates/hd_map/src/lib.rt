@@ -21,8 +21,9 @@ pub use grid::{
     Grid, Heights, contains, height, index_of, is_present, position_after, position_of, rank_of,
 };
 pub use laws::{
-    change_tree_is_determined, saddle_is_determined, saddle_is_not_above_the_higher_of_two,
-    saddle_is_the_same_both_ways,
+    change_tree_is_determined, saddle_exists_where_there_is_a_path, saddle_is_determined,
+    saddle_is_not_above_the_higher_of_two, saddle_is_the_same_both_ways,
+    saddle_of_two_pits_is_above_both,
 };
 pub use near::neighbours;
 pub use presence::{HeightRange, Presence, presence_of};
