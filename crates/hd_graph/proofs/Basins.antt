@@ -16,7 +16,7 @@ use Rattle.hd_map.specs.Region.{IsPit}
 use Rattle.hd_map.specs.Saddle.{IsSaddle, SaddleIs}
 use Rattle.hd_map.specs.SideLaws.{below_by-order}
 use Rattle.hd_map.proofs.Levels.{Reach, here, step, PointStep, reach-trans, reach-sym, reach-from_path, path-from_reach, reach-higher, points-both, same_or_not, none_above-higher, top_of}
-use Rattle.hd_map.proofs.Points.{Near-to, same_point}
+use Rattle.hd_map.proofs.Points.{Near-to, Near-apart}
 use Rattle.hd_map.proofs.Saddles.{near-sym, level-from_saddle, saddle-from_level}
 use Rattle.hd_map.proofs.Sides.{not_above-trans, not_above-refl, below-not_above, below-apart}
 use Rattle.hd_graph.specs.declared.graph.Low.{Low}
@@ -51,10 +51,6 @@ module _ (side : SideName) where
       let x = higher-bounds a b in
       let y = higher-bounds b a in
       order.total (higher_by side a b) (higher_by side b a) (higher-least b a (higher_by side a b) x.1 x.0) (higher-least a b (higher_by side b a) y.1 y.0)
-
--- what is near is another
-near-apart : (m : Map) (a b : Rank) → Near m a b → a ≡ b → ⊥
-near-apart m a b n e = (let one = n.neighbour in one.different (same_point m n.from n.to one.from one.to (sym n.from_rank ∙ e ∙ n.to_rank)))
 
 -- what is not above another, and is another, is below it
 lower-than : (side : SideName) (a b : Rank) → IsNotAbove (below_by side) a b → (a ≡ b → ⊥) → below_by side a b ≡ true
@@ -127,7 +123,7 @@ module _ (m : Map) (side : SideName) (In : Rank → Rank → Type 0) (basins : A
       stays : {a : Rank} → Reach (PointStep (Near m) (below_by side) p) p a → a ≡ p
       stays here = refl
       stays (step {a} {b} {c} s r) = absurd (elim (same_or_not (below_by side) (below_by-order side) b p) [
-        | inl e ↦ near-apart m p b s.0 (sym e)
+        | inl e ↦ Near-apart m p b s.0 (sym e)
         | inr ne ↦ pit.alone b (record { near = s.0; below = lower-than side b p s.2 ne })
       ])
 

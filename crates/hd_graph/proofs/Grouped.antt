@@ -10,9 +10,8 @@ use Rattle.std.proofs.lemmas.List.Kept.{AllPairs-cons}
 use Rattle.std.proofs.lemmas.Option.{same_Some}
 use Rattle.std.proofs.lemmas.List.Sorted.{sorted_far}
 use Rattle.hd_map.specs.Order.{IsStrictOrder}
-use Rattle.hd_map.proofs.Sides.{below-not_above, not_above-trans}
+use Rattle.hd_map.proofs.Sides.{below-not_above, not_above-trans, compare}
 use Rattle.hd_map.specs.declared.types.Rank.{Rank}
-use Rattle.hd_graph.proofs.Orders.{compare}
 use Rattle.hd_map.proofs.Levels.{Contains-head, Contains-cases, Contains-none, Contains-tail}
 use Rattle.hd_graph.specs.declared.parts.Part.{Part}
 use Rattle.hd_graph.specs.declared.parts.Rise.{Rise}

@@ -11,7 +11,6 @@ pub mod Floods
 pub mod Keeping
 pub mod Thinned
 pub mod Stops
-pub mod Orders
 pub mod Linked
 pub mod Growing
 pub mod Connected

@@ -1,12 +1,13 @@
 -- What passes the test of a graph is one.
 use Rattle.std.proofs.Common.{◌≡◌, ◌≢◌, ℕ, zero, suc, ◌<◌, Bool, true, false, List, [], ◌∷◌, length, get_or, refl, sym, ◌⊎◌, inl, inr, subst, arith, nat_eq}
-use Rattle.std.specs.Prelude.{ℤ, All, AllPairs, not, ◌&&◌, ◌||◌}
+use Rattle.std.specs.Prelude.{All, AllPairs, not, ◌&&◌, ◌||◌}
 use Rattle.std.proofs.lemmas.Bool.Decides.{nat_tests}
 use Rattle.std.proofs.lemmas.Int.{ints}
 use Rattle.std.proofs.lemmas.List.Elements.{All-nil, All-cons}
 use Rattle.std.proofs.lemmas.List.Kept.{AllPairs-cons}
 use Rattle.hd_map.specs.declared.types.Pass.{Pass}
 use Rattle.hd_map.specs.declared.types.Rank.{Rank}
+use Rattle.hd_map.specs.SideLaws.{same_rank as rank_from}
 use Rattle.hd_map.proofs.Levels.{Contains-head, Contains-tail}
 use Rattle.hd_graph.specs.declared.graph.Low.{Low}
 use Rattle.hd_graph.specs.Graph.{IsGraph, IsPassOf, IsLow}
@@ -25,14 +26,11 @@ pub is_false : (a : Bool) → not a ≡ true → a ≡ false
 is_false true e = sym e
 is_false false e = refl
 
-ranks_from : (h k : ℤ) (i j : ℕ) → h ≡ k → i ≡ j → ◌≡◌ {A = Rank} (record { height = h; index = i }) (record { height = k; index = j })
-ranks_from h k i j p q = cc
-
 ranks_same : (a b : Rank) → same_rank a b ≡ true → a ≡ b
 ranks_same a b e =
     let h : a.height ≡ b.height = grind (arith, ints, nat_tests) in
     let i : a.index ≡ b.index = grind (arith, ints, nat_tests) in
-    ranks_from a.height b.height a.index b.index h i
+    rank_from a.height b.height a.index b.index h i
 
 same_itself : (a : Rank) → same_rank a a ≡ true
 same_itself a = grind (arith, ints, nat_tests)

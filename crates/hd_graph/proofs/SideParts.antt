@@ -3,10 +3,9 @@ use Rattle.std.proofs.Common.{◌≡◌, ℕ, zero, suc, ◌+◌, ◌-◌, ◌<�
 use Rattle.std.specs.Prelude.{Contains, reverse}
 use Rattle.std.proofs.lemmas.Option.{slice_get_within, same_Some}
 use Rattle.hd_map.specs.Order.{IsNotAbove, IsStrictOrder}
-use Rattle.hd_map.proofs.Sides.{below-not_above, not_above-trans}
+use Rattle.hd_map.proofs.Sides.{below-not_above, not_above-trans, not_above-along}
 use Rattle.hd_map.specs.declared.types.Rank.{Rank}
 use Rattle.hd_graph.specs.declared.line.Stop.{Stop}
-use Rattle.hd_graph.proofs.Orders.{not_above-along}
 use Rattle.hd_graph.proofs.Places.{less_same_more}
 use Rattle.hd_graph.proofs.Lows.{IsLowOn, place_of_low, low_of_place}
 use Rattle.hd_graph.specs.declared.parts.Part.{Part}
