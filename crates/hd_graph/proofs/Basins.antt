@@ -1,20 +1,22 @@
 -- A path of points changes its basin only at a pair whose higher point is not above the path's top, so
 -- passes that are not above it lead along; and a pass is a path of points that descends on both sides. So
 -- two lows are joined by passes exactly where paths of points join them.
-use Rattle.std.proofs.Common.{◌≡◌, ◌≢◌, ℕ, List, [], ◌∷◌, true, false, Option, Some, None, inl, inr, cond, refl, sym, ◌∙◌, ap, subst, arith, slice_get}
+use Rattle.std.proofs.Common.{◌≡◌, ◌≢◌, ◌≤◌, ℕ, List, [], ◌∷◌, length, true, false, Option, Some, None, inl, inr, cond, refl, sym, ◌∙◌, ap, subst, arith, slice_get}
 use Rattle.std.specs.Prelude.{◌↔◌, AllPairs, Contains}
 use Rattle.std.proofs.lemmas.List.Elements.{All-cons, All-nil, All-contains_itself, All-weaker}
 use Rattle.hd_map.specs.declared.types.Pass.{Pass}
 use Rattle.hd_map.specs.declared.types.Rank.{Rank}
 use Rattle.hd_map.specs.declared.types.SideName.{SideName}
 use Rattle.hd_map.specs.Crossings.{AreCrossings}
-use Rattle.hd_map.specs.Map.{Map}
+use Rattle.hd_map.specs.Map.{Map, IsMap, most_cells}
 use Rattle.hd_map.specs.Order.{IsNotAbove, IsStrictOrder}
 use Rattle.hd_map.specs.Passes.{IsMeeting, ArePasses, higher_by}
 use Rattle.hd_map.specs.Rank.{IsPoint, Near, below_by}
 use Rattle.hd_map.specs.Region.{IsPit}
 use Rattle.hd_map.specs.Saddle.{IsSaddle, SaddleIs}
 use Rattle.hd_map.specs.SideLaws.{below_by-order}
+use Rattle.hd_map.proofs.Apart.{length-le_from_apart}
+use Rattle.hd_map.proofs.Depth.{point_limits}
 use Rattle.hd_map.proofs.Levels.{Reach, here, step, PointStep, reach-trans, reach-sym, reach-from_path, path-from_reach, reach-higher, points-both, same_or_not, none_above-higher, top_of}
 use Rattle.hd_map.proofs.Points.{Near-to, Near-apart}
 use Rattle.hd_map.proofs.Saddles.{near-sym, level-from_saddle, saddle-from_level}
@@ -211,9 +213,14 @@ module _ (m : Map) (side : SideName) (In : Rank → Rank → Type 0) (basins : A
             none p.0 (record { point = low-point a a own; leads = p.1 }),
       )
 
+    -- there are no more lows than a map may have points
+    lows-few : IsMap m → (lows : List Low) → AreLowsOf m side In lows → AllPairs (λ x y. x.rank.index ≢ y.rank.index) lows → length lows ≤ most_cells
+    lows-few whole lows of different = length-le_from_apart (λ x. x.rank.index) most_cells lows different (λ x at. (point_limits m x.rank whole (low-point x.rank x.rank (of.low x at))).index)
+
     -- such passes and lows of different indexes are a graph
-    pub basins-graph : (lows : List Low) → AreLowsOf m side In lows → AllPairs (λ x y. x.rank.index ≢ y.rank.index) lows → IsGraph (below_by side) lows passes
-    basins-graph lows of different = record {
+    pub basins-graph : IsMap m → (lows : List Low) → AreLowsOf m side In lows → AllPairs (λ x y. x.rank.index ≢ y.rank.index) lows → IsGraph (below_by side) lows passes
+    basins-graph whole lows of different = record {
+      few = omega (arith, lows-few whole lows of different);
       different = different;
       joins = All-weaker (Contains passes) (IsPassOf (below_by side) lows) (λ p at.
           let meet = right.meets p at in

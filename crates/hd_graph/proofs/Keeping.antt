@@ -28,7 +28,6 @@ pub record KeptSoFar (below : Rank → Rank → Bool) (links : List Link) (n : �
   pub some : (l : Link) → Contains kept l → (k : ℕ) × (k < n) × (slice_get links k ≡ Some l)
   pub spans : (k : ℕ) (l : Link) → k < n → slice_get links k ≡ Some l → Reach (LinkStep below kept l.at) l.a l.b
   pub sorted : IsSortedBy (is_lower below) kept
-  pub few : length kept ≤ n
 
 module _ (below : Rank → Rank → Bool) (order : IsStrictOrder below) where
   pub lower-weak : IsStrictWeakOrder (is_lower below)
@@ -50,7 +49,6 @@ module _ (below : Rank → Rank → Bool) (order : IsStrictOrder below) where
     some = λ l h. absurd (let inside = h.1 in omega arith);
     spans = λ k l less at. absurd (omega arith);
     sorted = λ i d lo hi. absurd (omega arith);
-    few = omega arith;
   }
 
   module _ (links : List Link) (sorted : IsSortedBy (is_lower below) links) (n : ℕ) (parents parents' : List ℕ) (kept : List Link) (so : KeptSoFar below links n parents kept)
@@ -72,7 +70,6 @@ module _ (below : Rank → Rank → Bool) (order : IsStrictOrder below) where
         | inr apart ↦ so.spans k x (omega arith) atx
       ];
       sorted = so.sorted;
-      few = (let few = so.few in omega arith);
     }
 
     more : (x : Link) → Contains kept x → Contains (kept ++ l ∷ []) x
@@ -97,12 +94,7 @@ module _ (below : Rank → Rank → Bool) (order : IsStrictOrder below) where
         | inr apart ↦ reach-by (LinkStep below kept x.at) (LinkStep below (kept ++ l ∷ []) x.at) (λ u v s. step (s.0, more s.0 s.1, s.2, s.3) here) (so.spans k x (omega arith) atx)
       ];
       sorted = IsSortedBy-push (is_lower below) kept l so.sorted (λ d some. not_above (get_or kept (length kept - 1) d) (Contains-get_or kept (length kept - 1) d (omega arith)));
-      few = (let few = so.few in let long = long_push kept l in omega arith);
     }
-      where
-        long_push : (xs : List Link) (x : Link) → length (xs ++ x ∷ []) ≡ length xs + 1
-        long_push [] x = refl
-        long_push (y ∷ ys) x = (let rest = long_push ys x in omega arith)
 
   -- at the end
   pub kept-all : (links : List Link) (n : ℕ) (parents : List ℕ) (kept : List Link) → length links ≤ n → KeptSoFar below links n parents kept → IsThinned below links kept

@@ -8,6 +8,7 @@ pub mod Heaps
 pub mod Visits
 pub mod Rises
 pub mod Floods
+pub mod Losing
 pub mod Keeping
 pub mod Thinned
 pub mod Stops

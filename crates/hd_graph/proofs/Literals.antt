@@ -1,6 +1,6 @@
 -- What passes the test of a graph is one.
 use Rattle.std.proofs.Common.{◌≡◌, ◌≢◌, ℕ, zero, suc, ◌<◌, Bool, true, false, List, [], ◌∷◌, length, get_or, refl, sym, ◌⊎◌, inl, inr, subst, arith, nat_eq}
-use Rattle.std.specs.Prelude.{All, AllPairs, not, ◌&&◌, ◌||◌}
+use Rattle.std.specs.Prelude.{All, AllPairs, not, nat_lt, ◌&&◌, ◌||◌}
 use Rattle.std.proofs.lemmas.Bool.Decides.{nat_tests}
 use Rattle.std.proofs.lemmas.Int.{ints}
 use Rattle.std.proofs.lemmas.List.Elements.{All-nil, All-cons}
@@ -75,7 +75,11 @@ module _ (below : Rank → Rank → Bool) (lows : List Low) where
   passes-from (p ∷ ps) e = All-cons (IsPassOf below lows) p ps (pass-from p (first (is_pass below lows p) (are_passes below lows ps) e)) (passes-from ps (second (is_pass below lows p) (are_passes below lows ps) e))
 
   pub graph-from : (passes : List Pass) → is_graph below lows passes ≡ true → IsGraph below lows passes
-  graph-from passes e = record {
-    different = different-from lows (first (are_different lows) (are_passes below lows passes) e);
-    joins = passes-from passes (second (are_different lows) (are_passes below lows passes) e);
-  }
+  graph-from passes e =
+      let all : (nat_lt (length lows) 2147483648 && are_different lows) ≡ true = first (nat_lt (length lows) 2147483648 && are_different lows) (are_passes below lows passes) e in
+      let is_few = first (nat_lt (length lows) 2147483648) (are_different lows) all in
+      record {
+        few = grind (arith, nat_tests);
+        different = different-from lows (second (nat_lt (length lows) 2147483648) (are_different lows) all);
+        joins = passes-from passes (second (nat_lt (length lows) 2147483648 && are_different lows) (are_passes below lows passes) e);
+      }

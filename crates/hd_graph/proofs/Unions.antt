@@ -3,7 +3,7 @@ use Rattle.std.proofs.Common.{◌≡◌, ◌≢◌, ◌⊎◌, ℕ, ◌≤◌, i
 use Rattle.std.proofs.lemmas.Option.{same_Some}
 use Rattle.std.specs.Prelude.{◌↔◌}
 use Rattle.hd_map.proofs.Levels.{Reach, here, step, reach-trans, reach-sym}
-use Rattle.hd_graph.specs.Classes.{AreFalling, AreNext, AreOneClass, AreJoined, Joins}
+use Rattle.hd_graph.specs.Classes.{AreFalling, AreNext, AreOneClass, AreJoined, Joins, LosesLeast}
 use Rattle.hd_graph.proofs.Places.{get-set_same, get-set_other, same_number}
 use Rattle.hd_graph.proofs.Steps.{reach-by}
 
@@ -171,6 +171,16 @@ module _ (parents : List ℕ) (first second : ℕ) (least_first : slice_get pare
     | inl same ↦ subst (λ i. slice_get parents i ≡ Some i) same least-number
     | inr apart ↦ sym (get-set_other parents x k y apart) ∙ h
   ]
+
+  -- the one that gets a parent is the least of its class no more
+  pub loses-set : first ≢ second → LosesLeast parents (set parents x y)
+  loses-set apart = record {
+    lost = x;
+    was = least-number;
+    not_now = λ e. (let is : y ≡ x = same_Some y x (sym (get-set_same parents x y x least-number) ∙ e) in
+        elim pair [ inl p ↦ apart (sym p.0 ∙ sym is ∙ p.1) | inr p ↦ apart (sym p.1 ∙ is ∙ p.0) ]);
+    others = leasts-set;
+  }
 
 -- other parents of the same classes, and the least numbers of those that are put together
 module _ (old parents new : List ℕ) (a b first second : ℕ) (same : AreSame old parents) (one : AreOneClass old a first) (other : AreOneClass old b second) where

@@ -21,3 +21,14 @@ AreJoined old a b x y = AreOneClass old x y ⊎ (((x ≡ a) × (y ≡ b)) ⊎ ((
 -- what is in one class now was so before, or is by way of a and b
 abbrev pub Joins : List ℕ → ℕ → ℕ → List ℕ → Type 0
 Joins old a b new = (x y : ℕ) → AreOneClass new x y ↔ Reach (AreJoined old a b) x y
+
+-- x is the least number of its class
+abbrev pub IsLeast : List ℕ → ℕ → Type 0
+IsLeast parents x = slice_get parents x ≡ Some x
+
+-- one number is the least of its class no more, and no other has become that
+pub record LosesLeast (old new : List ℕ) : Type 0 where
+  pub lost : ℕ
+  pub was : IsLeast old lost
+  pub not_now : IsLeast new lost → ⊥
+  pub others : (x : ℕ) → IsLeast new x → IsLeast old x

@@ -1,5 +1,5 @@
 -- Graphs of lows and the passes between them.
-use Rattle.std.specs.Prelude.{◌≡◌, ◌≢◌, Bool, List, All, AllPairs, Contains}
+use Rattle.std.specs.Prelude.{◌≡◌, ◌≢◌, ◌<◌, ◌^◌, Bool, List, length, All, AllPairs, Contains}
 use Rattle.hd_map.specs.declared.types.Pass.{Pass}
 use Rattle.hd_map.specs.declared.types.Rank.{Rank}
 use Rattle.hd_map.specs.Order.{IsNotAbove}
@@ -22,7 +22,8 @@ pub record IsPassOf (below : Rank → Rank → Bool) (lows : List Low) (p : Pass
   pub above_first : IsNotAbove below p.a p.at
   pub above_second : IsNotAbove below p.b p.at
 
--- the lows have different indexes, and each pass joins two of them
+-- there are at most 2,147,483,647 lows, which have different indexes, and each pass joins two of them
 pub record IsGraph (below : Rank → Rank → Bool) (lows : List Low) (passes : List Pass) : Type 0 where
+  pub few : length lows < 2 ^ 31
   pub different : AllPairs (λ x y. x.rank.index ≢ y.rank.index) lows
   pub joins : All (IsPassOf below lows) passes

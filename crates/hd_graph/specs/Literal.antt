@@ -1,5 +1,5 @@
 -- A test of what a graph has to be, for lows and passes that are written down.
-use Rattle.std.specs.Prelude.{Bool, true, not, ◌&&◌, ◌||◌, false, List, [], ◌∷◌, nat_eq}
+use Rattle.std.specs.Prelude.{Bool, true, not, ◌&&◌, ◌||◌, false, List, [], ◌∷◌, length, nat_eq, nat_lt}
 use Rattle.std.specs.Ordering.{int_eq}
 use Rattle.hd_map.specs.declared.types.Pass.{Pass}
 use Rattle.hd_map.specs.declared.types.Rank.{Rank}
@@ -29,6 +29,6 @@ abbrev pub are_passes : (Rank → Rank → Bool) → List Low → List Pass → 
 are_passes below lows [] = true
 are_passes below lows (p ∷ ps) = is_pass below lows p && are_passes below lows ps
 
--- the lows have different indexes, and each pass joins two of them
+-- the lows are few and have different indexes, and each pass joins two of them
 abbrev pub is_graph : (Rank → Rank → Bool) → List Low → List Pass → Bool
-is_graph below lows passes = are_different lows && are_passes below lows passes
+is_graph below lows passes = nat_lt (length lows) 2147483648 && are_different lows && are_passes below lows passes

@@ -1,6 +1,6 @@
 // Numbers in classes that grow together.
-ghost use Rattle.std.specs.Prelude.{◌≡◌, ◌<◌, ◌^◌, ◌↔◌, ℕ, IfOk, Some, true, false, length, slice_get};
-ghost use Rattle.hd_graph.specs.Classes.{AreFalling, AreOneClass, Joins};
+ghost use Rattle.std.specs.Prelude.{◌≡◌, ◌≢◌, ◌<◌, ◌^◌, ◌↔◌, ℕ, IfOk, true, false, length};
+ghost use Rattle.hd_graph.specs.Classes.{AreFalling, AreOneClass, IsLeast, Joins, LosesLeast};
 
 use hd_base::Memory;
 use std::alloc::Global;
@@ -36,9 +36,11 @@ impl Classes {
         ensures long { length self.new.parents.items ≡ length self.old.parents.items }
         ensures apart { result ≡ true → AreOneClass self.old.parents.items a b → ⊥ }
         ensures joins { result ≡ true → Joins self.old.parents.items a b self.new.parents.items }
+        ensures loses { result ≡ true → LosesLeast self.old.parents.items self.new.parents.items }
         ensures one { result ≡ false → AreOneClass self.old.parents.items a b }
         ensures same { result ≡ false → (x y : ℕ) → AreOneClass self.new.parents.items x y
             ↔ AreOneClass self.old.parents.items x y }
+        ensures leasts { result ≡ false → (x : ℕ) → IsLeast self.new.parents.items x → IsLeast self.old.parents.items x }
     {
         let first = self.least_of(a);
         let second = self.least_of(b);
@@ -52,15 +54,15 @@ impl Classes {
     /// Puts two classes together, which are given by their least numbers. The answer is the least number of both.
     pub fn unite(&mut self, first: u32, second: u32) -> u32
         requires falling { AreFalling self.old.parents.items }
-        requires first { slice_get self.old.parents.items first ≡ Some first }
-        requires second { slice_get self.old.parents.items second ≡ Some second }
+        requires first { IsLeast self.old.parents.items first }
+        requires second { IsLeast self.old.parents.items second }
         ensures falling { AreFalling self.new.parents.items }
         ensures long { length self.new.parents.items ≡ length self.old.parents.items }
         ensures joins { Joins self.old.parents.items first second self.new.parents.items }
         ensures one { AreOneClass self.new.parents.items first result }
-        ensures least { slice_get self.new.parents.items result ≡ Some result }
-        ensures leasts { (x : ℕ) → slice_get self.new.parents.items x ≡ Some x
-            → slice_get self.old.parents.items x ≡ Some x }
+        ensures least { IsLeast self.new.parents.items result }
+        ensures leasts { (x : ℕ) → IsLeast self.new.parents.items x → IsLeast self.old.parents.items x }
+        ensures loses { first ≢ second → LosesLeast self.old.parents.items self.new.parents.items }
     {
         let least = first.min(second);
         let greater = first.max(second);
@@ -76,9 +78,8 @@ impl Classes {
         ensures long { length self.new.parents.items ≡ length self.old.parents.items }
         ensures inside { result < length self.new.parents.items }
         ensures one { AreOneClass self.old.parents.items number result }
-        ensures least { slice_get self.new.parents.items result ≡ Some result }
-        ensures leasts { (x : ℕ) → slice_get self.new.parents.items x ≡ Some x
-            ↔ slice_get self.old.parents.items x ≡ Some x }
+        ensures least { IsLeast self.new.parents.items result }
+        ensures leasts { (x : ℕ) → IsLeast self.new.parents.items x ↔ IsLeast self.old.parents.items x }
         ensures same { (x y : ℕ) → AreOneClass self.new.parents.items x y ↔ AreOneClass self.old.parents.items x y }
     {
         let mut least = number;

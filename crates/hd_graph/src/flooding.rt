@@ -28,11 +28,12 @@ pub struct Visit {
     pub rise: Option<u32>,
 }
 
-/// The flood line of a graph, a Prim order: each low once, each rise the lowest pass to a stop before,
-/// and no rise at the first stop of each connected part. For each two stops the highest rise of the
-/// places between, as `FloodLine::between` gives it, is the least highest pass of all walks between the
-/// two lows, and none exactly where there is no walk. `Memory` comes where it is refused its memory, and
-/// where there are more than 2,147,483,647 lows or passes.
+/// The flood line of a graph, a Prim order: each low once; each rise is a pass from a stop before, and no pass
+/// from the stops before to those from here on is below it; no rise is where there is no such pass. For each two
+/// stops the highest rise of the places between, as `FloodLine::between` gives it, is the least highest pass
+/// of all walks between the two lows, and none exactly where there is no walk. With which low each connected
+/// part begins is left open. `Memory` comes where the links, their classes, the ways between the lows, the visits,
+/// the heap or the stops are refused their memory.
 pub fn flood<S: Side>(alloc: Global, graph: &Graph<S>) -> Result<FloodLine<S>, Memory>
     ensures { IfOk result (IsFloodLine (below_by S.NAME) graph.now.lows graph.now.passes) }
 {

@@ -15,8 +15,8 @@ pub struct Low {
     pub pit: bool,
 }
 
-/// Lows and the passes between them on a side. Contracts see it as its two lists. The lows have
-/// different indexes; each pass joins two of them and is below neither.
+/// Lows and the passes between them on a side. Contracts see it as its two lists. There are at most
+/// 2,147,483,647 lows, which have different indexes; each pass joins two of them and is below neither.
 #[derive(Drop)]
 pub struct Graph<S: Side> {
     lows: List<Low>,

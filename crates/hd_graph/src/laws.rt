@@ -4,7 +4,7 @@ ghost use Rattle.hd_map.specs.declared.types.Pass.{Pass};
 ghost use Rattle.hd_map.specs.declared.types.Rank.{Rank};
 ghost use Rattle.hd_map.specs.declared.types.SideName.{SideName};
 ghost use Rattle.hd_map.specs.Crossings.{AreCrossingsUnder};
-ghost use Rattle.hd_map.specs.Map.{Map};
+ghost use Rattle.hd_map.specs.Map.{Map, IsMap};
 ghost use Rattle.hd_map.specs.Passes.{IsLabelled, ArePassesUnder};
 ghost use Rattle.hd_map.specs.Rank.{below_by};
 ghost use Rattle.hd_map.specs.Region.{AreRegions};
@@ -36,7 +36,7 @@ pub fn passes_are_crossings()
 /// The crossings between the basins of a map and the basins' lows, of different indexes, are a graph.
 pub fn passes_of_basins_are_a_graph()
     ensures { (m : Map) (side : SideName) (labels : List (Option ℕ)) (lows : List Low) (passes : List Pass)
-        → AreBasins m side (IsLabelled m labels) → AreCrossingsUnder m side labels passes
+        → IsMap m → AreBasins m side (IsLabelled m labels) → AreCrossingsUnder m side labels passes
         → AreLowsOf m side (IsLabelled m labels) lows
         → AllPairs (λ x y. x.rank.index ≢ y.rank.index) lows → IsGraph (below_by side) lows passes }
 {}

@@ -13,7 +13,7 @@ pub struct Stop {
     pub low: Rank,
     /// Whether it is a pit of the whole surface.
     pub pit: bool,
-    /// The lowest pass to a stop before it, and none where no pass leads to one.
+    /// On the flood line of a graph the lowest pass to a stop before it, and none where no pass leads to one.
     pub rise: Option<Rank>,
 }
 

@@ -7,6 +7,7 @@ pub mod Regions
 pub mod Least
 pub mod Levels
 pub mod Through
+pub mod Apart
 pub mod Decided
 pub mod Saddles
 pub mod Trees

@@ -1,5 +1,4 @@
-use Rattle.std.proofs.Common.{arith}
-use Rattle.std.proofs.lemmas.List.Sorted.{All-permutation, length_permutation}
+use Rattle.std.proofs.lemmas.List.Sorted.{All-permutation}
 use Rattle.hd_map.specs.Rank.{below_by}
 use Rattle.hd_graph.specs.Links.{HasEnds}
 use Rattle.hd_graph.proofs.Keeping.{thinned-permuted}
@@ -13,6 +12,3 @@ keep_apart-requires-clause-within g c = rw c.deref.ensures.value (All-permutatio
 
 pub returns-clause-thinned : goal.returns-clause-thinned
 returns-clause-thinned g c = thinned-permuted (below_by g.S.Side.NAME) g.met.S.Side.order c.args.links.items c.sorted-links.result.items c.in_ok-kept.kept.items c.sorted-links.ensures.same (rw c.deref.ensures.value at c.in_ok-kept.ensures.thinned)
-
-pub returns-clause-few : goal.returns-clause-few
-returns-clause-few g c = (let same = length_permutation c.args.links.items c.sorted-links.result.items c.sorted-links.ensures.same in omega (arith, same, c.in_ok-kept.ensures.few, c.deref.ensures.len))

@@ -1,5 +1,5 @@
 use Rattle.std.proofs.Common.{◌≡◌, sym, subst, arith, List, ℕ}
-use Rattle.hd_graph.specs.Classes.{AreOneClass}
+use Rattle.hd_graph.specs.Classes.{AreOneClass, IsLeast}
 use Rattle.hd_graph.proofs.Unions.{class-sym, class-trans, joins-as, least-same, same-trans}
 use Rattle.hd_graph.proofs.classes.Classes.join.Goals as goal
 
@@ -38,3 +38,12 @@ returns-clause-apart c = λ e h.
 
 pub returns-then-first-second-clause-same : goal.returns-then-first-second-clause-same
 returns-then-first-second-clause-same c = λ e. same-trans c.args.self.now.parents.items c.least_of-first.new.self.parents.items c.least_of-second.new.self.parents.items c.least_of-first.ensures.same c.least_of-second.ensures.same
+
+pub returns-clause-loses : goal.returns-clause-loses
+returns-clause-loses c = λ e.
+    let loses = c.unite.ensures.loses c.if-first-second.false in
+    let before : (x : ℕ) → IsLeast c.least_of-second.new.self.parents.items x → IsLeast c.args.self.now.parents.items x = λ x h. (c.least_of-first.ensures.leasts x).0 ((c.least_of-second.ensures.leasts x).0 h) in
+    record { lost = loses.lost; was = before loses.lost loses.was; not_now = loses.not_now; others = λ x h. before x (loses.others x h) }
+
+pub returns-then-first-second-clause-leasts : goal.returns-then-first-second-clause-leasts
+returns-then-first-second-clause-leasts c = λ e x h. (c.least_of-first.ensures.leasts x).0 ((c.least_of-second.ensures.leasts x).0 h)
