@@ -23,7 +23,7 @@ new-requires g c =
     let laws = c.regions_are_basins.ensures in
     let regions = c.requires in
     let crossings = c.in_ok-passes.ensures in
-    c.passes_of_basins_are_a_graph.ensures m side roots lows passes (laws.basins m side roots regions) crossings
+    c.passes_of_basins_are_a_graph.ensures m side roots lows passes (g.met.G.Heights.whole c.args.grid.now) (laws.basins m side roots regions) crossings
     (laws.lows m side roots lows regions c.in_ok-lows.ensures.pits)
     (λ i j d less inside same. let rises = c.in_ok-lows.ensures.in_order i j d less inside in omega (arith, rises, same))
 
