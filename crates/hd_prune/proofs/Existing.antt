@@ -14,8 +14,8 @@ use Rattle.hd_map.proofs.Levels.{Contains-head, Contains-tail, Contains-cases, C
 use Rattle.hd_map.proofs.Nexts.{next-falls, root-pit, root-step, root-unique}
 use Rattle.hd_map.proofs.Points.{Near-from, Near-to}
 use Rattle.hd_map.proofs.Sides.{not_above-trans}
-use Rattle.hd_prune.specs.Levels.{IsSaddle}
-use Rattle.hd_prune.specs.Levels.{SaddleIs as LevelIs}
+use Rattle.hd_prune.proofs.Levels.{IsSaddle}
+use Rattle.hd_prune.proofs.Levels.{SaddleIs as LevelIs}
 use Rattle.hd_prune.specs.Taken.{HasBeyond}
 use Rattle.hd_prune.proofs.Firsts.{first_of}
 use Rattle.hd_prune.proofs.LowerNeighbours.{lower_neighbours}

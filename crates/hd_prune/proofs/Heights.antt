@@ -1,11 +1,12 @@
 -- The rise of a side keeps the two laws of local heights, and is the difference of the heights, taken positive.
-use Rattle.std.proofs.Common.{◌≡◌, ◌≤◌, false, arith}
-use Rattle.std.specs.Prelude.{ℤ, pos, negsuc, ◌≤ℤ◌, ◌-ℤ◌}
+use Rattle.std.proofs.Common.{◌≡◌, ℕ, ◌≤◌, true, false, arith}
+use Rattle.std.specs.Prelude.{ℤ, pos, negsuc, ◌≤ℤ◌, ◌-ℤ◌, ◌*ℤ◌, int_lt}
 use Rattle.std.specs.Int.{int_gap}
 use Rattle.std.specs.Int.RustNames.{unsigned_abs}
 use Rattle.std.proofs.lemmas.Int.{ints}
 use Rattle.std.proofs.lemmas.Bool.Decides.{nat_tests}
 use Rattle.hd_map.specs.Order.{IsNotAbove}
+use Rattle.hd_map.specs.Pruning.{goes}
 use Rattle.hd_map.specs.Rank.{comes_before, below_by}
 use Rattle.hd_map.specs.declared.types.Rank.{Rank}
 use Rattle.hd_map.specs.declared.types.SideName.{SideName}
@@ -66,3 +67,10 @@ local-higher_saddle side p s t h = (let r = rise-higher_saddle side p s t h in o
 
 pub local-higher_pit : (side : SideName) (p q s : Rank) → IsNotAbove (below_by side) p q → local_on side q s ≤ local_on side p s
 local-higher_pit side p q s h = (let r = rise-higher_pit side p q s h in omega arith)
+
+-- where one local height goes, each smaller one does
+pub lower_goes : (thousandths : ℕ) (sz : ℤ) (a b : ℕ) → a ≤ b → goes thousandths sz b ≡ true → goes thousandths sz a ≡ true
+lower_goes thousandths sz a b le h = lower (pos thousandths *ℤ sz) h
+  where
+    lower : (z : ℤ) → int_lt (pos b *ℤ pos 100000) z ≡ true → int_lt (pos a *ℤ pos 100000) z ≡ true
+    lower z h = grind (arith, ints, nat_tests)

@@ -1,3 +1,7 @@
+pub mod Levels
+pub mod Elder
+pub mod Gaps
+pub mod Leavers
 pub mod Lists
 pub mod Firsts
 pub mod Nearest

@@ -9,8 +9,9 @@ use Rattle.hd_graph.proofs.Rises.{slice_get-drop}
 use Rattle.hd_prune.specs.declared.line.PitStop.{PitStop}
 use Rattle.hd_prune.specs.declared.step.Kept.{Kept}
 use Rattle.hd_prune.specs.Kept.{kept_along}
-use Rattle.hd_prune.specs.Levels.{IsNearestSaddle}
-use Rattle.hd_prune.specs.Line.{lower, GapWithin, first_gap, pits_of, TellsLevels}
+use Rattle.hd_prune.proofs.Levels.{IsNearestSaddle}
+use Rattle.hd_prune.specs.Line.{lower, first_gap, pits_of}
+use Rattle.hd_prune.proofs.Gaps.{GapWithin, TellsLevels}
 use Rattle.hd_prune.proofs.Bounds.{place_of_pit, pit_of_place, lower-within, within-lower}
 
 -- the nearest saddle by levels, and none where a pit is joined to no other kept one

@@ -1,5 +1,5 @@
 -- Pruning keeps exactly the pits that no pit undercuts, and so, at a greater percent, no other pits.
-use Rattle.std.proofs.Common.{◌≡◌, ℕ, ◌≤◌, ◌*◌, ◌⊎◌, inl, inr, true, List, [], ◌∷◌, map, refl, sym, subst, arith}
+use Rattle.std.proofs.Common.{◌≡◌, ℕ, ◌≤◌, ◌*◌, ◌⊎◌, inl, inr, true, List, [], ◌∷◌, sym, subst, arith}
 use Rattle.std.specs.Prelude.{Contains, ◌↔◌, ℤ, pos, negsuc, ◌*ℤ◌, ◌≤ℤ◌, int_lt}
 use Rattle.std.proofs.Math.Nat.{mul-le-mul_right}
 use Rattle.std.proofs.lemmas.Int.{ints}
@@ -8,32 +8,24 @@ use Rattle.hd_map.specs.declared.types.Rank.{Rank}
 use Rattle.hd_map.specs.declared.types.SideName.{SideName}
 use Rattle.hd_map.specs.Map.{Map, IsMap}
 use Rattle.hd_map.specs.NearestSaddle.{local_height}
-use Rattle.hd_map.specs.Pruning.{Leaving, goes, SzIs, IsPruning}
-use Rattle.hd_map.specs.Pruning.{Prunes as MapPrunes, over as map_over, goes_on as map_goes_on}
+use Rattle.hd_map.specs.Pruning.{Leaving, Prunes, goes, SzIs, IsPruning}
 use Rattle.hd_map.specs.Rank.{below_by}
 use Rattle.hd_map.specs.Region.{IsPit}
 use Rattle.hd_map.specs.SideLaws.{below_by-order}
 use Rattle.hd_map.specs.Undercut.{Undercuts}
 use Rattle.hd_map.proofs.Levels.{Contains-head, Contains-tail, Contains-cases, Contains-none, same_or_not}
-use Rattle.hd_map.proofs.Prunings.{sz-unique}
+use Rattle.hd_map.proofs.Prunings.{sz-unique, prunes-unique}
 use Rattle.hd_prune.specs.Heights.{local_on}
-use Rattle.hd_prune.specs.Levels.{Step, Prunes, over, goes_on, IsPrunable}
-use Rattle.hd_prune.proofs.ElderForm.{elder_form}
-use Rattle.hd_prune.proofs.Existing.{HaveSaddles, have_saddles, taken_over}
-use Rattle.hd_prune.proofs.Heights.{local-higher_saddle, local-higher_pit}
-use Rattle.hd_prune.proofs.MapOwners.{taken, beyond_exists}
-use Rattle.hd_prune.proofs.MapPruning.{Owners, points, agree, left-undercut}
-use Rattle.hd_prune.proofs.Owners.{owners_first, owners_after}
-use Rattle.hd_prune.proofs.Points.{JoinedBy, joined_both, joined_along, joined_higher, smallest_by_paths, smallest_by_levels}
+use Rattle.hd_prune.proofs.Elder.{left_after}
+use Rattle.hd_prune.proofs.Levels.{IsPrunable}
+use Rattle.hd_prune.proofs.ElderSteps.{elder_steps}
+use Rattle.hd_prune.proofs.Existing.{HaveSaddles, have_saddles}
+use Rattle.hd_prune.proofs.Heights.{local-higher_saddle, local-higher_pit, lower_goes}
+use Rattle.hd_prune.proofs.MapPruning.{left-undercut}
+use Rattle.hd_prune.proofs.Points.{JoinedBy, joined_both, joined_along, joined_higher}
+use Rattle.hd_prune.proofs.TakenOver.{pruning_of}
 
--- where a local height goes, each smaller one does
-lower_goes : (thousandths : ℕ) (sz : ℤ) (a b : ℕ) → a ≤ b → goes thousandths sz b ≡ true → goes thousandths sz a ≡ true
-lower_goes thousandths sz a b le h = lower (pos thousandths *ℤ sz) h
-  where
-    lower : (z : ℤ) → int_lt (pos b *ℤ pos 100000) z ≡ true → int_lt (pos a *ℤ pos 100000) z ≡ true
-    lower z h = grind (arith, ints, nat_tests)
-
--- and it goes at each greater percent
+-- what goes at a percent goes at each greater one
 higher_goes : (a b : ℕ) (sz : ℤ) (n : ℕ) → a ≤ b → pos 0 ≤ℤ sz → goes a sz n ≡ true → goes b sz n ≡ true
 higher_goes a b (negsuc k) n le small h = absurd (omega (arith, ints))
 higher_goes a b (pos k) n le small h = more (a * k) (b * k) (mul-le-mul_right k le) h
@@ -56,9 +48,6 @@ contains_or_not side (x ∷ xs) p = elim (same_or_not (below_by side) (below_by-
   ]
 ]
 
-abbrev steps : List Leaving → List (Step Rank)
-steps xs = map {A = Leaving} {B = Step Rank} (λ x. record { pit = x.pit; saddle = x.saddle }) xs
-
 module _ (m : Map) (whole : IsMap m) (side : SideName) (thousandths : ℕ) (sz : ℤ) (pits : List Rank) (is_pit : (p : Rank) → Contains pits p ↔ IsPit m side p) where
   pub prunable : HaveSaddles m whole side pits → IsPrunable (below_by side) (JoinedBy m side) (local_on side) (goes thousandths sz) pits
   prunable have = record {
@@ -73,31 +62,14 @@ module _ (m : Map) (whole : IsMap m) (side : SideName) (thousandths : ℕ) (sz :
   }
 
   module _ (laws : IsPrunable (below_by side) (JoinedBy m side) (local_on side) (goes thousandths sz) pits) where
-    abbrev Own : List Rank → (Rank → Rank) → Type 0
-    Own = Owners m whole side thousandths sz pits is_pit laws
-
-    -- pruning by paths, with owners, is pruning by levels
-    levels : {kept last : List Rank} {owner ends : Rank → Rank} {xs : List Leaving} → Own kept owner → MapPrunes m side thousandths sz kept owner xs last ends → Prunes (below_by side) (JoinedBy m side) (local_on side) (goes thousandths sz) kept (steps xs) last
-    levels {kept} {last} {owner} w (map_over f) = over (λ x h.
-        let small = smallest_by_paths m side kept (points m whole side thousandths sz pits is_pit laws kept owner w) (local_on side) (goes thousandths sz) (agree m whole side thousandths sz pits is_pit laws kept) x.pit x.saddle h.smallest in
-        let is : local_on side x.pit x.saddle ≡ local_height x.pit x.saddle = agree m whole side thousandths sz pits is_pit laws kept x.pit x.saddle small.is_kept small.nearest in
-        let t = taken_over m whole side owner x.pit x.saddle (beyond_exists m side pits is_pit (goes thousandths sz) laws kept owner x.pit x.saddle w h.smallest) in
-        f (record { pit = x.pit; local = pos (local_height x.pit x.saddle); saddle = x.saddle; into = t.0 })
-        (record { smallest = small; local_is = refl; goes_away = subst (λ n. goes thousandths sz n ≡ true) is h.goes_away; taken_over = t.1 }))
-    levels {kept} {last} {owner} w (map_goes_on {x = x} {steps = xs} h r) =
-        let small = smallest_by_levels m side kept (points m whole side thousandths sz pits is_pit laws kept owner w) (local_on side) (goes thousandths sz) (agree m whole side thousandths sz pits is_pit laws kept) x.pit x.saddle h.smallest in
-        let is : local_on side x.pit x.saddle ≡ local_height x.pit x.saddle = agree m whole side thousandths sz pits is_pit laws kept x.pit x.saddle h.smallest.is_kept h.smallest.nearest in
-        let k = taken m side pits is_pit (goes thousandths sz) laws kept owner x.pit x.saddle x.into w small h.taken_over in
-        let after = owners_after (below_by side) (JoinedBy m side) (local_on side) (goes thousandths sz) pits laws kept owner x.pit x.saddle x.into w small.is_kept small.nearest k.0 k.1 k.2 in
-        goes_on (record { smallest = small; goes_away = subst (λ n. goes thousandths sz n ≡ true) (sym is) h.goes_away }) (levels after r)
-
-    kept-undercut : (xs : List Leaving) (last : List Rank) (ends : Rank → Rank) → MapPrunes m side thousandths sz pits (λ p. p) xs last ends →
+    kept-undercut : (xs : List Leaving) (last : List Rank) (ends : Rank → Rank) → Prunes m side thousandths sz pits (λ p. p) xs last ends →
         (p : Rank) → Contains last p ↔ (IsPit m side p × ((q : Rank) → Undercuts m side thousandths sz q p → ⊥))
     kept-undercut xs last ends h p =
-        let e = (elder_form (below_by side) (JoinedBy m side) (local_on side) (goes thousandths sz) pits laws (steps xs) last).0
-        (levels (owners_first (below_by side) (JoinedBy m side) (local_on side) (goes thousandths sz) pits laws) h) in
-        subst (λ (ls : List Rank). Contains ls p ↔ (IsPit m side p × ((q : Rank) → Undercuts m side thousandths sz q p → ⊥))) (sym e.1)
-        (left-undercut m whole side thousandths sz pits is_pit laws (steps xs) e.0 p)
+        let steps = elder_steps (below_by side) (JoinedBy m side) (local_on side) (goes thousandths sz) pits laws pits (λ q at. at) in
+        let r = pruning_of m whole side thousandths sz pits is_pit laws steps.0 steps.1 in
+        let same : last ≡ left_after (below_by side) pits steps.0 = (prunes-unique m side thousandths sz h r.2).1 in
+        subst (λ (ls : List Rank). Contains ls p ↔ (IsPit m side p × ((q : Rank) → Undercuts m side thousandths sz q p → ⊥))) (sym same)
+        (left-undercut m whole side thousandths sz pits is_pit laws steps.0 steps.1 p)
 
 -- pruning keeps exactly the pits that no pit undercuts
 pub keeps-undercut : (m : Map) (side : SideName) (thousandths : ℕ) (sz : ℤ) (xs : List Leaving) (last : List Rank) (owner : Rank → Rank) → IsMap m → IsPruning m side thousandths xs last owner → SzIs m sz →

@@ -11,7 +11,8 @@ use Rattle.hd_graph.proofs.Going.{GoesFrom, Between, StaysIn, from_going, to_goi
 use Rattle.hd_graph.proofs.Places.{less_same_more, place_of, at_place, pairs_from_places}
 use Rattle.hd_graph.proofs.Rises.{higher-within, within-higher}
 use Rattle.hd_prune.specs.declared.line.PitStop.{PitStop}
-use Rattle.hd_prune.specs.Line.{higher, GapWithin, TellsLevels, over, only, line_of, pits_of, pit_stop}
+use Rattle.hd_prune.specs.Line.{higher, over, only, line_of, pits_of, pit_stop}
+use Rattle.hd_prune.proofs.Gaps.{GapWithin, TellsLevels}
 use Rattle.hd_prune.proofs.Bounds.{place_of_pit}
 
 -- a low stands at one place of the line

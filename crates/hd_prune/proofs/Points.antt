@@ -13,8 +13,8 @@ use Rattle.hd_map.specs.Saddle.{SaddleIs, IsSaddle as IsTopOfPaths}
 use Rattle.hd_map.specs.SideLaws.{below_by-order}
 use Rattle.hd_map.proofs.Levels.{Reach, PointStep, here, step, reach-trans, reach-sym, reach-higher, points-both, path-from_reach}
 use Rattle.hd_map.proofs.Saddles.{near-sym, level-from_saddle, saddle-from_level}
-use Rattle.hd_prune.specs.Levels.{IsSaddle, IsNearestSaddle, IsSmallest}
-use Rattle.hd_prune.specs.Levels.{SaddleIs as LevelIs}
+use Rattle.hd_prune.proofs.Levels.{IsSaddle, IsNearestSaddle, IsSmallest}
+use Rattle.hd_prune.proofs.Levels.{SaddleIs as LevelIs}
 
 module _ (m : Map) (side : SideName) where
   -- a path of points, none above t

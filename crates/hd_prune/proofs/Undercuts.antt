@@ -2,9 +2,10 @@
 use Rattle.std.proofs.Common.{◌≡◌, ◌≢◌, ℕ, inl, inr, Bool, true, List, [], ◌∷◌, refl, sym, ◌∙◌, ap, subst}
 use Rattle.std.specs.Prelude.{Contains}
 use Rattle.hd_map.specs.Order.{IsStrictOrder}
+use Rattle.hd_map.specs.Pruning.{without}
 use Rattle.hd_map.proofs.Levels.{Contains-head, Contains-tail, Contains-cases, Contains-none}
-use Rattle.hd_prune.specs.Levels.{Step, IsSaddle, IsPrunable, without}
-use Rattle.hd_prune.specs.Elder.{AreElderSteps, left_after}
+use Rattle.hd_prune.proofs.Levels.{Step, IsSaddle, IsPrunable}
+use Rattle.hd_prune.proofs.Elder.{AreElderSteps, left_after}
 use Rattle.hd_prune.proofs.Nearest.{elder_at, Contains-without, without-Contains}
 
 module _ {V : Type 0} (below : V → V → Bool) (order : IsStrictOrder below) where

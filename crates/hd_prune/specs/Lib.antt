@@ -1,5 +1,3 @@
-pub mod Levels
-pub mod Elder
 pub mod Line
 pub mod Heights
 pub mod Leaving
