@@ -10,8 +10,8 @@ pub struct Pos {
     pub y: u32,
 }
 
-/// The size of a grid. Both numbers are from 1 to 65,535, and there are at most 4,194,304 points
-/// together.
+/// The size of a grid. The type holds any two numbers; those of a map are from 1 to 65,535, and it
+/// has at most 4,194,304 points.
 #[derive(Clone, Copy, Debug, PartialEq, Eq)]
 pub struct Size {
     /// How many points a profile has (NumPoints of ISO 25178-71).

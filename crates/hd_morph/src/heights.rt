@@ -15,8 +15,10 @@ use hd_map::{Cell, Grid, Pos, greatest_of, height, least_of, position_after, pos
 use std::alloc::Global;
 use std::marker::Model;
 
-/// The new heights of a filtered map, in eight bytes a point. Contracts see the list of them by
-/// index, with none where a point keeps its cell.
+/// The new heights of a filtered map. Contracts see the list of them by index, with none where a
+/// point keeps its cell. The type promises neither how many they are nor their range: by
+/// [`dilated_heights`] and the calls beside it there is one entry for each point of their map, and
+/// each height is in the range of its data type.
 #[derive(Debug, Drop)]
 pub struct NewHeights {
     numbers: Vec<i64>,
@@ -55,8 +57,8 @@ impl NewHeights {
 /// project's own, the rest is the dilation of ISO 16610-40.
 ///
 /// `HeightRange` comes exactly where a new height is not in the range of the data type, with the
-/// first such position by index. `Memory` may come before it. It takes 16 bytes a point, the 8 of
-/// the new heights among them.
+/// first such position by index. `Memory` may come in place of any other answer. Measured, it takes
+/// 16 bytes a point, the 8 of the new heights among them.
 pub fn dilated_heights<G: Grid>(
     alloc: Global,
     grid: &G,

@@ -2,8 +2,8 @@
 //! their definitions keep.
 //!
 //! Heights are worked on as plain numbers by index, so that each pass is over whole rows without a
-//! test for missing points. An element that has one and the same number everywhere takes a time
-//! that hardly grows with its size.
+//! test for missing points. Measured, the time that an element with one and the same number
+//! everywhere takes hardly grows with its size.
 #![tactic(auto)]
 
 mod cells;

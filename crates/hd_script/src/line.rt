@@ -28,8 +28,9 @@ const LONGEST_LINE: usize = 4096;
 /// of the table; `WordCount` exactly where the number of words is not that of the command;
 /// `BadWord` with the number of the first word that has not its form, the command being word 1. An
 /// `element` line of fewer than four words is `WordCount` first; of any other the name, the width and
-/// the height are read before the number of words is judged. `Memory` comes where the words are
-/// refused their memory.
+/// the height are read before the number of words is judged. `Memory` may come in place of any other
+/// answer. Memory is taken for the list of the words, and for the names, the table and the notation
+/// that the command holds.
 pub fn read_line(alloc: Global, line: &[u8]) -> Result<Option<Command>, LineError>
     ensures value { (result ≡ Err LineError.Memory) ⊎ (result ≡ script_line line.now) }
     ensures whole { IfOk result IsWholeIfAny }

@@ -15,12 +15,13 @@ pub enum Version {
     Iso,
 }
 
-/// A key that the format does not know, and its value, as read.
+/// A key that the format does not know, and its value, as read. The type itself holds any two texts;
+/// an [`SdfFile`] keeps that these two have their forms and that the key is no known one.
 #[derive(Debug, Drop)]
 pub struct Extra {
-    /// The key: 1 to 64 bytes from 0x20 to 0x7E.
+    /// The key. In an `SdfFile` it has 1 to 64 bytes from 0x20 to 0x7E.
     pub key: List<u8>,
-    /// The value: at most 896 bytes.
+    /// The value. In an `SdfFile` it has at most 896 bytes.
     pub value: List<u8>,
 }
 

@@ -28,12 +28,13 @@ use std::alloc::Global;
 /// data, profile by profile, broken into lines anywhere: `BAD` or a whole number each. A `*` or the
 /// end of the text ends them, and what follows the `*` is the trailer.
 ///
-/// Memory is taken for the texts that the file keeps and for its cells, and for no more cells than
-/// the bytes that are left can hold.
+/// Memory is taken for the list of the header's keys, for the texts that the file keeps and for its
+/// cells, and for no more cells than the bytes that are left can hold.
 ///
 /// # Errors
 ///
-/// The first offence from the front, with its line, datum or key, or `Memory` for want of memory.
+/// The first offence from the front, with its line, datum or key. `Memory` may come in place of any
+/// other answer.
 pub fn read_sdf(alloc: Global, bytes: &[u8]) -> Result<SdfFile, SdfError>
     ensures { Gives file_of result (file_in bytes.now) }
 {
