@@ -67,14 +67,18 @@ fitting whole.Outside = None
 abbrev pub height_of : List ℕ → Option ℤ
 height_of text = fitting (whole_of text)
 
+-- part 4, where it speaks of the heights of edge points
+abbrev pub edge_bound : List ℕ → Option Significance
+edge_bound text = if begins text (codes "Closed:") then option_map Closed (height_of (after text (codes "Closed:")))
+    else if begins text (codes "Open:") then option_map Open (height_of (after text (codes "Open:")))
+    else None
+
 -- part 4
 abbrev pub significance_of : List ℕ → Option Significance
 significance_of text = if is text (codes "All") then Some All
     else if begins text (codes "Top:") then option_map Top (number_of (after text (codes "Top:")))
     else if begins text (codes "Bot:") then option_map Bot (number_of (after text (codes "Bot:")))
-    else if begins text (codes "Closed:") then option_map Closed (height_of (after text (codes "Closed:")))
-    else if begins text (codes "Open:") then option_map Open (height_of (after text (codes "Open:")))
-    else None
+    else edge_bound text
 
 -- part 5
 abbrev pub attribute_of : List ℕ → Option Attribute

@@ -87,10 +87,10 @@ pub enum Parameter {
 pub enum NotationError {
     /// The number, from 1, of the first part that has not its form, or that is missing, or of a part
     /// too many.
-    #[error("part {0} has not its form")]
+    #[error("a part has not its form")]
     BadPart(u8),
     /// The number of the part that does not go with the type: 4 the significance, 5 the attribute.
-    #[error("part {0} does not go with the type")]
+    #[error("a part does not go with the type")]
     BadPair(u8),
     /// The name is none of the table.
     #[error("unknown parameter")]

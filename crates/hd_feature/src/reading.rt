@@ -1,6 +1,6 @@
 // A word as a notation.
 ghost use Rattle.std.specs.Prelude.{◌≡◌};
-ghost use Rattle.hd_feature.specs.Notation.{attribute_of, has_attribute, has_significance, height_of, kind_of, notation_of, number_of, paired, pruning_of, scope_of, significance_of, statistic_of};
+ghost use Rattle.hd_feature.specs.Notation.{attribute_of, edge_bound, has_attribute, has_significance, height_of, kind_of, notation_of, number_of, paired, pruning_of, scope_of, significance_of, statistic_of};
 
 use crate::parts::{Part, read_part};
 use crate::{Attribute, Kind, Notation, NotationError, Significance, Statistic};
@@ -120,16 +120,25 @@ impl Part for Significance {
         if text == b"All".as_slice() {
             Some(Significance::All)
         } else if let Some(number) = text.strip_prefix(b"Top:") {
-            Some(Significance::Top(number_of(number)?))
+            number_of(number).map(Significance::Top)
         } else if let Some(number) = text.strip_prefix(b"Bot:") {
-            Some(Significance::Bot(number_of(number)?))
-        } else if let Some(height) = text.strip_prefix(b"Closed:") {
-            Some(Significance::Closed(height_of(height)?))
-        } else if let Some(height) = text.strip_prefix(b"Open:") {
-            Some(Significance::Open(height_of(height)?))
+            number_of(number).map(Significance::Bot)
         } else {
-            None
+            edge_bound(text)
         }
+    }
+}
+
+// The significance by the heights of edge points that a text writes, or none.
+fn edge_bound(text: &[u8]) -> Option<Significance>
+    ensures { result ≡ edge_bound text.now }
+{
+    if let Some(height) = text.strip_prefix(b"Closed:") {
+        height_of(height).map(Significance::Closed)
+    } else if let Some(height) = text.strip_prefix(b"Open:") {
+        height_of(height).map(Significance::Open)
+    } else {
+        None
     }
 }
 

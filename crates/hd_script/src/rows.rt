@@ -100,13 +100,28 @@ pub fn mask_words(line: &[u8], words: &[Span], masked: bool) -> Result<Command, 
         return Err(LineError::WordCount);
     };
     let (x, y) = (text(line, *x), text(line, *y));
-    let (other_x, other_y) = (text(line, *other_x), text(line, *other_y));
+    mask_command(x, y, text(line, *other_x), text(line, *other_y), masked)
+}
+
+// The command of the four words after `mask` or `unmask`.
+fn mask_command(
+    x: &[u8],
+    y: &[u8],
+    other_x: &[u8],
+    other_y: &[u8],
+    masked: bool,
+) -> Result<Command, LineError>
+    ensures value { let words = x.now ∷ y.now ∷ other_x.now ∷ other_y.now ∷ [] in
+        result ≡ (if masked then mask_words words else unmask_words words) }
+    ensures whole { IfOk result IsWhole }
+{
     let (from, to) = corner_words(x, y, other_x, other_y)?;
-    if masked {
-        Ok(Command::Do(Edit::Mask { from, to }))
+    let edit = if masked {
+        Edit::Mask { from, to }
     } else {
-        Ok(Command::Do(Edit::Unmask { from, to }))
-    }
+        Edit::Unmask { from, to }
+    };
+    Ok(Command::Do(edit))
 }
 
 /// `undo K`.
@@ -131,8 +146,16 @@ pub fn label_words(line: &[u8], words: &[Span]) -> Result<Command, LineError>
     let [side, x, y] = words else {
         return Err(LineError::WordCount);
     };
-    let side = side_word(2, text(line, *side))?;
-    let at = position_words(3, text(line, *x), text(line, *y))?;
+    label_command(text(line, *side), text(line, *x), text(line, *y))
+}
+
+// The command of the three words after `label`.
+fn label_command(side: &[u8], x: &[u8], y: &[u8]) -> Result<Command, LineError>
+    ensures value { result ≡ label_words (side.now ∷ x.now ∷ y.now ∷ []) }
+    ensures whole { IfOk result IsWhole }
+{
+    let side = side_word(2, side)?;
+    let at = position_words(3, x, y)?;
     Ok(Command::Label { side, at })
 }
 

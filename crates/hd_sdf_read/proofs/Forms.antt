@@ -1,6 +1,6 @@
 -- The texts of a file have their forms.
 use Rattle.std.proofs.Common.{◌≡◌, ◌≤◌, ℕ, true, List, length, cond, Option, Some, None, Ok, refl, sym, ap, ◌∙◌, inl, inr}
-use Rattle.std.specs.Prelude.{codes, ok_or, option_and_then, unwrap_or}
+use Rattle.std.specs.Prelude.{codes, IfOk, Result, Err, ok_or, option_and_then, unwrap_or}
 use Rattle.std.specs.Str.Parse.{starts_with_minus, without_leading_sign}
 use Rattle.std.proofs.lemmas.Bool.{and_from, cases_Bool, le-leb}
 use Rattle.std.proofs.lemmas.Slice.Eq.{bytes_eq-Decides}
@@ -14,7 +14,7 @@ use Rattle.hd_sdf_read.specs.declared.file.Version.{Version}
 use Rattle.hd_sdf_read.specs.Entries.{value_of}
 use Rattle.hd_sdf_read.specs.File.{AreGood, HasForms, is_gap, is_trailer}
 use Rattle.hd_sdf_read.specs.Grammar.{Frame, decimal_at, file_with, minus_one, resolution_of}
-use Rattle.hd_sdf_read.specs.Places.{HasDecimals}
+use Rattle.hd_sdf_read.specs.Places.{HasDecimals, IsRead}
 use Rattle.hd_sdf_read.proofs.GoodEntries.{extra_apart, extra_good, text_good}
 use Rattle.hd_sdf_read.proofs.Trims.{trimmed_is, trimmed_same}
 
@@ -87,3 +87,8 @@ forms_good version entries frame cells trailer good decimals end = record {
 pub ok_some : (found : Option Decimal) (e : SdfError) (d : Decimal) → Ok d ≡ ok_or found e → Some d ≡ found
 ok_some None e d given = cc
 ok_some (Some x) e d given = cc
+
+-- what is read of a key, or that it is missing
+pub scale_good : (key : List ℕ) (entries : List Extra) (found : Option Decimal) (e : SdfError) (r : Result Decimal SdfError) → found ≡ decimal_at key entries → r ≡ ok_or found e → IfOk r IsRead
+scale_good key entries found e (Ok d) at given = decimal_good key entries d (ok_some found e d given ∙ at)
+scale_good key entries found e (Err x) at given = tt

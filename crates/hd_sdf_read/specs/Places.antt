@@ -1,5 +1,5 @@
 -- What is known of a text where its parts begin.
-use Rattle.std.specs.Prelude.{◌≡◌, ◌≤◌, ◌==◌, ℕ, ℤ, int_le, true, false, List, [], length, take, drop, Some, Result, Ok, Err}
+use Rattle.std.specs.Prelude.{codes, ◌≡◌, ◌≤◌, ◌==◌, ℕ, ℤ, int_le, true, false, List, [], length, take, drop, Some, Result, Ok, Err}
 use Rattle.std.specs.List.{position_or_len}
 use denote.Bor.{Bor}
 use Rattle.hd_map.specs.declared.cells.Cells as packed
@@ -8,14 +8,17 @@ use Rattle.hd_map.specs.declared.types.Cell.TheVariants.{Height}
 use Rattle.hd_map.specs.Cells.{cells_in}
 use Rattle.hd_num.specs.Whole.{whole_of}
 use Rattle.hd_num.specs.declared.whole.Whole.TheVariants.{Is}
+use Rattle.hd_num.specs.declared.decimal.Decimal.{Decimal}
 use Rattle.hd_num.specs.Decimal.{decimal_of}
 use Rattle.hd_num.specs.Lines.{after_line, lines_of}
 use Rattle.hd_sdf_read.specs.declared.entries.Entry.{Entry}
 use Rattle.hd_sdf_read.specs.declared.error.SdfError.{SdfError}
 use Rattle.hd_sdf_read.specs.declared.error.SdfError.TheVariants.{Memory}
 use Rattle.hd_sdf_read.specs.declared.file.Version.{Version}
+use Rattle.hd_sdf_read.specs.declared.file.Extra.{Extra}
 use Rattle.hd_sdf_read.specs.declared.header_lines.Frame as declared
-use Rattle.hd_sdf_read.specs.Entries.{header_from}
+use Rattle.hd_sdf_read.specs.declared.sdf.Origin.{Origin}
+use Rattle.hd_sdf_read.specs.Entries.{header_from, text_of}
 use Rattle.hd_sdf_read.specs.File.{AreGood, is_gap}
 use Rattle.hd_sdf_read.specs.Grammar.{Cells, Frame, after_lines, after_token, datum_at, version_of}
 use Rattle.hd_sdf_read.specs.Views.{extras_of}
@@ -45,11 +48,15 @@ abbrev pub HeaderGiven : List ℕ → ℕ → Result (List Entry × ℕ) SdfErro
 HeaderGiven bytes start (Ok (entries, next)) = IsHeader bytes start entries next
 HeaderGiven bytes start (Err e) = (e ≡ Memory → ⊥) → header_from 2 [] (lines_of (drop start bytes)) ≡ Err e
 
+-- a decimal is the reading of its literal
+abbrev pub IsRead : Decimal → Type 0
+IsRead number = decimal_of number.literal ≡ Some number
+
 -- each decimal is the reading of its literal
 pub record HasDecimals (frame : Frame) : Type 0 where
-  pub x_scale : decimal_of frame.x_scale.literal ≡ Some frame.x_scale
-  pub y_scale : decimal_of frame.y_scale.literal ≡ Some frame.y_scale
-  pub z_scale : decimal_of frame.z_scale.literal ≡ Some frame.z_scale
+  pub x_scale : IsRead frame.x_scale
+  pub y_scale : IsRead frame.y_scale
+  pub z_scale : IsRead frame.z_scale
 
 -- a frame without where its literals lie in memory
 abbrev pub frame_view : declared.Frame → Frame
@@ -86,3 +93,9 @@ pub record TakesCell (least greatest : ℤ) (text rest : List ℕ) (cell : Cell)
   pub low : int_le least height ≡ true
   pub high : int_le height greatest ≡ true
   pub cell_is : cell ≡ Height height
+
+-- the texts of these keys
+pub record IsOrigin (origin : Origin) (entries : List Extra) : Type 0 where
+  pub manufac_id : origin.manufac_id ≡ text_of (codes "ManufacID") entries
+  pub create_date : origin.create_date ≡ text_of (codes "CreateDate") entries
+  pub mod_date : origin.mod_date ≡ text_of (codes "ModDate") entries

@@ -14,47 +14,47 @@ pub enum SdfError {
     #[error("out of memory")]
     Memory,
     /// Line 1 is absent, too long, or neither `aBCR-1.0` nor `aISO-1.0`.
-    #[error("line 1: bad version")]
+    #[error("bad version")]
     BadVersion,
     /// This line of the header is too long, or of none of the three kinds, or its key or value has
     /// not its form.
-    #[error("line {0}: bad header line")]
+    #[error("bad header line")]
     BadHeaderLine(u64),
     /// The key of this line stood before.
-    #[error("line {0}: key twice")]
+    #[error("key twice")]
     KeyTwice(u64),
     /// The value of this line has not the form that its key asks for.
-    #[error("line {0}: bad value")]
+    #[error("bad value")]
     BadValue(u64),
     /// The text ends before the line `*`.
     #[error("the header does not end")]
     HeaderEnds,
     /// This required key is absent.
-    #[error("required key {0} is missing")]
+    #[error("a required key is missing")]
     MissingKey(u8),
     /// This line asks for a compression, a check or decimal data.
-    #[error("line {0}: not supported")]
+    #[error("not supported")]
     Unsupported(u64),
     /// There are more than 4,194,304 points.
     #[error("too many points")]
     TooLarge,
     /// This datum is neither `BAD` nor a whole number.
-    #[error("datum {0} is not whole or BAD")]
+    #[error("a datum is not whole or BAD")]
     BadDatum(u64),
     /// This datum is a whole number outside the range of the type.
-    #[error("datum {0} is out of range")]
+    #[error("a datum is out of range")]
     DatumRange(u64),
     /// The data end after so many, too few.
-    #[error("only {0} data")]
+    #[error("too few data")]
     TooFewData(u64),
     /// This datum comes after the last.
-    #[error("datum {0} is one too many")]
+    #[error("one datum too many")]
     TooManyData(u64),
     /// The trailer has more than 65,536 bytes.
     #[error("trailer too long")]
     TrailerTooLong,
     /// This line holds the 241st extra key.
-    #[error("line {0}: too many keys")]
+    #[error("too many keys")]
     TooManyKeys(u64),
 }
 

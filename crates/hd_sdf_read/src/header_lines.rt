@@ -2,10 +2,10 @@
 ghost use Rattle.std.specs.Prelude.{◌≡◌, ◌≤◌, IfOk, IfSome, option_and_then};
 ghost use Rattle.hd_map.specs.Map.{IsSize};
 ghost use Rattle.hd_sdf_read.specs.Entries.{value_of};
-ghost use Rattle.hd_sdf_read.specs.Grammar.{decimal_at, frame_of, version_of_line};
+ghost use Rattle.hd_sdf_read.specs.Grammar.{decimal_at, frame_of, required, version_of_line};
 ghost use Rattle.hd_sdf_read.specs.Keys.{extent_of, type_of};
 ghost use Rattle.hd_sdf_read.specs.Reads.{Gives};
-ghost use Rattle.hd_sdf_read.specs.Places.{HasDecimals, HeaderGiven, IsSecondLine, VersionGiven, frame_view};
+ghost use Rattle.hd_sdf_read.specs.Places.{HasDecimals, HeaderGiven, IsRead, IsSecondLine, VersionGiven, frame_view};
 ghost use Rattle.hd_sdf_read.specs.Views.{extras_of};
 
 use crate::entries::{Entry, Line, kind_of, offence, value_of};
@@ -96,9 +96,9 @@ pub fn read_frame(alloc: Global, entries: &[Entry]) -> Result<Frame, SdfError>
 {
     let points = extent_at(entries, b"NumPoints").ok_or(SdfError::MissingKey(1))?;
     let profiles = extent_at(entries, b"NumProfiles").ok_or(SdfError::MissingKey(2))?;
-    let x_scale = decimal_at(alloc, entries, b"Xscale")?.ok_or(SdfError::MissingKey(3))?;
-    let y_scale = decimal_at(alloc, entries, b"Yscale")?.ok_or(SdfError::MissingKey(4))?;
-    let z_scale = decimal_at(alloc, entries, b"Zscale")?.ok_or(SdfError::MissingKey(5))?;
+    let x_scale = scale_at(alloc, entries, b"Xscale", 3)?;
+    let y_scale = scale_at(alloc, entries, b"Yscale", 4)?;
+    let z_scale = scale_at(alloc, entries, b"Zscale", 5)?;
     let data_type = type_at(entries, b"DataType").ok_or(SdfError::MissingKey(6))?;
     if u64::from(profiles) * u64::from(points) > 4_194_304 {
         return Err(SdfError::TooLarge);
@@ -125,6 +125,19 @@ fn type_at(entries: &[Entry], key: &[u8]) -> Option<DataType>
     ensures { result ≡ option_and_then type_of (value_of key.now (extras_of entries.now)) }
 {
     type_of(value_of(entries, key)?)
+}
+
+// The scale that a required key of this number has.
+fn scale_at(
+    alloc: Global,
+    entries: &[Entry],
+    key: &[u8],
+    number: u8,
+) -> Result<Decimal, SdfError>
+    ensures value { Gives (λ scale. scale) result (required number (decimal_at key.now (extras_of entries.now))) }
+    ensures read { IfOk result IsRead }
+{
+    decimal_at(alloc, entries, key)?.ok_or(SdfError::MissingKey(number))
 }
 
 /// The decimal that a key has.

@@ -6,7 +6,7 @@ ghost use Rattle.hd_sdf_read.specs.Entries.{extra_entries, text_of};
 ghost use Rattle.hd_sdf_read.specs.File.{AreGood, is_trailer};
 ghost use Rattle.hd_sdf_read.specs.FileOf.{file_of};
 ghost use Rattle.hd_sdf_read.specs.Grammar.{body_in, file_in, file_with, resolution_of, trailer_of};
-ghost use Rattle.hd_sdf_read.specs.Places.{HasDecimals, frame_view};
+ghost use Rattle.hd_sdf_read.specs.Places.{HasDecimals, IsOrigin, frame_view};
 ghost use Rattle.hd_sdf_read.specs.Reads.{Gives};
 ghost use Rattle.hd_sdf_read.specs.Views.{extra_of, extras_of};
 
@@ -92,9 +92,7 @@ fn build(
     requires trailer { is_trailer trailer ≡ true }
     ensures { IfOk result (λ f. file_of f ≡ file_with version (extras_of entries.now) (frame_view frame) (cells_in cells) trailer) }
 {
-    let manufac_id = text_of(alloc, entries, b"ManufacID")?;
-    let create_date = text_of(alloc, entries, b"CreateDate")?;
-    let mod_date = text_of(alloc, entries, b"ModDate")?;
+    let origin = origin_of(alloc, entries)?;
     let z_resolution = resolution_of(alloc, entries)?;
     let extra = extra_entries(alloc, entries)?;
     let Frame {
@@ -107,9 +105,9 @@ fn build(
     let surface = Surface::new(size, cells);
     Ok(SdfFile {
         version,
-        manufac_id,
-        create_date,
-        mod_date,
+        manufac_id: origin.manufac_id,
+        create_date: origin.create_date,
+        mod_date: origin.mod_date,
         x_scale,
         y_scale,
         z_scale,
@@ -117,6 +115,25 @@ fn build(
         extra,
         surface,
         trailer,
+    })
+}
+
+// Who made a file, and when.
+#[derive(Drop)]
+struct Origin {
+    manufac_id: List<u8>,
+    create_date: List<u8>,
+    mod_date: List<u8>,
+}
+
+// The texts of the keys that say it.
+fn origin_of(alloc: Global, entries: &[Entry]) -> Result<Origin, Memory>
+    ensures { IfOk result (λ origin. IsOrigin origin (extras_of entries.now)) }
+{
+    Ok(Origin {
+        manufac_id: text_of(alloc, entries, b"ManufacID")?,
+        create_date: text_of(alloc, entries, b"CreateDate")?,
+        mod_date: text_of(alloc, entries, b"ModDate")?,
     })
 }
 

@@ -14,6 +14,6 @@ invariant_of-result c =
     let m : Map = map_with (frame_view c.args.frame) (cells_in c.args.cells) in
     let made : map_of c.new-surface.result ≡ m = c.new-surface.ensures ∙ ap (λ (t : DataType). record m { data_type = t }) c.requires.data_type in
     record {
-      forms = rw (c.in_ok-manufac_id.ensures, c.in_ok-create_date.ensures, c.in_ok-mod_date.ensures, c.in_ok-z_resolution.ensures, c.in_ok-extra.ensures, made)
+      forms = rw (c.in_ok-origin.ensures.manufac_id, c.in_ok-origin.ensures.create_date, c.in_ok-origin.ensures.mod_date, c.in_ok-z_resolution.ensures, c.in_ok-extra.ensures, made)
           (forms_good c.args.version (extras_of c.args.entries.now) (frame_view c.args.frame) (cells_in c.args.cells) c.args.trailer c.requires.entries c.requires.decimals c.requires.trailer);
     }
