@@ -1,14 +1,12 @@
 -- The map before changes.
-use Rattle.std.proofs.Common.{◌≡◌, ◌≤◌, ◌≤ℤ◌, ◌<ℤ◌, ◌+ℤ◌, ℕ, ℤ, pos, neg_ℤ, Bool, false, List, [], ◌∷◌, ◌++◌, length, set, All, refl, sym, ap, subst, ◌∙◌, arith}
-use Rattle.std.proofs.lemmas.Int.{ints}
+use Rattle.std.proofs.Common.{◌≡◌, ◌≤◌, ℕ, Bool, false, List, [], ◌∷◌, ◌++◌, length, set, All, refl, sym, ap, subst, ◌∙◌}
 use Rattle.std.proofs.lemmas.List.{set-set, set-get_or}
 use Rattle.hd_map.specs.declared.types.Pos.{Pos}
 use Rattle.hd_map.specs.declared.types.Size.{Size}
 use Rattle.hd_map.specs.declared.types.Cell.{Cell}
 use Rattle.hd_map.specs.declared.types.Cell.TheVariants.{Bad}
 use Rattle.hd_map.specs.declared.types.DataType.{DataType}
-use Rattle.hd_map.specs.declared.types.DataType.TheVariants.{U8, U16, U32, I8, I16, I32}
-use Rattle.hd_map.specs.Map.{Map, IsMap, InGrid, IsCellOf, cell_at, mask_at, place_of, least_height, greatest_height}
+use Rattle.hd_map.specs.Map.{Map, IsMap, InGrid, IsCellOf, cell_at, mask_at, place_of}
 use Rattle.hd_map.proofs.Points.{place_inside}
 use Rattle.hd_map.specs.Sets.{with_cell, with_mask}
 use Rattle.hd_edit.specs.declared.change.Change.{Change}
@@ -60,24 +58,6 @@ pub was-of : (t : DataType) (w : Was) (cell : Cell) → IsCellThatWas t w cell �
 was-of t (was.Height over) cell that is = subst (λ (c : Cell). IsCellOf t c) that is
 was-of t was.Bad cell that is = tt
 was-of t (was.Mask masked) cell that is = tt
-
--- each height of a data type is less than 2 ^ 32 over the least one
-pub in_four_bytes : (t : DataType) (h : ℤ) → h ≤ℤ greatest_height t → h <ℤ (least_height t +ℤ pos 4294967296)
-in_four_bytes U8 h below = omega (arith, ints, below)
-in_four_bytes U16 h below = omega (arith, ints, below)
-in_four_bytes U32 h below = omega (arith, ints, below)
-in_four_bytes I8 h below = omega (arith, ints, below)
-in_four_bytes I16 h below = omega (arith, ints, below)
-in_four_bytes I32 h below = omega (arith, ints, below)
-
--- the least height of a data type is from -(2 ^ 31) to 0
-pub least_within : (t : DataType) → (neg_ℤ (pos 2147483648) ≤ℤ least_height t) × (least_height t ≤ℤ pos 0)
-least_within U8 = (omega (arith, ints), omega (arith, ints))
-least_within U16 = (omega (arith, ints), omega (arith, ints))
-least_within U32 = (omega (arith, ints), omega (arith, ints))
-least_within I8 = (omega (arith, ints), omega (arith, ints))
-least_within I16 = (omega (arith, ints), omega (arith, ints))
-least_within I32 = (omega (arith, ints), omega (arith, ints))
 
 -- a cell of a map is of the data type
 pub cell_of : (m : Map) → IsMap m → (p : Pos) → InGrid m.size p → IsCellOf m.data_type (cell_at m p)

@@ -1,5 +1,5 @@
 // What a cell or a mask was before it was changed.
-ghost use Rattle.std.specs.Prelude.{◌≡◌, ◌<◌, ◌≤◌, ◌+◌, ◌^◌, ◌≤ℤ◌, ◌<ℤ◌, ◌+ℤ◌, pos, length, vec_len, vec_capacity, All};
+ghost use Rattle.std.specs.Prelude.{◌≡◌, ◌<◌, ◌≤◌, ◌+◌, ◌^◌, length, vec_len, vec_capacity, All};
 ghost use Rattle.hd_map.specs.declared.types.Cell.TheVariants.{Height};
 ghost use Rattle.hd_map.specs.Map.{InGrid, IsCellOf};
 ghost use Rattle.hd_map.specs.Sets.{with_cell, with_mask};
@@ -7,7 +7,7 @@ ghost use Rattle.hd_edit.specs.Board.{RisesUpTo};
 ghost use Rattle.hd_edit.specs.Change.{height_over, IsCellThatWas, IsChange, AreChanges, with_was, before_changes};
 
 use hd_base::List;
-use hd_map::{Cell, DataType, Grid, Heights, Pos, index_of, least_of, position_of};
+use hd_map::{Cell, DataType, Grid, Heights, Pos, index_of, least_of, over_least, position_of};
 
 /// What stood at a point before it was changed.
 #[derive(Clone, Copy, Debug)]
@@ -32,29 +32,19 @@ pub struct Change {
 const _: () = prove!(size_of::<Change>() <= 12);
 
 /// What a cell of the data type was.
-#[tactic(auto, using(crate::proofs::Changes::in_four_bytes))]
+#[tactic(auto, using(hd_map::proofs::DataTypes::in_four_bytes))]
 pub fn was_of(data_type: DataType, cell: Cell) -> Was
     requires { IsCellOf data_type cell }
     ensures { IsCellThatWas data_type result cell }
 {
     match cell {
-        Cell::Height(height) => Was::Height(over(least_of(data_type), height)),
+        Cell::Height(height) => Was::Height(over_least(least_of(data_type), height)),
         Cell::Bad => Was::Bad,
     }
 }
 
-// How far a height is over the least one.
-#[inline]
-fn over(least: i64, height: i64) -> u32
-    requires from { least ≤ℤ height }
-    requires to { height <ℤ (least +ℤ pos 4294967296) }
-    ensures { least +ℤ pos result ≡ height }
-{
-    (height - least) as u32
-}
-
 // The cell of the height that is this much over the least one.
-#[tactic(auto, using(crate::proofs::Changes::least_within))]
+#[tactic(auto, using(hd_map::proofs::DataTypes::type_limits))]
 fn cell_over(data_type: DataType, over: u32) -> Cell
     ensures { result ≡ Height (height_over data_type over) }
 {

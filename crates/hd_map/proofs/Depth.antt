@@ -6,12 +6,12 @@ use Rattle.std.proofs.lemmas.Bool.Decides.{nat_tests}
 use Rattle.hd_map.specs.declared.types.Cell.{Cell}
 use Rattle.hd_map.specs.declared.types.Cell.TheVariants.{Height, Bad}
 use Rattle.hd_map.specs.declared.types.DataType.{DataType}
-use Rattle.hd_map.specs.declared.types.DataType.TheVariants.{U8, U16, U32, I8, I16, I32}
 use Rattle.hd_map.specs.declared.types.Rank.{Rank}
 use Rattle.hd_map.specs.declared.types.SideName.{SideName}
 use Rattle.hd_map.specs.declared.types.SideName.TheVariants.{Dales, Hills}
-use Rattle.hd_map.specs.Map.{Map, IsMap, IsCellOf, cell_at, place_of, least_height, greatest_height, height_or_zero}
+use Rattle.hd_map.specs.Map.{Map, IsMap, IsCellOf, cell_at, place_of, height_or_zero}
 use Rattle.hd_map.specs.Rank.{IsPoint, comes_before, below_by}
+use Rattle.hd_map.proofs.DataTypes.{type_limits}
 use Rattle.hd_map.proofs.Points.{place_inside}
 
 -- how far a height is above the least one
@@ -66,18 +66,9 @@ before_depths a b of of' h = elim (before_cases a b h) [
       (omega (arith, r, same.1), omega (arith, s, same.1, of'.index))
 ]
 
--- the heights of each data type are within the widest limits
-type_limits : (t : DataType) → (negsuc 2147483647 ≤ℤ least_height t) × (greatest_height t ≤ℤ pos 4294967295)
-type_limits U8 = (omega (arith, ints), omega (arith, ints))
-type_limits U16 = (omega (arith, ints), omega (arith, ints))
-type_limits U32 = (omega (arith, ints), omega (arith, ints))
-type_limits I8 = (omega (arith, ints), omega (arith, ints))
-type_limits I16 = (omega (arith, ints), omega (arith, ints))
-type_limits I32 = (omega (arith, ints), omega (arith, ints))
-
 -- the height of a cell of a data type is within the widest limits
 cell_limits : (t : DataType) (c : Cell) → IsCellOf t c → (negsuc 2147483647 ≤ℤ height_or_zero c) × (height_or_zero c ≤ℤ pos 4294967295)
-cell_limits t (Height h) of = let limits = type_limits t in let within = of h refl in (omega (arith, ints, limits.0, within.0), omega (arith, ints, limits.1, within.1))
+cell_limits t (Height h) of = let limits = type_limits t in let within = of h refl in (omega (arith, ints, limits.0, within.0), omega (arith, ints, limits.2, within.1))
 cell_limits t Bad of = (omega (arith, ints), omega (arith, ints))
 
 -- the rank of a point is within the limits

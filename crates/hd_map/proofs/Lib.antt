@@ -1,6 +1,7 @@
 pub mod Gather
 pub mod Sides
 pub mod Points
+pub mod DataTypes
 pub mod Depth
 pub mod Nexts
 pub mod Regions

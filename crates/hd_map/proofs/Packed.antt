@@ -1,9 +1,8 @@
 -- What is packed is read again, and a point that is set or added keeps the others.
-use Rattle.std.proofs.Common.{◌≡◌, ◌≢◌, ◌<◌, ◌≤ℤ◌, ◌<ℤ◌, ◌+◌, ◌+ℤ◌, ◌-◌, ◌++◌, ℕ, ℤ, zero, suc, pos, Bool, false, List, [], ◌∷◌, length, get_or, set, take, map, replicate, None, inl, inr, ap, sym, refl, ◌∙◌, arith}
+use Rattle.std.proofs.Common.{◌≡◌, ◌≢◌, ◌<◌, ◌+◌, ◌-◌, ◌++◌, ℕ, zero, suc, Bool, false, List, [], ◌∷◌, length, get_or, set, take, map, replicate, None, inl, inr, ap, sym, refl, ◌∙◌, arith}
 use Rattle.std.specs.Simd.Lanes.{zip2}
 use Rattle.std.proofs.Math.ListN.{length-set}
 use Rattle.std.proofs.Math.Seq.{map-set_same, take-append_seam}
-use Rattle.std.proofs.lemmas.Int.{ints}
 use Rattle.std.proofs.lemmas.Bool.{cases_eq, cases_lt}
 use Rattle.std.proofs.lemmas.Grind.{get_or-set_at}
 use Rattle.std.proofs.lemmas.List.{length-replicate, length-map, map-append, map-set, get_or-map, get_or-set_other, get_or_append_left, get_or_push, replicate_more, take_more_set, take_all, length_push}
@@ -13,21 +12,11 @@ use Rattle.hd_map.specs.declared.types.Size.{Size}
 use Rattle.hd_map.specs.declared.types.Cell.{Cell}
 use Rattle.hd_map.specs.declared.types.Cell.TheVariants.{Bad}
 use Rattle.hd_map.specs.declared.types.DataType.{DataType}
-use Rattle.hd_map.specs.declared.types.DataType.TheVariants.{U8, U16, U32, I8, I16, I32}
 use Rattle.hd_map.specs.declared.packing.Mark.{Mark}
 use Rattle.hd_map.specs.declared.packing.Mark.TheVariants.{Shown, Masked, Unmeasured, MaskedUnmeasured}
-use Rattle.hd_map.specs.Map.{Map, IsMap, IsSize, IsCellOf, AreCellsOf, least_height, greatest_height, cell_count, place_of, cell_at, mask_at, shown_height}
+use Rattle.hd_map.specs.Map.{Map, IsMap, IsSize, IsCellOf, AreCellsOf, cell_count, place_of, cell_at, mask_at, shown_height}
 use Rattle.hd_map.specs.Sets.{with_cell, with_mask, unmasked}
 use Rattle.hd_map.specs.Packing.{measures, masks, cell_from, packed_cells, packed_map}
-
--- each height of a data type is less than 2 ^ 32 over the least one
-pub in_four_bytes : (t : DataType) (h : ℤ) → h ≤ℤ greatest_height t → h <ℤ (least_height t +ℤ pos 4294967296)
-in_four_bytes U8 h below = omega (arith, ints, below)
-in_four_bytes U16 h below = omega (arith, ints, below)
-in_four_bytes U32 h below = omega (arith, ints, below)
-in_four_bytes I8 h below = omega (arith, ints, below)
-in_four_bytes I16 h below = omega (arith, ints, below)
-in_four_bytes I32 h below = omega (arith, ints, below)
 
 module _ {X Y Z : Type 0} (f : X → Y → Z) where
   -- a pair that is set in two lists

@@ -3,8 +3,8 @@ ghost use Rattle.std.specs.Prelude.{◌≡◌, ◌∷◌, ◌++◌, [], length, 
 ghost use Rattle.hd_map.specs.Map.{AreCellsOf, IsCellOf, least_height};
 ghost use Rattle.hd_map.specs.Packing.{cell_from, masks, packed_cells};
 
-use crate::packing::{Mark, over};
-use crate::{Cell, DataType, least_of};
+use crate::packing::Mark;
+use crate::{Cell, DataType, least_of, over_least};
 use hd_base::Memory;
 use std::alloc::Global;
 
@@ -57,7 +57,7 @@ impl Cells {
 
     /// Adds a cell of the data type at the end. Where memory is refused, the cells stay as they were.
     #[inline]
-    #[tactic(auto, using(crate::proofs::Packed::in_four_bytes))]
+    #[tactic(auto, using(crate::proofs::DataTypes::in_four_bytes))]
     pub fn push(&mut self, cell: Cell) -> Result<(), Memory>
         requires { IsCellOf self.old.data_type cell }
         ensures data_type { self.new.data_type ≡ self.old.data_type }
@@ -65,7 +65,7 @@ impl Cells {
         ensures err { OnErr result (cells_in self.new ≡ cells_in self.old) }
     {
         match cell {
-            Cell::Height(height) => self.push_packed(over(self.least, height), Mark::Shown),
+            Cell::Height(height) => self.push_packed(over_least(self.least, height), Mark::Shown),
             Cell::Bad => self.push_packed(0, Mark::Unmeasured),
         }
     }

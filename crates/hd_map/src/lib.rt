@@ -28,7 +28,7 @@ pub use laws::{
 pub use near::neighbours;
 pub use presence::{HeightRange, Presence, presence_of};
 pub use pruning_law::pruning_is_determined;
-pub use range::{greatest_of, is_cell_of, least_of};
+pub use range::{greatest_of, is_cell_of, least_of, over_least};
 pub use side::{Down, Side, Up};
 pub use surface::Surface;
 pub use types::{Cell, DataType, MapError, Pass, Pos, Rank, RegionSize, SideName, Size};

@@ -1,9 +1,9 @@
 // A cell and its mask as a surface keeps them, in five bytes.
-ghost use Rattle.std.specs.Prelude.{◌≡◌, ◌≤ℤ◌, ◌<ℤ◌, ◌+ℤ◌, pos, false};
+ghost use Rattle.std.specs.Prelude.{◌≡◌, false};
 ghost use Rattle.hd_map.specs.Map.{IsCellOf};
 ghost use Rattle.hd_map.specs.Packing.{cell_from, masks, measures};
 
-use crate::{Cell, DataType, least_of};
+use crate::{Cell, DataType, least_of, over_least};
 
 /// Whether a point is measured, and whether it is masked.
 #[derive(Clone, Copy, Debug, PartialEq, Eq)]
@@ -76,7 +76,7 @@ pub struct Packed {
 }
 
 /// A cell of the data type and its mask, packed.
-#[tactic(auto, using(crate::proofs::Packed::in_four_bytes))]
+#[tactic(auto, using(crate::proofs::DataTypes::in_four_bytes))]
 pub fn pack(data_type: DataType, cell: Cell, masked: bool) -> Packed
     requires { IsCellOf data_type cell }
     ensures cell { cell_from data_type result.over result.mark ≡ cell }
@@ -84,7 +84,7 @@ pub fn pack(data_type: DataType, cell: Cell, masked: bool) -> Packed
 {
     match cell {
         Cell::Height(height) => Packed {
-            over: over(least_of(data_type), height),
+            over: over_least(least_of(data_type), height),
             mark: Mark::of(true, masked),
         },
         Cell::Bad => Packed {
@@ -92,14 +92,4 @@ pub fn pack(data_type: DataType, cell: Cell, masked: bool) -> Packed
             mark: Mark::of(false, masked),
         },
     }
-}
-
-/// How far a height is over the least one.
-#[inline]
-pub fn over(least: i64, height: i64) -> u32
-    requires from { least ≤ℤ height }
-    requires to { height <ℤ (least +ℤ pos 4294967296) }
-    ensures { least +ℤ pos result ≡ height }
-{
-    (height - least) as u32
 }

@@ -1,5 +1,5 @@
 // The ranges of the data types.
-ghost use Rattle.std.specs.Prelude.{◌≡◌, ◌↔◌, IsTrue};
+ghost use Rattle.std.specs.Prelude.{◌≡◌, ◌↔◌, ◌≤ℤ◌, ◌<ℤ◌, ◌+ℤ◌, pos, IsTrue};
 ghost use Rattle.hd_map.specs.Map.{IsCellOf, least_height, greatest_height};
 
 use crate::{Cell, DataType};
@@ -38,4 +38,14 @@ pub fn is_cell_of(data_type: DataType, cell: Cell) -> bool
         Cell::Height(height) => least_of(data_type) <= height && height <= greatest_of(data_type),
         Cell::Bad => true,
     }
+}
+
+/// How far a height is over the least one of its data type.
+#[inline]
+pub fn over_least(least: i64, height: i64) -> u32
+    requires from { least ≤ℤ height }
+    requires to { height <ℤ (least +ℤ pos 4294967296) }
+    ensures { least +ℤ pos result ≡ height }
+{
+    (height - least) as u32
 }

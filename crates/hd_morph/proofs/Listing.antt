@@ -1,5 +1,5 @@
 -- Heights of a map, listed one after another, and the cells that new heights make.
-use Rattle.std.proofs.Common.{◌≡◌, ◌<◌, ◌≤◌, ◌+◌, ◌≤ℤ◌, ◌<ℤ◌, ℕ, ℤ, pos, neg_ℤ, List, [], ◌∷◌, ◌++◌, length, map, get_or, slice_set, length-set, get_or-set_other, get_or-set_same, below_more, Bool, true, false, Option, Some, None, Result, Ok, Err, inl, inr, refl, ap, subst, sym, ◌∙◌, arith}
+use Rattle.std.proofs.Common.{◌≡◌, ◌<◌, ◌≤◌, ◌+◌, ◌≤ℤ◌, ◌<ℤ◌, ℕ, ℤ, List, [], ◌∷◌, ◌++◌, length, map, get_or, slice_set, length-set, get_or-set_other, get_or-set_same, below_more, Bool, true, false, Option, Some, None, Result, Ok, Err, inl, inr, refl, ap, subst, sym, ◌∙◌, arith}
 use Rattle.std.specs.Prelude.{slice_index_or}
 use Rattle.std.proofs.lemmas.Int.{ints}
 use Rattle.std.proofs.lemmas.Bool.{cases_lt}
@@ -11,8 +11,8 @@ use Rattle.hd_map.specs.declared.types.Size.{Size}
 use Rattle.hd_map.specs.declared.types.Cell.{Cell}
 use Rattle.hd_map.specs.declared.types.Cell.TheVariants.{Height, Bad}
 use Rattle.hd_map.specs.declared.types.DataType.{DataType}
-use Rattle.hd_map.specs.declared.types.DataType.TheVariants.{U8, U16, U32, I8, I16, I32}
 use Rattle.hd_map.specs.Map.{Map, IsMap, InGrid, IsCellOf, place_of, position_at, cell_count, cell_at, mask_at, shown_height, least_height, greatest_height}
+use Rattle.hd_map.proofs.DataTypes.{type_limits}
 use Rattle.hd_map.proofs.Points.{position_at-place, position_at-inside, place_inside, inside_place, same_place}
 use Rattle.hd_morph.specs.declared.errors.MorphError.{MorphError}
 use Rattle.hd_morph.specs.declared.errors.MorphError.TheVariants.{Memory, HeightRange}
@@ -25,22 +25,6 @@ use Rattle.hd_morph.specs.Listed.{IsPlainHeight, AreHeightsOf, AreOfType, MakesH
 use Rattle.hd_morph.specs.NewHeights.{cell_with, cell_after, cells_after, MakesNewHeights}
 use Rattle.hd_morph.proofs.PlainLemmas.{shown_above, shown_below}
 use Rattle.hd_morph.proofs.Determined.{filtered_of_same}
-
-type_least : (t : DataType) → neg_ℤ (pos 4294967295) ≤ℤ least_height t
-type_least U8 = omega (arith, ints)
-type_least U16 = omega (arith, ints)
-type_least U32 = omega (arith, ints)
-type_least I8 = omega (arith, ints)
-type_least I16 = omega (arith, ints)
-type_least I32 = omega (arith, ints)
-
-type_greatest : (t : DataType) → greatest_height t ≤ℤ pos 4294967295
-type_greatest U8 = omega (arith, ints)
-type_greatest U16 = omega (arith, ints)
-type_greatest U32 = omega (arith, ints)
-type_greatest I8 = omega (arith, ints)
-type_greatest I16 = omega (arith, ints)
-type_greatest I32 = omega (arith, ints)
 
 -- a shown height is that of its cell
 shown_cell : (c : Cell) (masked : Bool) (z : ℤ) → shown_height c masked ≡ Some z → c ≡ Height z
@@ -56,8 +40,9 @@ cell_of_type m p is inside = is.heights (place_of m.size p) (omega (arith, is.ce
 pub plain_some : (m : Map) (p : Pos) (z : ℤ) → IsMap m → InGrid m.size p → relief_of m p ≡ Some z → IsPlainHeight m p z
 plain_some m p z is inside there =
     let limits = cell_of_type m p is inside z (shown_cell (cell_at m p) (mask_at m p) z there) in
-    let low = type_least m.data_type in
-    let high = type_greatest m.data_type in
+    let widest = type_limits m.data_type in
+    let low = widest.0 in
+    let high = widest.2 in
     let least : least_height m.data_type ≤ℤ z = limits.0 in
     let greatest : z ≤ℤ greatest_height m.data_type = limits.1 in
     let above : floor <ℤ z = omega (arith, ints) in

@@ -14,8 +14,8 @@ use Rattle.std.proofs.lemmas.Slice.Eq.{bytes_eq-Decides}
 use Rattle.hd_map.specs.declared.types.Cell.{Cell}
 use Rattle.hd_map.specs.declared.types.Cell.TheVariants.{Bad, Height}
 use Rattle.hd_map.specs.declared.types.DataType.{DataType}
-use Rattle.hd_map.specs.declared.types.DataType.TheVariants.{U8, U16, U32, I8, I16, I32}
 use Rattle.hd_map.specs.Map.{AreCellsOf, IsCellOf, IsMap, Map, greatest_height, least_height}
+use Rattle.hd_map.proofs.DataTypes.{type_limits}
 use Rattle.hd_num.specs.Lines.{trimmed_by}
 use Rattle.hd_num.specs.Whole.{whole_of}
 use Rattle.hd_num.specs.declared.whole.Whole.TheVariants.{Is}
@@ -36,12 +36,7 @@ small_fits (pos n) low high = record { sfits = omega (arith, ints, high) }
 small_fits (negsuc n) low high = record { sfits = omega (arith, ints, low) }
 
 height_fits : (t : DataType) (h : ℤ) → least_height t ≤ℤ h → h ≤ℤ greatest_height t → FitsSigned w64 h
-height_fits U8 h low high = small_fits h (omega (arith, ints)) (omega (arith, ints))
-height_fits U16 h low high = small_fits h (omega (arith, ints)) (omega (arith, ints))
-height_fits U32 h low high = small_fits h (omega (arith, ints)) (omega (arith, ints))
-height_fits I8 h low high = small_fits h (omega (arith, ints)) (omega (arith, ints))
-height_fits I16 h low high = small_fits h (omega (arith, ints)) (omega (arith, ints))
-height_fits I32 h low high = small_fits h (omega (arith, ints)) (omega (arith, ints))
+height_fits t h low high = let limits = type_limits t in small_fits h (omega (arith, ints, low, limits.0)) (omega (arith, ints, high, limits.2))
 
 -- a height reads back
 height_read : (t : DataType) (h : ℤ) → IsCellOf t (Height h) → whole_of (signed_decimal h) ≡ Is h
