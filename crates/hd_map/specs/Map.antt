@@ -53,6 +53,15 @@ greatest_height I8 = pos 127
 greatest_height I16 = pos 32767
 greatest_height I32 = pos 2147483647
 
+-- the code of a data type (DataType of ISO 25178-71)
+abbrev pub code_of : DataType → ℕ
+code_of U8 = 0
+code_of U16 = 1
+code_of U32 = 2
+code_of I8 = 4
+code_of I16 = 5
+code_of I32 = 6
+
 -- whether a height is of the data type
 abbrev pub in_range : DataType → ℤ → Bool
 in_range t h = int_le (least_height t) h && int_le h (greatest_height t)

@@ -46,6 +46,25 @@ pub enum DataType {
     I32,
 }
 
+impl DataType {
+    ghost use Rattle.std.specs.Prelude.{◌≡◌};
+    ghost use Rattle.hd_map.specs.Map.{code_of};
+
+    /// Its code (DataType of ISO 25178-71).
+    pub fn code(self) -> u32
+        ensures { result ≡ code_of self }
+    {
+        match self {
+            DataType::U8 => 0,
+            DataType::U16 => 1,
+            DataType::U32 => 2,
+            DataType::I8 => 4,
+            DataType::I16 => 5,
+            DataType::I32 => 6,
+        }
+    }
+}
+
 /// A present point by what points are compared by: its height, and at one height its index.
 #[derive(Clone, Copy, Debug, PartialEq, Eq)]
 pub struct Rank {

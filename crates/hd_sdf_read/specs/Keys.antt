@@ -1,9 +1,11 @@
 -- The known keys of a header, and what their values say.
 use Rattle.std.specs.Prelude.{◌==◌, ◌||◌, ℕ, pos, negsuc, nat_lt, Bool, List, [], ◌∷◌, Option, Some, None, is_some, if◌then◌else◌, codes}
 use Rattle.std.specs.Int.{is_in_range}
+use Rattle.std.specs.List.{find}
 use Rattle.std.specs.Str.{str_eq_ignore_ascii_case}
 use Rattle.hd_map.specs.declared.types.DataType.{DataType}
 use Rattle.hd_map.specs.declared.types.DataType.TheVariants.{U8, U16, U32, I8, I16, I32}
+use Rattle.hd_map.specs.Map.{code_of}
 use Rattle.hd_num.specs.Decimal.{is_decimal}
 use Rattle.hd_num.specs.Whole.{whole_of}
 use Rattle.hd_num.specs.declared.whole.Whole.{Whole}
@@ -54,14 +56,7 @@ extent_of value = extent_in (whole_of value)
 
 -- the type of the heights, by its code
 abbrev pub type_by_code : ℕ → Option DataType
-type_by_code code =
-    if code == 0 then Some U8
-    else if code == 1 then Some U16
-    else if code == 2 then Some U32
-    else if code == 4 then Some I8
-    else if code == 5 then Some I16
-    else if code == 6 then Some I32
-    else None
+type_by_code code = find (λ t. code == code_of t) (U8 ∷ U16 ∷ U32 ∷ I8 ∷ I16 ∷ I32 ∷ [])
 
 abbrev pub type_in : Whole → Option DataType
 type_in (Is (pos n)) = type_by_code n

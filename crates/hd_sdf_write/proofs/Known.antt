@@ -8,7 +8,7 @@ use Rattle.std.proofs.lemmas.Bool.{and_from, and_parts, le-leb}
 use Rattle.std.proofs.lemmas.Fmt.{length-decimal-le}
 use Rattle.hd_map.specs.declared.types.DataType.{DataType}
 use Rattle.hd_map.specs.declared.types.DataType.TheVariants.{U8, U16, U32, I8, I16, I32}
-use Rattle.hd_map.specs.Map.{IsMap, cell_count}
+use Rattle.hd_map.specs.Map.{IsMap, cell_count, code_of}
 use Rattle.hd_num.specs.Decimal.{decimal_of}
 use Rattle.hd_num.specs.Whole.{whole_of}
 use Rattle.hd_num.specs.declared.decimal.Decimal.{Decimal}
@@ -20,8 +20,7 @@ use Rattle.hd_sdf_read.specs.declared.keys.Verdict.TheVariants.{Right, Wrong}
 use Rattle.hd_sdf_read.specs.Entries.{entry, extra_entries, offence, verdict_offence}
 use Rattle.hd_sdf_read.specs.File.{File, HasForms, is_entry, is_extra, is_header_value}
 use Rattle.hd_sdf_read.specs.Grammar.{Frame, frame_of, resolution_of}
-use Rattle.hd_sdf_read.specs.Keys.{extent_in, extent_of, form_of, judge, known_keys, type_of}
-use Rattle.hd_sdf_write.specs.Canonical.{type_text}
+use Rattle.hd_sdf_read.specs.Keys.{extent_in, extent_of, form_of, judge, judge_type, known_keys, type_by_code, type_in, type_of}
 use Rattle.hd_sdf_read.proofs.Gapless.{decimal_form, decimal_value, gapless_value, number_gapless}
 use Rattle.hd_sdf_read.proofs.Follow.{AllFollow, are_new, extra_kept, follow_append, follow_extra, unknown_new}
 
@@ -37,7 +36,7 @@ known f = entry (codes "ManufacID") f.manufac_id
     ∷ entry (codes "Zscale") f.z_scale.literal
     ∷ entry (codes "Zresolution") f.z_resolution.literal
     ∷ entry (codes "Compression") (codes "0")
-    ∷ entry (codes "DataType") (type_text f.map.data_type)
+    ∷ entry (codes "DataType") (decimal (code_of f.map.data_type))
     ∷ entry (codes "CheckType") (codes "0")
     ∷ []
 
@@ -61,29 +60,31 @@ extent_right n some few = ap (λ (o : Option ℕ). cond (is_some o) Right Wrong)
 number_right : (d : Decimal) → decimal_of d.literal ≡ Some d → judge Number d.literal ≡ Right
 number_right d is = ap (λ b. cond b Right Wrong) (decimal_form d.literal d is)
 
-type_right : (t : DataType) → judge TypeCode (type_text t) ≡ Right
-type_right U8 = refl
-type_right U16 = refl
-type_right U32 = refl
-type_right I8 = refl
-type_right I16 = refl
-type_right I32 = refl
+-- the code of a type
+code_few : (t : DataType) → code_of t ≤ 65535
+code_few U8 = omega arith
+code_few U16 = omega arith
+code_few U32 = omega arith
+code_few I8 = omega arith
+code_few I16 = omega arith
+code_few I32 = omega arith
 
-type_is : (t : DataType) → type_of (type_text t) ≡ Some t
-type_is U8 = refl
-type_is U16 = refl
-type_is U32 = refl
-type_is I8 = refl
-type_is I16 = refl
-type_is I32 = refl
+code_known : (t : DataType) → (judge_type (Is (pos (code_of t))) ≡ Right) × (type_by_code (code_of t) ≡ Some t)
+code_known U8 = (refl, refl)
+code_known U16 = (refl, refl)
+code_known U32 = (refl, refl)
+code_known I8 = (refl, refl)
+code_known I16 = (refl, refl)
+code_known I32 = (refl, refl)
 
-type_value : (t : DataType) → is_header_value (type_text t) ≡ true
-type_value U8 = refl
-type_value U16 = refl
-type_value U32 = refl
-type_value I8 = refl
-type_value I16 = refl
-type_value I32 = refl
+type_right : (t : DataType) → judge TypeCode (decimal (code_of t)) ≡ Right
+type_right t = ap judge_type (whole_of-decimal (code_of t) (code_few t)) ∙ (code_known t).0
+
+type_is : (t : DataType) → type_of (decimal (code_of t)) ≡ Some t
+type_is t = ap type_in (whole_of-decimal (code_of t) (code_few t)) ∙ (code_known t).1
+
+type_value : (t : DataType) → is_header_value (decimal (code_of t)) ≡ true
+type_value t = extent_value (code_of t) (code_few t)
 
 -- the known entries have no offence
 known_follow : (f : File) → IsMap f.map → HasForms f → AllFollow [] (known f)

@@ -4,7 +4,7 @@ use Rattle.std.specs.Prelude.{codes, ok_or}
 use Rattle.std.specs.Fmt.{decimal}
 use Rattle.std.specs.List.{list_any}
 use Rattle.std.proofs.lemmas.List.Concat.{flat_map-append}
-use Rattle.hd_map.specs.Map.{IsMap}
+use Rattle.hd_map.specs.Map.{IsMap, code_of}
 use Rattle.hd_num.specs.Lines.{after_line, is_line_feed, lines_of}
 use Rattle.hd_sdf_read.specs.declared.error.SdfError.TheVariants.{BadVersion}
 use Rattle.hd_sdf_read.specs.declared.file.Extra.{Extra}
@@ -14,7 +14,7 @@ use Rattle.hd_sdf_read.specs.Entries.{header_from}
 use Rattle.hd_sdf_read.specs.File.{File, HasForms}
 use Rattle.hd_sdf_read.specs.Grammar.{after_lines, file_in, file_with, version_of, version_of_line}
 use Rattle.hd_sdf_read.proofs.Stages.{whole_body, whole_header}
-use Rattle.hd_sdf_write.specs.Canonical.{canonical, encoding_lines, end_lines, entry_line, extra_lines, line, name_lines, profile_lines, scale_lines, type_text, unmasked, version_text}
+use Rattle.hd_sdf_write.specs.Canonical.{canonical, encoding_lines, end_lines, entry_line, extra_lines, line, name_lines, profile_lines, scale_lines, unmasked, version_text}
 use Rattle.hd_sdf_read.proofs.Fronts.{after_line_front, lines_front}
 use Rattle.hd_sdf_write.proofs.HeaderText.{header_reads}
 use Rattle.hd_sdf_write.proofs.Known.{entries_follow, entries_of, extra_is, frame_for, frame_is, known, resolution_is}
@@ -31,7 +31,7 @@ known_lines f = known_group
     (entry_line (codes "NumPoints") (decimal f.map.size.points)) (entry_line (codes "NumProfiles") (decimal f.map.size.profiles))
     (entry_line (codes "Xscale") f.x_scale.literal) (entry_line (codes "Yscale") f.y_scale.literal) (entry_line (codes "Zscale") f.z_scale.literal)
     (entry_line (codes "Zresolution") f.z_resolution.literal) (entry_line (codes "Compression") (codes "0"))
-    (entry_line (codes "DataType") (type_text f.map.data_type)) (entry_line (codes "CheckType") (codes "0"))
+    (entry_line (codes "DataType") (decimal (code_of f.map.data_type))) (entry_line (codes "CheckType") (codes "0"))
 
 -- the parts of the text
 parts_group : (a n s e x l p t : List ℕ) → a ++ n ++ s ++ e ++ x ++ l ++ p ++ t ≡ a ++ ((n ++ s ++ e ++ x) ++ (l ++ (p ++ t)))

@@ -1,12 +1,11 @@
 -- The canonical text of an SDF file.
-use Rattle.std.specs.Prelude.{◌+◌, ◌*◌, ◌==◌, ◌++◌, ℕ, zero, suc, false, List, [], ◌∷◌, length, replicate, slice_range, if◌then◌else◌, codes}
+use Rattle.std.specs.Prelude.{◌+◌, ◌*◌, ◌==◌, ◌++◌, ℕ, zero, suc, List, [], ◌∷◌, length, slice_range, if◌then◌else◌, codes}
 use Rattle.std.specs.Fmt.{decimal, signed_decimal}
 use Rattle.std.specs.List.{flat_map}
 use Rattle.hd_map.specs.declared.types.Cell.{Cell}
 use Rattle.hd_map.specs.declared.types.Cell.TheVariants.{Height, Bad}
-use Rattle.hd_map.specs.declared.types.DataType.{DataType}
-use Rattle.hd_map.specs.declared.types.DataType.TheVariants.{U8, U16, U32, I8, I16, I32}
-use Rattle.hd_map.specs.Map.{Map, cell_count}
+use Rattle.hd_map.specs.Map.{Map, code_of}
+use Rattle.hd_map.specs.Sets.{unmasked as unmasked_map}
 use Rattle.hd_sdf_read.specs.declared.file.Extra.{Extra}
 use Rattle.hd_sdf_read.specs.declared.file.Version.{Version}
 use Rattle.hd_sdf_read.specs.declared.file.Version.TheVariants.{Bcr, Iso}
@@ -29,15 +28,6 @@ abbrev pub version_text : Version → List ℕ
 version_text Bcr = codes "aBCR-1.0"
 version_text Iso = codes "aISO-1.0"
 
--- the code of a type
-abbrev pub type_text : DataType → List ℕ
-type_text U8 = codes "0"
-type_text U16 = codes "1"
-type_text U32 = codes "2"
-type_text I8 = codes "4"
-type_text I16 = codes "5"
-type_text I32 = codes "6"
-
 -- the names, the dates and the size
 unfoldable pub name_lines : File → List ℕ
 name_lines f = entry_line (codes "ManufacID") f.manufac_id
@@ -56,7 +46,7 @@ scale_lines f = entry_line (codes "Xscale") f.x_scale.literal
 -- how the data are written
 unfoldable pub encoding_lines : File → List ℕ
 encoding_lines f = entry_line (codes "Compression") (codes "0")
-    ++ entry_line (codes "DataType") (type_text f.map.data_type)
+    ++ entry_line (codes "DataType") (decimal (code_of f.map.data_type))
     ++ entry_line (codes "CheckType") (codes "0")
 
 -- the lines of the extra keys
@@ -99,4 +89,4 @@ canonical f = line (version_text f.version)
 
 -- the file with no mask
 abbrev pub unmasked : File → File
-unmasked f = record f { map = record f.map { masks = replicate (cell_count f.map.size) false } }
+unmasked f = record f { map = unmasked_map f.map }

@@ -1,12 +1,12 @@
 // A whole file.
 ghost use Rattle.std.specs.Prelude.{◌≡◌, ◌++◌, IfOk, OnOk, decimal};
 ghost use Rattle.hd_sdf_read.specs.FileOf.{file_of};
-ghost use Rattle.hd_sdf_write.specs.Canonical.{canonical, encoding_lines, entry_line, line, name_lines, scale_lines, type_text, version_text};
+ghost use Rattle.hd_sdf_write.specs.Canonical.{canonical, encoding_lines, entry_line, line, name_lines, scale_lines, version_text};
 
 use crate::cells::push_profiles;
 use crate::lines::{push_end, push_entry, push_extra, push_line};
 use hd_base::{List, Memory};
-use hd_map::{DataType, Grid, Heights};
+use hd_map::{Grid, Heights};
 use hd_num::push_unsigned;
 use hd_sdf_read::{SdfFile, Version};
 use std::alloc::Global;
@@ -25,7 +25,7 @@ pub fn write_sdf(alloc: Global, file: &SdfFile) -> Result<List<u8>, Memory>
     push_version(&mut out, file.version)?;
     push_names(alloc, &mut out, file)?;
     push_scales(&mut out, file)?;
-    push_encoding(&mut out, file)?;
+    push_encoding(alloc, &mut out, file)?;
     push_extra(&mut out, file.extra.as_slice())?;
     push_line(&mut out, b"*")?;
     push_profiles(&mut out, &file.surface)?;
@@ -52,16 +52,16 @@ fn push_names(alloc: Global, out: &mut List<u8>, file: &SdfFile) -> Result<(), M
     push_entry(out, b"ManufacID", file.manufac_id.as_slice())?;
     push_entry(out, b"CreateDate", file.create_date.as_slice())?;
     push_entry(out, b"ModDate", file.mod_date.as_slice())?;
-    push_count(alloc, out, b"NumPoints", size.points)?;
-    push_count(alloc, out, b"NumProfiles", size.profiles)
+    push_number(alloc, out, b"NumPoints", size.points)?;
+    push_number(alloc, out, b"NumProfiles", size.profiles)
 }
 
-// Adds the line of a key whose value is a count.
-fn push_count(alloc: Global, out: &mut List<u8>, key: &[u8], count: u32) -> Result<(), Memory>
-    ensures { OnOk result (out.new ≡ out.old ++ entry_line key.now (decimal count)) }
+// Adds the line of a key whose value is a whole number.
+fn push_number(alloc: Global, out: &mut List<u8>, key: &[u8], number: u32) -> Result<(), Memory>
+    ensures { OnOk result (out.new ≡ out.old ++ entry_line key.now (decimal number)) }
 {
     let mut value = List::new(alloc);
-    push_unsigned(&mut value, u64::from(count))?;
+    push_unsigned(&mut value, u64::from(number))?;
     push_entry(out, key, value.as_slice())
 }
 
@@ -79,25 +79,11 @@ fn push_scales(out: &mut List<u8>, file: &SdfFile) -> Result<(), Memory>
 
 // Adds the lines of how the data are written.
 #[tactic(auto, unfolding(crate::specs::Canonical::encoding_lines))]
-fn push_encoding(out: &mut List<u8>, file: &SdfFile) -> Result<(), Memory>
+fn push_encoding(alloc: Global, out: &mut List<u8>, file: &SdfFile) -> Result<(), Memory>
     ensures { OnOk result (out.new ≡ out.old ++ encoding_lines (file_of file.now)) }
 {
     push_entry(out, b"Compression", b"0")?;
-    push_entry(out, b"DataType", type_text(file.surface.data_type()))?;
+    push_number(alloc, out, b"DataType", file.surface.data_type().code())?;
     push_entry(out, b"CheckType", b"0")?;
     Ok(())
-}
-
-// The code of a type.
-fn type_text(data_type: DataType) -> &'static [u8]
-    ensures { result.now ≡ type_text data_type }
-{
-    match data_type {
-        DataType::U8 => b"0",
-        DataType::U16 => b"1",
-        DataType::U32 => b"2",
-        DataType::I8 => b"4",
-        DataType::I16 => b"5",
-        DataType::I32 => b"6",
-    }
 }
