@@ -3,7 +3,7 @@ use Rattle.std.proofs.Common.{◌≡◌, ℕ, zero, suc, ◌<◌, ◌≤◌, ◌
 use Rattle.std.specs.Prelude.{Contains, ◌↔◌}
 use Rattle.std.proofs.lemmas.Option.{same_Some}
 use Rattle.hd_map.specs.declared.types.Rank.{Rank}
-use Rattle.hd_map.proofs.Levels.{Contains-head, Contains-tail}
+use Rattle.hd_map.proofs.Items.{Contains-head, Contains-tail}
 use Rattle.hd_graph.specs.declared.line.Stop.{Stop}
 use Rattle.hd_graph.specs.Line.{higher_rise}
 use Rattle.hd_graph.specs.Parts.{over, only}

@@ -3,6 +3,7 @@ use Rattle.std.proofs.Common.{◌≡◌, ℕ, zero, suc, ◌+◌, ◌<◌, ◌�
 use Rattle.std.specs.Prelude.{Contains, AllPairs, insert}
 use Rattle.std.specs.Cmp.{IsStrictWeakOrder}
 use Rattle.std.specs.List.Sorted.{IsSortedBy}
+use Rattle.std.proofs.lemmas.Bool.{cases_eq}
 use Rattle.std.proofs.lemmas.List.{take_more}
 use Rattle.std.proofs.lemmas.List.Elements.{Contains-append_left, Contains-push, Contains-push_cases, Contains-get_or}
 use Rattle.std.proofs.lemmas.List.Quantifiers.{all_pairs_push}
@@ -12,13 +13,11 @@ use Rattle.std.proofs.lemmas.List.Sorted.{sorted_far}
 use Rattle.hd_map.specs.Order.{IsStrictOrder}
 use Rattle.hd_map.proofs.Sides.{below-not_above, not_above-trans, compare}
 use Rattle.hd_map.specs.declared.types.Rank.{Rank}
-use Rattle.hd_map.proofs.Levels.{Contains-head, Contains-cases, Contains-none, Contains-tail}
+use Rattle.hd_map.proofs.Items.{Contains-head, Contains-cases, Contains-none, Contains-tail, AllPairs-first, AllPairs-tail}
 use Rattle.hd_graph.specs.declared.parts.Part.{Part}
 use Rattle.hd_graph.specs.declared.parts.Rise.{Rise}
 use Rattle.hd_graph.proofs.LeftParts.{from-sides}
-use Rattle.hd_graph.proofs.Places.{same_number}
 use Rattle.hd_map.specs.ChangeTree.{Joining}
-use Rattle.hd_map.proofs.Trees.{AllPairs-first, AllPairs-tail}
 use Rattle.hd_graph.specs.Parts.{AreGrouped, IsListed, comes_before, join_of, grown, left_of, right_of, sides_of, with_low, with_part}
 use Rattle.hd_graph.proofs.Adding.{with_part-grows, with_part-adds}
 
@@ -279,7 +278,7 @@ module _ (below : Rank → Rank → Bool) (low : Rank) where
   AreBelow xs n = (k : ℕ) (y : Rank) → k < n → slice_get xs k ≡ Some y → below y low ≡ true
 
   pub below-more : (xs : List Rank) (n : ℕ) (x : Rank) → slice_get xs n ≡ Some x → below x low ≡ true → AreBelow xs n → AreBelow xs (n + 1)
-  below-more xs n x at less so k y lt aty = elim (same_number k n) [
+  below-more xs n x at less so k y lt aty = elim (cases_eq k n) [
     | inl same ↦ subst (λ z. below z low ≡ true) (same_Some x y (sym at ∙ ap (λ i. slice_get xs i) (sym same) ∙ aty)) less
     | inr apart ↦ so k y (omega arith) aty
   ]

@@ -3,17 +3,17 @@ use Rattle.std.proofs.Common.{◌≡◌, ℕ, zero, suc, ◌+◌, ◌<◌, ◌�
 use Rattle.std.specs.BinaryHeap.{IsUpperBound}
 use Rattle.std.specs.List.Sorted.{IsPermutation}
 use Rattle.std.specs.Ordering.{is_lt}
+use Rattle.std.proofs.lemmas.Bool.{cases_eq}
 use Rattle.std.proofs.lemmas.List.Elements.{All-contains, All-from_recursion}
 use Rattle.std.proofs.lemmas.List.Sorted.{Contains-permutation, IsPermutation-sym}
 use Rattle.std.proofs.lemmas.Map.Keys.{ge_from_not_lt}
 use Rattle.std.proofs.lemmas.Option.{same_Some}
-use Rattle.hd_map.proofs.Levels.{Contains-head, Contains-tail, Contains-cases}
+use Rattle.hd_map.proofs.Items.{Contains-head, Contains-tail, Contains-cases}
 use Rattle.hd_graph.specs.declared.candidate.Candidate.{Candidate}
 use Rattle.hd_graph.specs.declared.ways.Way.{Way}
 use Rattle.hd_graph.specs.declared.ways.Ways.{Ways}
 use Rattle.hd_graph.specs.Candidates.{lowest_first}
 use Rattle.hd_graph.specs.Flood.{HasWay, AreGrouped, Holds, HoldsLows, Offers, Spreads, Takes, lows_of}
-use Rattle.hd_graph.proofs.Places.{same_number}
 
 -- a mark is set or clear
 pub marked : (done : List Bool) (v : ℕ) → v < length done → (slice_get done v ≡ Some true) ⊎ (slice_get done v ≡ Some false)
@@ -105,7 +105,7 @@ module _ (ways : Ways) (low : ℕ) (done : List Bool) (start : ℕ) (old : List 
       | inl was ↦ so.only to at was
       | inr e ↦ inr (record { place = place; start = start; stop = stop; way = x; starts_at = starts_at; stops_at = stops_at; from_start = from_start; before_stop = before_stop; at_place = atx; leads_to = e.0; over = e.1 })
     ];
-    held = λ k y le less aty undone. elim (same_number k place) [
+    held = λ k y le less aty undone. elim (cases_eq k place) [
       | inl same ↦ (
           let y_is : x ≡ y = same_Some x y (sym atx ∙ ap (λ i. slice_get ways.all.items i) (sym same) ∙ aty) in
           let r : Holds new x.to x.pass = offers.held (subst (λ (z : Way). slice_get done z.to ≡ Some false) (sym y_is) undone) in

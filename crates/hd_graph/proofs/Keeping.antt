@@ -3,6 +3,7 @@ use Rattle.std.proofs.Common.{◌≡◌, ℕ, ◌<◌, ◌≤◌, ◌+◌, ◌-�
 use Rattle.std.specs.Prelude.{All, Contains}
 use Rattle.std.specs.Cmp.{IsStrictWeakOrder}
 use Rattle.std.specs.List.Sorted.{IsSortedBy, IsPermutation}
+use Rattle.std.proofs.lemmas.Bool.{cases_eq}
 use Rattle.std.proofs.lemmas.List.Elements.{All-contains, Contains-append_left, Contains-push, Contains-push_cases, Contains-get_or}
 use Rattle.std.proofs.lemmas.List.Kept.{IsSortedBy-push}
 use Rattle.std.proofs.lemmas.List.Sorted.{sorted_far, Contains-permutation, IsPermutation-sym}
@@ -15,7 +16,7 @@ use Rattle.hd_graph.specs.declared.links.Link.{Link}
 use Rattle.hd_graph.specs.Classes.{AreOneClass, AreJoined, Joins}
 use Rattle.hd_graph.specs.Links.{IsBetween}
 use Rattle.hd_graph.specs.Thinning.{LinkStep, IsThinned, is_lower}
-use Rattle.hd_graph.proofs.Places.{at_place, place_of, same_number}
+use Rattle.hd_graph.proofs.Places.{at_place, place_of}
 use Rattle.hd_graph.proofs.Steps.{reach-by}
 
 -- one of the links joins a and b
@@ -64,7 +65,7 @@ module _ (below : Rank → Rank → Bool) (order : IsStrictOrder below) where
     kept-same one within = record {
       linked = λ x y h. so.linked x y (within x y h);
       some = λ x h. (let p = so.some x h in let less = p.1 in (p.0, omega arith, p.2));
-      spans = λ k x less atx. elim (same_number k n) [
+      spans = λ k x less atx. elim (cases_eq k n) [
         | inl same ↦ subst (λ (v : Link). Reach (LinkStep below kept v.at) v.a v.b) (earlier k x same atx)
             (reach-by (AnyLink kept) (LinkStep below kept l.at) (λ u v s. step (s.0, s.1, s.2, not_above s.0 s.1) here) (so.linked l.a l.b one))
         | inr apart ↦ so.spans k x (omega arith) atx
@@ -88,7 +89,7 @@ module _ (below : Rank → Rank → Bool) (order : IsStrictOrder below) where
         | inl was ↦ (let p = so.some x was in let less = p.1 in (p.0, omega arith, p.2))
         | inr new ↦ (n, omega arith, at ∙ ap Some new)
       ];
-      spans = λ k x less atx. elim (same_number k n) [
+      spans = λ k x less atx. elim (cases_eq k n) [
         | inl same ↦ subst (λ (v : Link). Reach (LinkStep below (kept ++ l ∷ []) v.at) v.a v.b) (earlier k x same atx)
             (step (l, Contains-push kept l, inl (refl, refl), not_above-refl below order l.at) here)
         | inr apart ↦ reach-by (LinkStep below kept x.at) (LinkStep below (kept ++ l ∷ []) x.at) (λ u v s. step (s.0, more s.0 s.1, s.2, s.3) here) (so.spans k x (omega arith) atx)

@@ -9,7 +9,7 @@ use Rattle.hd_graph.specs.declared.line.Stop.{Stop}
 use Rattle.hd_graph.proofs.Places.{less_same_more, get-push_old, get-push_new, item_at}
 use Rattle.hd_graph.proofs.Lows.{reverse-take}
 use Rattle.hd_graph.proofs.Round.{length-round, same_rise}
-use Rattle.hd_map.proofs.Levels.{Contains-head, Contains-tail, Contains-cases, Contains-none}
+use Rattle.hd_map.proofs.Items.{Contains-head, Contains-tail, Contains-cases, Contains-none}
 use Rattle.hd_graph.specs.declared.parts.Part.{Part}
 use Rattle.hd_graph.specs.declared.parts.Rise.{Rise}
 use Rattle.hd_graph.specs.Parts.{lower, rise_below, lowest_to, LookAlike, turned_round, IsLeftPart, IsSidePart, AreLeftLows, IsRiseOf, left_of, right_of, sides_of}

@@ -7,6 +7,7 @@ use Rattle.hd_map.specs.declared.types.Pass.{Pass}
 use Rattle.hd_map.specs.declared.types.Rank.{Rank}
 use Rattle.hd_map.specs.Order.{IsNotAbove}
 use Rattle.hd_map.specs.Walks.{HasPass}
+use Rattle.hd_map.proofs.Items.{Contains-map}
 use Rattle.hd_map.proofs.Levels.{Reach, here, step}
 use Rattle.hd_graph.specs.declared.graph.Low.{Low}
 use Rattle.hd_graph.specs.declared.links.Link.{Link}
@@ -15,7 +16,7 @@ use Rattle.hd_graph.specs.Thinning.{LinkStep}
 use Rattle.hd_graph.proofs.Floods.{PassStep}
 use Rattle.hd_graph.proofs.Places.{one_place}
 use Rattle.hd_graph.proofs.Steps.{reach-as}
-use Rattle.hd_graph.proofs.Thinned.{link-pass, map-contains}
+use Rattle.hd_graph.proofs.Thinned.{link-pass}
 
 -- a low of this rank has one number
 pub same-low : (lows : List Low) → AllPairs (λ x y. x.rank.index ≢ y.rank.index) lows → (a b : ℕ) → a < length lows → b < length lows → rank_at lows a ≡ rank_at lows b → a ≡ b
@@ -32,14 +33,14 @@ module _ (below : Rank → Rank → Bool) (lows : List Low) (links : List Link) 
     -- a pass from a low is that of a link, which leads to another low
     link_of : (a : ℕ) (r w : Rank) → a < length lows → HasPass (map (pass_of lows) links) (rank_at lows a) r w → (l : Link) × Contains links l × (l.at ≡ w) × (b : ℕ) × IsBetween l a b × (b < length lows) × (rank_at lows b ≡ r)
     link_of a r w inside (inl h) =
-        let x = map-contains (pass_of lows) links _ h in
+        let x = Contains-map (pass_of lows) links _ h in
         let l : Link = x.0 in
         let ends_in : HasEnds (length lows) l = All-contains (HasEnds (length lows)) links l within x.1 in
         let first : rank_at lows l.a ≡ rank_at lows a = ap (λ (p : Pass). p.a) x.2 in
         let second : rank_at lows l.b ≡ r = ap (λ (p : Pass). p.b) x.2 in
         (l, x.1, ap (λ (p : Pass). p.at) x.2, l.b, inl (same-low lows different l.a a ends_in.0 inside first, refl), ends_in.1, second)
     link_of a r w inside (inr h) =
-        let x = map-contains (pass_of lows) links _ h in
+        let x = Contains-map (pass_of lows) links _ h in
         let l : Link = x.0 in
         let ends_in : HasEnds (length lows) l = All-contains (HasEnds (length lows)) links l within x.1 in
         let first : rank_at lows l.a ≡ r = ap (λ (p : Pass). p.a) x.2 in

@@ -8,7 +8,7 @@ use Rattle.std.proofs.lemmas.List.Kept.{AllPairs-cons}
 use Rattle.hd_map.specs.declared.types.Pass.{Pass}
 use Rattle.hd_map.specs.declared.types.Rank.{Rank}
 use Rattle.hd_map.specs.SideLaws.{same_rank as rank_from}
-use Rattle.hd_map.proofs.Levels.{Contains-head, Contains-tail}
+use Rattle.hd_map.proofs.Items.{Contains-head, Contains-tail}
 use Rattle.hd_graph.specs.declared.graph.Low.{Low}
 use Rattle.hd_graph.specs.Graph.{IsGraph, IsPassOf, IsLow}
 use Rattle.hd_graph.specs.Literal.{same_rank, has_low, lacks_index, are_different, is_pass, are_passes, is_graph}

@@ -4,7 +4,7 @@ use Rattle.std.specs.Prelude.{Contains, reverse}
 use Rattle.std.proofs.lemmas.Option.{slice_get_within, get_or_from_slice_get, same_Some}
 use Rattle.std.proofs.lemmas.List.{take_more, reverse-append}
 use Rattle.hd_map.specs.declared.types.Rank.{Rank}
-use Rattle.hd_map.proofs.Levels.{Contains-cases, Contains-none, Contains-head, Contains-tail}
+use Rattle.hd_map.proofs.Items.{Contains-cases, Contains-none, Contains-head, Contains-tail}
 use Rattle.hd_graph.specs.declared.line.Stop.{Stop}
 use Rattle.hd_graph.specs.Parts.{lows_of}
 

@@ -1,6 +1,7 @@
 -- The numbers of lows, and the links that name them.
 use Rattle.std.proofs.Common.{◌≡◌, ◌≢◌, ℕ, ◌<◌, ◌≤◌, ◌+◌, inl, inr, List, [], ◌∷◌, ◌++◌, length, map, take, get_or, Some, sym, ◌∙◌, ap, subst, arith, slice_get, set}
 use Rattle.std.specs.Prelude.{All, AllPairs}
+use Rattle.std.proofs.lemmas.Bool.{cases_eq}
 use Rattle.std.proofs.lemmas.List.{map-append, take_more}
 use Rattle.std.proofs.lemmas.Option.{slice_get-get_or, slice_get_within, get_or_from_slice_get, same_Some}
 use Rattle.hd_map.specs.declared.types.Pass.{Pass}
@@ -9,7 +10,7 @@ use Rattle.hd_graph.specs.declared.graph.Low.{Low}
 use Rattle.hd_graph.specs.declared.links.Link.{Link}
 use Rattle.hd_graph.specs.Graph.{IsLow}
 use Rattle.hd_graph.specs.Links.{AreWithin, HasEnds, IsNumbering, pass_of, rank_at}
-use Rattle.hd_graph.proofs.Places.{get-set_same, get-set_other, item_at, one_place, place_of, same_number}
+use Rattle.hd_graph.proofs.Places.{get-set_same, get-set_other, item_at, one_place, place_of}
 
 module _ (lows : List Low) (different : AllPairs (λ x y. x.rank.index ≢ y.rank.index) lows) where
   -- one low has one number
@@ -23,7 +24,7 @@ module _ (lows : List Low) (different : AllPairs (λ x y. x.rank.index ≢ y.ran
       let i : ℕ = y.rank.index in
       let read : slice_get lows n ≡ Some y = slice_get-get_or lows n d inside in
       let old = item_at numbers i room in
-      elim (same_number k n) [
+      elim (cases_eq k n) [
         | inl e ↦ (let is : y ≡ x = cc (read, at, e) in
             ap (λ (z : Low). slice_get (set numbers i n) z.rank.index) (sym is) ∙ get-set_same numbers i n old.0 old.1 ∙ ap Some (sym e))
         | inr ne ↦ get-set_other numbers i x.rank.index n (λ s. ne (sym (one_low n k y x read at s))) ∙ before k x (omega arith) at
@@ -71,7 +72,7 @@ pub room-none : (lows : List Low) → AreWithin lows 0 0
 room-none lows = λ k x less at. absurd (omega arith)
 
 pub room-more : (lows : List Low) (n room room' : ℕ) (d : Low) → AreWithin lows n room → n < length lows → room ≤ room' → (get_or lows n d).rank.index < room' → AreWithin lows (n + 1) room'
-room-more lows n room room' d before inside le here = λ k x less at. elim (same_number k n) [
+room-more lows n room room' d before inside le here = λ k x less at. elim (cases_eq k n) [
   | inl e ↦ (let is : get_or lows n d ≡ x = same_Some (get_or lows n d) x (sym (slice_get-get_or lows n d inside) ∙ ap (λ j. slice_get lows j) (sym e) ∙ at) in
       subst (λ (z : Low). z.rank.index < room') is here)
   | inr ne ↦ (let b = before k x (omega arith) at in omega arith)

@@ -5,7 +5,7 @@ use Rattle.std.proofs.lemmas.Option.{same_Some}
 use Rattle.hd_map.specs.declared.types.Rank.{Rank}
 use Rattle.hd_map.specs.ChangeTree.{Joining, IsTree}
 use Rattle.hd_map.specs.Order.{IsStrictOrder}
-use Rattle.hd_map.proofs.Levels.{Contains-head, Contains-tail, Contains-cases}
+use Rattle.hd_map.proofs.Items.{Contains-head, Contains-tail, Contains-cases}
 use Rattle.hd_map.proofs.Trees.{tree-agrees}
 use Rattle.hd_graph.specs.declared.line.Stop.{Stop}
 use Rattle.hd_graph.specs.Line.{higher_rise}

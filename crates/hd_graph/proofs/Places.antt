@@ -1,5 +1,5 @@
 -- Items of a list by place, after a push or a write.
-use Rattle.std.proofs.Common.{◌≡◌, ◌≢◌, ℕ, zero, suc, ◌<◌, ◌⊎◌, inl, inr, List, [], ◌∷◌, ◌++◌, length, Some, refl, sym, ◌∙◌, ap, arith, slice_get, set, Bool, true, get_or, ◌≤◌, take}
+use Rattle.std.proofs.Common.{◌≡◌, ◌≢◌, ℕ, zero, suc, ◌<◌, ◌⊎◌, inl, inr, List, [], ◌∷◌, ◌++◌, length, Some, refl, sym, ◌∙◌, ap, arith, slice_get, set, Bool, true, get_or}
 use Rattle.std.specs.Prelude.{Contains, AllPairs}
 use Rattle.std.proofs.lemmas.Option.{slice_get-get_or, slice_get_within, get_or_from_slice_get}
 
@@ -54,13 +54,6 @@ less_same_more (suc m) (suc n) = elim (less_same_more m n) [
   | inr r ↦ elim r [ inl e ↦ inr (inl (ap suc e)) | inr h ↦ inr (inr (omega arith)) ]
 ]
 
--- whether two numbers are one
-pub same_number : (m n : ℕ) → (m ≡ n) ⊎ (m ≢ n)
-same_number m n = elim (less_same_more m n) [
-  | inl h ↦ inr (λ e. (omega arith))
-  | inr r ↦ elim r [ inl e ↦ inl e | inr h ↦ inr (λ e. (omega arith)) ]
-]
-
 module _ {X : Type 0} where
   -- each place within the list has an item
   pub item_at : (xs : List X) (i : ℕ) → i < length xs → (x : X) × (slice_get xs i ≡ Some x)
@@ -94,10 +87,3 @@ module _ {X : Type 0} where
   pairs_from_places key xs once i j d less inside e =
       let same : i ≡ j = once i j (get_or xs i d) (get_or xs j d) (slice_get-get_or xs i d (omega arith)) (slice_get-get_or xs j d inside) e in
       omega arith
-
-  -- all items of a list
-  pub take_all : (n : ℕ) (xs : List X) → length xs ≤ n → take n xs ≡ xs
-  take_all zero [] h = refl
-  take_all zero (x ∷ xs) h = absurd (omega arith)
-  take_all (suc n) [] h = refl
-  take_all (suc n) (x ∷ xs) h = ap (λ ys. x ∷ ys) (take_all n xs (omega arith))

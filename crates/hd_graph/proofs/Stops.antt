@@ -7,6 +7,7 @@ use Rattle.hd_map.specs.declared.types.Pass.{Pass}
 use Rattle.hd_map.specs.declared.types.Rank.{Rank}
 use Rattle.hd_map.specs.Order.{IsNotAbove, IsStrictOrder}
 use Rattle.hd_map.specs.Walks.{HasPass}
+use Rattle.hd_map.proofs.Items.{Contains-map}
 use Rattle.hd_map.proofs.Levels.{Reach}
 use Rattle.hd_graph.specs.declared.flooding.Visit.{Visit}
 use Rattle.hd_graph.specs.declared.graph.Low.{Low}
@@ -20,7 +21,7 @@ use Rattle.hd_graph.specs.Links.{HasEnds, HasLink, IsBetween, IsPassAt, pass_of,
 use Rattle.hd_graph.specs.Thinning.{IsThinned}
 use Rattle.hd_graph.proofs.Floods.{PassStep, prim-of_all, prim-tells}
 use Rattle.hd_graph.proofs.Places.{at_place, place_of, item_at, one_place, pairs_from_places}
-use Rattle.hd_graph.proofs.Thinned.{link-pass, map-contains, thinned-some, thinned-spans}
+use Rattle.hd_graph.proofs.Thinned.{link-pass, thinned-some, thinned-spans}
 use Rattle.hd_graph.proofs.Keeping.{sorted-places}
 
 -- the number of a pass
@@ -98,7 +99,7 @@ module _ (below : Rank → Rank → Bool) (order : IsStrictOrder below) (lows : 
     where
       named : (p : Pass) → Contains (map (pass_of lows) kept) p → (n : ℕ) × (l : Link) × (slice_get kept n ≡ Some l) × (l.a < length lows) × (l.b < length lows) × (pass_of lows l ≡ p)
       named p at =
-          let m = map-contains (pass_of lows) kept p at in
+          let m = Contains-map (pass_of lows) kept p at in
           let q = place_of kept m.0 m.1 in
           let ends_in : HasEnds (length lows) m.0 = All-contains (HasEnds (length lows)) links m.0 within (thinned.some m.0 m.1) in
           (q.0, m.0, q.1, ends_in.0, ends_in.1, m.2)

@@ -8,9 +8,9 @@ use Rattle.hd_graph.specs.declared.line.Stop.{Stop}
 use Rattle.hd_graph.proofs.Places.{less_same_more}
 use Rattle.hd_map.proofs.Sides.{below-apart}
 use Rattle.hd_graph.proofs.Lows.{IsLowOn, place_of_low}
-use Rattle.hd_map.proofs.Levels.{Contains-cases, Contains-none}
+use Rattle.hd_map.proofs.Items.{Contains-cases, Contains-none, AllPairs-first, AllPairs-tail}
 use Rattle.hd_graph.specs.declared.parts.Part.{Part}
-use Rattle.hd_map.proofs.Trees.{AllPairs-first, AllPairs-tail, Agree, part-agrees}
+use Rattle.hd_map.proofs.Trees.{Agree, part-agrees}
 use Rattle.hd_map.specs.ChangeTree.{Joining, IsSaddleOfPits, AreTogether, IsPart, IsTree}
 use Rattle.hd_graph.proofs.Highest.{OnePlace, TellsHighest}
 use Rattle.hd_graph.specs.Parts.{AreGrouped, turned_round, IsSidePart}

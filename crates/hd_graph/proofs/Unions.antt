@@ -2,9 +2,10 @@
 use Rattle.std.proofs.Common.{◌≡◌, ◌≢◌, ◌⊎◌, ℕ, ◌≤◌, inl, inr, List, Some, refl, sym, ◌∙◌, ap, subst, arith, slice_get, set}
 use Rattle.std.proofs.lemmas.Option.{same_Some}
 use Rattle.std.specs.Prelude.{◌↔◌}
+use Rattle.std.proofs.lemmas.Bool.{cases_eq}
 use Rattle.hd_map.proofs.Levels.{Reach, here, step, reach-trans, reach-sym}
 use Rattle.hd_graph.specs.Classes.{AreFalling, AreNext, AreOneClass, AreJoined, Joins, LosesLeast}
-use Rattle.hd_graph.proofs.Places.{get-set_same, get-set_other, same_number}
+use Rattle.hd_graph.proofs.Places.{get-set_same, get-set_other}
 use Rattle.hd_graph.proofs.Steps.{reach-by}
 
 next-both : (parents : List ℕ) (x y : ℕ) → AreNext parents x y → AreNext parents y x
@@ -43,7 +44,7 @@ own-classes parents own (step {a} {b} {c} n r) = (let first : a ≡ b = elim n [
 -- a number gets a parent of its class that is not greater
 module _ (old parents : List ℕ) (so : Refines old parents) (falling : AreFalling parents) (x y now : ℕ) (at : slice_get parents x ≡ Some now) where
   pub refines-set : AreOneClass old x y → Refines old (set parents x y)
-  refines-set one u v h = elim (same_number x u) [
+  refines-set one u v h = elim (cases_eq x u) [
     | inl same ↦ (
         let is : y ≡ v = same_Some y v (sym (get-set_same parents x y now at) ∙ ap (λ k. slice_get (set parents x y) k) same ∙ h) in
         subst (λ k. AreOneClass old k v) same (subst (λ k. AreOneClass old x k) is one))
@@ -51,7 +52,7 @@ module _ (old parents : List ℕ) (so : Refines old parents) (falling : AreFalli
   ]
 
   pub falling-set : y ≤ x → AreFalling (set parents x y)
-  falling-set less u v h = elim (same_number x u) [
+  falling-set less u v h = elim (cases_eq x u) [
     | inl same ↦ (
         let is : y ≡ v = same_Some y v (sym (get-set_same parents x y now at) ∙ ap (λ k. slice_get (set parents x y) k) same ∙ h) in
         omega arith)
@@ -60,7 +61,7 @@ module _ (old parents : List ℕ) (so : Refines old parents) (falling : AreFalli
 
 -- where a number gets its parent's parent, its old parent stays in its class
 pub refines-further : (parents : List ℕ) (x p q : ℕ) → slice_get parents x ≡ Some p → slice_get parents p ≡ Some q → p ≢ x → Refines (set parents x q) parents
-refines-further parents x p q at at_parent apart u v h = elim (same_number x u) [
+refines-further parents x p q at at_parent apart u v h = elim (cases_eq x u) [
   | inl same ↦ (
       let is : p ≡ v = same_Some p v (sym at ∙ ap (λ k. slice_get parents k) same ∙ h) in
       let up : slice_get (set parents x q) x ≡ Some q = get-set_same parents x q p at in
@@ -71,7 +72,7 @@ refines-further parents x p q at at_parent apart u v h = elim (same_number x u) 
 
 -- and where one that is the least gets another parent, the classes stay together
 refines-least : (parents : List ℕ) (x y : ℕ) → slice_get parents x ≡ Some x → Refines (set parents x y) parents
-refines-least parents x y at u v h = elim (same_number x u) [
+refines-least parents x y at u v h = elim (cases_eq x u) [
   | inl same ↦ (
       let is : x ≡ v = same_Some x v (sym at ∙ ap (λ k. slice_get parents k) same ∙ h) in
       subst (λ k. AreOneClass (set parents x y) k v) same (subst (λ k. AreOneClass (set parents x y) x k) is here))
@@ -117,7 +118,7 @@ module _ (parents : List ℕ) (first second : ℕ) (least_first : slice_get pare
   joined = elim pair [ inl e ↦ rw (e.0, e.1) (step (inr (inl (refl, refl))) here) | inr e ↦ rw (e.0, e.1) (step (inr (inr (refl, refl))) here) ]
 
   parent : (p q : ℕ) → slice_get (set parents x y) p ≡ Some q → Reach (AreJoined parents first second) p q
-  parent p q e = elim (same_number x p) [
+  parent p q e = elim (cases_eq x p) [
     | inl same ↦ (
         let is : y ≡ q = same_Some y q (sym (get-set_same parents x y x least-number) ∙ ap (λ k. slice_get (set parents x y) k) same ∙ e) in
         subst (λ k. Reach (AreJoined parents first second) k q) same (subst (λ k. Reach (AreJoined parents first second) x k) is joined))
@@ -157,7 +158,7 @@ module _ (parents : List ℕ) (first second : ℕ) (least_first : slice_get pare
       ]
 
   pub least-set : slice_get (set parents x y) y ≡ Some y
-  least-set = elim (same_number x y) [
+  least-set = elim (cases_eq x y) [
     | inl same ↦ subst (λ k. slice_get (set parents x y) k ≡ Some y) same (get-set_same parents x y x least-number)
     | inr apart ↦ get-set_other parents x y y apart ∙ elim pair [
       | inl e ↦ subst (λ k. slice_get parents k ≡ Some k) (sym e.1) least_second
@@ -167,7 +168,7 @@ module _ (parents : List ℕ) (first second : ℕ) (least_first : slice_get pare
 
   -- each least number was one before
   pub leasts-set : (k : ℕ) → slice_get (set parents x y) k ≡ Some k → slice_get parents k ≡ Some k
-  leasts-set k h = elim (same_number x k) [
+  leasts-set k h = elim (cases_eq x k) [
     | inl same ↦ subst (λ i. slice_get parents i ≡ Some i) same least-number
     | inr apart ↦ sym (get-set_other parents x k y apart) ∙ h
   ]

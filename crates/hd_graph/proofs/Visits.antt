@@ -1,6 +1,7 @@
 -- What one more visit does to the flood.
 use Rattle.std.proofs.Common.{◌≡◌, ◌≢◌, ℕ, zero, suc, ◌<◌, ◌≤◌, ◌+◌, inl, inr, List, [], ◌∷◌, ◌++◌, length, Option, Some, None, Bool, true, false, refl, sym, ◌∙◌, ap, subst, arith, slice_get, set, replicate}
 use Rattle.std.specs.Prelude.{if◌then◌else◌}
+use Rattle.std.proofs.lemmas.Bool.{cases_eq}
 use Rattle.std.proofs.lemmas.List.{length-set}
 use Rattle.std.proofs.lemmas.Option.{slice_get_within}
 use Rattle.hd_graph.specs.declared.candidate.Candidate.{Candidate}
@@ -8,7 +9,7 @@ use Rattle.hd_graph.specs.declared.flooding.Visit.{Visit}
 use Rattle.hd_graph.specs.declared.ways.Ways.{Ways}
 use Rattle.hd_graph.specs.Flood.{HasWay, AreGrouped, Holds, HoldsLows, Spreads, Takes, IsFlooded, AllDone, lows_of}
 use Rattle.hd_graph.proofs.Heaps.{marked, holds-none}
-use Rattle.hd_graph.proofs.Places.{get-push_old, get-push_new, get-push_cases, get-set_same, get-set_other, same_number}
+use Rattle.hd_graph.proofs.Places.{get-push_old, get-push_new, get-push_cases, get-set_same, get-set_other}
 
 -- how many lows are not done
 abbrev pub undone : List Bool → ℕ
@@ -33,7 +34,7 @@ pub record IsNextRise (done : List Bool) (heap : List Candidate) (low : ℕ) (ri
 
 -- a low more is done
 pub all_done-more : (done : List Bool) (k : ℕ) → AllDone done k → slice_get done k ≡ Some true → AllDone done (k + 1)
-all_done-more done k all here v less = elim (same_number v k) [
+all_done-more done k all here v less = elim (cases_eq v k) [
   | inl e ↦ subst (λ u. slice_get done u ≡ Some true) (sym e) here
   | inr ne ↦ all v (omega arith)
 ]
@@ -106,7 +107,7 @@ module _ (ways : Ways) (n : ℕ) (range : (a b w : ℕ) → HasWay ways a b w �
     unfolding visit
     flooded-visit = record {
       long = length-set done low true ∙ so.long;
-      done_visited = λ v h. elim (same_number low v) [
+      done_visited = λ v h. elim (cases_eq low v) [
         | inl e ↦ (length visits, visit, get-push_new visits visit, e)
         | inr ne ↦ (let o = so.done_visited v (sym (get-set_other done low v true ne) ∙ h) in (o.0, o.1, old o.0 o.1 o.2, o.3))
       ];

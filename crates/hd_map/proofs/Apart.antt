@@ -22,7 +22,7 @@ module _ {X : Type 0} (number : X → ℕ) (n : ℕ) where
       subst (λ k. k ≤ n) len (length-le_from_distinct_below (map number all) n
       (IsDistinct-from_AllPairs Decides-eqb (map number all) (λ i j d less inside e. apart i j x less (omega arith) (sym (read i d (omega arith)) ∙ e ∙ read j d (omega arith))))
       (λ q h. let c = Contains-from_any same_number q (map number all) h in let inside = c.1 in
-          subst (λ k. k < n) (sym (read c.0 q (omega arith)) ∙ c.2) (below (get_or all c.0 x) (Contains-get_or all c.0 x (omega arith)))))
+      subst (λ k. k < n) (sym (read c.0 q (omega arith)) ∙ c.2) (below (get_or all c.0 x) (Contains-get_or all c.0 x (omega arith)))))
 
   pub length-le_from_apart : (xs : List X) → AllPairs (λ a b. number a ≢ number b) xs → ((a : X) → Contains xs a → number a < n) → length xs ≤ n
   length-le_from_apart [] apart below = omega arith

@@ -1,31 +1,11 @@
 -- Two points are joined at a level where a path none of whose points is above it leads from one to the other.
-use Rattle.std.proofs.Common.{◌≡◌, ℕ, zero, suc, ◌<◌, Bool, true, false, List, [], ◌∷◌, length, get_or, ◌⊎◌, inl, inr, refl, sym, subst, arith}
-use Rattle.std.specs.Prelude.{All, Contains}
+use Rattle.std.proofs.Common.{◌≡◌, Bool, true, false, List, [], ◌∷◌, ◌⊎◌, inl, inr, refl, sym, subst}
+use Rattle.std.specs.Prelude.{All}
 use Rattle.std.proofs.lemmas.List.Elements.{All-nil, All-cons, All-head, All-tail, All-weaker, All-contains}
+pub use Rattle.hd_map.proofs.Items.{Contains-head, Contains-tail, Contains-cases, Contains-none}
 use Rattle.hd_map.specs.Order.{IsNotAbove, IsStrictOrder}
 use Rattle.hd_map.specs.Path.{Leads, IsTop}
 use Rattle.hd_map.proofs.Sides.{not_above-refl, not_above-trans, below-not_above, below-apart}
-
-module _ {X : Type 0} where
-  -- the head of a list is in it
-  pub Contains-head : (x : X) (xs : List X) → Contains (x ∷ xs) x
-  Contains-head x xs = (0, omega arith, refl)
-
-  -- what is in the tail is in the list
-  pub Contains-tail : (x y : X) (xs : List X) → Contains xs y → Contains (x ∷ xs) y
-  Contains-tail x y xs h = (suc h.0, (let inside = h.1 in omega arith), h.2)
-
-  at_place : (x y : X) (xs : List X) (k : ℕ) → k < length (x ∷ xs) → get_or (x ∷ xs) k y ≡ y → (y ≡ x) ⊎ Contains xs y
-  at_place x y xs zero inside e = inl (sym e)
-  at_place x y xs (suc k) inside e = inr (k, omega arith, e)
-
-  -- what is in a list is its head, or in its tail
-  pub Contains-cases : (x y : X) (xs : List X) → Contains (x ∷ xs) y → (y ≡ x) ⊎ Contains xs y
-  Contains-cases x y xs h = at_place x y xs h.0 h.1 h.2
-
-  -- nothing is in the empty list
-  pub Contains-none : (y : X) → Contains [] y → ⊥
-  Contains-none y h = (let inside = h.1 in omega arith)
 
 -- reached by steps that R allows
 pub data Reach {V : Type 0} (R : V → V → Type 0) : V → V → Type 0 where

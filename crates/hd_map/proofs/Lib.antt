@@ -1,3 +1,4 @@
+pub mod Items
 pub mod Gather
 pub mod Sides
 pub mod Points

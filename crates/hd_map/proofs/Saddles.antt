@@ -1,5 +1,6 @@
 -- A saddle is the least level at which its two points are joined; so it is unique, and the same both ways.
 use Rattle.std.proofs.Common.{◌≡◌, ◌≢◌, ◌⊎◌, inl, inr, true, sym, subst, List, [], ◌∷◌}
+use Rattle.std.specs.Prelude.{Contains}
 use Rattle.std.proofs.lemmas.List.Elements.{All-head, All-tail}
 use Rattle.hd_map.specs.declared.types.Rank.{Rank}
 use Rattle.hd_map.specs.declared.types.SideName.{SideName}
@@ -10,6 +11,7 @@ use Rattle.hd_map.specs.Path.{Leads, IsTop, IsPath}
 use Rattle.hd_map.specs.Rank.{IsPoint, Near, below_by}
 use Rattle.hd_map.specs.Region.{IsPit}
 use Rattle.hd_map.specs.Saddle.{IsSaddle}
+use Rattle.hd_map.proofs.Items.{Contains-cases, Contains-none}
 use Rattle.hd_map.proofs.Levels.{Reach, PointStep, NoneAbove, IsLevel, here, step, reach-from_path, path-from_reach, top_of, top-not_above, level-unique, level-sym, level-ultrametric}
 use Rattle.hd_map.proofs.Decided.{near_or_not}
 use Rattle.hd_map.proofs.Points.{Near-to, Near-apart, ranks_of, point-listed}
@@ -33,6 +35,14 @@ near-sym m a b n =
 pub reach-point : (m : Map) (side : SideName) (t : Rank) {a b : Rank} → IsPoint m a → Reach (PointStep (Near m) (below_by side) t) a b → IsPoint m b
 reach-point m side t point here = point
 reach-point m side t point (step {a} {b} {c} s r) = reach-point m side t (Near-to m a b s.0) r
+
+-- each item of a path is a point
+pub path-point : (m : Map) (a b s : Rank) (xs : List Rank) → IsPoint m a → Leads (Near m) a xs b → Contains (a ∷ xs) s → IsPoint m s
+path-point m a b s [] point l at = elim (Contains-cases a s [] at) [ inl same ↦ subst (IsPoint m) (sym same) point | inr later ↦ absurd (Contains-none s later) ]
+path-point m a b s (x ∷ xs) point l at = elim (Contains-cases a s (x ∷ xs) at) [
+  | inl same ↦ subst (IsPoint m) (sym same) point
+  | inr later ↦ path-point m x b s xs (Near-to m a x l.0) l.1 later
+]
 
 module _ (m : Map) (side : SideName) where
   -- s is the least level at which the two ranks are joined
@@ -69,6 +79,10 @@ module _ (m : Map) (side : SideName) where
         least = λ xs t path top. h.least t (top-head a xs t top) (reach-from_path (Near m) (below_by side) (below_by-order side) t a b xs path.leads top.none_above);
       }
 
+  -- a saddle is a point
+  pub saddle-point : (a b s : Rank) → IsSaddle m side a b s → IsPoint m s
+  saddle-point a b s h = let reached = h.reached in path-point m a b s reached.0 reached.1.point reached.1.leads reached.2.one_of
+
   -- there is one saddle at most
   pub saddle-unique : (a b s u : Rank) → IsSaddle m side a b s → IsSaddle m side a b u → s ≡ u
   saddle-unique a b s u h k = level-unique (Near m) (below_by side) (below_by-order side) a b s u (level-from_saddle a b s h) (level-from_saddle a b u k)
@@ -92,7 +106,6 @@ module _ (m : Map) (side : SideName) where
       top.0 a b (top-head a xs top.0 top.1) (reach-from_path (Near m) (below_by side) (below_by-order side) top.0 a b xs path.leads top.1.none_above) in
       (level.0, saddle-from_level a b level.0 path.point level.1)
 
-  -- a path that leads away from a pit rises above it
   path-rises : (p q s : Rank) (xs : List Rank) → IsPit m side p → p ≢ q → Leads (Near m) p xs q → NoneAbove (below_by side) s (p ∷ xs) → below_by side p s ≡ true
   path-rises p q s [] pit apart l none = absurd (apart l)
   path-rises p q s (x ∷ xs) pit apart l none = elim (compare (below_by side) (below_by-order side) p x) [
@@ -105,9 +118,10 @@ module _ (m : Map) (side : SideName) where
     ]
   ]
 
-  above_pit : (p q s : Rank) → IsPit m side p → p ≢ q → IsSaddle m side p q s → below_by side p s ≡ true
-  above_pit p q s pit apart h = let reached = h.reached in path-rises p q s reached.0 pit apart reached.1.leads reached.2.none_above
+  -- the saddle of a pit and another point is above that pit
+  pub saddle-above_pit : (p q s : Rank) → IsPit m side p → p ≢ q → IsSaddle m side p q s → below_by side p s ≡ true
+  saddle-above_pit p q s pit apart h = let reached = h.reached in path-rises p q s reached.0 pit apart reached.1.leads reached.2.none_above
 
   -- the saddle of two different pits is above both
   pub saddle-above_pits : (p q s : Rank) → IsPit m side p → IsPit m side q → p ≢ q → IsSaddle m side p q s → (below_by side p s ≡ true) × (below_by side q s ≡ true)
-  saddle-above_pits p q s pit pit' apart h = (above_pit p q s pit apart h, above_pit q p s pit' (λ e. apart (sym e)) (saddle-sym p q s h))
+  saddle-above_pits p q s pit pit' apart h = (saddle-above_pit p q s pit apart h, saddle-above_pit q p s pit' (λ e. apart (sym e)) (saddle-sym p q s h))

@@ -1,32 +1,28 @@
 -- There is one change tree, and saddles that agree on the pits give the same.
-use Rattle.std.proofs.Common.{◌≡◌, ◌≢◌, suc, inl, inr, Bool, true, List, [], ◌∷◌, refl, sym, ◌∙◌, ap, subst, arith}
+use Rattle.std.proofs.Common.{◌≡◌, ◌≢◌, inl, inr, Bool, true, List, [], ◌∷◌, refl, sym, ◌∙◌, ap, subst}
 use Rattle.std.specs.Prelude.{Contains, AllPairs, ◌↔◌}
 use Rattle.hd_map.specs.declared.types.Rank.{Rank}
 use Rattle.hd_map.specs.ChangeTree.{Joining, AreTogether, IsSaddleOfPits, IsPart, IsJoining, IsTree}
 use Rattle.hd_map.specs.Order.{IsStrictOrder}
-use Rattle.hd_map.proofs.Levels.{Contains-head, Contains-tail, Contains-cases, Contains-none, same_or_not}
+pub use Rattle.hd_map.proofs.Items.{AllPairs-first, AllPairs-tail}
+use Rattle.hd_map.proofs.Items.{Contains-head, Contains-tail, Contains-cases, Contains-none}
+use Rattle.hd_map.proofs.Levels.{same_or_not}
 use Rattle.hd_map.proofs.Sides.{below-not_above}
 
 module _ {X : Type 0} (R : X → X → Type 0) where
-  pub AllPairs-first : (x y : X) (xs : List X) → AllPairs R (x ∷ xs) → Contains xs y → R x y
-  AllPairs-first x y xs h at = subst (λ z. R x z) at.2 (h 0 (suc at.0) y (omega arith) (let inside = at.1 in omega arith))
-
-  pub AllPairs-tail : (x : X) (xs : List X) → AllPairs R (x ∷ xs) → AllPairs R xs
-  AllPairs-tail x xs h = λ i j d less inside. h (suc i) (suc j) d (omega arith) (omega arith)
-
   -- lists in order with the same items are one
   pub same_in_order : ((x y : X) → R x y → R y x → ⊥) → (xs ys : List X) → AllPairs R xs → AllPairs R ys → ((z : X) → Contains xs z ↔ Contains ys z) → xs ≡ ys
   same_in_order one_way [] [] hx hy same = refl
   same_in_order one_way [] (y ∷ ys) hx hy same = absurd (Contains-none y ((same y).1 (Contains-head y ys)))
   same_in_order one_way (x ∷ xs) [] hx hy same = absurd (Contains-none x ((same x).0 (Contains-head x xs)))
   same_in_order one_way (x ∷ xs) (y ∷ ys) hx hy same =
-      ap (λ z. z ∷ xs) heads ∙ ap (λ zs. y ∷ zs) (same_in_order one_way xs ys (AllPairs-tail x xs hx) (AllPairs-tail y ys hy) (λ z. (
+      ap (λ z. z ∷ xs) heads ∙ ap (λ zs. y ∷ zs) (same_in_order one_way xs ys (AllPairs-tail R x xs hx) (AllPairs-tail R y ys hy) (λ z. (
         λ h. elim (Contains-cases y z ys ((same z).0 (Contains-tail x z xs h))) [
-          | inl e ↦ absurd (let r : R x x = subst (λ w. R x w) (e ∙ sym heads) (AllPairs-first x z xs hx h) in one_way x x r r)
+          | inl e ↦ absurd (let r : R x x = subst (λ w. R x w) (e ∙ sym heads) (AllPairs-first R x z xs hx h) in one_way x x r r)
           | inr later ↦ later
         ],
         λ h. elim (Contains-cases x z xs ((same z).1 (Contains-tail y z ys h))) [
-          | inl e ↦ absurd (let r : R y y = subst (λ w. R y w) (e ∙ heads) (AllPairs-first y z ys hy h) in one_way y y r r)
+          | inl e ↦ absurd (let r : R y y = subst (λ w. R y w) (e ∙ heads) (AllPairs-first R y z ys hy h) in one_way y y r r)
           | inr later ↦ later
         ],
       )))
@@ -36,7 +32,7 @@ module _ {X : Type 0} (R : X → X → Type 0) where
         | inl e ↦ e
         | inr later ↦ elim (Contains-cases x y xs ((same y).1 (Contains-head y ys))) [
           | inl e ↦ sym e
-          | inr after ↦ absurd (one_way x y (AllPairs-first x y xs hx after) (AllPairs-first y x ys hy later))
+          | inr after ↦ absurd (one_way x y (AllPairs-first R x y xs hx after) (AllPairs-first R y x ys hy later))
         ]
       ]
 

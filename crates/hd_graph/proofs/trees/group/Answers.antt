@@ -1,11 +1,11 @@
 use Rattle.std.proofs.Common.{ℕ, ◌+◌, ◌<◌, sym, ◌∙◌, ap, subst, [], length, get_or, take, arith}
 use Rattle.std.specs.Prelude.{pos}
+use Rattle.std.proofs.lemmas.List.{take_all}
 use Rattle.hd_map.specs.Rank.{below_by}
 use Rattle.hd_graph.specs.declared.parts.Rise.{Rise}
 use Rattle.hd_graph.specs.Parts.{AreGrouped, right_of, sides_of, with_part}
 use Rattle.hd_graph.specs.Tells.{joins_of}
 use Rattle.hd_graph.proofs.Grouped.{grouped-none, grouped-more}
-use Rattle.hd_graph.proofs.Places.{take_all}
 use Rattle.hd_graph.proofs.trees.group.Goals as goal
 
 pub loop-rise-init : goal.loop-rise-init

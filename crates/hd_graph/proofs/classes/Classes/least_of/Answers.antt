@@ -1,8 +1,9 @@
 use Rattle.std.proofs.Common.{◌≡◌, ◌≢◌, ◌≤◌, ◌∙◌, inl, inr, refl, sym, ap, arith, List, ℕ, slice_get, set, Some}
+use Rattle.std.proofs.lemmas.Bool.{cases_eq}
 use Rattle.std.proofs.lemmas.List.{length-set}
 use Rattle.std.proofs.lemmas.Option.{same_Some}
 use Rattle.hd_map.proofs.Levels.{here}
-use Rattle.hd_graph.proofs.Places.{get-from_read, get-set_same, get-set_other, same_number}
+use Rattle.hd_graph.proofs.Places.{get-from_read, get-set_same, get-set_other}
 use Rattle.hd_graph.proofs.Unions.{class-trans, refines-further, refines-same, refines-set, refines-within, falling-set}
 use Rattle.hd_graph.proofs.classes.Classes.least_of.Goals as goal
 
@@ -64,7 +65,7 @@ loop-least-preserved c =
       so = refines-set old parents inv.so inv.falling least next parent at further;
       back = λ x y h. refines-within (set parents least next) parents (refines-further parents least parent next at at_parent apart) x y (inv.back x y h);
       leasts = λ x. (
-        λ h. elim (same_number least x) [
+        λ h. elim (cases_eq least x) [
           | inl e ↦ absurd (below (same_Some next least (sym (get-set_same parents least next parent at) ∙ ap (λ k. slice_get (set parents least next) k) e ∙ h ∙ ap Some (sym e))))
           | inr ne ↦ (inv.leasts x).0 (sym (get-set_other parents least x next ne) ∙ h)
         ],
