@@ -9,7 +9,7 @@ use Rattle.hd_map.specs.declared.types.SideName.{SideName}
 use Rattle.hd_map.specs.Map.{Map}
 use Rattle.hd_map.specs.Neighbour.{Neighbour}
 use Rattle.hd_map.specs.Order.{IsNotAbove}
-use Rattle.hd_steep.specs.Borders.{higher_of}
+use Rattle.hd_map.specs.Passes.{higher_by}
 use Rattle.hd_map.specs.Rank.{rank, below_by}
 use Rattle.hd_map.specs.SideLaws.{below_by-order}
 use Rattle.hd_map.proofs.Gather.{same_pos}
@@ -61,11 +61,11 @@ module _ (m : Map) (side : SideName) where
   module _ (C : Pos → Pos → Type 0) (xs ys zs : List Meeting) (one : Adds m side C xs ys) where
     -- what was added is still covered
     still : (covers : (x : Meeting) → Contains ys x → (z : Meeting) × Contains zs z × Covers side x z) (u v : Pos) (a b : ℕ) → C u v → Neighbour m u v → LiesIn m side u a → LiesIn m side v b
-        → (a ≡ b → ⊥) → (y : Meeting) × Contains zs y × IsOfTwo a b y × IsNotAbove (below_by side) y.at (higher_of side (rank m u) (rank m v))
+        → (a ≡ b → ⊥) → (y : Meeting) × Contains zs y × IsOfTwo a b y × IsNotAbove (below_by side) y.at (higher_by side (rank m u) (rank m v))
     still covers u v a b chosen beside from to apart =
         let y = one.added u v a b chosen beside from to apart in
         let z = covers y.0 y.1 in
-        (z.0, z.1, of_covers side a b y.0 z.0 y.2 z.2, not_above-trans (below_by side) (below_by-order side) z.0.at y.0.at (higher_of side (rank m u) (rank m v)) z.2.low y.3)
+        (z.0, z.1, of_covers side a b y.0 z.0 y.2 z.2, not_above-trans (below_by side) (below_by-order side) z.0.at y.0.at (higher_by side (rank m u) (rank m v)) z.2.low y.3)
 
     still_covers : (covers : (x : Meeting) → Contains ys x → (z : Meeting) × Contains zs z × Covers side x z) (x : Meeting) → Contains xs x → (z : Meeting) × Contains zs z × Covers side x z
     still_covers covers x h =
@@ -112,6 +112,6 @@ module _ (m : Map) (side : SideName) where
           let other : meet.b ≡ b = lies_once m side v meet.b b meet.to (subst (λ (w : Pos). LiesIn m side w b) chosen.1 to) in
           let y = keeps.covers x (Contains-push xs x) in
           let of : IsOfTwo a b x = rw (← one, ← other) meet.of in
-          let at : IsNotAbove (below_by side) y.0.at (higher_of side (rank m u) (rank m v)) = subst (λ (r : Rank). IsNotAbove (below_by side) y.0.at r) meet.at_is y.2.low in
+          let at : IsNotAbove (below_by side) y.0.at (higher_by side (rank m u) (rank m v)) = subst (λ (r : Rank). IsNotAbove (below_by side) y.0.at r) meet.at_is y.2.low in
           (y.0, y.1, of_covers side a b x y.0 of y.2, rw (chosen.0, chosen.1) at);
     }

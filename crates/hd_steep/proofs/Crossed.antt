@@ -15,15 +15,15 @@ use Rattle.hd_map.specs.Rank.{rank, below_by, IsPoint}
 use Rattle.hd_map.specs.Region.{LowerNeighbour, IsRoot, AreRegions}
 use Rattle.hd_map.specs.SideLaws.{below_by-order}
 use Rattle.hd_map.specs.Walks.{HasPass, AreJoinedWithin}
-use Rattle.hd_map.proofs.Levels.{Contains-none}
+use Rattle.hd_map.proofs.Items.{Contains-none}
 use Rattle.hd_map.proofs.Nexts.{root-is_pit}
 use Rattle.hd_map.proofs.Points.{Near-from, Near-to, place_inside, position_at-of, same_index}
+use Rattle.hd_map.proofs.Regions.{labelled-root, root-labelled}
 use Rattle.hd_map.proofs.Saddles.{near-sym}
 use Rattle.hd_map.proofs.Sides.{below-not_above}
 use Rattle.hd_steep.specs.Crossed.{IsPitOf, AreInOne, IsPassTo, IsCrossing, Extends, IsCrossed, IsServed, Gathers}
 use Rattle.hd_steep.specs.Ring.{is_marked}
 use Rattle.hd_steep.specs.Rows.{rank_in}
-use Rattle.hd_steep.proofs.Labelled.{to_label, from_label}
 use Rattle.hd_steep.proofs.Round.{same_or_below}
 use Rattle.hd_steep.proofs.Enough.{meeting_joined}
 
@@ -130,16 +130,16 @@ module _ (m : Map) (side : SideName) where
             from = x;
             to = y;
             near = near;
-            from_in = to_label m side labels regions x p.a point_x of.0;
-            to_in = to_label m side labels regions y p.b point_y of.1;
+            from_in = root-labelled m side labels regions x p.a point_x of.0;
+            to_in = root-labelled m side labels regions y p.b point_y of.1;
             higher = crossing.pass.at_is ∙ (rw not refl);
           }
           | inr of ↦ record {
             from = y;
             to = x;
             near = near-sym m x y near;
-            from_in = to_label m side labels regions y p.a point_y of.1;
-            to_in = to_label m side labels regions x p.b point_x of.0;
+            from_in = root-labelled m side labels regions y p.a point_y of.1;
+            to_in = root-labelled m side labels regions x p.b point_x of.0;
             higher = crossing.pass.at_is ∙ (rw below refl);
           }
         ]
@@ -156,7 +156,7 @@ module _ (m : Map) (side : SideName) where
       meets = λ p h. meets_at p (crossing_of p h);
       enough = λ a b w meeting.
           subst (λ (r : Rank). AreJoinedWithin (below_by side) passes r a b) (sym meeting.higher)
-          (meeting_joined m side passes whole labels regions served_at meeting.from meeting.to a b meeting.near (from_label m side labels regions meeting.from a meeting.from_in) (from_label m side labels regions meeting.to b meeting.to_in));
+          (meeting_joined m side passes whole labels regions served_at meeting.from meeting.to a b meeting.near (labelled-root m side labels regions meeting.from a meeting.from_in) (labelled-root m side labels regions meeting.to b meeting.to_in));
     }
 
 module _ (m : Map) (side : SideName) where

@@ -12,7 +12,7 @@ use Rattle.hd_map.specs.declared.types.SideName.{SideName}
 use Rattle.hd_map.specs.Map.{Map, IsMap, Present, place_of, position_at, cell_count}
 use Rattle.hd_map.specs.Neighbour.{Neighbour}
 use Rattle.hd_map.specs.Order.{IsNotAbove}
-use Rattle.hd_steep.specs.Borders.{higher_of, Meet, IsPass, ArePasses}
+use Rattle.hd_map.specs.Passes.{IsMeeting, IsPass, ArePasses, higher_by}
 use Rattle.hd_map.specs.Rank.{rank, below_by, IsPoint, Near}
 use Rattle.hd_map.specs.Region.{IsRoot}
 use Rattle.hd_map.specs.SideLaws.{below_by-order}
@@ -20,6 +20,7 @@ use Rattle.hd_map.proofs.Nexts.{root-is_pit}
 use Rattle.hd_map.proofs.Points.{same_place, same_index, point_at, position_at-of, position_at-place, Near-at}
 use Rattle.hd_map.proofs.Sides.{below-not_above, below-apart}
 use Rattle.hd_steep.specs.declared.meetings.Meeting.{Meeting}
+use Rattle.hd_steep.specs.Borders.{ComesFirst}
 use Rattle.hd_steep.specs.Meetings.{LiesIn, IsOfTwo, IsMeetingOf, IsPassOf, ComesBefore, AreMeetings}
 use Rattle.hd_steep.proofs.Following.{point_inside}
 use Rattle.hd_steep.proofs.Round.{same_or_below}
@@ -62,15 +63,19 @@ same_meeting xs x y ordered (j, within, is) (k, within', is') a b =
       ]
     ]
 
--- passes of the same parts are one
-same_pass : (p q : Pass) → p.a ≡ q.a → p.b ≡ q.b → p.at ≡ q.at → p ≡ q
-same_pass p q a b at =
-    let make : Rank → Rank → Rank → Pass = λ x y z. record { a = x; b = y; at = z } in
-    ap (λ x. make x p.b p.at) a ∙ ap (λ y. make q.a y p.at) b ∙ ap (λ z. make q.a q.b z) at
+-- two passes in their order are of different regions
+in_order-apart : (p q : Pass) → ComesFirst p q → p.a ≡ q.a → p.b ≡ q.b → ⊥
+in_order-apart p q first a b =
+    let i : p.a.index ≡ q.a.index = ap (λ (r : Rank). r.index) a in
+    let j : p.b.index ≡ q.b.index = ap (λ (r : Rank). r.index) b in
+    elim first [
+      | inl less ↦ (omega (arith, less, i, j))
+      | inr same ↦ (omega (arith, same.1, i, j))
+    ]
 
 module _ (m : Map) (side : SideName) where
   -- the higher of two is that either way
-  higher_swap : (p q : Rank) → higher_of side p q ≡ higher_of side q p
+  higher_swap : (p q : Rank) → higher_by side p q ≡ higher_by side q p
   higher_swap p q =
       let laws = below_by-order side in
       swap_choice (below_by side p q) (below_by side q p) p q (below-not_above (below_by side) laws p q) (laws.total p q)
@@ -183,7 +188,7 @@ module _ (m : Map) (side : SideName) where
 
     -- for two neighbours in two regions there is a meeting of these that is not above theirs
     covered : (p q a b : Rank) → Near m p q → IsRoot m side p a → IsRoot m side q b → (a.index ≡ b.index → ⊥)
-        → (y : Meeting) × Contains xs y × IsOfTwo a.index b.index y × IsNotAbove (below_by side) y.at (higher_of side p q)
+        → (y : Meeting) × Contains xs y × IsOfTwo a.index b.index y × IsNotAbove (below_by side) y.at (higher_by side p q)
     covered p q a b near from to apart =
         let u = near.from in
         let v = near.to in
@@ -214,12 +219,12 @@ module _ (m : Map) (side : SideName) where
       ]
 
       -- it is not above any two neighbours in its regions
-      pass_lowest : (p q : Rank) → Meet m (IsRoot m side) pass.a pass.b p q → IsNotAbove (below_by side) pass.at (higher_of side p q)
-      pass_lowest p q meet =
-          let y = covered p q pass.a pass.b meet.near meet.from meet.to ends_apart in
+      pass_lowest : (w : Rank) → IsMeeting m side (IsRoot m side) pass.a pass.b w → IsNotAbove (below_by side) pass.at w
+      pass_lowest w meet =
+          let y = covered meet.from meet.to pass.a pass.b meet.near meet.from_in meet.to_in ends_apart in
           let two = same_two pass.a.index pass.b.index y.0 x y.2 of_two (meeting_of y.0 y.1).2.apart (meeting_of x inside).2.apart in
           let same : y.0 ≡ x = same_meeting xs y.0 x are.ordered y.1 inside two.0 two.1 in
-          subst (λ (r : Rank). IsNotAbove (below_by side) r (higher_of side p q)) (ap (λ (z : Meeting). z.at) same ∙ sym of.at_is) y.3
+          subst (λ (r : Rank). IsNotAbove (below_by side) r w) (ap (λ (z : Meeting). z.at) same ∙ sym of.at_is) (subst (λ (v : Rank). IsNotAbove (below_by side) y.0.at v) (sym meet.higher) y.3)
 
       -- a point with the index of a region is its pit
       root_at : (w : Pos) (k : ℕ) (r : Rank) → IsPoint m r → r.index ≡ k → LiesIn m side w k → IsRoot m side (rank m w) r
@@ -228,21 +233,29 @@ module _ (m : Map) (side : SideName) where
       -- the points of the meeting, one in each region, in their order or turned
       straight : (u v : Pos) (meet : IsMeetingOf m side u v x) → pass.a.index ≡ meet.a → pass.b.index ≡ meet.b → IsPass m side (IsRoot m side) pass
       straight u v meet a b = record {
-        below = of.below;
-        from = rank m u;
-        to = rank m v;
-        meet = record { near = Near-at m u v meet.beside; from = root_at u meet.a pass.a of.a_point a meet.from; to = root_at v meet.b pass.b of.b_point b meet.to };
-        at_is = of.at_is ∙ meet.at_is;
+        ends = of.below;
+        meeting = record {
+          from = rank m u;
+          to = rank m v;
+          near = Near-at m u v meet.beside;
+          from_in = root_at u meet.a pass.a of.a_point a meet.from;
+          to_in = root_at v meet.b pass.b of.b_point b meet.to;
+          higher = of.at_is ∙ meet.at_is;
+        };
         lowest = pass_lowest;
       }
 
       crossed : (u v : Pos) (meet : IsMeetingOf m side u v x) → pass.a.index ≡ meet.b → pass.b.index ≡ meet.a → IsPass m side (IsRoot m side) pass
       crossed u v meet a b = record {
-        below = of.below;
-        from = rank m v;
-        to = rank m u;
-        meet = record { near = Near-at m v u (swap_beside u v meet.beside); from = root_at v meet.b pass.a of.a_point a meet.to; to = root_at u meet.a pass.b of.b_point b meet.from };
-        at_is = of.at_is ∙ meet.at_is ∙ higher_swap (rank m u) (rank m v);
+        ends = of.below;
+        meeting = record {
+          from = rank m v;
+          to = rank m u;
+          near = Near-at m v u (swap_beside u v meet.beside);
+          from_in = root_at v meet.b pass.a of.a_point a meet.to;
+          to_in = root_at u meet.a pass.b of.b_point b meet.from;
+          higher = of.at_is ∙ meet.at_is ∙ higher_swap (rank m u) (rank m v);
+        };
         lowest = pass_lowest;
       }
 
@@ -270,26 +283,33 @@ module _ (m : Map) (side : SideName) where
       ]
 
     -- all passes
-    pub passes_all : (ps : List Pass) → AreListed xs ps → length ps ≡ length xs → ArePasses m side (IsRoot m side) ps
-    passes_all ps listed long =
-        let zero : Meeting = record { a = 0; b = 0; at = record { height = pos 0; index = 0 } } in
-        let there : (k : ℕ) → k < length ps → Contains xs (get_or xs k zero) = λ k below. Contains-get_or xs k zero (omega (arith, below, long)) in
-        record {
-          sound = λ k e below. is_pass (get_or xs k zero) (get_or ps k e) (there k below) (listed.each k zero e below);
-          complete = λ a b p q below meet.
-              let point_a = root-is_pit m side p a meet.from in
-              let point_b = root-is_pit m side q b meet.to in
-              let apart : a.index ≡ b.index → ⊥ = λ e. below-apart (below_by side) (below_by-order side) a b below (same_index m a b point_a.point point_b.point e) in
-              let y = covered p q a b meet.near meet.from meet.to apart in
-              let k = y.1.0 in
-              let within : k < length ps = (let w = y.1.1 in omega (arith, w, long)) in
-              let e : Pass = record { a = a; b = b; at = y.0.at } in
-              let pass = get_or ps k e in
-              let of : IsPassOf m side y.0 pass = subst (λ (x : Meeting). IsPassOf m side x pass) y.1.2 (listed.each k y.0 e within) in
-              let ends : (pass.a ≡ a) × (pass.b ≡ b) = pass_ends y.0 pass a b of point_a.point point_b.point below y.2 in
-              (y.0.at, (k, within, same_pass pass e ends.0 ends.1 of.at_is));
-          ordered = λ i j e less below.
-              let one = ends_order (get_or xs i zero) (get_or ps i e) (there i (omega (arith, less, below))) (listed.each i zero e (omega (arith, less, below))) in
-              let other = ends_order (get_or xs j zero) (get_or ps j e) (there j below) (listed.each j zero e below) in
-              rw (one.0, one.1, other.0, other.1) (are.ordered i j zero less (omega (arith, below, long)));
-        }
+    module _ (ps : List Pass) (listed : AreListed xs ps) (long : length ps ≡ length xs) where
+      abbrev zero : Meeting
+      zero = record { a = 0; b = 0; at = record { height = pos 0; index = 0 } }
+
+      there : (k : ℕ) → k < length ps → Contains xs (get_or xs k zero)
+      there k below = Contains-get_or xs k zero (omega (arith, below, long))
+
+      pub passes_ordered : AllPairs ComesFirst ps
+      passes_ordered i j e less below =
+          let one = ends_order (get_or xs i zero) (get_or ps i e) (there i (omega (arith, less, below))) (listed.each i zero e (omega (arith, less, below))) in
+          let other = ends_order (get_or xs j zero) (get_or ps j e) (there j below) (listed.each j zero e below) in
+          rw (one.0, one.1, other.0, other.1) (are.ordered i j zero less (omega (arith, below, long)))
+
+      pub passes_all : ArePasses m side (IsRoot m side) ps
+      passes_all = record {
+        each = λ p at. subst (λ (q : Pass). IsPass m side (IsRoot m side) q) at.2 (is_pass (get_or xs at.0 zero) (get_or ps at.0 p) (there at.0 at.1) (listed.each at.0 zero p at.1));
+        all = λ a b w below meet.
+            let point_a = root-is_pit m side meet.from a meet.from_in in
+            let point_b = root-is_pit m side meet.to b meet.to_in in
+            let apart : a.index ≡ b.index → ⊥ = λ e. below-apart (below_by side) (below_by-order side) a b below (same_index m a b point_a.point point_b.point e) in
+            let y = covered meet.from meet.to a b meet.near meet.from_in meet.to_in apart in
+            let k = y.1.0 in
+            let within : k < length ps = (let w = y.1.1 in omega (arith, w, long)) in
+            let e : Pass = record { a = a; b = b; at = w } in
+            let pass = get_or ps k e in
+            let of : IsPassOf m side y.0 pass = subst (λ (x : Meeting). IsPassOf m side x pass) y.1.2 (listed.each k y.0 e within) in
+            let ends = pass_ends y.0 pass a b of point_a.point point_b.point below y.2 in
+            (pass, Contains-get_or ps k e within, ends.0, ends.1);
+        once = λ i j d before inside. in_order-apart (get_or ps i d) (get_or ps j d) (passes_ordered i j d before inside);
+      }

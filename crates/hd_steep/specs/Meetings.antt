@@ -8,7 +8,7 @@ use Rattle.hd_map.specs.declared.types.SideName.{SideName}
 use Rattle.hd_map.specs.Map.{Map, place_of}
 use Rattle.hd_map.specs.Neighbour.{Neighbour}
 use Rattle.hd_map.specs.Order.{IsNotAbove}
-use Rattle.hd_steep.specs.Borders.{higher_of}
+use Rattle.hd_map.specs.Passes.{higher_by}
 use Rattle.hd_map.specs.Rank.{rank, below_by, IsPoint}
 use Rattle.hd_map.specs.Region.{IsRoot}
 use Rattle.hd_steep.specs.declared.meetings.Meeting.{Meeting}
@@ -32,7 +32,7 @@ pub record IsMeetingOf (m : Map) (side : SideName) (u v : Pos) (x : Meeting) : T
   pub to : LiesIn m side v b
   pub of : IsOfTwo a b x
   pub apart : x.a < x.b
-  pub at_is : x.at ≡ higher_of side (rank m u) (rank m v)
+  pub at_is : x.at ≡ higher_by side (rank m u) (rank m v)
 
 -- two neighbours that lie in one region, or two points that are none
 abbrev pub DoNotMeet : Map → SideName → Pos → Pos → Type 0
@@ -54,7 +54,7 @@ pub record Adds (m : Map) (side : SideName) (Chosen : Pos → Pos → Type 0) (o
   pub from : (x : Meeting) → Contains new x → Contains old x ⊎ ((u : Pos) × (v : Pos) × IsMeetingOf m side u v x)
   pub covers : (x : Meeting) → Contains old x → (y : Meeting) × Contains new y × Covers side x y
   pub added : (u v : Pos) (a b : ℕ) → Chosen u v → Neighbour m u v → LiesIn m side u a → LiesIn m side v b → (a ≡ b → ⊥)
-      → (y : Meeting) × Contains new y × IsOfTwo a b y × IsNotAbove (below_by side) y.at (higher_of side (rank m u) (rank m v))
+      → (y : Meeting) × Contains new y × IsOfTwo a b y × IsNotAbove (below_by side) y.at (higher_by side (rank m u) (rank m v))
 
 -- the first of two neighbours has the lesser index
 abbrev pub InOrder : Map → Pos → Pos → Type 0

@@ -3,8 +3,8 @@ ghost use Rattle.std.specs.Prelude.{◌≡◌, ◌<◌, ◌+◌, IfOk, OnOk, Mat
 ghost use Rattle.hd_map.specs.Map.{InGrid, Present};
 ghost use Rattle.hd_map.specs.Neighbour.{IsNear};
 ghost use Rattle.std.specs.List.{AllPairs};
-ghost use Rattle.hd_map.specs.Passes.{ArePassesUnder};
-ghost use Rattle.hd_steep.specs.Borders.{ArePasses, ComesFirst};
+ghost use Rattle.hd_map.specs.Passes.{ArePasses, ArePassesUnder};
+ghost use Rattle.hd_steep.specs.Borders.{ComesFirst};
 ghost use Rattle.hd_map.specs.Rank.{rank, below_by};
 ghost use Rattle.hd_map.specs.Region.{IsRoot, AreRegions};
 ghost use Rattle.hd_steep.specs.Meetings.{LiesIn, IsMeetingOf, IsPassOf, DoNotMeet, Adds, AreMeetings, InOrder};
@@ -44,7 +44,8 @@ fn list_passes<S: Side, G: Heights>(
     meetings: &[Meeting],
 ) -> Result<List<Pass>, Memory>
     requires { AreMeetings (G.map grid.now) S.NAME meetings.now }
-    ensures { IfOk result (ArePasses (G.map grid.now) S.NAME (IsRoot (G.map grid.now) S.NAME)) }
+    ensures passes { IfOk result (ArePasses (G.map grid.now) S.NAME (IsRoot (G.map grid.now) S.NAME)) }
+    ensures ordered { IfOk result (AllPairs ComesFirst) }
 {
     let mut passes = Vec::with_capacity(alloc, meetings.len())?;
     for meeting in meetings {

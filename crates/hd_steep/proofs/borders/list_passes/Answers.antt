@@ -4,7 +4,7 @@ use Rattle.std.specs.Prelude.{pos}
 use Rattle.std.proofs.lemmas.List.Elements.{Contains-get_or}
 use Rattle.hd_map.specs.declared.types.Pass.{Pass}
 use Rattle.hd_steep.specs.declared.meetings.Meeting.{Meeting}
-use Rattle.hd_steep.proofs.Passing.{AreListed, listed_none, listed_more, meeting_of, passes_all}
+use Rattle.hd_steep.proofs.Passing.{AreListed, listed_none, listed_more, meeting_of, passes_all, passes_ordered}
 use Rattle.hd_steep.proofs.borders.list_passes.Goals as goal
 
 pub loop-meeting-init : goal.loop-meeting-init
@@ -45,5 +45,8 @@ pub returns : goal.returns
 returns g c =
     let m = g.G.Heights.map c.args.grid.now in
     let side = g.S.Side.NAME in
-    let all : length c.loop-meeting.passes.items ≡ length c.args.meetings.now = let count = c.loop-meeting.invariant.count in omega (arith, count) in
-    rw c.from_vec.ensures (passes_all m side c.args.meetings.now c.requires c.loop-meeting.passes.items c.loop-meeting.invariant.listed all)
+    let xs = c.args.meetings.now in
+    let ps = c.loop-meeting.passes.items in
+    let listed = c.loop-meeting.invariant.listed in
+    let all : length ps ≡ length xs = let count = c.loop-meeting.invariant.count in omega (arith, count) in
+    rw c.from_vec.ensures (record { passes = passes_all m side xs c.requires ps listed all; ordered = passes_ordered m side xs c.requires ps listed all })
