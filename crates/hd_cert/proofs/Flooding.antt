@@ -1,6 +1,5 @@
 -- A flood, entry by entry.
 use Rattle.std.proofs.Common.{◌≡◌, ◌<◌, ◌≤◌, ◌+◌, ◌*◌, ℕ, Bool, false, List, [], ◌∷◌, ◌++◌, length, get_or, set, replicate, Option, Some, None, IsSome, ◌⊎◌, inl, inr, ap, ◌∙◌, refl, sym, subst, arith}
-use Rattle.std.specs.List.{Contains}
 use Rattle.std.proofs.Math.ListN.{length-set}
 use Rattle.std.proofs.lemmas.List.{get_or-set_same, get_or-set_other, get_or_append_left, get_or_push, length_push, get_or-replicate, length-replicate, get_or_default}
 use Rattle.std.proofs.lemmas.List.Sums.{sum_by-set}
@@ -8,15 +7,12 @@ use Rattle.std.proofs.lemmas.List.Folds.{sum_by-replicate}
 use Rattle.std.proofs.lemmas.Bool.{cases_lt, cases_eq, false≢true}
 use Rattle.hd_map.specs.declared.types.Pos.{Pos}
 use Rattle.hd_map.specs.declared.types.Size.{Size}
-use Rattle.std.specs.Prelude.{◌↔◌}
-use Rattle.std.proofs.lemmas.List.Elements.{Contains-get_or}
 use Rattle.hd_map.specs.Map.{Map, InGrid, Present, place_of, cell_count}
 use Rattle.hd_map.specs.Neighbour.{Neighbour}
 use Rattle.hd_map.specs.Path.{Leads}
 use Rattle.hd_map.proofs.Gather.{same_pos}
 use Rattle.hd_map.proofs.Points.{same_place, place_inside}
 use Rattle.hd_cert.specs.declared.flood.Reached.{Reached}
-use Rattle.hd_check.specs.Rules.{point_of}
 use Rattle.hd_cert.specs.Steps.{IsOpen, IsWanted, OpenArePresent, OpenStep, steps_at, AreSteps, Reaches, IsAtStep, LooksAt}
 use Rattle.hd_cert.specs.Flood.{entry_of, is_free, IsWithin, IsEntry, IsFlood}
 
@@ -34,10 +30,6 @@ turned m marks p q s =
       from = s.to;
       to = s.from;
     }
-
--- each of the points round another is its neighbour
-pub near_at : (m : Map) (at : Pos) (round : List Pos) → ((q : Pos) → Contains round q ↔ Neighbour m at q) → (k : ℕ) → k < length round → Neighbour m at (point_of round k)
-near_at m at round all k inside = (all (point_of round k)).0 (Contains-get_or round k (record { x = 0; y = 0 }) inside)
 
 -- reaching a position leaves the length of the list
 pub reaches_whole : (s : Size) (marks : List Bool) (at : Pos) (n : ℕ) (steps : List (Option ℕ)) (queue : List Reached) (steps' : List (Option ℕ)) (queue' : List Reached)

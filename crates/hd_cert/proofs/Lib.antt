@@ -1,4 +1,3 @@
-mod Tops
 mod Walks
 mod Flooding
 mod Nearest

@@ -1,33 +1,16 @@
 -- Positions that are listed by index.
-use Rattle.std.proofs.Common.{◌≡◌, ◌<◌, ◌≤◌, ◌+◌, ◌∙◌, ℕ, List, [], ◌∷◌, ◌++◌, length, Option, Some, None, IsSome, inl, inr, ap, subst, arith}
+use Rattle.std.proofs.Common.{◌≡◌, ◌<◌, ◌+◌, ℕ, List, [], ◌∷◌, ◌++◌, length, Option, Some, None, IsSome, inl, inr, subst, arith}
 use Rattle.std.specs.List.{Contains}
 use Rattle.std.proofs.lemmas.Bool.{cases_lt, false≢true}
 use Rattle.std.proofs.lemmas.List.{get_or_append_left, get_or_push, length_push}
 use Rattle.std.proofs.lemmas.List.Elements.{Contains-append_left, Contains-push}
 use Rattle.hd_map.specs.declared.types.Pos.{Pos}
 use Rattle.hd_map.specs.declared.types.Size.{Size}
-use Rattle.hd_map.specs.Map.{InGrid, cell_count, place_of}
-use Rattle.hd_map.proofs.Points.{inside_place, same_place}
+use Rattle.hd_map.specs.Map.{InGrid, place_of}
+use Rattle.hd_map.proofs.Points.{same_place}
 use Rattle.hd_check.specs.Rules.{point_of}
 use Rattle.hd_cert.specs.Steps.{steps_at}
 use Rattle.hd_cert.specs.Listed.{AreListed, Lists}
-
--- a position goes through the grid by its index
-pub record IsAt (size : Size) (index : ℕ) (at : Pos) : Type 0 where
-  pub column : at.x < size.points
-  pub place : place_of size at ≡ index
-
-pub at_first : (size : Size) (at : Pos) → at.x ≡ 0 → at.y ≡ 0 → 1 ≤ size.points → IsAt size 0 at
-at_first size at x y some = record { column = omega arith; place = rw (y, x) (omega arith) }
-
-pub at_next : (size s : Size) (index : ℕ) (at next : Pos) → s ≡ size → IsAt size index at → next.x < s.points → place_of s next ≡ place_of s at + 1 → IsAt size (index + 1) next
-at_next size s index at next same so column place = record {
-  column = rw same at column;
-  place = (rw same at place) ∙ ap (λ (k : ℕ). k + 1) so.place;
-}
-
-pub at_inside : (size s : Size) (index : ℕ) (at : Pos) → s ≡ size → IsAt size index at → index < cell_count s → InGrid size at
-at_inside size s index at same so below = inside_place size at so.column (rw so.place (rw same at below))
 
 -- no option is both something and nothing
 not_both : (o : Option ℕ) → o ≡ None → IsSome o → ⊥

@@ -12,17 +12,17 @@ use Rattle.hd_map.specs.Path.{Leads, IsTop}
 use Rattle.hd_map.specs.Rank.{rank, below_by, IsPoint, Near}
 use Rattle.hd_map.specs.Saddle.{IsSaddle, SaddleIs}
 use Rattle.hd_map.specs.Shown.{IsNotAfter, IsPathOver, IsBelowSaddle, IsReachedBelow, indexes_of}
-use Rattle.hd_map.proofs.Levels.{Contains-head, Contains-tail, Contains-cases, Contains-none}
+use Rattle.hd_map.proofs.Items.{Contains-map, map-Contains}
 use Rattle.hd_map.proofs.Points.{same_point, point_at}
 use Rattle.hd_check.specs.declared.types.Certificate.{Certificate}
 use Rattle.hd_check.specs.Rules.{point_of}
+use Rattle.hd_check.proofs.Paths.{path_leads}
 use Rattle.hd_check.proofs.Searching.{place_at, rises_far}
 use Rattle.hd_cert.specs.Marks.{within}
 use Rattle.hd_cert.specs.Routes.{IsRouteOver, IsShownRoute, IsLowStep, IsRouteCut, IsMade}
 use Rattle.hd_cert.specs.Shown.{AreTwoPits, IsPathAt, IsCutAt, IsShownCertificate}
 use Rattle.hd_cert.proofs.Shown.{leads_present}
 use Rattle.hd_cert.proofs.Sound.{leads_ranks, route_present}
-use Rattle.hd_cert.proofs.Walks.{path_leads}
 
 -- a path of ranks between two positions is one of positions
 pub route_of : (m : Map) (a : Pos) (xs : List Rank) (b : Pos) → Present m a → Present m b → Leads (Near m) (rank m a) xs (rank m b)
@@ -119,21 +119,6 @@ module _ (m : Map) (side : SideName) (a b : Pos) (s : Rank) (here : Present m a)
         stand = (all_present m (p ∷ ps) (route_present m side a b s (p ∷ ps) here shown.over), ap (λ (x : Rank). x ∷ map (rank m) ps) (sym first));
       }
 
--- an item of the ranks is that of an item
-pub Contains-map : (m : Map) (x : Rank) (ps : List Pos) → Contains (map (rank m) ps) x → (p : Pos) × Contains ps p × (rank m p ≡ x)
-Contains-map m x [] c = absurd (Contains-none x c)
-Contains-map m x (p ∷ ps) c = elim (Contains-cases (rank m p) x (map (rank m) ps) c) [
-  | inl e ↦ (p, Contains-head p ps, sym e)
-  | inr rest ↦ let r = Contains-map m x ps rest in (r.0, Contains-tail p r.0 ps r.1, r.2)
-]
-
-pub Contains-rank : (m : Map) (p : Pos) (ps : List Pos) → Contains ps p → Contains (map (rank m) ps) (rank m p)
-Contains-rank m p [] c = absurd (Contains-none p c)
-Contains-rank m p (q ∷ ps) c = elim (Contains-cases q p ps c) [
-  | inl e ↦ subst (λ (r : Rank). Contains (rank m q ∷ map (rank m) ps) r) (ap (rank m) (sym e)) (Contains-head (rank m q) (map (rank m) ps))
-  | inr rest ↦ Contains-tail (rank m q) (rank m p) (map (rank m) ps) (Contains-rank m p ps rest)
-]
-
 -- the index of the rank at a place
 pub rank_place : (m : Map) (ps : List Pos) (k : ℕ) (d : Rank) → k < length ps → (get_or (map (rank m) ps) k d).index ≡ place_at m.size ps k
 rank_place m [] k d inside = absurd (omega (arith, inside))
@@ -181,7 +166,7 @@ module _ (m : Map) (side : SideName) (a b : Pos) (saddle : Option Rank) (here : 
   -- what is listed is reached
   reached_of : (x : Rank) → Contains (map (rank m) cut) x → IsReachedBelow m side saddle (rank m a) x
   reached_of x c =
-      let q = Contains-map m x cut c in
+      let q = Contains-map (rank m) cut x c in
       let w = (shown.all q.0).0 q.1 in
       subst (λ (r : Rank). IsReachedBelow m side saddle (rank m a) r) q.2 (record {
         points = map (rank m) w.0;
@@ -200,7 +185,7 @@ module _ (m : Map) (side : SideName) (a b : Pos) (saddle : Option Rank) (here : 
       let point = end_point (rank m a) r.points x r.path.point r.path.leads in
       let route = route_of m a r.points point.at here point.present (subst (λ (y : Rank). Leads (Near m) (rank m a) r.points y) point.rank_is r.path.leads) in
       let low = low_route m side saddle a route.0 point.at (subst (λ (xs : List Rank). All (IsBelowSaddle side saddle) (rank m a ∷ xs)) (sym route.2) r.below) route.1 in
-      subst (Contains (map (rank m) cut)) (sym point.rank_is) (Contains-rank m point.at cut ((shown.all point.at).1 (route.0, low)))
+      subst (Contains (map (rank m) cut)) (sym point.rank_is) (map-Contains (rank m) cut point.at ((shown.all point.at).1 (route.0, low)))
 
   -- the cut by positions is the shown cut
   pub cut_at : IsCutAt m side a b saddle cut

@@ -10,6 +10,7 @@ use Rattle.hd_map.specs.Map.{Map, Present}
 use Rattle.hd_map.specs.Path.{Leads}
 use Rattle.hd_map.specs.Rank.{rank}
 use Rattle.hd_map.specs.Shown.{IsBelowSaddle, IsReachedBelow}
+use Rattle.hd_map.proofs.Items.{Contains-map, map-Contains}
 use Rattle.hd_map.proofs.Points.{point_at, same_point}
 use Rattle.hd_check.specs.declared.types.Certificate.{Certificate}
 use Rattle.hd_check.specs.Rules.{IsRight}
@@ -18,7 +19,7 @@ use Rattle.hd_cert.specs.Marks.{within}
 use Rattle.hd_cert.specs.Routes.{IsRouteOver, IsLowStep, IsRouteCut}
 use Rattle.hd_cert.specs.Shown.{AreTwoPits, IsPathAt, IsCutAt, IsShownCertificate}
 use Rattle.hd_cert.proofs.Determined.{same_places}
-use Rattle.hd_cert.proofs.Ranks.{route_of, all_present, over_route, Contains-map, Contains-rank, rank_place, all_below, low_route}
+use Rattle.hd_cert.proofs.Ranks.{route_of, all_present, over_route, rank_place, all_below, low_route}
 use Rattle.hd_cert.proofs.Shown.{leads_present, pit_within}
 use Rattle.hd_cert.proofs.Sound.{leads_ranks, right_of, route_present}
 
@@ -44,7 +45,7 @@ module _ (m : Map) (side : SideName) (a b : Pos) (saddle : Option Rank) (cut : L
   listed_reached : (p : Pos) → Contains cut p → (xs : List Pos) × Leads (IsLowStep m side saddle) a xs p
   listed_reached p c =
       let there = listed_present p c in
-      let reached = (at.shown.exactly (rank m p)).0 (subst (λ (xs : List Rank). Contains xs (rank m p)) (sym at.stand.1) (Contains-rank m p cut c)) in
+      let reached = (at.shown.exactly (rank m p)).0 (subst (λ (xs : List Rank). Contains xs (rank m p)) (sym at.stand.1) (map-Contains (rank m) cut p c)) in
       let route = route_of m a reached.points p here there reached.path.leads in
       (route.0, low_route m side saddle a route.0 p (subst (λ (xs : List Rank). All (IsBelowSaddle side saddle) (rank m a ∷ xs)) (sym route.2) reached.below) route.1)
 
@@ -56,7 +57,7 @@ module _ (m : Map) (side : SideName) (a b : Pos) (saddle : Option Rank) (cut : L
         path = record { point = point_at m a here; leads = leads_ranks m side saddle a w.0 p w.1 };
         below = all_below m side saddle a w.0 p low w.1;
       } in
-      let q = Contains-map m (rank m p) cut (subst (λ (xs : List Rank). Contains xs (rank m p)) at.stand.1 ((at.shown.exactly (rank m p)).1 reached)) in
+      let q = Contains-map (rank m) cut (rank m p) (subst (λ (xs : List Rank). Contains xs (rank m p)) at.stand.1 ((at.shown.exactly (rank m p)).1 reached)) in
       subst (Contains cut) (same_point m q.0 p (listed_present q.0 q.1) (leads_present m side saddle a w.0 p here w.1) q.2) q.1
 
   -- the shown cut is the points that are reached below the saddle, by positions

@@ -1,7 +1,8 @@
 -- The shown path and the shown cut.
 use Rattle.std.proofs.Common.{◌≡◌, ◌<◌, ◌≤◌, ◌+◌, ◌-◌, ℕ, zero, suc, Bool, true, false, List, [], ◌∷◌, length, get_or, map, Option, Some, None, IsSome, ◌⊎◌, inl, inr, ap, ◌∙◌, refl, sym, subst, arith}
 use Rattle.std.specs.Prelude.{not, Result, Ok, Err, IfOk, unwrap_or}
-use Rattle.std.proofs.lemmas.List.{get_or_default}
+use Rattle.std.proofs.lemmas.List.{get_or_default, get_or-map, length-map}
+use Rattle.std.proofs.lemmas.List.Elements.{All-head, All-tail}
 use Rattle.std.proofs.lemmas.Bool.{cases_lt, false≢true}
 use Rattle.hd_map.specs.declared.types.Pos.{Pos}
 use Rattle.hd_map.specs.declared.types.Rank.{Rank}
@@ -10,15 +11,15 @@ use Rattle.hd_map.specs.Map.{Map, InGrid, Present, place_of, cell_count}
 use Rattle.hd_map.specs.Neighbour.{Neighbour}
 use Rattle.hd_map.specs.Order.{IsNotAbove}
 use Rattle.hd_map.specs.Path.{Leads, IsTop}
-use Rattle.hd_map.proofs.Levels.{top_of}
+use Rattle.hd_map.proofs.Levels.{NoneAbove, top_of, top-not_above}
 use Rattle.hd_check.specs.Rules.{point_of}
+use Rattle.hd_check.proofs.Paths.{path_leads, none_above-listed}
 use Rattle.hd_check.proofs.Searching.{place_found}
-use Rattle.hd_cert.proofs.Tops.{IsOneOf, NoneAbove, one_from, none_from, one_of-not_above}
 use Rattle.hd_map.specs.Rank.{rank, below_by, IsPoint, Near}
 use Rattle.hd_map.specs.Region.{IsPit}
-use Rattle.hd_map.proofs.Points.{same_place, same_point, point_at, place_inside, Near-to}
+use Rattle.hd_map.proofs.Points.{same_place, same_point, point_at, place_inside}
 use Rattle.hd_map.specs.SideLaws.{below_by-order}
-use Rattle.hd_map.proofs.Sides.{not_above-trans}
+use Rattle.hd_map.proofs.Saddles.{saddle-above_pit}
 use Rattle.hd_map.specs.Saddle.{IsSaddle, SaddleIs}
 use Rattle.hd_cert.specs.Steps.{IsOpen, IsWanted, OpenStep, steps_at, AreSteps}
 use Rattle.hd_cert.specs.Marks.{within, AreMarks}
@@ -27,7 +28,7 @@ use Rattle.hd_cert.specs.Listed.{AreListed}
 use Rattle.hd_cert.specs.Routes.{IsRouteOver, IsShownRoute, IsLowStep, IsRouteCut}
 use Rattle.hd_map.specs.Shown.{IsNotAfter}
 use Rattle.hd_cert.proofs.Flooding.{turned, some_of}
-use Rattle.hd_cert.proofs.Walks.{leads_turn, leads_of, path_leads, none_above-listed}
+use Rattle.hd_cert.proofs.Walks.{leads_turn, leads_of}
 
 -- a number is noted, or none
 noted_or_free : (o : Option ℕ) → ((n : ℕ) × (o ≡ Some n)) ⊎ (o ≡ None)
@@ -136,9 +137,10 @@ module _ (m : Map) (marks : List Bool) (start : Pos) (goal : Option Pos) (steps 
 
 -- no listed rank is above
 pub none_above-at : (m : Map) (side : SideName) (t : Rank) (ps : List Pos) → NoneAbove (below_by side) t (map (rank m) ps) → (k : ℕ) → k < length ps → IsNotAbove (below_by side) (rank m (point_of ps k)) t
-none_above-at m side t [] n k inside = absurd (omega (arith, inside))
-none_above-at m side t (p ∷ ps) n zero inside = n.0
-none_above-at m side t (p ∷ ps) n (suc k) inside = none_above-at m side t ps n.1 k (omega (arith, inside))
+none_above-at m side t ps n k inside =
+    let first : Pos = record { x = 0; y = 0 } in
+    let read : get_or (map (rank m) ps) k (rank m first) ≡ rank m (point_of ps k) = get_or-map (rank m) ps k first (rank m first) inside in
+    subst (λ (r : Rank). IsNotAbove (below_by side) r t) read (n k (rank m first) (rw (length-map ps (rank m)) inside))
 
 module _ (m : Map) (side : SideName) (s : Rank) (marks : List Bool) (are : AreMarks m side (Some s) false marks) where
   open_of : (p : Pos) → Present m p → IsNotAbove (below_by side) (rank m p) s → IsOpen m marks p
@@ -150,15 +152,17 @@ module _ (m : Map) (side : SideName) (s : Rank) (marks : List Bool) (are : AreMa
   -- a path of ranks none of which is above the saddle is a path of open points
   pub open_path : (a : Pos) (xs : List Rank) (b : Pos) → Present m a → Present m b → Leads (Near m) (rank m a) xs (rank m b) → NoneAbove (below_by side) s (rank m a ∷ xs)
       → (ps : List Pos) × Leads (OpenStep m marks) a ps b × IsOpen m marks b
-  open_path a [] b here there l n = let e : a ≡ b = same_point m a b here there l in ([], e, subst (IsOpen m marks) e (open_of a here n.0))
+  open_path a [] b here there l n = let e : a ≡ b = same_point m a b here there l in ([], e, subst (IsOpen m marks) e (open_of a here (All-head (λ r. IsNotAbove (below_by side) r s) (rank m a) [] n)))
   open_path a (x ∷ xs) b here there l n =
+      let P : Rank → Type 0 = λ r. IsNotAbove (below_by side) r s in
       let near = l.0 in
       let same : near.from ≡ a = same_point m near.from a near.neighbour.from here (sym near.from_rank) in
-      let rest = open_path near.to xs b near.neighbour.to there (subst (λ (r : Rank). Leads (Near m) r xs (rank m b)) near.to_rank l.1) (subst (λ (r : Rank). NoneAbove (below_by side) s (r ∷ xs)) near.to_rank n.1) in
+      let low = subst (λ (r : Rank). NoneAbove (below_by side) s (r ∷ xs)) near.to_rank (All-tail P (rank m a) (x ∷ xs) n) in
+      let rest = open_path near.to xs b near.neighbour.to there (subst (λ (r : Rank). Leads (Near m) r xs (rank m b)) near.to_rank l.1) low in
       let step : OpenStep m marks a near.to = record {
         neighbour = subst (λ (p : Pos). Neighbour m p near.to) same near.neighbour;
-        from = open_of a here n.0;
-        to = open_of near.to near.neighbour.to (subst (λ (r : Rank). IsNotAbove (below_by side) r s) near.to_rank n.1.0);
+        from = open_of a here (All-head P (rank m a) (x ∷ xs) n);
+        to = open_of near.to near.neighbour.to (All-head P (rank m near.to) xs low);
       } in
       (near.to ∷ rest.0, (step, rest.1), rest.2)
 
@@ -166,7 +170,7 @@ module _ (m : Map) (side : SideName) (s : Rank) (marks : List Bool) (are : AreMa
   other_path : (a b : Pos) (path : List Pos) → IsRouteOver m side a b s path → (ps : List Pos) × (path ≡ a ∷ ps) × Leads (OpenStep m marks) a ps b
   other_path a b [] over = let some = over.some in absurd (omega (arith, some))
   other_path a b (p ∷ ps) over =
-      let none = none_from (below_by side) s (map (rank m) (p ∷ ps)) over.top.none_above in
+      let none = over.top.none_above in
       let step : (k : ℕ) → k < length (p ∷ ps) - 1 → OpenStep m marks (point_of (p ∷ ps) k) (point_of (p ∷ ps) (k + 1)) = λ k inside.
       (let near = over.steps k inside in record {
         neighbour = near;
@@ -182,7 +186,7 @@ module _ (m : Map) (side : SideName) (s : Rank) (marks : List Bool) (are : AreMa
   top_is a b ps here saddle l n =
       let laws = below_by-order side in
       let u = top_of (below_by side) laws (rank m a) (map (rank m) ps) in
-      let low = one_of-not_above (below_by side) s u.0 (rank m a ∷ map (rank m) ps) (one_from u.0 (rank m a ∷ map (rank m) ps) u.1.one_of) n in
+      let low = top-not_above (below_by side) laws u.0 s (rank m a ∷ map (rank m) ps) u.1 n in
       let high = saddle.least (map (rank m) ps) u.0 (record { point = point_at m a here; leads = l }) u.1 in
       subst (λ (t : Rank). IsTop (below_by side) t (rank m a ∷ map (rank m) ps)) (laws.total u.0 s high low) u.1
 
@@ -192,7 +196,7 @@ module _ (m : Map) (side : SideName) (s : Rank) (marks : List Bool) (marked : Ar
   pub begin_noted : (n : ℕ) × (steps_at m.size steps a ≡ Some n)
   begin_noted =
       let r = saddle.reached in
-      let w = open_path m side s marks marked a r.0 b here there r.1.leads (none_from (below_by side) s (rank m a ∷ r.0) r.2.none_above) in
+      let w = open_path m side s marks marked a r.0 b here there r.1.leads r.2.none_above in
       elim (noted_or_free (steps_at m.size steps a)) [
         | inl noted ↦ noted
         | inr free ↦ (let l = are.least a w.0 w.1 (λ k e. absurd (let both : None ≡ Some k = sym free ∙ e in cc)) in (l.0, l.2))
@@ -200,7 +204,7 @@ module _ (m : Map) (side : SideName) (s : Rank) (marks : List Bool) (marked : Ar
 
   module _ (path : List Pos) (count : ℕ) (noted : steps_at m.size steps a ≡ Some count) (goes : GoesNearer m steps a count path count) where
     is_open_end : IsOpen m marks b
-    is_open_end = (let r = saddle.reached in (open_path m side s marks marked a r.0 b here there r.1.leads (none_from (below_by side) s (rank m a ∷ r.0) r.2.none_above)).2)
+    is_open_end = (let r = saddle.reached in (open_path m side s marks marked a r.0 b here there r.1.leads r.2.none_above).2)
 
     goes_noted : (k : ℕ) → k ≤ count → Present m (point_of path k) × (steps_at m.size steps (point_of path k) ≡ Some (count - k))
     goes_noted zero h = (subst (Present m) (sym goes.begins) here, ap (steps_at m.size steps) goes.begins ∙ noted ∙ ap Some (let e : count ≡ count - zero = omega arith in e))
@@ -284,27 +288,7 @@ module _ (m : Map) (side : SideName) (s : Rank) (marks : List Bool) (marked : Ar
 -- a pit is below each saddle to another point
 pub pit_below : (m : Map) (side : SideName) (a b : Pos) (s : Rank) → Present m a → Present m b → IsPit m side (rank m a) → (a ≡ b → ⊥) → IsSaddle m side (rank m a) (rank m b) s
     → below_by side (rank m a) s ≡ true
-pit_below m side a b s here there pit apart saddle = by_path saddle.reached.0 saddle.reached.1.leads (none_from (below_by side) s (rank m a ∷ saddle.reached.0) saddle.reached.2.none_above)
-  where
-    by_path : (xs : List Rank) → Leads (Near m) (rank m a) xs (rank m b) → NoneAbove (below_by side) s (rank m a ∷ xs) → below_by side (rank m a) s ≡ true
-    by_path [] l n = absurd (apart (same_point m a b here there l))
-    by_path (x ∷ xs) l n =
-        let laws = below_by-order side in
-        elim (below_by side (rank m a) s) as (λ v. below_by side (rank m a) s ≡ v → v ≡ true) [
-          | true ↦ λ e. refl
-          | false ↦ λ e.
-              (let up = not_above-trans (below_by side) laws x s (rank m a) n.1.0 e in
-              absurd (not_lower x l.0 up))
-        ] refl
-      where
-        not_lower : (x : Rank) → Near m (rank m a) x → IsNotAbove (below_by side) x (rank m a) → ⊥
-        not_lower x near up = elim (below_by side x (rank m a)) as (λ v. below_by side x (rank m a) ≡ v → ⊥) [
-          | true ↦ λ e. pit.alone x (record { near = near; below = e })
-          | false ↦ λ e.
-              (let same : x ≡ rank m a = (below_by-order side).total x (rank m a) e up in
-              let n = near.neighbour in
-              n.different (same_point m near.from near.to n.from n.to (sym near.from_rank ∙ sym same ∙ near.to_rank)))
-        ] refl
+pit_below m side a b s here there pit apart saddle = saddle-above_pit m side (rank m a) (rank m b) s pit (λ e. apart (same_point m a b here there e)) saddle
 
 -- the first of two joined pits lies within the level of its cut
 pub pit_within : (m : Map) (side : SideName) (a b : Pos) (saddle : Option Rank) → Present m a → Present m b → IsPit m side (rank m a) → (a ≡ b → ⊥) → SaddleIs m side (rank m a) (rank m b) saddle
@@ -344,15 +328,6 @@ cut_shown m side saddle marks a steps cut marked are listed here low = record {
   where
     low_at : (p : Pos) → Present m p → IsOpen m marks p → within side saddle true (rank m p) ≡ true
     low_at p there is_open = sym (marked.marked p there) ∙ is_open
-
--- a point of a path is a point of the map
-on_path : (m : Map) (a : Rank) (xs : List Rank) (b s : Rank) → IsPoint m a → Leads (Near m) a xs b → IsOneOf s (a ∷ xs) → IsPoint m s
-on_path m a [] b s point l o = elim o [ inl e ↦ subst (IsPoint m) (sym e) point | inr none ↦ absurd none ]
-on_path m a (x ∷ xs) b s point l o = elim o [ inl e ↦ subst (IsPoint m) (sym e) point | inr rest ↦ on_path m x xs b s (Near-to m a x l.0) l.1 rest ]
-
--- a saddle is a point of the map
-pub saddle_point : (m : Map) (side : SideName) (a b s : Rank) → IsSaddle m side a b s → IsPoint m s
-saddle_point m side a b s is = let r = is.reached in on_path m a r.0 b s r.1.point r.1.leads (one_from s (a ∷ r.0) r.2.one_of)
 
 -- the position of the index of a point is that point
 pub written_point : (m : Map) (s : Rank) (p : Pos) → IsPoint m s → InGrid m.size p → place_of m.size p ≡ s.index → Present m p × (rank m p ≡ s)

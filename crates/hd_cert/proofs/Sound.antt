@@ -9,14 +9,15 @@ use Rattle.hd_map.specs.declared.types.Rank.{Rank}
 use Rattle.hd_map.specs.declared.types.SideName.{SideName}
 use Rattle.hd_map.specs.Map.{Map, Present}
 use Rattle.hd_map.specs.Path.{Leads}
-use Rattle.hd_map.proofs.Levels.{top_of}
-use Rattle.hd_cert.proofs.Tops.{IsOneOf, NoneAbove, one_from, none_from}
+use Rattle.hd_map.proofs.Items.{Contains-cases, Contains-none, Contains-map}
+use Rattle.hd_map.proofs.Levels.{NoneAbove, top_of}
 use Rattle.hd_map.specs.Rank.{rank, below_by, Near}
 use Rattle.hd_map.specs.Region.{IsPit}
 use Rattle.hd_map.proofs.Points.{same_point, point_at, Near-at}
 use Rattle.hd_map.specs.SideLaws.{below_by-order}
 use Rattle.hd_check.specs.Certified.{position_only}
 use Rattle.hd_check.specs.Rules.{point_of, IsBelowLevel, IsLeak, IsRight}
+use Rattle.hd_check.proofs.Searching.{place_found}
 use Rattle.hd_map.specs.Saddle.{SaddleIs}
 use Rattle.hd_cert.specs.Marks.{within}
 use Rattle.hd_cert.specs.Routes.{IsRouteOver, IsLowStep, IsRouteCut}
@@ -39,9 +40,12 @@ low_end m side saddle a [] b low l = subst (λ (p : Pos). within side saddle tru
 low_end m side saddle a (x ∷ xs) b low l = low_end m side saddle x xs b l.0.to l.1
 
 -- each point of a low path is low
-low_one : (m : Map) (side : SideName) (s : Rank) (a : Pos) (xs : List Pos) (b : Pos) (t : Rank) → below_by side (rank m a) s ≡ true → Leads (IsLowStep m side (Some s)) a xs b → IsOneOf t (rank m a ∷ map (rank m) xs) → below_by side t s ≡ true
-low_one m side s a [] b t low l o = elim o [ inl e ↦ subst (λ (r : Rank). below_by side r s ≡ true) (sym e) low | inr none ↦ absurd none ]
-low_one m side s a (x ∷ xs) b t low l o = elim o [ inl e ↦ subst (λ (r : Rank). below_by side r s ≡ true) (sym e) low | inr rest ↦ low_one m side s x xs b t l.0.to l.1 rest ]
+low_one : (m : Map) (side : SideName) (s : Rank) (a : Pos) (xs : List Pos) (b : Pos) (t : Rank) → below_by side (rank m a) s ≡ true → Leads (IsLowStep m side (Some s)) a xs b → Contains (rank m a ∷ map (rank m) xs) t → below_by side t s ≡ true
+low_one m side s a [] b t low l at = elim (Contains-cases (rank m a) t [] at) [ inl e ↦ subst (λ (r : Rank). below_by side r s ≡ true) (sym e) low | inr later ↦ absurd (Contains-none t later) ]
+low_one m side s a (x ∷ xs) b t low l at = elim (Contains-cases (rank m a) t (map (rank m) (x ∷ xs)) at) [
+  | inl e ↦ subst (λ (r : Rank). below_by side r s ≡ true) (sym e) low
+  | inr later ↦ low_one m side s x xs b t l.0.to l.1 later
+]
 
 -- no low path joins two points with this saddle
 not_joined : (m : Map) (side : SideName) (a b : Pos) (saddle : Option Rank) → Present m a → SaddleIs m side (rank m a) (rank m b) saddle → within side saddle true (rank m a) ≡ true
@@ -49,17 +53,16 @@ not_joined : (m : Map) (side : SideName) (a b : Pos) (saddle : Option Rank) → 
 not_joined m side a b None here is low xs l = is (map (rank m) xs) (record { point = point_at m a here; leads = leads_ranks m side None a xs b l })
 not_joined m side a b (Some s) here is low xs l =
     let t = top_of (below_by side) (below_by-order side) (rank m a) (map (rank m) xs) in
-    let down = low_one m side s a xs b t.0 low l (one_from t.0 (rank m a ∷ map (rank m) xs) t.1.one_of) in
+    let down = low_one m side s a xs b t.0 low l t.1.one_of in
     let up = is.least (map (rank m) xs) t.0 (record { point = point_at m a here; leads = leads_ranks m side (Some s) a xs b l }) t.1 in
     false≢true (sym up ∙ down)
 
 -- a listed rank stands at a place
-listed_rank : (m : Map) (p : Pos) (ps : List Pos) → Present m p → ((k : ℕ) → k < length ps → Present m (point_of ps k)) → IsOneOf (rank m p) (map (rank m) ps) → Contains ps p
-listed_rank m p [] here all o = absurd o
-listed_rank m p (q ∷ ps) here all o = elim o [
-  | inl e ↦ (let same : q ≡ p = same_point m q p (all 0 (omega arith)) here (sym e) in (0, omega arith, same))
-  | inr rest ↦ (let c = listed_rank m p ps here (λ k inside. all (suc k) (omega (arith, inside))) rest in let inside = c.1 in (suc c.0, omega (arith, inside), c.2))
-]
+listed_rank : (m : Map) (p : Pos) (ps : List Pos) → Present m p → ((k : ℕ) → k < length ps → Present m (point_of ps k)) → Contains (map (rank m) ps) (rank m p) → Contains ps p
+listed_rank m p ps here all at =
+    let q = Contains-map (rank m) ps (rank m p) at in
+    let place = place_found ps q.0 q.1 in
+    subst (Contains ps) (same_point m q.0 p (subst (Present m) place.2 (all place.0 place.1)) here q.2) q.1
 
 -- the level of a written saddle
 level_same : (m : Map) (side : SideName) (saddle : Option Rank) (written : Option (Pos × ℤ)) (p : Pos) → IsWritten m saddle written → within side saddle true (rank m p) ≡ true → IsBelowLevel m side (position_only written) p
@@ -142,8 +145,8 @@ right_of m side a b None None path cut here there pit pit' apart is w none shown
     )
 right_of m side a b (Some s) (Some (p, h)) path cut here there pit pit' apart is w over shown =
     let present = route_present m side a b s path here over in
-    let on : IsOneOf (rank m p) (map (rank m) path) = subst (λ (t : Rank). IsOneOf t (map (rank m) path)) (sym w.1) (one_from s (map (rank m) path) over.top.one_of) in
-    let none : NoneAbove (below_by side) (rank m p) (map (rank m) path) = subst (λ (t : Rank). NoneAbove (below_by side) t (map (rank m) path)) (sym w.1) (none_from (below_by side) s (map (rank m) path) over.top.none_above) in (
+    let on = subst (Contains (map (rank m) path)) (sym w.1) over.top.one_of in
+    let none = subst (λ (t : Rank). NoneAbove (below_by side) t (map (rank m) path)) (sym w.1) over.top.none_above in (
       (here, (there, (w.0, (present, cut_present m side a b (Some s) (Some (p, h)) cut here w shown)))),
       (
         (pit, (pit', apart)),

@@ -1,10 +1,11 @@
 -- hd_cert, which makes certificates, cites these
 pub mod Searching
+pub mod Paths
+pub mod Pits
 mod Leaks
 mod Verdicts
 mod Across
 mod Right
-mod Pits
 mod Determined
 mod ReadingSteps
 mod Adding

@@ -1,5 +1,5 @@
 -- A right certificate tells the saddle.
-use Rattle.std.proofs.Common.{◌≡◌, ◌<◌, ◌+◌, ◌-◌, ℕ, zero, suc, true, List, [], ◌∷◌, length, map, Option, Some, None, ap, ◌∙◌, refl, sym, subst, arith}
+use Rattle.std.proofs.Common.{◌≡◌, ◌-◌, true, List, [], ◌∷◌, length, map, Option, Some, None, ap, ◌∙◌, refl, sym, subst, arith}
 use Rattle.std.specs.Prelude.{ℤ}
 use Rattle.std.specs.List.{Contains}
 use Rattle.hd_map.specs.declared.types.Pos.{Pos}
@@ -7,19 +7,18 @@ use Rattle.hd_map.specs.declared.types.Rank.{Rank}
 use Rattle.hd_map.specs.declared.types.SideName.{SideName}
 use Rattle.hd_map.specs.Map.{Map, Present, place_of}
 use Rattle.hd_map.specs.Neighbour.{Neighbour}
-use Rattle.hd_map.specs.Order.{IsNotAbove}
 use Rattle.hd_map.specs.Path.{Leads, IsTop}
 use Rattle.hd_map.specs.Rank.{rank, below_by, Near}
-use Rattle.hd_map.proofs.Points.{same_point, point_at, Near-at}
+use Rattle.hd_map.proofs.Points.{same_point, point_at}
 use Rattle.hd_map.proofs.Sides.{not_above-trans}
-use Rattle.hd_map.proofs.Levels.{NoneAbove, Contains-head, Contains-tail}
+use Rattle.hd_map.proofs.Items.{map-Contains}
 use Rattle.hd_map.specs.SideLaws.{below_by-order}
-use Rattle.std.proofs.lemmas.List.Elements.{All-nil, All-cons}
 use Rattle.hd_check.specs.declared.types.Certificate.{Certificate}
 use Rattle.hd_check.specs.Rules.{point_of, IsBelowLevel, IsCutClosed, IsRight}
 use Rattle.hd_map.specs.Saddle.{IsSaddle, SaddleIs}
 use Rattle.hd_check.specs.Certified.{saddle_of, written_rank}
 use Rattle.hd_check.proofs.Across.{stays_in, no_lower}
+use Rattle.hd_check.proofs.Paths.{path_leads, none_above-listed}
 use Rattle.hd_check.proofs.Searching.{place_found}
 
 -- the point x lies in the cut, as far as it can be told without looking
@@ -52,29 +51,6 @@ in_cut m cut p here c = record { at = p; present = here; listed = λ out. out c;
 out_of_cut : (m : Map) (cut : List Pos) (p : Pos) → Present m p → (Contains cut p → ⊥) → IsInCut m cut (rank m p) → ⊥
 out_of_cut m cut p here out h = h.listed (λ c. out (subst (Contains cut) (same_point m h.at p h.present here (sym h.rank_is)) c))
 
--- consecutive neighbours are a path
-path_leads : (m : Map) (p : Pos) (ps : List Pos) → ((k : ℕ) → k < length (p ∷ ps) - 1 → Neighbour m (point_of (p ∷ ps) k) (point_of (p ∷ ps) (k + 1)))
-    → Leads (Near m) (rank m p) (map (rank m) ps) (rank m (point_of (p ∷ ps) (length (p ∷ ps) - 1)))
-path_leads m p [] h = refl
-path_leads m p (q ∷ ps) h =
-    let step : (k : ℕ) → k < length (q ∷ ps) - 1 → Neighbour m (point_of (q ∷ ps) k) (point_of (q ∷ ps) (k + 1)) = λ k inside.
-    (let e : suc k + 1 ≡ suc (k + 1) = omega arith in
-    subst (λ (j : ℕ). Neighbour m (point_of (q ∷ ps) k) (point_of (p ∷ q ∷ ps) j)) e (h (suc k) (omega arith))) in
-    let last : suc (length (q ∷ ps) - 1) ≡ length (p ∷ q ∷ ps) - 1 = omega arith in
-    (Near-at m p q (h 0 (omega arith)), subst (λ (j : ℕ). Leads (Near m) (rank m q) (map (rank m) ps) (rank m (point_of (p ∷ q ∷ ps) j))) last (path_leads m q ps step))
-
--- the rank of a listed point is one of the ranks
-one_of-listed : (m : Map) (ps : List Pos) (p : Pos) (k : ℕ) → k < length ps → point_of ps k ≡ p → Contains (map (rank m) ps) (rank m p)
-one_of-listed m [] p k inside e = absurd (omega (arith, inside))
-one_of-listed m (q ∷ ps) p zero inside e = subst (λ (r : Pos). Contains (map (rank m) (q ∷ ps)) (rank m r)) e (Contains-head (rank m q) (map (rank m) ps))
-one_of-listed m (q ∷ ps) p (suc k) inside e = Contains-tail (rank m q) (rank m p) (map (rank m) ps) (one_of-listed m ps p k (omega (arith, inside)) e)
-
--- where no listed point is above the saddle, no rank is
-none_above-listed : (m : Map) (side : SideName) (s : Rank) (ps : List Pos) → ((k : ℕ) → k < length ps → IsNotAbove (below_by side) (rank m (point_of ps k)) s)
-    → NoneAbove (below_by side) s (map (rank m) ps)
-none_above-listed m side s [] h = All-nil (λ x. IsNotAbove (below_by side) x s)
-none_above-listed m side s (q ∷ ps) h = All-cons (λ x. IsNotAbove (below_by side) x s) (rank m q) (map (rank m) ps) (h 0 (omega arith)) (none_above-listed m side s ps (λ k inside. h (suc k) (omega (arith, inside))))
-
 right_at : (m : Map) (side : SideName) (from to : Pos) (saddle : Option (Pos × ℤ)) (path cut : List Pos)
     → IsRight m (record { side = side; from = from; to = to; saddle = saddle; path = path; cut = cut }) → SaddleIs m side (rank m from) (rank m to) (written_rank m saddle)
 right_at m side from to None path cut (present, (pits, (height, (ends, (steps, (on, (low, (rises, (parts, (cut_low, (closed, _))))))))))) = λ xs p.
@@ -85,9 +61,8 @@ right_at m side from to (Some (s, h)) (p ∷ ps) cut (present, (pits, (height, (
     let written : rank m s ≡ record { height = h; index = place_of m.size s } = ap (λ (z : ℤ). record { height = z; index = place_of m.size s }) (sym height) in
     let begins : rank m p ≡ rank m from = ap (rank m) ends.1.0 in
     let stops : rank m (point_of (p ∷ ps) (length (p ∷ ps) - 1)) ≡ rank m to = ap (rank m) ends.1.1 in
-    let place = place_found (p ∷ ps) s on in
     let top : IsTop (below_by side) (rank m s) (map (rank m) (p ∷ ps)) = record {
-      one_of = one_of-listed m (p ∷ ps) s place.0 place.1 place.2;
+      one_of = map-Contains (rank m) (p ∷ ps) s on;
       none_above = none_above-listed m side (rank m s) (p ∷ ps) low;
     } in
     let leads : Leads (Near m) (rank m from) (map (rank m) ps) (rank m to) =

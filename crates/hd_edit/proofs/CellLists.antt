@@ -5,13 +5,11 @@ use Rattle.std.specs.List.{range_with_len}
 use Rattle.std.proofs.lemmas.List.FromFn.{get_or-map-range_with_len, fill_by_all}
 use Rattle.std.proofs.lemmas.List.{set-get_or, get_or_default}
 use Rattle.hd_map.specs.declared.types.Pos.{Pos}
-use Rattle.hd_map.specs.declared.types.Size.{Size}
 use Rattle.hd_map.specs.declared.types.Cell.{Cell}
 use Rattle.hd_map.specs.declared.types.Cell.TheVariants.{Bad}
 use Rattle.hd_map.specs.declared.types.DataType.{DataType}
 use Rattle.hd_map.specs.Map.{Map, IsMap, InGrid, IsCellOf, AreCellsOf, cell_at, cell_count, place_of}
 use Rattle.hd_map.specs.Sets.{with_cell}
-use Rattle.hd_map.proofs.Points.{inside_place}
 use Rattle.hd_morph.specs.Answer.{with_cells}
 use Rattle.hd_morph.specs.NewHeights.{cell_with, cell_after, cells_after}
 use Rattle.hd_morph.proofs.Listing.{get_or_cells_after, length_cells_after}
@@ -21,23 +19,6 @@ use Rattle.hd_edit.specs.Filtered.{becomes_other, one_if_other, changed_cells}
 use Rattle.hd_edit.specs.Stroke.{same_cell, count_below}
 use Rattle.hd_edit.proofs.Strokes.{mix, mix-before, mix-from, mix-other, set_fill, count-more, count-grows, count-few}
 use Rattle.hd_edit.proofs.Touches.{same_cell-true}
-
--- a position goes through the grid by its index
-pub record IsAt (size : Size) (index : ℕ) (at : Pos) : Type 0 where
-  pub column : at.x < size.points
-  pub place : place_of size at ≡ index
-
-pub at-first : (size : Size) (at : Pos) → at.x ≡ 0 → at.y ≡ 0 → 1 ≤ size.points → IsAt size 0 at
-at-first size at x y some = record { column = omega arith; place = rw (y, x) (omega arith) }
-
-pub at-next : (size s : Size) (index : ℕ) (at next : Pos) → s ≡ size → IsAt size index at → next.x < s.points → place_of s next ≡ place_of s at + 1 → IsAt size (index + 1) next
-at-next size s index at next same so column place = record {
-  column = rw same at column;
-  place = (rw same at place) ∙ ap (λ (k : ℕ). k + 1) so.place;
-}
-
-pub at-inside : (size s : Size) (index : ℕ) (at : Pos) → s ≡ size → IsAt size index at → index < cell_count s → InGrid size at
-at-inside size s index at same so below = inside_place size at so.column (rw so.place (rw same at below))
 
 module _ (m : Map) (cells : List Cell) where
   -- the new cell of an index before n, and the old one from there on

@@ -1,18 +1,19 @@
 use Rattle.std.proofs.Common.{◌≡◌, refl, subst, arith, ℕ}
 use Rattle.hd_map.specs.Map.{cell_count}
 use Rattle.hd_cert.specs.Listed.{AreListed, Lists}
-use Rattle.hd_cert.proofs.Listing.{at_inside, at_next, listed_more}
+use Rattle.hd_map.proofs.Walks.{at-inside, at-next}
+use Rattle.hd_cert.proofs.Listing.{listed_more}
 use Rattle.hd_cert.proofs.listed_points.listed.Goals as goal
 
 pub list_one-requires-clause-at : goal.list_one-requires-clause-at
-list_one-requires-clause-at c = at_inside c.args.size c.args.size c.loop-index.index c.loop-index.at refl c.loop-index.invariant.0 c.loop-index-test.true
+list_one-requires-clause-at c = at-inside c.args.size c.args.size c.loop-index.index c.loop-index.at refl c.loop-index.invariant.0 c.loop-index-test.true
 
 pub loop-index-preserved : goal.loop-index-preserved
 loop-index-preserved c =
     let so = c.loop-index.invariant.0 in
     let found = c.loop-index.found.items in
     let lists = subst (λ (n : ℕ). Lists c.args.size c.args.steps.now n found c.list_one.new.found.items) so.place c.in_ok-list_one.ensures in (
-      at_next c.args.size c.args.size c.loop-index.index c.loop-index.at c.position_after-at.result refl so c.position_after-at.ensures.column c.position_after-at.ensures.place,
+      at-next c.args.size c.args.size c.loop-index.index c.loop-index.at c.position_after-at.result refl so c.position_after-at.ensures.column c.position_after-at.ensures.place,
       listed_more c.args.size c.args.steps.now c.loop-index.index found c.list_one.new.found.items lists c.loop-index.invariant.1,
     )
 

@@ -7,9 +7,6 @@ use Rattle.hd_cert.specs.Steps.{AreSteps, steps_at}
 use Rattle.hd_cert.specs.Nearer.{IsNearer, GoesNearer}
 use Rattle.hd_cert.specs.Routes.{IsShownRoute}
 use Rattle.hd_cert.proofs.Shown.{same_some, open_path, nearer_exists, begin_noted, path_shown, counted, if_ok_more}
-use Rattle.std.proofs.Common.{◌∷◌}
-use Rattle.hd_map.specs.Rank.{below_by, rank}
-use Rattle.hd_cert.proofs.Tops.{none_from}
 use Rattle.hd_cert.proofs.making.shown_path.Goals as goal
 
 pub steps_from-requires-clause-open : goal.steps_from-requires-clause-open
@@ -17,7 +14,7 @@ steps_from-requires-clause-open g c =
     let m = g.G.Heights.map c.args.grid.now in
     let r = c.requires in
     let s = r.saddle.reached in
-    rw c.as_slice.ensures.value (open_path m g.S.Side.NAME c.args.saddle c.in_ok-marks.marks.items c.in_ok-marks.ensures c.args.from s.0 c.args.to r.here r.there s.1.leads (none_from (below_by g.S.Side.NAME) c.args.saddle (rank m c.args.from ∷ s.0) s.2.none_above)).2
+    rw c.as_slice.ensures.value (open_path m g.S.Side.NAME c.args.saddle c.in_ok-marks.marks.items c.in_ok-marks.ensures c.args.from s.0 c.args.to r.here r.there s.1.leads s.2.none_above).2
 
 pub path_down-requires-clause-noted : goal.path_down-requires-clause-noted
 path_down-requires-clause-noted g c =

@@ -8,7 +8,7 @@ use Rattle.hd_map.specs.Neighbour.{Neighbour}
 use Rattle.hd_check.specs.Rules.{point_of}
 use Rattle.hd_check.proofs.Searching.{place_found}
 use Rattle.hd_cert.specs.Nearer.{IsNearer}
-use Rattle.hd_cert.proofs.Flooding.{near_at}
+use Rattle.hd_check.proofs.Pits.{near_at}
 use Rattle.hd_cert.proofs.Nearest.{first_of}
 use Rattle.hd_cert.proofs.trace.first_nearer.Goals as goal
 

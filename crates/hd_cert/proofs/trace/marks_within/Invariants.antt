@@ -3,7 +3,7 @@ use Rattle.hd_map.specs.declared.types.Pos.{Pos}
 use Rattle.hd_map.specs.Map.{InGrid, Present, place_of}
 use Rattle.hd_map.specs.Rank.{rank}
 use Rattle.hd_cert.specs.Marks.{within}
-use Rattle.hd_cert.proofs.Listing.{IsAt}
+use Rattle.hd_map.proofs.Walks.{IsAt}
 use Rattle.hd_cert.proofs.trace.marks_within.Given as goal
 
 abbrev pub invariant-loop-index : goal.invariant-loop-index

@@ -6,7 +6,8 @@ use Rattle.hd_edit.specs.Change.{IsChange}
 use Rattle.hd_edit.specs.Filtered.{becomes_other}
 use Rattle.hd_edit.proofs.Strokes.{count-few}
 use Rattle.hd_edit.proofs.Changes.{few_notes}
-use Rattle.hd_edit.proofs.CellLists.{at-first, at-next, at-inside, noted_first, noted_inside, noted_whole, noted_fits, noted_room, noted_notes, noted_next, noted_last, noted_few}
+use Rattle.hd_map.proofs.Walks.{at-first, at-next, at-inside}
+use Rattle.hd_edit.proofs.CellLists.{noted_first, noted_inside, noted_whole, noted_fits, noted_room, noted_notes, noted_next, noted_last, noted_few}
 use Rattle.hd_edit.proofs.filter.put_heights.Goals as goal
 
 pub loop-index-init : goal.loop-index-init

@@ -1,5 +1,6 @@
 use Rattle.std.proofs.Common.{◌≡◌, ◌≤◌, ◌+◌, vec_len, vec_capacity}
-use Rattle.hd_edit.proofs.CellLists.{IsAt, Noted}
+use Rattle.hd_map.proofs.Walks.{IsAt}
+use Rattle.hd_edit.proofs.CellLists.{Noted}
 use Rattle.hd_edit.proofs.filter.put_heights.Given as goal
 
 abbrev pub invariant-loop-index : goal.invariant-loop-index
