@@ -1,3 +1,5 @@
+use Rattle.std.proofs.Common.{arith}
+use Rattle.std.proofs.lemmas.Grind.{common_steps}
 use Rattle.std.specs.Prelude.{pos}
 use Rattle.std.proofs.lemmas.List.Elements.{Contains-get_or}
 use Rattle.hd_prune.proofs.InOrder.{owned-more}
@@ -15,3 +17,6 @@ loop-pit-preserved g c = record {
       c.loop-pit-test.true c.in_ok-push.ensures.ok (c.in_ok-owner.ensures.owner owner (c.loop-pit.invariant.kept owner l)) (c.loop-pit.invariant.owned owner l);
   kept = λ owner l. c.in_ok-owner.ensures.kept owner (c.loop-pit.invariant.kept owner l);
 }
+
+pub returns : goal.returns
+returns g c = grind (arith, common_steps)
