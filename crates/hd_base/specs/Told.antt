@@ -18,6 +18,10 @@ OnTold told P = (bytes : List ℕ) → told ≡ Some bytes → P
 abbrev pub AppendsStart : Told → Told → List ℕ → Type 0
 AppendsStart old new text = (got : List ℕ) × StartsWith text got × Appends old new got
 
+-- some first bytes of a text are written, and not all of it
+abbrev pub AppendsPart : Told → Told → List ℕ → Type 0
+AppendsPart old new text = (got : List ℕ) × StartsWith text got × (length got < length text) × Appends old new got
+
 -- a told file is read whole, or is too long for the limit; what is read never passes the limit
 pub record ReadsFile (file : Told) (limit : ℕ) (result : Result (List ℕ) ReadError) :
     Type 0 where

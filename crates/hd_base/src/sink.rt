@@ -3,7 +3,7 @@ ghost use Rattle.std.specs.Prelude.{◌≡◌, ◌<◌, [], ℕ, List as Items, 
 ghost use Rattle.std.specs.Io.{WritesAtMost};
 ghost use Rattle.std.specs.Io.KnownBytes.{WriteAppends, Keeps, Appends};
 ghost use Rattle.hd_base.specs.Causes.{HasCause};
-ghost use Rattle.hd_base.specs.Told.{OnTold, AppendsStart};
+ghost use Rattle.hd_base.specs.Told.{OnTold, AppendsPart};
 
 use crate::Failed;
 use thiserror::Error;
@@ -63,12 +63,12 @@ pub trait Sink {
 
 /// Writes all bytes, by as many writes as are needed.
 ///
-/// `WriteFault` comes only where the sink failed; a prefix of the bytes is written then.
+/// `WriteFault` comes only where the sink failed; some first bytes are written then, and not all.
 pub fn write_all<W: Sink>(sink: &mut W, bytes: &[u8]) -> Result<(), WriteFault>
     requires { IsTrue (W.is_open sink.old) }
     ensures open { IsTrue (W.is_open sink.new) }
     ensures all { OnOk result (Appends (W.written sink.old) (W.written sink.new) bytes.now) }
-    ensures part { AppendsStart (W.written sink.old) (W.written sink.new) bytes.now }
+    ensures part { OnErr result (AppendsPart (W.written sink.old) (W.written sink.new) bytes.now) }
     ensures cause { HasCause (W.faults sink.old) (W.faults sink.new) result }
 {
     let mut rest = bytes;
