@@ -1,14 +1,16 @@
 -- A line, and a script, has one answer.
 use Rattle.std.specs.Prelude.{ℤ, codes}
-use Rattle.std.proofs.Common.{◌≡◌, ◌+◌, ◌++◌, ◌&&◌, ◌∙◌, ◌<◌, ℕ, List, [], ◌∷◌, map, Option, Some, None, Result, Ok, Err, inl, inr, sym, ap, subst, arith}
+use Rattle.std.proofs.Common.{◌≡◌, ◌+◌, ◌++◌, ◌&&◌, ◌∙◌, ℕ, List, [], ◌∷◌, Option, Some, None, Result, Ok, Err, inl, inr, refl, sym, ap, subst, arith}
 use Rattle.hd_map.specs.declared.types.Pos.{Pos}
 use Rattle.hd_map.specs.declared.types.Rank.{Rank}
+use Rattle.hd_map.specs.declared.types.RegionSize.{RegionSize}
 use Rattle.hd_map.specs.declared.types.SideName.{SideName}
 use Rattle.hd_map.specs.Map.{Map, IsMap}
 use Rattle.hd_map.specs.Rank.{rank}
 use Rattle.hd_map.specs.ChangeTree.{Joining, IsChangeTree}
-use Rattle.hd_map.specs.Pruning.{Leaving, IsPruning}
-use Rattle.hd_map.specs.Region.{IsRoot, AreRegions}
+use Rattle.hd_map.specs.Pruning.{Leaving}
+use Rattle.hd_map.specs.Region.{IsRoot}
+use Rattle.hd_map.specs.Saddle.{IsSaddle}
 use Rattle.hd_map.proofs.Points.{same_point}
 use Rattle.hd_edit.specs.declared.edit.Edit.{Edit}
 use Rattle.hd_edit.specs.declared.edit.EditError.{EditError}
@@ -20,26 +22,32 @@ use Rattle.hd_feature.specs.declared.notation.NotationError.{NotationError}
 use Rattle.hd_feature.specs.declared.notation.Parameter.{Parameter}
 use Rattle.hd_feature.specs.Notation.{notation_of}
 use Rattle.hd_feature.specs.Parameters.{parameter_of}
-use Rattle.hd_num.specs.Frac.{IsFraction}
+use Rattle.hd_num.specs.declared.frac.Frac.{Frac}
+use Rattle.hd_num.specs.Frac.{frac_text}
+use Rattle.hd_check.specs.declared.types.Certificate.{Certificate}
+use Rattle.hd_cert.specs.Shown.{IsShownCertificate}
 use Rattle.hd_script.specs.declared.command.Command.{Command}
 use Rattle.hd_script.specs.declared.command.Command.TheVariants as command
 use Rattle.hd_script.specs.declared.command.LineError.{LineError}
 use Rattle.hd_script.specs.Line.{script_line}
+use Rattle.hd_survey.specs.Owned.{ArePrunedRegions}
+use Rattle.hd_survey.specs.Regions.{AreRegionSizes}
+use Rattle.hd_survey.specs.Values.{AreSameValues, IsNotationValue, IsParameterValue}
+use Rattle.hd_report.specs.Prunings.{prune_text}
+use Rattle.hd_report.specs.Regions.{label_text, regions_text}
+use Rattle.hd_report.specs.Trees.{tree_text}
+use Rattle.hd_report.specs.Values.{height_text, value_text}
 use Rattle.hd_engine.specs.Answers.{IsCommandAnswer, IsReadAnswer, IsAnswer, AreAnswers}
 use Rattle.hd_engine.specs.Edits.{IsOutcomeAnswer, IsEditAnswer, IsUndoAnswer}
 use Rattle.hd_engine.specs.Elements.{IsElementAnswer, IsMadeAnswer}
-use Rattle.hd_engine.proofs.Makes.{made_once}
-use Rattle.hd_engine.specs.Prunings.{IsPruneAnswer, prune_text, kept_extent}
-use Rattle.hd_engine.specs.Regions.{IsRegionsAnswer, IsLabelAnswer, TellsRoot, extent_of, pits_of, extents_text, label_text}
+use Rattle.hd_engine.specs.Prunings.{IsPruneAnswer}
+use Rattle.hd_engine.specs.Regions.{IsRegionsAnswer, IsLabelAnswer, TellsRoot}
 use Rattle.hd_engine.specs.Reply.{Reply, Reports, Becomes, accepted_with}
-use Rattle.hd_map.specs.Saddle.{IsSaddle}
-use Rattle.hd_check.specs.declared.types.Certificate.{Certificate}
-use Rattle.hd_cert.specs.Shown.{IsShownCertificate}
-use Rattle.hd_engine.proofs.SaddleAnswers.{saddle-one}
 use Rattle.hd_engine.specs.State.{State, IsState}
-use Rattle.hd_engine.specs.Values.{IsNamedAnswer, IsNotationAnswer, height_text}
-use Rattle.hd_engine.proofs.ValuesDetermined.{ValueLaws, notation_value-one, parameter_value-one, same_text}
-use Rattle.hd_engine.specs.Trees.{IsTreeAnswer, tree_text}
+use Rattle.hd_engine.specs.Trees.{IsTreeAnswer}
+use Rattle.hd_engine.specs.Values.{IsNamedAnswer, IsNotationAnswer}
+use Rattle.hd_engine.proofs.Makes.{made_once}
+use Rattle.hd_engine.proofs.SaddleAnswers.{saddle-one}
 
 -- an answer is the reply, and the state after it
 abbrev Agrees : (a b : Reply) (s' s'' : State) → Type 0
@@ -56,27 +64,25 @@ becomes-one number next s' s'' a b one other = (one.reply ∙ sym other.reply, o
 reports-same : (s s' s'' : State) (x y a b : Reply) → x ≡ y → Reports s s' x a → Reports s s'' y b → Agrees a b s' s''
 reports-same s s' s'' x y a b e one other = (one.reply ∙ e ∙ sym other.reply, one.state ∙ sym other.state)
 
--- one pruning has one text
-pruned-text : (side : SideName) (thousandths : ℕ) (m : Map) (xs ys : List Leaving) (last end : List Rank) (mine yours : Rank → Rank) (a b : List (Option ℕ))
-    → xs ≡ ys → last ≡ end → mine ≡ yours → a ≡ b
-    → prune_text side thousandths m.size xs (map (kept_extent m mine a) last) ≡ prune_text side thousandths m.size ys (map (kept_extent m yours b) end)
-pruned-text side thousandths m xs ys last end mine yours a b steps kept owner roots =
-    ap (λ zs. prune_text side thousandths m.size zs (map (kept_extent m mine a) last)) steps
-    ∙ ap (λ zs. prune_text side thousandths m.size ys (map (kept_extent m mine a) zs)) kept
-    ∙ ap (λ of. prune_text side thousandths m.size ys (map (kept_extent m of a) end)) owner
-    ∙ ap (λ zs. prune_text side thousandths m.size ys (map (kept_extent m yours zs) end)) roots
+-- one value has one text
+same_text : (a b : Option Frac) → AreSameValues a b → value_text a ≡ value_text b
+same_text (Some f) (Some g) same = ap (λ n. frac_text n f.den) same.0 ∙ ap (λ d. frac_text g.num d) same.1
+same_text (Some f) None same = absurd same
+same_text None (Some g) same = absurd same
+same_text None None same = refl
 
 -- what the layers below determine
 pub record Determine : Type 0 where
   pub edits : (elements : List ElementTable) (m : Map) (edit : Edit) (x y : Result Map EditError) → IsMap m → IsEdited elements m edit x → IsEdited elements m edit y → x ≡ y
-  pub regions : (m : Map) (side : SideName) (a b : List (Option ℕ)) → IsMap m → AreRegions m side a → AreRegions m side b → a ≡ b
+  pub regions : (m : Map) (side : SideName) (a b : List RegionSize) → IsMap m → AreRegionSizes m side a → AreRegionSizes m side b → a ≡ b
   pub trees : (m : Map) (side : SideName) (a b : List Joining) → IsChangeTree m side a → IsChangeTree m side b → a ≡ b
-  pub prunings : (m : Map) (side : SideName) (thousandths : ℕ) (xs ys : List Leaving) (last end : List Rank) (mine yours : Rank → Rank)
-      → IsPruning m side thousandths xs last mine → IsPruning m side thousandths ys end yours → (xs ≡ ys) × (last ≡ end) × (mine ≡ yours)
+  pub prunings : (m : Map) (side : SideName) (thousandths : ℕ) (xs ys : List Leaving) (a b : List RegionSize) → IsMap m
+      → ArePrunedRegions m side thousandths xs a → ArePrunedRegions m side thousandths ys b → (xs ≡ ys) × (a ≡ b)
   pub roots : (m : Map) (side : SideName) (p r s : Rank) → IsRoot m side p r → IsRoot m side p s → r ≡ s
   pub saddles : (m : Map) (side : SideName) (a b s t : Rank) → IsSaddle m side a b s → IsSaddle m side a b t → s ≡ t
   pub certificates : (m : Map) (side : SideName) (a b : Pos) (saddle : Option Rank) (c d : Certificate) → IsShownCertificate m side a b saddle c → IsShownCertificate m side a b saddle d → c ≡ d
-  pub fractions : (n : ℤ) (d : ℕ) (a : ℤ) (b : ℕ) (c : ℤ) (e : ℕ) → 0 < d → IsFraction n d a b → IsFraction n d c e → (a ≡ c) × (b ≡ e)
+  pub notations : (m : Map) (n : Notation) (a b : Option Frac) → IsMap m → IsNotationValue m n a → IsNotationValue m n b → AreSameValues a b
+  pub parameters : (m : Map) (p : Parameter) (a b : Option Frac) → IsMap m → IsParameterValue m p a → IsParameterValue m p b → AreSameValues a b
 
 module _ (one : Determine) (s : State) (number : ℕ) (a b : Reply) (s' s'' : State) (whole : IsState s) where
   outcome-one : (outcome : Result Map EditError) → IsOutcomeAnswer s number outcome a s' → IsOutcomeAnswer s number outcome b s'' → Agrees a b s' s''
@@ -96,9 +102,8 @@ module _ (one : Determine) (s : State) (number : ℕ) (a b : Reply) (s' s'' : St
 
   regions-one : (side : SideName) → IsRegionsAnswer s side a s' → IsRegionsAnswer s side b s'' → Agrees a b s' s''
   regions-one side x y =
-      let same : x.are.roots ≡ y.are.roots = one.regions s.map side x.are.roots y.are.roots whole.map x.are.regions y.are.regions in
-      let lists : x.extents ≡ y.extents = x.are.are ∙ ap (λ roots. map (extent_of s.map roots) (pits_of roots)) same ∙ sym y.are.are in
-      reports-same s s' s'' _ _ a b (ap (λ extents. accepted_with (extents_text side s.map.size extents)) lists) x.answer y.answer
+      let same : x.regions ≡ y.regions = one.regions s.map side x.regions y.regions whole.map x.are y.are in
+      reports-same s s' s'' _ _ a b (ap (λ regions. accepted_with (regions_text side s.map.size regions)) same) x.answer y.answer
 
   root-one : (side : SideName) (at : Pos) → TellsRoot s side at a s' → TellsRoot s side at b s'' → Agrees a b s' s''
   root-one side at x y =
@@ -132,25 +137,20 @@ module _ (one : Determine) (s : State) (number : ℕ) (a b : Reply) (s' s'' : St
 
   prune-one : (side : SideName) (thousandths : ℕ) → IsPruneAnswer s side thousandths a s' → IsPruneAnswer s side thousandths b s'' → Agrees a b s' s''
   prune-one side thousandths x y =
-      let p = x.tells in
-      let q = y.tells in
-      let same = one.prunings s.map side thousandths p.steps q.steps p.last q.last p.owner q.owner p.pruning q.pruning in
-      let roots : p.roots ≡ q.roots = one.regions s.map side p.roots q.roots whole.map p.regions q.regions in
-      let texts : x.text ≡ y.text = p.text_is ∙ pruned-text side thousandths s.map p.steps q.steps p.last q.last p.owner q.owner p.roots q.roots same.0 same.1 same.2 roots ∙ sym q.text_is in
-      reports-same s s' s'' _ _ a b (ap (λ text. accepted_with text) texts) x.answer y.answer
-
-  value_laws : ValueLaws
-  value_laws = record { regions = one.regions; prunings = one.prunings; fractions = one.fractions }
+      let same = one.prunings s.map side thousandths x.steps y.steps x.kept y.kept whole.map x.are y.are in
+      reports-same s s' s'' _ _ a b
+      (ap (λ steps. accepted_with (prune_text side thousandths s.map.size steps x.kept)) same.0 ∙ ap (λ kept. accepted_with (prune_text side thousandths s.map.size y.steps kept)) same.1)
+      x.answer y.answer
 
   param-one : (name : List ℕ) (height : Option ℤ) (p : Result Parameter NotationError) → IsNamedAnswer s number name height p a s' → IsNamedAnswer s number name height p b s'' → Agrees a b s' s''
   param-one name height (Ok p) x y =
-      let same = parameter_value-one value_laws s.map whole.map p x.value y.value x.is y.is in
+      let same = one.parameters s.map p x.value y.value whole.map x.is y.is in
       reports-same s s' s'' _ _ a b (ap (λ text. accepted_with (codes "param " ++ name ++ height_text height ++ 32 ∷ [] ++ text ++ 10 ∷ [])) (same_text x.value y.value same)) x.answer y.answer
   param-one name height (Err error) x y = reports-one s s' s'' _ a b x y
 
   feature-one : (word : List ℕ) (n : Result Notation NotationError) → IsNotationAnswer s number word n a s' → IsNotationAnswer s number word n b s'' → Agrees a b s' s''
   feature-one word (Ok n) x y =
-      let same = notation_value-one value_laws s.map whole.map n x.value y.value x.is y.is in
+      let same = one.notations s.map n x.value y.value whole.map x.is y.is in
       reports-same s s' s'' _ _ a b (ap (λ text. accepted_with (codes "feature " ++ word ++ 32 ∷ [] ++ text ++ 10 ∷ [])) (same_text x.value y.value same)) x.answer y.answer
   feature-one word (Err error) x y = reports-one s s' s'' _ a b x y
 

@@ -6,8 +6,10 @@ use Rattle.hd_edit.specs.declared.edit.Edit.{Edit}
 use Rattle.hd_edit.specs.declared.edit.EditError.{EditError}
 use Rattle.hd_edit.specs.declared.edit.EditError.TheVariants.{Memory, Outside, HeightRange, EmptyRect, NoElement}
 use Rattle.hd_edit.specs.Board.{Applies, IsEdited}
-use Rattle.hd_engine.specs.Edits.{IsEditAnswer, edit_text, edited_state}
-use Rattle.hd_engine.specs.Reply.{Reply, accepted_with, ok_line, refused_for}
+use Rattle.hd_report.specs.Edits.{edit_text}
+use Rattle.hd_report.specs.Lines.{ok_line}
+use Rattle.hd_engine.specs.Edits.{IsEditAnswer, edited_state}
+use Rattle.hd_engine.specs.Reply.{Reply, accepted_with, refused_for}
 use Rattle.hd_engine.specs.State.{State}
 
 -- what is told of a refusal that is no want of memory
@@ -33,8 +35,3 @@ edit_refused s number edit error new reply after unlike applies is state =
 pub if_both : {T E : Type 0} (r : Result T E) {P Q R : T → Type 0} → IfOk r P → IfOk r Q → ((x : T) → P x → Q x → R x) → IfOk r R
 if_both (Ok x) p q f = f x p q
 if_both (Err e) p q f = tt
-
--- and from one
-pub if_ok : {T E : Type 0} (r : Result T E) {P R : T → Type 0} → IfOk r P → ((x : T) → P x → R x) → IfOk r R
-if_ok (Ok x) p f = f x p
-if_ok (Err e) p f = tt

@@ -1,26 +1,8 @@
-pub mod Pits
-pub mod Roots
-pub mod PitLows
-pub mod TreePoints
-pub mod EditAnswers
-pub mod Kept
-pub mod Makes
-pub mod SaddleAnswers
-pub mod StopCounts
-pub mod PitSaddles
-pub mod ValuesDetermined
+mod EditAnswers
+mod Kept
+mod Makes
+mod NamedSums
+mod SaddleAnswers
 pub mod Determined
-pub mod FileForms
-pub mod Presences
-pub mod FeaturePoints
-pub mod Tallying
-pub mod NamedSums
-pub mod FeatureLists
-pub mod FeatureNeeds
-pub mod Walks
-pub mod Spans
-pub mod PrunedPits
-pub mod OwnedPoints
-pub mod LowerRanks
-pub mod OwnerTables
-pub mod TextRuns
+mod FileForms
+mod Positions

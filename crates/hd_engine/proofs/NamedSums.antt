@@ -5,7 +5,7 @@ use Rattle.std.specs.Str.{bytes_eq}
 use Rattle.hd_feature.specs.declared.notation.NotationError.{NotationError}
 use Rattle.hd_feature.specs.declared.notation.Parameter.{Parameter}
 use Rattle.hd_feature.specs.Parameters.{AtHeight, Meaning, Plain, Row, given, named_by, names, parameter_of}
-use Rattle.hd_engine.specs.Sums.{IsSumOfMeans}
+use Rattle.hd_survey.specs.Sums.{IsSumOfMeans}
 
 -- a meaning whose sums are of means
 abbrev IsFit : Meaning → Type 0

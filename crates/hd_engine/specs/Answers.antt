@@ -7,7 +7,7 @@ use Rattle.hd_script.specs.declared.command.LineError.{LineError}
 use Rattle.hd_script.specs.Line.{script_line}
 use Rattle.hd_engine.specs.Edits.{IsEditAnswer, IsUndoAnswer}
 use Rattle.hd_engine.specs.Elements.{IsElementAnswer, IsElementsAnswer}
-use Rattle.hd_engine.specs.Forms.{form_text}
+use Rattle.hd_report.specs.Forms.{form_text}
 use Rattle.hd_engine.specs.Info.{IsInfoAnswer}
 use Rattle.hd_engine.specs.Prunings.{IsPruneAnswer}
 use Rattle.hd_engine.specs.Regions.{IsRegionsAnswer, IsLabelAnswer}

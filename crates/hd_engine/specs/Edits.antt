@@ -1,21 +1,12 @@
 -- The answers to edits and to undo.
-use Rattle.std.specs.Prelude.{◌≤◌, ◌<◌, ◌++◌, ◌⊎◌, ℕ, List, [], codes, decimal, length, Result, Ok, Err}
+use Rattle.std.specs.Prelude.{◌≤◌, ◌<◌, ◌⊎◌, ℕ, length, Result, Ok, Err}
 use Rattle.hd_map.specs.Map.{Map}
 use Rattle.hd_edit.specs.declared.edit.Edit.{Edit}
 use Rattle.hd_edit.specs.declared.edit.EditError.{EditError}
-use Rattle.hd_edit.specs.declared.edit.EditError.TheVariants.{Memory, Outside, HeightRange, EmptyRect, NoElement}
 use Rattle.hd_edit.specs.Board.{IsEdited, kept_after, map_before, earlier_before}
-use Rattle.hd_engine.specs.Place.{place_text, outside_text}
+use Rattle.hd_report.specs.Edits.{edit_text, kept_text}
 use Rattle.hd_engine.specs.Reply.{Reply, Becomes, Refuses}
 use Rattle.hd_engine.specs.State.{State}
-
--- why an edit is refused; want of memory has no text
-abbrev pub edit_text : EditError → List ℕ
-edit_text Memory = []
-edit_text (Outside at) = outside_text at
-edit_text (HeightRange at) = codes "height out of range at " ++ place_text at
-edit_text EmptyRect = codes "empty rectangle"
-edit_text NoElement = codes "no element of this name"
 
 -- the state after an accepted edit
 abbrev pub edited_state : State → Map → State
@@ -32,10 +23,6 @@ pub record IsEditAnswer (s : State) (number : ℕ) (edit : Edit) (reply : Reply)
   pub edited : IsEdited s.elements s.map edit outcome
   pub answer : IsOutcomeAnswer s number outcome reply after
 
--- `only K edits kept`
-abbrev pub kept_text : List Map → List ℕ
-kept_text earlier = codes "only " ++ decimal (length earlier) ++ codes " edits kept"
-
 -- the state before the last n edits
 abbrev pub undone_state : State → ℕ → State
 undone_state s n = record s { map = map_before n s.earlier s.map; earlier = earlier_before n s.earlier }
@@ -44,4 +31,4 @@ undone_state s n = record s { map = map_before n s.earlier s.map; earlier = earl
 abbrev pub IsUndoAnswer : State → ℕ → ℕ → Reply → State → Type 0
 IsUndoAnswer s number n reply after =
     ((n ≤ length s.earlier) × Becomes number (undone_state s n) after reply)
-    ⊎ ((length s.earlier < n) × Refuses s number (kept_text s.earlier) reply after)
+    ⊎ ((length s.earlier < n) × Refuses s number (kept_text (length s.earlier)) reply after)

@@ -1,19 +1,11 @@
 -- The answers on elements.
-use Rattle.std.specs.Prelude.{◌++◌, ℕ, List, [], ◌∷◌, length, map, codes, decimal, Result, Ok, Err}
-use Rattle.std.specs.List.{flat_map}
+use Rattle.std.specs.Prelude.{ℕ, map, Result, Ok, Err}
 use Rattle.hd_morph.specs.declared.errors.ElementError.{ElementError}
-use Rattle.hd_morph.specs.declared.errors.ElementError.TheVariants.{EvenSize, TooWide, NoOrigin}
 use Rattle.hd_morph.specs.Element.{ElementTable, MakesElement}
-use Rattle.hd_edit.specs.declared.elements.ElementLine.{ElementLine}
 use Rattle.hd_edit.specs.Elements.{elements_with, line_of}
+use Rattle.hd_report.specs.Elements.{element_text, elements_text}
 use Rattle.hd_engine.specs.Reply.{Reply, Becomes, Refuses, Reports, accepted_with}
 use Rattle.hd_engine.specs.State.{State}
-
--- why a table makes no element
-abbrev pub element_text : ElementError → List ℕ
-element_text EvenSize = codes "element size is even"
-element_text TooWide = codes "element is wider than 15"
-element_text NoOrigin = codes "element has no origin"
 
 -- the state with an element: in place of that of its name, or last
 abbrev pub defined_state : State → ElementTable → State
@@ -29,14 +21,6 @@ pub record IsElementAnswer (s : State) (number : ℕ) (table : ElementTable) (re
   pub made : Result ElementTable ElementError
   pub makes : MakesElement table made
   pub answer : IsMadeAnswer s number made reply after
-
--- `element NAME W H`
-abbrev pub element_line : ElementLine → List ℕ
-element_line line = codes "element " ++ line.name ++ 32 ∷ [] ++ decimal line.width ++ 32 ∷ [] ++ decimal line.height ++ 10 ∷ []
-
--- how many elements there are, and a line for each
-abbrev pub elements_text : List ElementLine → List ℕ
-elements_text lines = codes "elements " ++ decimal (length lines) ++ 10 ∷ [] ++ flat_map element_line lines
 
 -- the elements are listed
 abbrev pub IsElementsAnswer : State → Reply → State → Type 0

@@ -1,5 +1,6 @@
 -- What a line is answered, and what it leaves of the state.
-use Rattle.std.specs.Prelude.{◌≡◌, ◌++◌, ℕ, Bool, true, false, List, [], ◌∷◌, codes, decimal}
+use Rattle.std.specs.Prelude.{◌≡◌, ℕ, Bool, true, false, List}
+use Rattle.hd_report.specs.Lines.{ok_line, refused_line}
 use Rattle.hd_engine.specs.declared.answer.Answer.{Answer}
 use Rattle.hd_engine.specs.State.{State}
 
@@ -10,14 +11,6 @@ pub record Reply : Type 0 where
 
 abbrev pub reply_of : Answer → Reply
 reply_of answer = record { accepted = answer.accepted; text = answer.text }
-
--- `line N ok`
-abbrev pub ok_line : ℕ → List ℕ
-ok_line number = codes "line " ++ decimal number ++ codes " ok" ++ 10 ∷ []
-
--- `line N refused: TEXT`
-abbrev pub refused_line : ℕ → List ℕ → List ℕ
-refused_line number text = codes "line " ++ decimal number ++ codes " refused: " ++ text ++ 10 ∷ []
 
 -- the line is accepted with this text
 abbrev pub accepted_with : List ℕ → Reply

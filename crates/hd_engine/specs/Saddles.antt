@@ -1,5 +1,5 @@
 -- The printed certificate of the saddle of two points' pits.
-use Rattle.std.specs.Prelude.{◌≡◌, ◌⊎◌, ℕ, true, List, Option, Some, codes, slice_get}
+use Rattle.std.specs.Prelude.{◌≡◌, ◌⊎◌, ℕ, Option}
 use Rattle.hd_map.specs.declared.types.Pos.{Pos}
 use Rattle.hd_map.specs.declared.types.Rank.{Rank}
 use Rattle.hd_map.specs.declared.types.SideName.{SideName}
@@ -10,9 +10,7 @@ use Rattle.hd_check.specs.declared.types.Certificate.{Certificate}
 use Rattle.hd_check.specs.Rules.{IsRight}
 use Rattle.hd_check.specs.Text.{certificate_text}
 use Rattle.hd_cert.specs.Shown.{IsShownCertificate}
-use Rattle.hd_graph.specs.declared.line.Stop.{Stop}
-use Rattle.hd_engine.specs.Place.{outside_text}
-use Rattle.hd_engine.specs.Regions.{not_present_text}
+use Rattle.hd_report.specs.Points.{not_present_text, one_region_text, outside_text}
 use Rattle.hd_engine.specs.Reply.{Reply, accepted_with, refused_for}
 use Rattle.hd_engine.specs.State.{State}
 
@@ -34,21 +32,11 @@ pub record ShowsSaddle (m : Map) (side : SideName) (a b : Pos) (reply : Reply) :
   pub shown : IsShownCertificate m side from to saddle certificate
   pub printed : reply ≡ accepted_with (certificate_text certificate)
 
--- the pit stands at this place of the line
-pub record IsPlaceOf (line : List Stop) (pit : Rank) (place : ℕ) : Type 0 where
-  pub stop : Stop
-  pub at_place : slice_get line place ≡ Some stop
-  pub low : stop.low ≡ pit
-  pub is_pit : stop.pit ≡ true
-
 -- one pit is that of both points
 pub record IsOneRegion (m : Map) (side : SideName) (a b : Pos) : Type 0 where
   pub pit : Rank
   pub first : IsRoot m side (rank m a) pit
   pub second : IsRoot m side (rank m b) pit
-
-abbrev pub one_region_text : List ℕ
-one_region_text = codes "both points are in one region"
 
 -- two present points in one region are refused; else their pits' saddle is shown
 abbrev pub IsPairReply : Map → ℕ → SideName → Pos → Pos → Reply → Type 0

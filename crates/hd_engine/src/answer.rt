@@ -1,9 +1,10 @@
 // The answer to a line.
 ghost use Rattle.std.specs.Prelude.{◌≡◌, IfOk};
-ghost use Rattle.hd_engine.specs.Reply.{accepted_with, ok_line, refused_for, reply_of};
+ghost use Rattle.hd_report.specs.Lines.{ok_line};
+ghost use Rattle.hd_engine.specs.Reply.{accepted_with, refused_for, reply_of};
 
 use hd_base::{List, Memory};
-use hd_num::{push_text, push_unsigned};
+use hd_report::{ok_line, refused_line};
 use std::alloc::Global;
 
 /// The answer to a line of a script.
@@ -30,10 +31,7 @@ impl Answer {
     pub fn ok(alloc: Global, number: u64) -> Result<Answer, Memory>
         ensures { IfOk result (λ answer. reply_of answer ≡ accepted_with (ok_line number)) }
     {
-        let mut text = List::new(alloc);
-        push_text(&mut text, b"line ".as_slice())?;
-        push_unsigned(&mut text, number)?;
-        push_text(&mut text, b" ok\n".as_slice())?;
+        let text = ok_line(alloc, number)?;
         Ok(Answer::with_text(text))
     }
 
@@ -41,12 +39,7 @@ impl Answer {
     pub fn refused(alloc: Global, number: u64, cause: &[u8]) -> Result<Answer, Memory>
         ensures { IfOk result (λ answer. reply_of answer ≡ refused_for number cause.now) }
     {
-        let mut text = List::new(alloc);
-        push_text(&mut text, b"line ".as_slice())?;
-        push_unsigned(&mut text, number)?;
-        push_text(&mut text, b" refused: ".as_slice())?;
-        push_text(&mut text, cause)?;
-        push_text(&mut text, b"\n".as_slice())?;
+        let text = refused_line(alloc, number, cause)?;
         Ok(Answer {
             accepted: false,
             text,

@@ -13,22 +13,24 @@ ghost use Rattle.hd_engine.specs.State.{State, IsState, first_state};
 
 use hd_cert::{shown_certificate_is_determined, shown_certificate_is_right};
 use hd_edit::{edit_is_determined, edits_keep_maps, logs_keep_maps, undos_keep_maps};
-use hd_map::{change_tree_is_determined, pruning_is_determined, saddle_is_determined};
-use hd_num::reduced_fraction_is_determined;
-use hd_steep::{regions_are_determined, root_is_determined};
+use hd_map::{change_tree_is_determined, saddle_is_determined};
+use hd_steep::root_is_determined;
+use hd_survey::{
+    pruned_regions_are_determined, region_sizes_are_determined, values_are_determined,
+};
 
 /// A line has one answer on a state, and one state after it.
 pub fn answer_is_determined()
     ensures { (s : State) (number : ℕ) (line : List ℕ) (a b : Reply) (s' s'' : State) → IsState s → IsAnswer s number line a s' → IsAnswer s number line b s'' → (a ≡ b) × (s' ≡ s'') }
 {
     edit_is_determined();
-    regions_are_determined();
     root_is_determined();
+    region_sizes_are_determined();
     change_tree_is_determined();
     saddle_is_determined();
     shown_certificate_is_determined();
-    pruning_is_determined();
-    reduced_fraction_is_determined();
+    pruned_regions_are_determined();
+    values_are_determined();
 }
 
 /// The lines of a script have one answer on a state, and one state after them.

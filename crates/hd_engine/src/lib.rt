@@ -3,27 +3,14 @@
 
 mod answer;
 mod copies;
-mod edits;
-mod elements;
-mod falls;
-mod features;
-mod forms;
-mod info;
 mod laws;
 mod parts;
-mod place;
-mod pruned;
-mod prunings;
-mod regions;
+mod reports;
 mod saddles;
 mod session;
-mod survey;
-mod tally;
 #[cfg(test)]
 mod tests;
 mod texts;
-mod trees;
-mod values;
 
 pub use answer::Answer;
 pub use laws::{

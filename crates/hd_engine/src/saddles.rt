@@ -1,26 +1,21 @@
 // The certificate of the saddle of two points' pits.
-ghost use Rattle.std.specs.Prelude.{◌≡◌, ◌<◌, ◌^◌, length, IfOk, Option as Maybe};
+ghost use Rattle.std.specs.Prelude.{◌≡◌, IfOk, Option as Maybe};
 ghost use Rattle.hd_map.specs.declared.types.Rank.{Rank};
 ghost use Rattle.hd_map.specs.Map.{Present};
-ghost use Rattle.hd_map.specs.Rank.{rank};
-ghost use Rattle.hd_map.specs.Saddle.{SaddleIs};
 ghost use Rattle.hd_check.specs.declared.types.Certificate.{Certificate};
 ghost use Rattle.hd_check.specs.Text.{certificate_text};
 ghost use Rattle.hd_cert.specs.Shown.{AreTwoPits, IsShownCertificate};
-ghost use Rattle.hd_graph.specs.Tells.{IsPitOn};
 ghost use Rattle.hd_engine.specs.Reply.{reply_of};
-ghost use Rattle.hd_engine.specs.Saddles.{IsPairReply, IsPlaceOf, IsSaddleReply};
+ghost use Rattle.hd_engine.specs.Saddles.{IsPairReply, IsSaddleReply};
 
 use crate::Answer;
-use crate::place::outside_cause;
-use crate::regions::not_present_cause;
-use crate::survey::flood_line;
 use hd_base::{List, Memory};
 use hd_cert::certify;
 use hd_check::write_certificate;
-use hd_graph::Stop;
-use hd_map::{Heights, Pos, Rank, Side, contains, is_present, rank_of};
+use hd_map::{Heights, Pos, Side, contains, is_present, rank_of};
+use hd_report::{not_present_cause, one_region_cause, outside_cause};
 use hd_steep::root;
+use hd_survey::saddle_between;
 use std::alloc::Global;
 
 /// The answer to `saddle`: the certificate of the pits of two points' regions on a side. A position
@@ -72,7 +67,7 @@ fn show_pair<S: Side, G: Heights>(
     let from = root::<S, G>(alloc, grid, a);
     let to = root::<S, G>(alloc, grid, b);
     if from == to {
-        return Answer::refused(alloc, number, b"both points are in one region".as_slice());
+        return Answer::refused(alloc, number, one_region_cause());
     }
     let text = tell_saddle::<S, G>(alloc, grid, from, to)?;
     Ok(Answer::with_text(text))
@@ -89,41 +84,9 @@ fn tell_saddle<S: Side, G: Heights>(
     ensures { IfOk result (λ text. (saddle : Maybe Rank) × (c : Certificate) × IsShownCertificate (G.map grid.now) S.NAME from to saddle c
         × (text ≡ certificate_text c)) }
 {
-    let saddle = saddle_between::<S, G>(alloc, grid, from, to)?;
+    let saddle = saddle_between::<S, G>(alloc, grid, rank_of(grid, from), rank_of(grid, to))?;
     let certificate = certify::<S, G>(alloc, grid, from, to, saddle)?;
     let mut text = List::new(alloc);
     write_certificate(&mut text, &certificate)?;
     Ok(text)
-}
-
-// The saddle of two pits.
-fn saddle_between<S: Side, G: Heights>(
-    alloc: Global,
-    grid: &G,
-    from: Pos,
-    to: Pos,
-) -> Result<Option<Rank>, Memory>
-    requires { AreTwoPits (G.map grid.now) S.NAME from to }
-    ensures { IfOk result (SaddleIs (G.map grid.now) S.NAME (rank (G.map grid.now) from) (rank (G.map grid.now) to)) }
-{
-    let line = flood_line::<S, G>(alloc, grid)?;
-    let first = place_on(line.stops(), rank_of(grid, from));
-    let second = place_on(line.stops(), rank_of(grid, to));
-    Ok(line.between(first.min(second), first.max(second)))
-}
-
-// The place of a pit on a flood line.
-fn place_on(stops: &[Stop], pit: Rank) -> u32
-    requires few { length stops.now < 2 ^ 32 }
-    requires there { IsPitOn stops.now pit }
-    ensures { IsPlaceOf stops.now pit result }
-{
-    let mut place = 0u32;
-    'stops: for stop in stops {
-        if stop.pit && stop.low == pit {
-            return place;
-        }
-        place += 1;
-    }
-    unreachable!()
 }

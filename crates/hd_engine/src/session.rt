@@ -3,10 +3,11 @@ ghost use Rattle.std.specs.Prelude.{◌≡◌, ◌≤◌, ◌<◌, ◌+◌, [], 
 ghost use Rattle.hd_map.specs.Map.{Present};
 ghost use Rattle.hd_script.specs.Whole.{IsTable, IsWhole};
 ghost use Rattle.hd_sdf_read.specs.FileOf.{file_of};
+ghost use Rattle.hd_report.specs.Edits.{edit_text};
+ghost use Rattle.hd_report.specs.Forms.{form_text};
 ghost use Rattle.hd_engine.specs.Answers.{IsAnswer, IsCommandAnswer};
-ghost use Rattle.hd_engine.specs.Edits.{edit_text, IsEditAnswer, IsUndoAnswer};
+ghost use Rattle.hd_engine.specs.Edits.{IsEditAnswer, IsUndoAnswer};
 ghost use Rattle.hd_engine.specs.Elements.{IsElementAnswer, IsElementsAnswer};
-ghost use Rattle.hd_engine.specs.Forms.{form_text};
 ghost use Rattle.hd_engine.specs.Info.{IsInfoAnswer};
 ghost use Rattle.hd_engine.specs.Prunings.{IsPruneAnswer};
 ghost use Rattle.hd_engine.specs.Regions.{IsLabelAnswer, IsRegionsAnswer, TellsRoot};
@@ -17,24 +18,23 @@ ghost use Rattle.hd_engine.specs.Trees.{IsTreeAnswer};
 ghost use Rattle.hd_engine.specs.Values.{IsFeatureAnswer, IsParamAnswer};
 
 use crate::Answer;
-use crate::edits::{edit_cause, kept_cause};
-use crate::elements::{element_cause, list_elements};
-use crate::forms::form_cause;
-use crate::info::tell_info;
 use crate::parts::{joined, parted};
-use crate::place::outside_cause;
-use crate::prunings::list_pruning;
-use crate::regions::{list_regions, not_present_cause, tell_label};
+use crate::reports::{
+    report_feature, report_info, report_label, report_parameter, report_pruning, report_regions,
+    report_tree,
+};
 use crate::saddles::show_saddle;
 use crate::texts::Texts;
-use crate::trees::list_tree;
-use crate::values::{notation_cause, tell_feature, tell_parameter};
 use hd_base::{List, Memory};
 use hd_edit::{Board, Edit, EditError};
 use hd_feature::{named, read_notation};
 use hd_map::{Down, Heights, Pos, Side, SideName, Surface, Up, contains, is_present};
 use hd_morph::Element;
 use hd_num::Percent;
+use hd_report::{
+    edit_cause, element_cause, form_cause, kept_cause, list_elements, not_present_cause,
+    notation_cause, outside_cause,
+};
 use hd_script::{Command, LineError, read_line};
 use hd_sdf_read::SdfFile;
 use std::alloc::Global;
@@ -241,7 +241,7 @@ impl Session {
     fn info(&self) -> Result<Answer, Memory>
         ensures { IfOk result (λ a. IsInfoAnswer self.now.state (reply_of a) self.now.state) }
     {
-        let text = tell_info(self.alloc, &self.texts, self.board.grid())?;
+        let text = report_info(self.alloc, &self.texts, self.board.grid())?;
         Ok(Answer::with_text(text))
     }
 
@@ -249,7 +249,7 @@ impl Session {
     fn list<S: Side>(&self) -> Result<Answer, Memory>
         ensures { IfOk result (λ a. IsRegionsAnswer self.now.state S.NAME (reply_of a) self.now.state) }
     {
-        let text = list_regions::<S, Surface>(self.alloc, self.board.grid())?;
+        let text = report_regions::<S, Surface>(self.alloc, self.board.grid())?;
         Ok(Answer::with_text(text))
     }
 
@@ -277,7 +277,7 @@ impl Session {
         requires { Present self.now.state.map at }
         ensures { IfOk result (λ a. TellsRoot self.now.state S.NAME at (reply_of a) self.now.state) }
     {
-        let text = tell_label::<S, Surface>(self.alloc, self.board.grid(), at)?;
+        let text = report_label::<S, Surface>(self.alloc, self.board.grid(), at)?;
         Ok(Answer::with_text(text))
     }
 
@@ -296,7 +296,7 @@ impl Session {
     fn tree<S: Side>(&self) -> Result<Answer, Memory>
         ensures { IfOk result (λ a. IsTreeAnswer self.now.state S.NAME (reply_of a) self.now.state) }
     {
-        let text = list_tree::<S, Surface>(self.alloc, self.board.grid())?;
+        let text = report_tree::<S, Surface>(self.alloc, self.board.grid())?;
         Ok(Answer::with_text(text))
     }
 
@@ -314,7 +314,7 @@ impl Session {
     fn tell_pruning<S: Side>(&self, percent: Percent) -> Result<Answer, Memory>
         ensures { IfOk result (λ a. IsPruneAnswer self.now.state S.NAME percent.thousandths (reply_of a) self.now.state) }
     {
-        let text = list_pruning::<S, Surface>(self.alloc, self.board.grid(), percent)?;
+        let text = report_pruning::<S, Surface>(self.alloc, self.board.grid(), percent)?;
         Ok(Answer::with_text(text))
     }
 
@@ -324,7 +324,13 @@ impl Session {
     {
         match named(name, height) {
             Ok(parameter) => {
-                let text = tell_parameter(self.alloc, self.board.grid(), name, height, &parameter)?;
+                let text = report_parameter(
+                    self.alloc,
+                    self.board.grid(),
+                    name,
+                    height,
+                    &parameter,
+                )?;
                 Ok(Answer::with_text(text))
             }
             Err(error) => {
@@ -340,7 +346,7 @@ impl Session {
     {
         match read_notation(word) {
             Ok(notation) => {
-                let text = tell_feature(self.alloc, self.board.grid(), word, &notation)?;
+                let text = report_feature(self.alloc, self.board.grid(), word, &notation)?;
                 Ok(Answer::with_text(text))
             }
             Err(error) => {

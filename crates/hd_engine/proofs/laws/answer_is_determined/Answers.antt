@@ -5,10 +5,11 @@ pub returns : goal.returns
 returns c = λ s number line a b s' s'' whole x y.
     answer-one (record {
       edits = c.edit_is_determined.ensures;
-      regions = c.regions_are_determined.ensures;
+      regions = c.region_sizes_are_determined.ensures;
       trees = c.change_tree_is_determined.ensures;
-      fractions = c.reduced_fraction_is_determined.ensures;
-      prunings = c.pruning_is_determined.ensures;
+      prunings = c.pruned_regions_are_determined.ensures;
+      notations = c.values_are_determined.ensures.notations;
+      parameters = c.values_are_determined.ensures.parameters;
       roots = c.root_is_determined.ensures;
       saddles = c.saddle_is_determined.ensures;
       certificates = c.shown_certificate_is_determined.ensures;

@@ -4,8 +4,8 @@ use Rattle.hd_map.specs.Rank.{rank}
 use Rattle.hd_map.specs.Region.{IsRoot}
 use Rattle.hd_map.proofs.Nexts.{root-is_pit}
 use Rattle.hd_engine.specs.Reply.{accepted_with, refused_for}
-use Rattle.hd_engine.proofs.EditAnswers.{if_ok}
-use Rattle.hd_engine.proofs.PitSaddles.{found_same, found_apart}
+use Rattle.std.proofs.lemmas.Result.{IfOk-weaker}
+use Rattle.hd_engine.proofs.Positions.{found_same, found_apart}
 use Rattle.hd_engine.proofs.saddles.show_pair.Goals as goal
 
 pub returns-then-eq : goal.returns-then-eq
@@ -14,7 +14,9 @@ returns-then-eq g c =
     let side = g.S.Side.NAME in
     let same : c.root-from.result ≡ c.root-to.result = found_same c.root-from.result c.root-to.result c.if-eq.ensures in
     let second : IsRoot m side (rank m c.args.b) (rank m c.root-from.result) = subst (λ (p : Pos). IsRoot m side (rank m c.args.b) (rank m p)) (sym same) c.root-to.ensures.root in
-    if_ok c.refused.result c.refused.ensures (λ r is. inl (record { pit = rank m c.root-from.result; first = c.root-from.ensures.root; second = second }, is ∙ ap (λ t. refused_for c.args.number t) c.as_slice.ensures))
+    IfOk-weaker c.refused.result _ _
+    (λ r is. inl (record { pit = rank m c.root-from.result; first = c.root-from.ensures.root; second = second }, is ∙ ap (λ t. refused_for c.args.number t) c.one_region_cause.ensures))
+    c.refused.ensures
 
 pub tell_saddle-requires : goal.tell_saddle-requires
 tell_saddle-requires g c =

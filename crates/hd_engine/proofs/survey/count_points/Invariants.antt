@@ -1,9 +1,0 @@
-use Rattle.std.proofs.Common.{◌≡◌, ◌<◌, ℕ, length, get_or, take}
-use Rattle.hd_engine.specs.Regions.{points_of}
-use Rattle.hd_engine.proofs.survey.count_points.Given as goal
-
-abbrev pub invariant-roots : goal.invariant-roots
-invariant-roots l = record {
-  whole : length l.points.items ≡ length l.roots;
-  counted : (k : ℕ) → k < length l.roots → get_or l.points.items k 0 ≡ points_of (take l.root-index l.roots) k;
-}

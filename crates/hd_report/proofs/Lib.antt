@@ -1,0 +1,2 @@
+mod TextRuns
+mod ListedTexts

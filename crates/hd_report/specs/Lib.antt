@@ -1,0 +1,12 @@
+pub mod Place
+pub mod Points
+pub mod Lines
+pub mod Forms
+pub mod Edits
+pub mod Elements
+pub mod Regions
+pub mod Trees
+pub mod Prunings
+pub mod Info
+pub mod Notations
+pub mod Values

@@ -1,0 +1,23 @@
+-- The lines of the values of parameters and notations.
+use Rattle.std.specs.Prelude.{◌++◌, ℕ, ℤ, List, [], ◌∷◌, Option, Some, None, codes}
+use Rattle.std.specs.Fmt.{signed_decimal}
+use Rattle.hd_num.specs.declared.frac.Frac.{Frac}
+use Rattle.hd_num.specs.Frac.{frac_text}
+
+-- a fraction or `none`
+abbrev pub value_text : Option Frac → List ℕ
+value_text None = codes "none"
+value_text (Some f) = frac_text f.num f.den
+
+-- a height with a space before it, or nothing
+abbrev pub height_text : Option ℤ → List ℕ
+height_text None = []
+height_text (Some c) = 32 ∷ [] ++ signed_decimal c
+
+-- `param NAME VALUE` or `param NAME C VALUE`
+abbrev pub param_line : List ℕ → Option ℤ → Option Frac → List ℕ
+param_line name height value = codes "param " ++ name ++ height_text height ++ 32 ∷ [] ++ value_text value ++ 10 ∷ []
+
+-- `feature WORD VALUE`
+abbrev pub feature_line : List ℕ → Option Frac → List ℕ
+feature_line word value = codes "feature " ++ word ++ 32 ∷ [] ++ value_text value ++ 10 ∷ []

@@ -1,0 +1,71 @@
+-- The regions of a side after pruning, by what feature parameters take of them.
+use Rattle.std.specs.Prelude.{◌≡◌, ◌<◌, ◌-ℤ◌, ℕ, ℤ, pos, List, length, map, Option, Some, None, slice_index_or}
+use Rattle.std.specs.Option.{option_map}
+use Rattle.hd_feature.specs.declared.region.Region.{Region}
+use Rattle.hd_feature.specs.HeightsAlone.{height_alone}
+use Rattle.hd_map.specs.declared.presence.HeightRange.{HeightRange}
+use Rattle.hd_map.specs.declared.types.Rank.{Rank}
+use Rattle.hd_map.specs.declared.types.SideName.{SideName}
+use Rattle.hd_map.specs.declared.types.SideName.TheVariants.{Dales, Hills}
+use Rattle.hd_map.specs.Map.{Map}
+use Rattle.hd_map.specs.NearestSaddle.{local_height}
+use Rattle.hd_map.specs.Presence.{present_heights, range_of}
+use Rattle.hd_map.specs.Pruning.{Leaving, IsPruning}
+use Rattle.hd_map.specs.Region.{AreRegions}
+use Rattle.hd_prune.specs.declared.step.Kept.{Kept}
+use Rattle.hd_prune.specs.Kept.{AreKept}
+use Rattle.hd_survey.specs.declared.tally.Tally.{Tally}
+use Rattle.hd_survey.specs.Owned.{owned_points}
+use Rattle.hd_survey.specs.Tallies.{no_tally, tally_of}
+
+-- how far a pit is from the farthest height: the greatest height less that of the pit, for hills the height of
+-- the peak less the least height
+abbrev pub whole_height : SideName → Option HeightRange → Rank → ℤ
+whole_height side None p = pos 0
+whole_height Dales (Some range) p = range.greatest -ℤ p.height
+whole_height Hills (Some range) p = p.height -ℤ range.least
+
+-- the local height at the nearest saddle, and without one the whole height
+abbrev pub lpvh : SideName → Option HeightRange → Rank → Option Rank → ℤ
+lpvh side range p (Some s) = pos (local_height p s)
+lpvh side range p None = whole_height side range p
+
+-- the region of a kept pit with this tally, on a map with this range of heights
+abbrev pub feature_with : SideName → Option HeightRange → Kept → Tally → Region
+feature_with side range k tally = record {
+  pit = k.pit;
+  lpvh = lpvh side range k.pit k.nearest;
+  points = tally.points;
+  edge_low = option_map {T = HeightRange} {U = ℤ} (λ r. r.least) tally.edge;
+  edge_high = option_map {T = HeightRange} {U = ℤ} (λ r. r.greatest) tally.edge;
+}
+
+-- the region of a kept pit: all points whose roots it owns
+abbrev pub feature_of : Map → SideName → (Rank → Rank) → List (Option ℕ) → Kept → Region
+feature_of m side owner roots k = feature_with side (range_of (present_heights m)) k (tally_of m (owned_points m owner roots k.pit.index))
+
+-- the regions of the kept pits after pruning, in position order
+pub record AreFeatures (m : Map) (side : SideName) (thousandths : ℕ) (features : List Region) : Type 0 where
+  pub roots : List (Option ℕ)
+  pub regions : AreRegions m side roots
+  pub steps : List Leaving
+  pub last : List Rank
+  pub owner : Rank → Rank
+  pub pruning : IsPruning m side thousandths steps last owner
+  pub kept : List Kept
+  pub are_kept : AreKept m side last kept
+  pub are : features ≡ map (feature_of m side owner roots) kept
+
+-- these regions by their pits and local heights alone
+abbrev pub AreHeightsAlone : Map → SideName → ℕ → List Region → Type 0
+AreHeightsAlone m side thousandths list = (features : List Region) × AreFeatures m side thousandths features × (list ≡ map height_alone features)
+
+-- the regions of the first n kept pits, with the tallies of their places
+pub record AreFeaturesWith (side : SideName) (range : Option HeightRange) (kept : List Kept) (tallies : List Tally) (n : ℕ) (list : List Region) : Type 0 where
+  pub whole : length list ≡ n
+  pub each : (i : ℕ) (d : Region) (k : Kept) (t : Tally) → i < n → slice_index_or list i d ≡ feature_with side range (slice_index_or kept i k) (slice_index_or tallies i t)
+
+-- the regions of the first n kept pits by their pits and local heights alone
+pub record AreHeightsWith (side : SideName) (range : Option HeightRange) (kept : List Kept) (n : ℕ) (list : List Region) : Type 0 where
+  pub whole : length list ≡ n
+  pub each : (i : ℕ) (d : Region) (k : Kept) → i < n → slice_index_or list i d ≡ feature_with side range (slice_index_or kept i k) no_tally

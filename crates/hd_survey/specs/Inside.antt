@@ -1,0 +1,14 @@
+-- Steps and joins whose points are points of a grid.
+use Rattle.std.specs.Prelude.{◌<◌, List, All}
+use Rattle.hd_graph.specs.declared.trees.Join.{Join}
+use Rattle.hd_map.specs.declared.types.Size.{Size}
+use Rattle.hd_map.specs.Map.{cell_count}
+use Rattle.hd_prune.specs.declared.step.Step.{Step}
+
+-- the three points of a step are points of a grid of this size
+abbrev pub IsStepOn : Size → Step → Type 0
+IsStepOn size step = (step.pit.index < cell_count size) × (step.saddle.index < cell_count size) × (step.into.index < cell_count size)
+
+-- a saddle and the pits that it joins are points of a grid of this size
+abbrev pub IsJoinOn : Size → Join → Type 0
+IsJoinOn size join = (join.saddle.index < cell_count size) × All (λ part. part.index < cell_count size) join.parts

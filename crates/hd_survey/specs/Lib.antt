@@ -1,0 +1,12 @@
+pub mod Regions
+pub mod Edges
+pub mod Tallies
+pub mod PitGraph
+pub mod Falls
+pub mod Inside
+pub mod Owned
+pub mod Heights
+pub mod Features
+pub mod Sums
+pub mod Values
+pub mod Saddles

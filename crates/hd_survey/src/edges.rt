@@ -1,0 +1,83 @@
+// The edge points of a map, where the roots of its points are known.
+ghost use Rattle.std.specs.Prelude.{◌≡◌, ◌<◌, false, not, length, None, slice_index_or};
+ghost use Rattle.std.specs.List.{list_any};
+ghost use Rattle.std.specs.Option.{is_some};
+ghost use Rattle.hd_map.specs.Map.{InGrid, cell_count};
+ghost use Rattle.hd_survey.specs.Edges.{HaveRoots, at as place_at, beside, edge_height, is_border, is_edge, is_here};
+
+use hd_map::{Heights, Pos, Size, index_of};
+
+/// The height of an edge point in steps, and none of any other point.
+#[inline]
+pub fn edge_height<G: Heights>(grid: &G, roots: &[Option<u32>], at: Pos) -> Option<i64>
+    requires inside { InGrid (G.map grid.now).size at }
+    requires whole { length roots.now ≡ cell_count (G.map grid.now).size }
+    requires present { HaveRoots (G.map grid.now) roots.now }
+    ensures { result ≡ edge_height (G.map grid.now) at }
+{
+    if is_edge(grid, roots, at) {
+        grid.height(at)
+    } else {
+        None
+    }
+}
+
+// Whether a present point is on the border, or has a position beside it where no point is present.
+#[inline]
+fn is_edge<G: Heights>(grid: &G, roots: &[Option<u32>], at: Pos) -> bool
+    requires inside { InGrid (G.map grid.now).size at }
+    requires whole { length roots.now ≡ cell_count (G.map grid.now).size }
+    requires present { HaveRoots (G.map grid.now) roots.now }
+    ensures { result ≡ is_edge (G.map grid.now) at }
+{
+    is_border(grid.size(), at) || has_gap_beside(grid, roots, at)
+}
+
+// Whether a position is on the border of the grid.
+#[inline]
+fn is_border(size: Size, at: Pos) -> bool
+    requires { InGrid size at }
+    ensures { result ≡ is_border size at }
+{
+    at.x == 0 || at.y == 0 || at.x + 1 == size.points || at.y + 1 == size.profiles
+}
+
+// Whether at one of the eight positions beside a position no point is present.
+#[inline]
+fn has_gap_beside<G: Heights>(grid: &G, roots: &[Option<u32>], at: Pos) -> bool
+    requires inside { InGrid (G.map grid.now).size at }
+    requires inner { is_border (G.map grid.now).size at ≡ false }
+    requires whole { length roots.now ≡ cell_count (G.map grid.now).size }
+    requires present { HaveRoots (G.map grid.now) roots.now }
+    ensures { result ≡ list_any (λ q. not (is_here (G.map grid.now) q)) (beside at) }
+{
+    !is_here(grid, roots, at.x - 1, at.y - 1)
+        || !is_here(grid, roots, at.x, at.y - 1)
+        || !is_here(grid, roots, at.x + 1, at.y - 1)
+        || !is_here(grid, roots, at.x - 1, at.y)
+        || !is_here(grid, roots, at.x + 1, at.y)
+        || !is_here(grid, roots, at.x - 1, at.y + 1)
+        || !is_here(grid, roots, at.x, at.y + 1)
+        || !is_here(grid, roots, at.x + 1, at.y + 1)
+}
+
+// Whether a point is present in this column and profile, by its root.
+#[inline]
+fn is_here<G: Heights>(grid: &G, roots: &[Option<u32>], x: u32, y: u32) -> bool
+    requires column { x < (G.map grid.now).size.points }
+    requires profile { y < (G.map grid.now).size.profiles }
+    requires whole { length roots.now ≡ cell_count (G.map grid.now).size }
+    requires present { HaveRoots (G.map grid.now) roots.now }
+    ensures { result ≡ is_here (G.map grid.now) (place_at x y) }
+{
+    has_root(roots, index_of(grid.size(), Pos { x, y }))
+}
+
+// Whether the point of this index has a root.
+#[inline]
+fn has_root(roots: &[Option<u32>], index: u32) -> bool
+    requires { index < length roots.now }
+    ensures { result ≡ is_some (slice_index_or roots.now index None) }
+{
+    roots[index as usize].is_some()
+}

@@ -1,0 +1,118 @@
+// The regions of a side after pruning, by what feature parameters take of them.
+ghost use Rattle.std.specs.Prelude.{◌≡◌, ◌≤◌, ◌^◌, length, All, IfOk, unsigned_abs};
+ghost use Rattle.std.specs.Option.{ForSome};
+ghost use Rattle.hd_map.specs.Presence.{present_heights, range_of};
+ghost use Rattle.hd_survey.specs.Features.{AreFeatures, AreFeaturesWith, AreHeightsAlone, AreHeightsWith, feature_with};
+ghost use Rattle.hd_survey.specs.Heights.{HasHeights, IsHeightRange};
+
+use crate::lpvh::lpvh;
+use crate::owned::owned_tallies;
+use crate::pruned::{cells_of, kept_pits, pruned_pits};
+use crate::tally::{NO_TALLY, Tally};
+use crate::view::SideView;
+use hd_base::{List, Memory};
+use hd_feature::Region;
+use hd_map::{HeightRange, Heights, Side, SideName};
+use hd_num::Percent;
+use hd_prune::Kept;
+use std::alloc::Global;
+
+/// The regions of the kept pits after the pruning of a grid at a percent, in position order, by a view of
+/// one of its sides. The range is that of the heights of the grid. `Memory` comes where the pruning or the
+/// list is refused its memory.
+pub fn features<S: Side, G: Heights, V: SideView<S>>(
+    alloc: Global,
+    grid: &G,
+    view: &V,
+    percent: Percent,
+    range: Option<HeightRange>,
+) -> Result<List<Region>, Memory>
+    requires view { V.map view.now ≡ G.map grid.now }
+    requires range { range ≡ range_of (present_heights (G.map grid.now)) }
+    ensures are { IfOk result (AreFeatures (G.map grid.now) S.NAME percent.thousandths) }
+    ensures points { IfOk result (All (λ r. r.points ≤ 4194304)) }
+    ensures heights { IfOk result (All (λ r. unsigned_abs r.lpvh ≤ 2 ^ 33)) }
+    ensures few { IfOk result (λ list. length list ≤ 4194304) }
+{
+    let pruned = pruned_pits::<S, G, V>(alloc, grid, view, percent, range)?;
+    let tallies = view.tallies()?;
+    let owned = owned_tallies(alloc, cells_of(grid), &pruned, tallies.as_slice())?;
+    list_features(
+        alloc,
+        S::NAME,
+        range,
+        pruned.kept.as_slice(),
+        owned.as_slice(),
+    )
+}
+
+/// The same regions by their pits and local heights alone, as if they had no points: nothing is counted.
+/// `Memory` comes where the kept pits or the list are refused their memory.
+pub fn heights_alone<S: Side, G: Heights>(
+    alloc: Global,
+    grid: &G,
+    percent: Percent,
+    range: Option<HeightRange>,
+) -> Result<List<Region>, Memory>
+    requires { range ≡ range_of (present_heights (G.map grid.now)) }
+    ensures are { IfOk result (AreHeightsAlone (G.map grid.now) S.NAME percent.thousandths) }
+    ensures points { IfOk result (All (λ r. r.points ≤ 4194304)) }
+    ensures heights { IfOk result (All (λ r. unsigned_abs r.lpvh ≤ 2 ^ 33)) }
+    ensures few { IfOk result (λ list. length list ≤ 4194304) }
+{
+    let kept = kept_pits::<S, G>(alloc, grid, percent, range)?;
+    list_heights(alloc, S::NAME, range, kept.as_slice())
+}
+
+// The regions of the kept pits without any points.
+fn list_heights(
+    alloc: Global,
+    side: SideName,
+    range: Option<HeightRange>,
+    kept: &[Kept],
+) -> Result<List<Region>, Memory>
+    requires heights { All HasHeights kept.now }
+    requires range { ForSome range IsHeightRange }
+    ensures { IfOk result (AreHeightsWith side range kept.now (length kept.now)) }
+{
+    let mut list = List::with_capacity(alloc, kept.len())?;
+    'pits: for pit in kept {
+        list.push(feature_with(side, range, *pit, NO_TALLY))?;
+    }
+    Ok(list)
+}
+
+// The regions of the kept pits with these tallies.
+fn list_features(
+    alloc: Global,
+    side: SideName,
+    range: Option<HeightRange>,
+    kept: &[Kept],
+    tallies: &[Tally],
+) -> Result<List<Region>, Memory>
+    requires tallies { length tallies.now ≡ length kept.now }
+    requires heights { All HasHeights kept.now }
+    requires range { ForSome range IsHeightRange }
+    ensures { IfOk result (λ list. AreFeaturesWith side range kept.now tallies.now (length kept.now) list) }
+{
+    let mut list = List::with_capacity(alloc, kept.len())?;
+    'pits: for (place, pit) in kept.iter().enumerate() {
+        list.push(feature_with(side, range, *pit, tallies[place]))?;
+    }
+    Ok(list)
+}
+
+// The region of a kept pit with this tally.
+fn feature_with(side: SideName, range: Option<HeightRange>, kept: Kept, tally: Tally) -> Region
+    requires heights { HasHeights kept }
+    requires range { ForSome range IsHeightRange }
+    ensures { result ≡ feature_with side range kept tally }
+{
+    Region {
+        pit: kept.pit,
+        lpvh: lpvh(side, range, kept.pit, kept.nearest),
+        points: u64::from(tally.points),
+        edge_low: tally.edge.map(|edge| edge.least),
+        edge_high: tally.edge.map(|edge| edge.greatest),
+    }
+}

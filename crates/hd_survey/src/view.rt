@@ -1,0 +1,43 @@
+// A side of a map, by what reports ask of it.
+use crate::tally::Tally;
+use hd_base::{List, Memory};
+use hd_graph::Graph;
+use hd_map::{Pos, RegionSize, Side};
+
+/// A side of a map, by what reports ask of it. Contracts see it as the map.
+pub trait SideView<S: Side> {
+    ghost use Rattle.std.specs.Prelude.{IfOk};
+    ghost use Rattle.hd_map.specs.Map.{IsMap, Map, Present};
+    ghost use Rattle.hd_map.specs.Rank.{rank};
+    ghost use Rattle.hd_map.specs.Region.{IsRoot};
+    ghost use Rattle.hd_survey.specs.PitGraph.{IsPitGraph};
+    ghost use Rattle.hd_survey.specs.Regions.{AreRegionSizes};
+    ghost use Rattle.hd_survey.specs.Tallies.{AreRegionTallies};
+
+    /// The map.
+    ghost map: { Self → Map };
+
+    /// The pit in whose region a present point lies.
+    fn root(&self, at: Pos) -> Pos
+        requires { Present (map self.now) at }
+        ensures present { Present (map self.now) result }
+        ensures root { IsRoot (map self.now) S.NAME (rank (map self.now) at) (rank (map self.now) result) };
+
+    /// The graph of the pits and of the passes between their regions. `Memory` comes where it is
+    /// refused its memory.
+    fn graph(&self) -> Result<Graph<S>, Memory>
+        ensures { IfOk result (IsPitGraph (map self.now) S.NAME) };
+
+    /// The regions with the numbers of their points, in position order of their pits. `Memory` comes
+    /// where the list is refused its memory.
+    fn sizes(&self) -> Result<List<RegionSize>, Memory>
+        ensures { IfOk result (AreRegionSizes (map self.now) S.NAME) };
+
+    /// The tallies of the regions, in position order of their pits. `Memory` comes where the list is
+    /// refused its memory.
+    fn tallies(&self) -> Result<List<Tally>, Memory>
+        ensures { IfOk result (AreRegionTallies (map self.now) S.NAME) };
+
+    /// The map is one within the limits of maps.
+    ghost whole: { (view : Self) → IsMap (map view) };
+}
