@@ -1,24 +1,32 @@
 -- How the program ends, from what its run came to and how its last text is written.
-use Rattle.std.proofs.Common.{◌≡◌, ◌++◌, ℕ, Bool, true, false, List, [], Option, Some, None, Result, Ok, Err, inl, inr, ◌⊎◌, ◌≢◌, refl, sym, ap, ◌∙◌, subst, append-nil, MatchOption, IsTrue}
+use Rattle.std.proofs.Common.{◌≡◌, ◌++◌, ℕ, Bool, true, false, List, [], Option, Some, None, Result, Ok, Err, inl, inr, ◌⊎◌, ◌≢◌, refl, sym, ap, ◌∙◌, subst, append-nil, MatchOption, IsTrue, length}
 use Rattle.std.specs.Io.KnownBytes.{Appends, Keeps}
-use Rattle.std.proofs.KnownBytes.{Appends-trans, Appends-nil, Appends-kept, Keeps-trans}
+use Rattle.std.proofs.KnownBytes.{Appends-trans, Appends-nil, Appends-kept, Keeps-refl, Keeps-trans}
+use Rattle.std.proofs.Math.Seq.{take-length, take-nil}
 use Rattle.hd_base.specs.Told.{AppendsStart}
+use Rattle.hd_base.proofs.Told.{AppendsPart-kept}
+use Rattle.hd_words.specs.declared.demo.Demo.{Demo}
+use Rattle.hd_words.specs.Words.{Request, Demonstrate, form_of, save_name, second_name, surface_name}
+use Rattle.hd_demo.specs.DemoText.{IsTheDemoText}
+use Rattle.hd_run.specs.declared.stop.Refusal.{Refusal}
+use Rattle.hd_run.specs.declared.stop.Refusal.TheVariants.{SurfaceTooLong, Surface, SecondTooLong, Unreadable, RuleFails}
+use Rattle.hd_run.specs.declared.stop.Stop.{Stop}
+use Rattle.hd_run.specs.declared.stop.Stop.TheVariants as stop
+use Rattle.hd_run.specs.FaultCounts.{Count, RoseIn, Stays}
+use Rattle.hd_run.specs.Limits.{surface_limit}
+use Rattle.hd_run.specs.Outcome.{RunOutcome, IsTheRunOutcome}
+use Rattle.hd_run.specs.ReadOrder.{Reading, SecondComesLast, StopsWithin}
+use Rattle.hd_run.specs.Refusals.{refusal_text}
+use Rattle.hd_run.specs.RunResult.{HasRunStop}
+use Rattle.hd_run.specs.Saving.{Saving, IsSavedAs, SavesLast}
 use Rattle.hilldale.specs.declared.status.Status.{Status}
 use Rattle.hilldale.specs.declared.status.Status.TheVariants.{Done, LineRefused, Usage, ReadFault, WriteFault, Memory}
-use Rattle.hilldale.specs.declared.stop.Refusal.{Refusal}
-use Rattle.hilldale.specs.declared.stop.Refusal.TheVariants.{SurfaceTooLong, Surface, SecondTooLong, Unreadable, RuleFails}
-use Rattle.hilldale.specs.declared.stop.Stop.{Stop}
-use Rattle.hilldale.specs.declared.stop.Stop.TheVariants as stop
-use Rattle.hilldale.specs.FaultCounts.{Count, RoseIn, Stays, HasStatusCause}
-use Rattle.hilldale.specs.Ending.{Completes, IsTheOutcome, EndsAs, Finishes, EndsRun}
-use Rattle.hilldale.specs.Outcome.{Outcome, IsOutcome, IsOutcomeOfRequest, refuses, status_of, tells}
-use Rattle.hilldale.specs.ReadOrder.{SecondComesLast, ReadsInOrder}
-use Rattle.hilldale.specs.Refusals.{refusal_status, refusal_text}
-use Rattle.hilldale.specs.RunResult.{IsRun, IsDefined, HasRunStop}
-use Rattle.hilldale.specs.Saving.{Saving, IsSavedAs, SavesLast, SavesInTurn}
+use Rattle.hilldale.specs.Ending.{AnswersFew, Completes, IsTheOutcome, EndsAs, EndsDemo, EndsRun, Finishes, IsCutAs, StopsAt}
+use Rattle.hilldale.specs.Outcome.{Outcome, IsOutcome, IsOutcomeOfRequest, outcome_of, tells}
+use Rattle.hilldale.specs.Status.{HasStatusCause, refusal_status, status_of}
 use Rattle.hilldale.specs.Texts.{usage_text, read_fault_text}
-use Rattle.hilldale.specs.Words.{Request, form_of, save_name, second_name, surface_name}
-use Rattle.hilldale.proofs.Answered.{AppendsStart-after}
+use Rattle.hilldale.specs.WorkOrder.{ReadsInOrder, ReadsWithin, SavesInTurn, second_limit}
+use Rattle.hilldale.proofs.Works.{IsWork}
 
 -- nothing before, and then a text, or some first bytes of it
 kept_text : (old mid new : Option (List ℕ)) (text : List ℕ) → Keeps old mid → Appends mid new text → Appends old new text
@@ -30,16 +38,32 @@ kept_start old mid new text kept (got, begins, written) = (got, begins, kept_tex
 start_kept : (old mid new : Option (List ℕ)) (text : List ℕ) → AppendsStart old mid text → Keeps mid new → AppendsStart old new text
 start_kept old mid new text (got, begins, written) kept = (got, begins, Appends-kept old mid new got written kept)
 
+-- a whole text is some first bytes of it, and of no text there are none
+start_all : (old new : Option (List ℕ)) (text : List ℕ) → Appends old new text → AppendsStart old new text
+start_all old new text written = (text, take-length text, written)
+
+start_none : (old mid new : Option (List ℕ)) (text : List ℕ) → Appends old mid text → AppendsStart mid new [] → Appends old new text
+start_none old mid new text written (got, begins, more) =
+    let none : got ≡ [] = sym begins ∙ take-nil (length got) in
+    subst (λ (xs : List ℕ). Appends old new xs) (ap (λ (xs : List ℕ). text ++ xs) none ∙ append-nil text) (Appends-trans old mid new text got written more)
+
+module _ (stays : Type 0) (s : Saving) (out : List ℕ) (old mid new : Option (List ℕ)) where
+  -- all of the output is written, and then the flush fails
+  cut_last : (saved : Option (List ℕ)) → IsSavedAs stays s saved → Appends old mid out → AppendsStart mid new [] → IsCutAs stays s saved out old new
+  cut_last None kept written none = (kept, start_all old new out (start_none old mid new out written none))
+  cut_last (Some text) all written none = (all, start_none old mid new out written none)
+
+  cut_kept : (saved : Option (List ℕ)) → IsCutAs stays s saved out old mid → Keeps mid new → IsCutAs stays s saved out old new
+  cut_kept None (still, part) kept = (still, start_kept old mid new out part kept)
+  cut_kept (Some text) (all, written) kept = (all, Appends-kept old mid new out written kept)
+
 module _ (words : List (List ℕ)) (surface script : List ℕ) (failed stays : Type 0) (s : Saving) where
-  -- of an outcome that is known, the first part is written, and then the last part whole or cut short
-  finish_ends : (done last : List ℕ) (o : Outcome) (wanted status : Status) (old mid new : Option (List ℕ)) (flushed : Bool) (faults : Count) → o.status ≡ wanted → o.out ≡ done ++ last → Appends old mid done
-      → IsTheOutcome words surface script o → IsSavedAs stays s o.saved → (Completes words surface script stays s wanted old new → EndsAs words surface script failed stays s wanted old new)
-      → Finishes last wanted status mid new flushed faults → EndsAs words surface script failed stays s status old new
-  finish_ends done last o wanted status old mid new flushed faults wanted_is out_is begun the saved same finish = elim finish [
-    | inl w ↦ subst (λ t. EndsAs words surface script failed stays s t old new) (sym w.status_is)
-        (same (o, the, wanted_is, subst (λ (xs : List ℕ). Appends old new xs) (sym out_is) (Appends-trans old mid new done last begun w.written), saved))
-    | inr cut ↦ subst (λ t. EndsAs words surface script failed stays s t old new) (sym cut.status_is)
-        (inr (inl (o, the, subst (λ (xs : List ℕ). AppendsStart old new xs) (sym out_is) (AppendsStart-after old mid new done last begun cut.written), saved)))
+  -- the outcome is a text, which is written whole or cut short
+  text_ends : (text : List ℕ) (wanted status : Status) (old mid new : Option (List ℕ)) (flushed : Bool) (faults : Count) → Keeps old mid → IsTheOutcome words surface script (tells wanted text) → stays
+      → (Completes words surface script stays s wanted old new → EndsAs words surface script failed stays s wanted old new) → Finishes text wanted status mid new flushed faults → EndsAs words surface script failed stays s status old new
+  text_ends text wanted status old mid new flushed faults before the kept same finish = elim finish [
+    | inl w ↦ subst (λ t. EndsAs words surface script failed stays s t old new) (sym w.status_is) (same (tells wanted text, the, refl, kept_text old mid new text before w.written, kept))
+    | inr cut ↦ subst (λ t. EndsAs words surface script failed stays s t old new) (sym cut.status_is) (inr (inl (tells wanted text, the, (kept, kept_start old mid new text before cut.written))))
   ]
 
   -- words without their form
@@ -48,7 +72,7 @@ module _ (words : List (List ℕ)) (surface script : List ℕ) (failed stays : T
   usage_ends got status old new flushed faults none e kept finish =
       let P : Outcome → Option Request → Type 0 = λ o form. MatchOption form (o ≡ tells Usage usage_text) (λ request. IsOutcomeOfRequest request surface script o) in
       let o : Outcome = tells Usage usage_text in
-      finish_ends [] usage_text o Usage status old old new flushed faults refl refl (Appends-nil old) (record { is = subst (P o) (sym none) refl; only = λ o' h. subst (P o') none h })
+      text_ends usage_text Usage status old old new flushed faults (Keeps-refl old) (record { is = subst (P o) (sym none) refl; only = λ o' h. subst (P o') none h })
       kept (λ h. h) (subst (λ xs. Finishes xs Usage status old new flushed faults) e finish)
 
   module _ (request : Request) (named : form_of words ≡ Some request) where
@@ -56,29 +80,9 @@ module _ (words : List (List ℕ)) (surface script : List ℕ) (failed stays : T
     abbrev AtForm : Outcome → Option Request → Type 0
     AtForm o form = MatchOption form (o ≡ tells Usage usage_text) (λ r. IsOutcomeOfRequest r surface script o)
 
-    to_run : (o : Outcome) → IsOutcome words surface script o → IsOutcomeOfRequest request surface script o
-    to_run o h = subst (AtForm o) named h
-
-    from_run : (o : Outcome) → IsOutcomeOfRequest request surface script o → IsOutcome words surface script o
-    from_run o h = subst (AtForm o) (sym named) h
-
-    the_run : (o : Outcome) → IsDefined request surface script o → IsTheOutcome words surface script o
-    the_run o defined = record { is = from_run o defined.is; only = λ other h. defined.only other (to_run other h) }
-
-    -- all lines are answered
-    answered_ends : (accepted : Bool) (status : Status) (old mid new : Option (List ℕ)) (flushed : Bool) (faults : Count) → IsRun request surface script stays s (Ok accepted) old mid
-        → (Completes words surface script stays s (status_of accepted) old new → EndsAs words surface script failed stays s (status_of accepted) old new)
-        → Finishes [] (status_of accepted) status mid new flushed faults → EndsAs words surface script failed stays s status old new
-    answered_ends accepted status old mid new flushed faults (o, defined, wanted_is, written, saved) same finish =
-        finish_ends o.out [] o (status_of accepted) status old mid new flushed faults wanted_is (sym (append-nil o.out)) written (the_run o defined) saved same finish
-
-    -- an input is refused
-    refused_ends : (refusal : Refusal) (status : Status) (old mid new : Option (List ℕ)) (flushed : Bool) (faults : Count) → stays → IsRun request surface script stays s (Err (stop.Refused refusal)) old mid
-        → (Completes words surface script stays s (refusal_status refusal) old new → EndsAs words surface script failed stays s (refusal_status refusal) old new)
-        → Finishes (refusal_text refusal) (refusal_status refusal) status mid new flushed faults → EndsAs words surface script failed stays s status old new
-    refused_ends refusal status old mid new flushed faults unsaved (defined, kept) same finish =
-        finish_ends [] (refusal_text refusal) (refuses refusal) (refusal_status refusal) status old mid new flushed faults refl refl (Appends-kept old old mid [] (Appends-nil old) kept) (the_run (refuses refusal) defined) unsaved
-        same finish
+    -- the outcome of the request is that of the words
+    the_outcome : (o : Outcome) → IsOutcomeOfRequest request surface script o → ((other : Outcome) → IsOutcomeOfRequest request surface script other → other ≡ o) → IsTheOutcome words surface script o
+    the_outcome o is only = record { is = subst (AtForm o) (sym named) is; only = λ other h. only other (subst (AtForm other) named h) }
 
     -- the status of a refusal asks for all of the output
     refused_as : (refusal : Refusal) (old new : Option (List ℕ)) → Completes words surface script stays s (refusal_status refusal) old new → EndsAs words surface script failed stays s (refusal_status refusal) old new
@@ -88,37 +92,61 @@ module _ (words : List (List ℕ)) (surface script : List ℕ) (failed stays : T
     refused_as (Unreadable line) old new h = h
     refused_as (RuleFails rule at) old new h = h
 
-    -- what `out` and `saved` hold at the end, from what the run came to
-    pub run_ends : (result : Result Bool Stop) (status : Status) (old mid new : Option (List ℕ)) (flushed : Bool) (faults : Count) → (result ≡ Err stop.ReadFault → failed)
-        → ((why : Stop) → result ≡ Err why → why ≢ stop.WriteFault → stays) → IsRun request surface script stays s result old mid → EndsRun result status mid new flushed faults → EndsAs words surface script failed stays s status old new
-    run_ends (Ok true) status old mid new flushed faults cause unsaved run finish = answered_ends true status old mid new flushed faults run (λ h. h) finish
-    run_ends (Ok false) status old mid new flushed faults cause unsaved run finish = answered_ends false status old mid new flushed faults run (λ h. h) finish
-    run_ends (Err stop.Memory) status old mid new flushed faults cause unsaved run end =
-        subst (λ t. EndsAs words surface script failed stays s t old new) (sym end.status_is) (
-          unsaved stop.Memory refl (λ e. cc),
-          elim run [
-            | inl kept ↦ inl (Keeps-trans old mid new kept end.kept)
-            | inr more ↦ inr (more.0, (request, named, more.1), Appends-kept old mid new more.0 more.2 end.kept)
-          ],
-        )
-    run_ends (Err stop.WriteFault) status old mid new flushed faults cause unsaved (inl (kept, text, begun, part)) end =
-        subst (λ t. EndsAs words surface script failed stays s t old new) (sym end.status_is) (inl (kept, inl (text, (request, named, begun), start_kept old mid new text part end.kept)))
-    run_ends (Err stop.WriteFault) status old mid new flushed faults cause unsaved (inr (o, defined, inl (text, is, some, written))) end =
-        subst (λ t. EndsAs words surface script failed stays s t old new) (sym end.status_is) (inr (inr (o, the_run o defined, (text, is, some, Appends-kept old mid new o.out written end.kept))))
-    run_ends (Err stop.WriteFault) status old mid new flushed faults cause unsaved (inr (o, defined, inr (part, saved))) end =
-        subst (λ t. EndsAs words surface script failed stays s t old new) (sym end.status_is) (inr (inl (o, the_run o defined, start_kept old mid new o.out part end.kept, saved)))
-    run_ends (Err stop.ReadFault) status old mid new flushed faults cause unsaved kept finish =
-        let still = unsaved stop.ReadFault refl (λ e. cc) in
-        elim finish [
-          | inl w ↦ subst (λ t. EndsAs words surface script failed stays s t old new) (sym w.status_is) (cause refl, still, kept_text old mid new read_fault_text kept w.written)
-          | inr cut ↦ subst (λ t. EndsAs words surface script failed stays s t old new) (sym cut.status_is) (inl (still, inr (cause refl, kept_start old mid new read_fault_text kept cut.written)))
-        ]
-    run_ends (Err (stop.Refused refusal)) status old mid new flushed faults cause unsaved run end =
-        let still = unsaved (stop.Refused refusal) refl (λ e. cc) in
-        elim end [
-          | inl w ↦ subst (λ t. EndsAs words surface script failed stays s t old new) (sym w.status_is) (still, inl (Keeps-trans old mid new run.1 w.kept))
-          | inr finish ↦ refused_ends refusal status old mid new flushed faults still run (refused_as refusal old new) finish
-        ]
+    module _ (Is : RunOutcome → Type 0) (Begins : List ℕ → Type 0) (from : (o : Outcome) → IsOutcomeOfRequest request surface script o → (end : RunOutcome) × Is end × (o ≡ outcome_of end))
+        (to : (end : RunOutcome) → Is end → IsOutcomeOfRequest request surface script (outcome_of end)) (few : (text : List ℕ) → Begins text → AnswersFew request surface script text) where
+      the_run : (end : RunOutcome) → IsTheRunOutcome Is end → IsTheOutcome words surface script (outcome_of end)
+      the_run end the = the_outcome (outcome_of end) (to end the.is) (λ other h. let k = from other h in k.2 ∙ ap outcome_of (the.only k.0 k.1))
+
+      -- all lines are answered
+      answered_ends : (accepted : Bool) (status : Status) (old mid new : Option (List ℕ)) (flushed : Bool) (faults : Count) → IsWork Is Begins stays s (Ok accepted) old mid
+          → (Completes words surface script stays s (status_of accepted) old new → EndsAs words surface script failed stays s (status_of accepted) old new)
+          → Finishes [] (status_of accepted) status mid new flushed faults → EndsAs words surface script failed stays s status old new
+      answered_ends accepted status old mid new flushed faults (work, the, accepted_is, written, saved) same finish = elim finish [
+        | inl w ↦ subst (λ t. EndsAs words surface script failed stays s t old new) (sym w.status_is)
+            (same (outcome_of (Ok work), the_run (Ok work) the, ap status_of accepted_is, start_none old mid new work.out written (start_all mid new [] w.written), saved))
+        | inr cut ↦ subst (λ t. EndsAs words surface script failed stays s t old new) (sym cut.status_is)
+            (inr (inl (outcome_of (Ok work), the_run (Ok work) the, cut_last stays s work.out old mid new work.saved saved written cut.written)))
+      ]
+
+      -- what `out` and `saved` hold at the end, from what the run came to
+      pub run_ends : (result : Result Bool Stop) (status : Status) (old mid new : Option (List ℕ)) (flushed : Bool) (faults : Count) → (result ≡ Err stop.ReadFault → failed)
+          → ((why : Stop) → result ≡ Err why → why ≢ stop.WriteFault → stays) → IsWork Is Begins stays s result old mid → EndsRun result status mid new flushed faults → EndsAs words surface script failed stays s status old new
+      run_ends (Ok true) status old mid new flushed faults cause unsaved run finish = answered_ends true status old mid new flushed faults run (λ h. h) finish
+      run_ends (Ok false) status old mid new flushed faults cause unsaved run finish = answered_ends false status old mid new flushed faults run (λ h. h) finish
+      run_ends (Err stop.Memory) status old mid new flushed faults cause unsaved run end =
+          subst (λ t. EndsAs words surface script failed stays s t old new) (sym end.status_is) (
+            unsaved stop.Memory refl (λ e. cc),
+            elim run [
+              | inl kept ↦ inl (Keeps-trans old mid new kept end.kept)
+              | inr more ↦ inr (more.0, (request, named, few more.0 more.1), Appends-kept old mid new more.0 more.2 end.kept)
+            ],
+          )
+      run_ends (Err stop.WriteFault) status old mid new flushed faults cause unsaved (inl (kept, text, begun, part)) end =
+          subst (λ t. EndsAs words surface script failed stays s t old new) (sym end.status_is) (inl (kept, inl (text, (request, named, few text begun), AppendsPart-kept old mid new text part end.kept)))
+      run_ends (Err stop.WriteFault) status old mid new flushed faults cause unsaved (inr (work, the, inl (text, is, some, written))) end =
+          subst (λ t. EndsAs words surface script failed stays s t old new) (sym end.status_is) (inr (inr (outcome_of (Ok work), text, the_run (Ok work) the, is, some, Appends-kept old mid new work.out written end.kept)))
+      run_ends (Err stop.WriteFault) status old mid new flushed faults cause unsaved (inr (work, the, inr cut)) end =
+          subst (λ t. EndsAs words surface script failed stays s t old new) (sym end.status_is) (inr (inl (outcome_of (Ok work), the_run (Ok work) the, cut_kept stays s work.out old mid new work.saved cut end.kept)))
+      run_ends (Err stop.ReadFault) status old mid new flushed faults cause unsaved kept finish =
+          let still = unsaved stop.ReadFault refl (λ e. cc) in
+          elim finish [
+            | inl w ↦ subst (λ t. EndsAs words surface script failed stays s t old new) (sym w.status_is) (cause refl, still, kept_text old mid new read_fault_text kept w.written)
+            | inr cut ↦ subst (λ t. EndsAs words surface script failed stays s t old new) (sym cut.status_is) (inl (still, inr (cause refl, kept_start old mid new read_fault_text kept cut.written)))
+          ]
+      run_ends (Err (stop.Refused refusal)) status old mid new flushed faults cause unsaved run end =
+          let still = unsaved (stop.Refused refusal) refl (λ e. cc) in
+          elim end [
+            | inl w ↦ subst (λ t. EndsAs words surface script failed stays s t old new) (sym w.status_is) (still, inl (Keeps-trans old mid new run.1 w.kept))
+            | inr finish ↦ text_ends (refusal_text refusal) (refusal_status refusal) status old mid new flushed faults run.1 (the_run (Err refusal) run.0) still (refused_as refusal old new) finish
+          ]
+
+  -- what they hold at the end of a demo
+  pub demo_ends : (demo : Demo) (status : Status) (old new : Option (List ℕ)) (flushed : Bool) (faults : Count) → form_of words ≡ Some (Demonstrate demo) → stays → EndsDemo demo status old new flushed faults
+      → EndsAs words surface script failed stays s status old new
+  demo_ends demo status old new flushed faults named kept (inl stop) = subst (λ t. EndsAs words surface script failed stays s t old new) (sym stop.status_is) (kept, inl stop.kept)
+  demo_ends demo status old new flushed faults named kept (inr (text, the, finish)) =
+      text_ends text Done status old old new flushed faults (Keeps-refl old)
+      (the_outcome (Demonstrate demo) named (tells Done text) (text, the.is, refl) (λ other h. h.2 ∙ ap (tells Done) (the.only h.0 h.1))) kept (λ h. h) finish
 
 -- a text that is to be written is written and flushed, or the sink failed
 finished : (bytes : List ℕ) (wanted status : Status) (old new : Option (List ℕ)) (flushed : Bool) (faults : Count) → Finishes bytes wanted status old new flushed faults → status ≢ WriteFault
@@ -259,14 +287,15 @@ run_saves form request result status stays surface script before mid now s old n
           all_done status old new flushed faults result (λ accepted ok. last.flushed_all accepted name ok (ap save_name same ∙ asked)) end done;
     }
 
--- words without their form save nothing
-pub unformed_saves : (form : Option Request) (status : Status) (stays : Type 0) (surface script out : Count) (s : Saving) → form ≡ None → stays → Stays s.faults → SavesInTurn form status stays surface script out s
-unformed_saves form status stays surface script out s none kept count = record {
+-- words that name no file to save save nothing
+pub unnamed_saves : (form : Option Request) (status : Status) (stays : Type 0) (surface script out : Count) (s : Saving) → ((request : Request) → form ≡ Some request → save_name request ≡ None) → stays → Stays s.faults
+    → SavesInTurn form status stays surface script out s
+unnamed_saves form status stays surface script out s none kept count = record {
   unasked = λ _. kept;
   stopped = λ _ _ _. kept;
   read = λ _. kept;
   failed = λ rose. absurd (rose count);
-  flushed_all = λ request name is asked done. absurd (cc);
+  flushed_all = λ request name is asked done. let wrong : None ≡ Some name = sym (none request is) ∙ asked in absurd (cc);
 }
 
 -- no run ends with the usage text
@@ -306,3 +335,41 @@ run_in_order form request name files surfaces surface surface' script script' na
       subst (λ (n : List ℕ). SecondComesLast (second_name other) (files n) surfaces script script') same_name
       (subst (λ (r : Request). SecondComesLast (second_name r) (files name) surfaces script script') same order);
 }
+
+-- no source is read
+pub unread_within : (form : Option Request) (surface_unread second_unread : Type 0) (surface second : Reading) → surface_unread → second_unread → ReadsWithin form surface_unread second_unread surface second
+unread_within form surface_unread second_unread surface second first last = record { surface_within = λ request name named is. inl first; second_within = λ request name named is. inl last }
+
+-- how far the inputs of a run are read, where the words have the form that was found
+pub run_within : (form : Option Request) (request : Request) (name : List ℕ) (surface_unread second_unread : Type 0) (surface second : Reading) → form ≡ Some request → surface_name request ≡ Some name
+    → StopsWithin surface_limit name surface → ((other : List ℕ) → second_name request ≡ Some other → second_unread ⊎ StopsWithin (second_limit request) other second)
+    → ReadsWithin form surface_unread second_unread surface second
+run_within form request name surface_unread second_unread surface second named surface_is first last = record {
+  surface_within = λ other read e is. let same : request ≡ other = cc in
+      let it : Some name ≡ Some read = sym surface_is ∙ ap surface_name same ∙ is in
+      let same_name : name ≡ read = cc in
+      inr (subst (λ (n : List ℕ). StopsWithin surface_limit n surface) same_name first);
+  second_within = λ other read e is. let same : request ≡ other = cc in
+      subst (λ (r : Request). second_unread ⊎ StopsWithin (second_limit r) read second) same (last read (ap second_name same ∙ is));
+}
+
+module _ (demo : Demo) (status : Status) (old new : Option (List ℕ)) (flushed : Bool) (faults : Count) where
+  -- a demo ends with one of three statuses
+  demo_ended : EndsDemo demo status old new flushed faults → (status ≡ Done) ⊎ ((status ≡ WriteFault) ⊎ (status ≡ Memory))
+  demo_ended (inl stop) = inr (inr stop.status_is)
+  demo_ended (inr (text, the, inl whole)) = inl whole.status_is
+  demo_ended (inr (text, the, inr cut)) = inr (inl cut.status_is)
+
+  pub demo_is_other : (other : Status) → EndsDemo demo status old new flushed faults → other ≢ Done → other ≢ WriteFault → other ≢ Memory → status ≢ other
+  demo_is_other other end a b d is = elim (demo_ended end) [ inl e ↦ a (sym is ∙ e) | inr rest ↦ elim rest [ inl e ↦ b (sym is ∙ e) | inr e ↦ d (sym is ∙ e) ] ]
+
+  pub demo_flushed : EndsDemo demo status old new flushed faults → status ≢ WriteFault → status ≢ Memory → IsTrue flushed
+  demo_flushed (inl stop) fine kept = absurd (kept stop.status_is)
+  demo_flushed (inr (text, the, finish)) fine kept = (finished text Done status old new flushed faults finish fine).2
+
+  pub demo_cause : (surface script saved : Count) → Stays surface → Stays script → Stays saved → EndsDemo demo status old new flushed faults → HasStatusCause status surface script faults saved
+  demo_cause surface script saved a b d (inl stop) =
+      let is : status ≡ Memory = stop.status_is in
+      record { read = λ e. absurd (cc); write = λ e. absurd (cc); other = λ _ _. (a, b, stop.count, d) }
+  demo_cause surface script saved a b d (inr (text, the, finish)) =
+      finish_cause surface script saved faults.before faults.before faults.now status old new flushed text Done (λ e. cc) (λ e. cc) (a, b, refl, d) finish

@@ -1,14 +1,2 @@
-pub mod Answered
-pub mod Runs
-pub mod Checks
-pub mod Savings
-pub mod WordLemmas
-pub mod CommandForms
-pub mod ParsedCommands
-pub mod ParsedKeys
-pub mod ParsedRows
-pub mod ParsedWords
-pub mod Ends
-pub mod Drawings
-pub mod Demonstrations
-pub mod Summaries
+mod Works
+mod Ends

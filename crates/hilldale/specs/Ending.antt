@@ -1,18 +1,21 @@
--- How a run ends, and what `out` and `saved` hold then.
-use Rattle.std.specs.Prelude.{◌≡◌, ◌⊎◌, ℕ, Bool, List, [], Some, Result, Ok, Err, IsTrue}
+-- How a run of the program ends, and what `out` and `saved` hold then.
+use Rattle.std.specs.Prelude.{◌≡◌, ◌⊎◌, ℕ, Bool, List, [], Option, Some, None, Result, Ok, Err, IsTrue}
 use Rattle.std.specs.Io.KnownBytes.{Appends, Keeps}
-use Rattle.hd_base.specs.Told.{Told, AppendsStart}
+use Rattle.hd_base.specs.Told.{Told, AppendsPart, AppendsStart}
+use Rattle.hd_words.specs.declared.demo.Demo.{Demo}
+use Rattle.hd_words.specs.Words.{Request, Run, Check, Demonstrate, form_of}
+use Rattle.hd_demo.specs.DemoText.{IsTheDemoText}
+use Rattle.hd_run.specs.declared.stop.Stop.{Stop}
+use Rattle.hd_run.specs.declared.stop.Stop.TheVariants as stop
+use Rattle.hd_run.specs.FaultCounts.{Count, RoseIn, Stays}
+use Rattle.hd_run.specs.Refusals.{refusal_text}
+use Rattle.hd_run.specs.RunResult.{IsBegun}
+use Rattle.hd_run.specs.Saving.{Saving, SavesAll, SavesSome, IsSavedAs}
 use Rattle.hilldale.specs.declared.status.Status.{Status}
-use Rattle.hilldale.specs.declared.status.Status.TheVariants.{ReadFault, WriteFault, Memory}
-use Rattle.hilldale.specs.declared.stop.Stop.{Stop}
-use Rattle.hilldale.specs.declared.stop.Stop.TheVariants as stop
-use Rattle.hilldale.specs.FaultCounts.{Count, RoseIn, Stays}
-use Rattle.hilldale.specs.Outcome.{Outcome, status_of, IsOutcome}
-use Rattle.hilldale.specs.Refusals.{refusal_status, refusal_text}
-use Rattle.hilldale.specs.RunResult.{IsBegun, StopsSaving}
-use Rattle.hilldale.specs.Saving.{Saving, IsSavedAs}
+use Rattle.hilldale.specs.declared.status.Status.TheVariants.{Done, ReadFault, WriteFault, Memory}
+use Rattle.hilldale.specs.Outcome.{Outcome, IsOutcome}
+use Rattle.hilldale.specs.Status.{refusal_status, status_of}
 use Rattle.hilldale.specs.Texts.{read_fault_text}
-use Rattle.hilldale.specs.Words.{Request, form_of}
 
 -- this is the outcome, and there is no other
 pub record IsTheOutcome (words : List (List ℕ)) (surface script : List ℕ) (o : Outcome) : Type 0 where
@@ -24,24 +27,37 @@ abbrev pub Completes : List (List ℕ) → List ℕ → List ℕ → Type 0 → 
 Completes words surface script stays s status old new = (o : Outcome) × IsTheOutcome words surface script o
     × (o.status ≡ status) × Appends old new o.out × IsSavedAs stays s o.saved
 
+-- this is the text of the answers to the first few lines of a request, which a run alone has
+abbrev pub AnswersFew : Request → List ℕ → List ℕ → List ℕ → Type 0
+AnswersFew (Run run) surface script text = IsBegun run surface script text
+AnswersFew (Check check) surface script text = ⊥
+AnswersFew (Demonstrate demo) surface script text = ⊥
+
 -- the words have their form, and this is the text of the answers to the first few lines
 abbrev pub AnswersSome : List (List ℕ) → List ℕ → List ℕ → List ℕ → Type 0
 AnswersSome words surface script text =
-    (request : Request) × (form_of words ≡ Some request) × IsBegun request surface script text
+    (request : Request) × (form_of words ≡ Some request) × AnswersFew request surface script text
 
--- some first bytes are written of the answers to the first few lines
+-- of the answers to the first few lines not all bytes are written
 abbrev pub WritesSome : List (List ℕ) → List ℕ → List ℕ → Told → Told → Type 0
 WritesSome words surface script old new =
-    (text : List ℕ) × AnswersSome words surface script text × AppendsStart old new text
+    (text : List ℕ) × AnswersSome words surface script text × AppendsPart old new text
 
--- some first bytes are written of the defined output, before which all that is to be saved was saved
+-- what is written before the last flush fails, or the last text: all of the output, once a file is saved, and some
+-- first bytes of it where none is to be saved
+abbrev pub IsCutAs : Type 0 → Saving → Option (List ℕ) → List ℕ → Told → Told → Type 0
+IsCutAs stays s None out old new = stays × AppendsStart old new out
+IsCutAs stays s (Some text) out old new = SavesAll text s × Appends old new out
+
+-- the defined output is written so far
 abbrev pub WritesStart : List (List ℕ) → List ℕ → List ℕ → Type 0 → Saving → Told → Told → Type 0
-WritesStart words surface script stays s old new = (o : Outcome) × IsTheOutcome words surface script o
-    × AppendsStart old new o.out × IsSavedAs stays s o.saved
+WritesStart words surface script stays s old new =
+    (o : Outcome) × IsTheOutcome words surface script o × IsCutAs stays s o.saved o.out old new
 
 -- `saved` failed, before which all of the defined output was written
 abbrev pub SavesStart : List (List ℕ) → List ℕ → List ℕ → Saving → Told → Told → Type 0
-SavesStart words surface script s old new = (o : Outcome) × IsTheOutcome words surface script o × StopsSaving o s old new
+SavesStart words surface script s old new = (o : Outcome) × (text : List ℕ) × IsTheOutcome words surface script o
+    × (o.saved ≡ Some text) × SavesSome text s × Appends old new o.out
 
 -- what `out` and `saved` hold at the end, by the status; `failed` says that a source failed, `stays` that `saved` is
 -- as it was
@@ -78,7 +94,7 @@ pub record StopsAt (wanted status : Status) (old new : Told) (faults : Count) : 
   pub kept : Keeps old new
   pub count : Stays faults
 
--- how a run ends, by what it came to
+-- how a run or a check ends, by what it came to
 abbrev pub EndsRun : Result Bool Stop → Status → Told → Told → Bool → Count → Type 0
 EndsRun (Ok accepted) status old new flushed faults =
     Finishes [] (status_of accepted) status old new flushed faults
@@ -89,3 +105,9 @@ EndsRun (Err stop.ReadFault) status old new flushed faults =
 EndsRun (Err (stop.Refused refusal)) status old new flushed faults =
     StopsAt Memory status old new faults
     ⊎ Finishes (refusal_text refusal) (refusal_status refusal) status old new flushed faults
+
+-- how a demo ends: its text is written, or nothing is
+abbrev pub EndsDemo : Demo → Status → Told → Told → Bool → Count → Type 0
+EndsDemo demo status old new flushed faults =
+    StopsAt Memory status old new faults
+    ⊎ ((text : List ℕ) × IsTheDemoText demo text × Finishes text Done status old new flushed faults)

@@ -1,5 +1,8 @@
--- The codes of the statuses.
-use Rattle.std.specs.Prelude.{ℕ}
+-- The statuses: their codes, and the causes that they tell.
+use Rattle.std.specs.Prelude.{◌≡◌, ◌≢◌, ◌⊎◌, ℕ, Bool, if◌then◌else◌}
+use Rattle.hd_run.specs.declared.stop.Refusal.{Refusal}
+use Rattle.hd_run.specs.declared.stop.Refusal.TheVariants as refusal
+use Rattle.hd_run.specs.FaultCounts.{Count, RoseIn, Stays}
 use Rattle.hilldale.specs.declared.status.Status.{Status}
 use Rattle.hilldale.specs.declared.status.Status.TheVariants.{Done, LineRefused, Usage, SurfaceRefused, CertificateRefused, ReadFault, WriteFault, Memory, TooLong}
 
@@ -13,3 +16,23 @@ code_of ReadFault = 5
 code_of WriteFault = 6
 code_of Memory = 7
 code_of TooLong = 8
+
+-- whether each line was accepted
+abbrev pub status_of : Bool → Status
+status_of accepted = if accepted then Done else LineRefused
+
+-- the status of a run that is refused an input
+abbrev pub refusal_status : Refusal → Status
+refusal_status refusal.SurfaceTooLong = SurfaceRefused
+refusal_status (refusal.Surface error) = SurfaceRefused
+refusal_status refusal.SecondTooLong = TooLong
+refusal_status (refusal.Unreadable number) = CertificateRefused
+refusal_status (refusal.RuleFails rule at) = CertificateRefused
+
+-- a read fault comes only where a source failed and no sink, a write fault only where a sink failed, and each
+-- other status only where none failed
+pub record HasStatusCause (status : Status) (surface script out saved : Count) : Type 0 where
+  pub read : status ≡ ReadFault → (RoseIn surface ⊎ RoseIn script) × Stays out × Stays saved
+  pub write : status ≡ WriteFault → RoseIn out ⊎ RoseIn saved
+  pub other : status ≢ ReadFault → status ≢ WriteFault
+      → Stays surface × Stays script × Stays out × Stays saved

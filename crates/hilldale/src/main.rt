@@ -5,55 +5,22 @@
 //! come to, as far as no sink fails and memory is there.
 #![tactic(auto)]
 
-mod answers;
-mod causes;
-#[cfg(test)]
-mod certificate_tests;
-mod certificates;
-mod check;
-mod command_lines;
-mod demo;
-#[cfg(test)]
-mod demo_tests;
-mod demonstration;
-#[cfg(test)]
-mod fault_tests;
-mod generator;
-mod inputs;
-mod jobs;
-mod limits;
-#[cfg(test)]
-mod report_tests;
-mod run;
-#[cfg(test)]
-mod run_tests;
-mod save;
-#[cfg(test)]
-mod save_tests;
 mod status;
-mod stop;
-mod summary;
 #[cfg(test)]
-mod surface_tests;
+mod tests;
 mod texts;
 mod top;
-#[cfg(test)]
-mod trials;
-#[cfg(test)]
-mod word_tests;
-mod words;
 
 use hd_base::{FileSink, FileSource, Memory, StdoutSink};
-pub use status::Status;
-use std::env;
-use std::io;
+pub use status::{Status, exit_of};
 use std::io::ErrorKind;
 use std::process::ExitCode;
 use std::rt::Env;
+use std::{env, io};
 pub use top::top;
 
 fn main(rt: HostRuntime) -> ExitCode {
-    ExitCode::from(status_of_run(&rt).code())
+    exit_of(status_of_run(&rt))
 }
 
 // Runs the program on the words, the files and the standard output of the system.

@@ -1,6 +1,10 @@
 // How a run ends.
 ghost use Rattle.std.specs.Prelude.{◌≡◌};
-ghost use Rattle.hilldale.specs.Status.{code_of};
+ghost use Rattle.std.specs.Process.{exit_status};
+ghost use Rattle.hilldale.specs.Status.{code_of, refusal_status};
+
+use hd_run::Refusal;
+use std::process::ExitCode;
 
 /// How a run ends; the process ends with its code.
 #[derive(Clone, Copy, Debug, PartialEq, Eq)]
@@ -32,4 +36,22 @@ impl Status {
     {
         self as u8
     }
+
+    // The status with which the program ends where an input is refused.
+    pub(crate) fn of_refusal(refusal: Refusal) -> Self
+        ensures { result ≡ refusal_status refusal }
+    {
+        match refusal {
+            Refusal::SurfaceTooLong | Refusal::Surface(_) => Status::SurfaceRefused,
+            Refusal::SecondTooLong => Status::TooLong,
+            Refusal::Unreadable(_) | Refusal::RuleFails { .. } => Status::CertificateRefused,
+        }
+    }
+}
+
+/// What the process ends with: the code of the status.
+pub fn exit_of(status: Status) -> ExitCode
+    ensures { exit_status result ≡ code_of status }
+{
+    ExitCode::from(status.code())
 }

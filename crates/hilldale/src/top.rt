@@ -2,24 +2,24 @@
 ghost use Rattle.std.specs.Prelude.{◌≡◌, ◌≢◌, ◌⊎◌, ℕ, List as Items, map, string_bytes, None, IsTrue};
 ghost use Rattle.std.specs.Option.{ForSome};
 ghost use Rattle.std.specs.Io.KnownBytes.{Appends};
-ghost use Rattle.hd_base.specs.Told.{OnTold};
-ghost use Rattle.hilldale.specs.Words.{form_of, save_name, second_name, surface_name};
-ghost use Rattle.hilldale.specs.Outcome.{TellsInputs, surface_of};
-ghost use Rattle.hilldale.specs.FaultCounts.{HasStatusCause, SourceFailed, over};
-ghost use Rattle.hilldale.specs.ReadOrder.{ReadsInOrder};
-ghost use Rattle.hilldale.specs.Ending.{EndsAs, EndsRun, Finishes};
-ghost use Rattle.hilldale.specs.Saving.{SavesInTurn, saving};
+ghost use Rattle.hd_words.specs.Demo.{IsDemo};
+ghost use Rattle.hd_words.specs.Words.{form_of, save_name, second_name, surface_name};
+ghost use Rattle.hd_run.specs.FaultCounts.{SourceFailed, over};
+ghost use Rattle.hd_run.specs.Outcome.{surface_of};
+ghost use Rattle.hd_run.specs.ReadOrder.{reading};
+ghost use Rattle.hd_run.specs.Saving.{saving};
+ghost use Rattle.hilldale.specs.Ending.{EndsAs, EndsDemo, EndsRun, Finishes};
+ghost use Rattle.hilldale.specs.Outcome.{TellsInputs};
+ghost use Rattle.hilldale.specs.Status.{HasStatusCause};
 ghost use Rattle.hilldale.specs.Texts.{read_fault_text};
+ghost use Rattle.hilldale.specs.WorkOrder.{ReadsInOrder, ReadsWithin, SavesInTurn};
 
-use crate::check::check_certificate;
-use crate::demonstration::write_demo;
-use crate::jobs::{Job, job_of};
-use crate::run::run;
 use crate::status::Status;
-use crate::stop::Stop;
 use crate::texts::{READ_FAULT, USAGE};
-use crate::words::command_of;
 use hd_base::{Sink, Source, write_all};
+use hd_demo::demo_text;
+use hd_run::{Stop, check_certificate, run};
+use hd_words::{Demo, Job, command_of, job_of};
 use std::alloc::Global;
 
 /// Runs the program by the words after its name. The surface is read from `surface`, the script or
@@ -31,7 +31,8 @@ use std::alloc::Global;
 /// the second input, then of a script each line's answer and its writing, opening, writing and
 /// flushing `saved`, and of a certificate its form, its rules and the text; the flush of `out`. A
 /// demo has the words, the writing of its text and the flush. The text of a status is written and
-/// flushed; where this fails, the status is `WriteFault`.
+/// flushed; where this fails, the status is `WriteFault`. Of each input at most one byte past its
+/// limit is read.
 pub fn top<S: Source, R: Source, W: Sink, V: Sink>(
     alloc: Global,
     words: &[String],
@@ -61,9 +62,12 @@ pub fn top<S: Source, R: Source, W: Sink, V: Sink>(
     ensures unformed { form_of (map string_bytes words.now) ≡ None
         → (result ≡ Status.Usage) ⊎ (result ≡ Status.WriteFault) }
 
-    // No step comes before its turn.
+    // No step comes before its turn, and no input is read further than to one byte past its limit.
     ensures order { ReadsInOrder (form_of (map string_bytes words.now)) (S.files surface.old)
         (over (S.faults surface.old) (S.faults surface.new)) surface.old surface.new script.old script.new }
+    ensures within { ReadsWithin (form_of (map string_bytes words.now)) (surface.new ≡ surface.old) (script.new ≡ script.old)
+        (reading (S.files surface.old) (S.left surface.old) (S.left surface.new) (over (S.faults surface.old) (S.faults surface.new)))
+        (reading (R.files script.old) (R.left script.old) (R.left script.new) (over (R.faults script.old) (R.faults script.new))) }
 
     // Faults are answered only where there was one.
     ensures cause { HasStatusCause result (over (S.faults surface.old) (S.faults surface.new))
@@ -71,8 +75,7 @@ pub fn top<S: Source, R: Source, W: Sink, V: Sink>(
         (over (V.faults saved.old) (V.faults saved.new)) }
     ensures read_fault { result ≡ Status.ReadFault
         → Appends (W.written out.old) (W.written out.new) read_fault_text }
-    ensures flushed { OnTold (W.written out.old)
-        (result ≢ Status.WriteFault → result ≢ Status.Memory → IsTrue (W.flushed out.new)) }
+    ensures flushed { result ≢ Status.WriteFault → result ≢ Status.Memory → IsTrue (W.flushed out.new) }
 
     // `saved` is touched only where the words name a file, and only once all lines are answered.
     ensures saved { SavesInTurn (form_of (map string_bytes words.now)) result (saved.new ≡ saved.old)
@@ -95,14 +98,11 @@ pub fn top<S: Source, R: Source, W: Sink, V: Sink>(
             let checked = check_certificate(alloc, &job, surface, script, out);
             end_run(alloc, out, checked)
         }
-        Job::Demo(demo) => {
-            let shown = write_demo(alloc, demo, out);
-            end_run(alloc, out, shown)
-        }
+        Job::Demo(demo) => show_demo(alloc, demo, out),
     }
 }
 
-// Ends a run, a check or a demo by what it came to.
+// Ends a run or a check by what it came to.
 fn end_run<W: Sink>(alloc: Global, out: &mut W, ran: Result<bool, Stop>) -> Status
     requires { IsTrue (W.is_open out.old) }
     ensures { EndsRun ran result (W.written out.old) (W.written out.new) (W.flushed out.new)
@@ -115,9 +115,22 @@ fn end_run<W: Sink>(alloc: Global, out: &mut W, ran: Result<bool, Stop>) -> Stat
         Err(Stop::WriteFault) => Status::WriteFault,
         Err(Stop::ReadFault) => finish(out, READ_FAULT.as_bytes(), Status::ReadFault),
         Err(Stop::Refused(refusal)) => match refusal.text(alloc) {
-            Ok(text) => finish(out, text.as_slice(), refusal.status()),
+            Ok(text) => finish(out, text.as_slice(), Status::of_refusal(refusal)),
             Err(_) => Status::Memory,
         },
+    }
+}
+
+// Writes what a demo prints, and ends by that.
+fn show_demo<W: Sink>(alloc: Global, demo: Demo, out: &mut W) -> Status
+    requires open { IsTrue (W.is_open out.old) }
+    requires demo { IsDemo demo }
+    ensures { EndsDemo demo result (W.written out.old) (W.written out.new) (W.flushed out.new)
+        (over (W.faults out.old) (W.faults out.new)) }
+{
+    match demo_text(alloc, demo) {
+        Ok(text) => finish(out, text.as_slice(), Status::Done),
+        Err(_) => Status::Memory,
     }
 }
 
@@ -127,7 +140,10 @@ fn finish<W: Sink>(out: &mut W, bytes: &[u8], status: Status) -> Status
     ensures { Finishes bytes.now status result (W.written out.old) (W.written out.new) (W.flushed out.new)
         (over (W.faults out.old) (W.faults out.new)) }
 {
-    if write_all(out, bytes).is_err() || out.flush().is_err() {
+    if write_all(out, bytes).is_err() {
+        return Status::WriteFault;
+    }
+    if out.flush().is_err() {
         return Status::WriteFault;
     }
     status

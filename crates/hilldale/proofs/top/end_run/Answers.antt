@@ -1,9 +1,9 @@
 use Rattle.std.proofs.Common.{◌≡◌, ◌∙◌, List, ℕ, Bool, Result, Err, ap, subst, sym}
 use Rattle.hilldale.specs.declared.status.Status.TheVariants.{ReadFault}
-use Rattle.hilldale.specs.declared.stop.Stop.{Stop}
-use Rattle.hilldale.specs.declared.stop.Stop.TheVariants as stop
+use Rattle.hd_run.specs.declared.stop.Stop.{Stop}
+use Rattle.hd_run.specs.declared.stop.Stop.TheVariants as stop
 use Rattle.hilldale.specs.Ending.{EndsRun, Finishes}
-use Rattle.hilldale.specs.FaultCounts.{Count}
+use Rattle.hd_run.specs.FaultCounts.{Count}
 use Rattle.hilldale.specs.Texts.{read_fault_text}
 use Rattle.hilldale.proofs.top.end_run.Goals as goal
 

@@ -1,0 +1,18 @@
+use Rattle.std.proofs.Common.{◌∙◌, arith}
+use Rattle.hd_demo.proofs.Drawings.{draws_more, edit_is}
+use Rattle.hd_demo.proofs.Summaries.{edits_more}
+use Rattle.hd_demo.proofs.demo.make_edits.Goals as goal
+
+pub edits-preserved : goal.edits-preserved
+edits-preserved c =
+    let demo = c.args.demo in
+    let n = c.edits.counter in
+    let last = c.edits.draws.last in
+    let inv = c.edits.invariant in
+    record {
+      edits = edits_more demo c.args.session.now.state c.edits.session.state c.answer.new.self.state n c.as_slice.result.now _ inv.edits
+          (c.as_slice.ensures ∙ c.in_ok-line.ensures.edit ∙ edit_is demo.size demo.number n last inv.last) c.in_ok-answer.ensures.ok;
+      last = draws_more demo.size demo.number n last c.drawn_edit.new.draws.last inv.last c.drawn_edit.ensures.last;
+      asked = omega (arith, c.answer.ensures.asked, inv.asked);
+      few = omega (arith, c.edits-test.true);
+    }

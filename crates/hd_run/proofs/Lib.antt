@@ -1,0 +1,5 @@
+mod Answered
+mod Readings
+mod Runs
+mod Checks
+mod Savings

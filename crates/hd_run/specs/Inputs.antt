@@ -1,0 +1,36 @@
+-- What the reading of the two inputs tells.
+use Rattle.std.specs.Prelude.{◌≡◌, ◌≢◌, ◌<◌, ◌≤◌, ℕ, List, length, Result, Ok, Err, ⊤}
+use Rattle.hd_base.specs.Causes.{Rose}
+use Rattle.hd_sdf_read.specs.declared.file.SdfFile.{SdfFile}
+use Rattle.hd_sdf_read.specs.FileOf.{file_of}
+use Rattle.hd_run.specs.declared.stop.Refusal.{Refusal}
+use Rattle.hd_run.specs.declared.stop.Refusal.TheVariants.{SecondTooLong}
+use Rattle.hd_run.specs.declared.stop.Stop.{Stop}
+use Rattle.hd_run.specs.declared.stop.Stop.TheVariants.{Memory, ReadFault, WriteFault, Refused}
+use Rattle.hd_run.specs.Outcome.{surface_of}
+
+-- what the answer tells of the surface's bytes
+abbrev pub IsSurfaceRead : List ℕ → Result SdfFile Stop → Type 0
+IsSurfaceRead bytes (Ok file) = surface_of bytes ≡ Ok (file_of file)
+IsSurfaceRead bytes (Err (Refused refusal)) = surface_of bytes ≡ Err refusal
+IsSurfaceRead bytes (Err Memory) = ⊤
+IsSurfaceRead bytes (Err ReadFault) = ⊤
+IsSurfaceRead bytes (Err WriteFault) = ⊥
+
+-- what the answer tells of an input's bytes, by their limit and the refusal of more
+abbrev pub IsRead : ℕ → Refusal → List ℕ → Result (List ℕ) Stop → Type 0
+IsRead limit too_long bytes (Ok read) = (length bytes ≤ limit) × (read ≡ bytes)
+IsRead limit too_long bytes (Err (Refused refusal)) = (limit < length bytes) × (refusal ≡ too_long)
+IsRead limit too_long bytes (Err Memory) = ⊤
+IsRead limit too_long bytes (Err ReadFault) = ⊤
+IsRead limit too_long bytes (Err WriteFault) = ⊥
+
+-- what it tells of the second input's bytes
+abbrev pub IsSecondRead : ℕ → List ℕ → Result (List ℕ) Stop → Type 0
+IsSecondRead limit bytes result = IsRead limit SecondTooLong bytes result
+
+-- a read fault comes only where the count rose, and each other answer leaves the count; no write fault comes
+pub record HasReadStop {T : Type 0} (before now : ℕ) (result : Result T Stop) : Type 0 where
+  pub fault : result ≡ Err ReadFault → Rose before now
+  pub no_fault : result ≢ Err ReadFault → now ≡ before
+  pub no_write : result ≢ Err WriteFault

@@ -1,0 +1,10 @@
+pub mod Limits
+pub mod Texts
+pub mod Refusals
+pub mod Outcome
+pub mod FaultCounts
+pub mod Saving
+pub mod ReadOrder
+pub mod Inputs
+pub mod WrittenAnswers
+pub mod RunResult

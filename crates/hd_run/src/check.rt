@@ -1,0 +1,113 @@
+// The check of a certificate against a surface.
+ghost use Rattle.std.specs.Prelude.{◌≡◌, ◌⊎◌, ℕ, List as Items, Some, Ok, Err, IsTrue};
+ghost use Rattle.std.specs.Io.KnownBytes.{Keeps};
+ghost use Rattle.hd_map.specs.Surface.{map_of};
+ghost use Rattle.hd_sdf_read.specs.FileOf.{file_of};
+ghost use Rattle.hd_run.specs.FaultCounts.{Count, RoseIn, SourceFailed, Stays, over};
+ghost use Rattle.hd_run.specs.Limits.{certificate_limit, surface_limit};
+ghost use Rattle.hd_run.specs.Outcome.{surface_of};
+ghost use Rattle.hd_run.specs.ReadOrder.{SecondComesLast, StopsWithin, reading};
+ghost use Rattle.hd_run.specs.RunResult.{HasRunStop, IsCheck, IsJudged};
+
+use crate::inputs::{read_second, read_surface};
+use crate::limits::CERTIFICATE_LIMIT;
+use crate::stop::{Refusal, Stop};
+use crate::texts::ACCEPTED;
+use hd_base::{Sink, Source, write_all};
+use hd_check::{CertificateError, Verdict, check, read_certificate, verdict_is_determined};
+use hd_map::Surface;
+use hd_sdf_read::SdfFile;
+use hd_words::CheckJob;
+use std::alloc::Global;
+
+/// Reads the surface, then the certificate, and writes that it is accepted, where all rules hold of
+/// it on the surface. A certificate that cannot be read, or by which a rule fails, is a refusal.
+pub fn check_certificate<S: Source, R: Source, W: Sink>(
+    alloc: Global,
+    job: &CheckJob<'_>,
+    surface: &mut S,
+    script: &mut R,
+    out: &mut W,
+) -> Result<bool, Stop>
+    requires open { IsTrue (W.is_open out.old) }
+    requires surface { IsTrue (S.allows surface.old job.now.surface.now) }
+    requires certificate { IsTrue (R.allows script.old job.now.certificate.now) }
+    ensures open { IsTrue (W.is_open out.new) }
+    ensures told { (bytes second : Items ℕ) → S.files surface.old job.now.surface.now ≡ Some bytes
+        → R.files script.old job.now.certificate.now ≡ Some second
+        → IsCheck bytes second result (W.written out.old) (W.written out.new) }
+    ensures unwritten { result ≡ Err Stop.ReadFault → Keeps (W.written out.old) (W.written out.new) }
+    ensures order { SecondComesLast (Some job.now.certificate.now) (S.files surface.old job.now.surface.now)
+        (over (S.faults surface.old) (S.faults surface.new)) script.old script.new }
+    ensures surface_left { StopsWithin surface_limit job.now.surface.now (reading (S.files surface.old) (S.left surface.old)
+        (S.left surface.new) (over (S.faults surface.old) (S.faults surface.new))) }
+    ensures certificate_left { (script.new ≡ script.old)
+        ⊎ StopsWithin certificate_limit job.now.certificate.now (reading (R.files script.old) (R.left script.old)
+        (R.left script.new) (over (R.faults script.old) (R.faults script.new))) }
+    ensures failed { (bytes : Items ℕ) → S.files surface.old job.now.surface.now ≡ Some bytes
+        → result ≡ Err Stop.ReadFault
+        → SourceFailed (surface_of bytes) (over (S.faults surface.old) (S.faults surface.new))
+        (over (R.faults script.old) (R.faults script.new)) }
+    ensures cause { (saved : Count) → Stays saved → HasRunStop (over (S.faults surface.old) (S.faults surface.new))
+        (over (R.faults script.old) (R.faults script.new)) (over (W.faults out.old) (W.faults out.new)) saved result }
+{
+    let file = match read_surface(alloc, surface, job.surface) {
+        Ok(file) => file,
+        Err(stop) => return Err(stop),
+    };
+    check_second(alloc, job, &file, script, out)
+}
+
+// Reads the certificate, and writes that it is accepted, where all rules hold of it on the surface of
+// a file.
+fn check_second<R: Source, W: Sink>(
+    alloc: Global,
+    job: &CheckJob<'_>,
+    file: &SdfFile,
+    script: &mut R,
+    out: &mut W,
+) -> Result<bool, Stop>
+    requires open { IsTrue (W.is_open out.old) }
+    requires certificate { IsTrue (R.allows script.old job.now.certificate.now) }
+    ensures open { IsTrue (W.is_open out.new) }
+    ensures told { (bytes second : Items ℕ) → surface_of bytes ≡ Ok (file_of file.now)
+        → R.files script.old job.now.certificate.now ≡ Some second
+        → IsCheck bytes second result (W.written out.old) (W.written out.new) }
+    ensures unwritten { result ≡ Err Stop.ReadFault → Keeps (W.written out.old) (W.written out.new) }
+    ensures certificate_left { StopsWithin certificate_limit job.now.certificate.now (reading (R.files script.old)
+        (R.left script.old) (R.left script.new) (over (R.faults script.old) (R.faults script.new))) }
+    ensures failed { result ≡ Err Stop.ReadFault → RoseIn (over (R.faults script.old) (R.faults script.new)) }
+    ensures cause { (surface saved : Count) → Stays surface → Stays saved → HasRunStop surface
+        (over (R.faults script.old) (R.faults script.new)) (over (W.faults out.old) (W.faults out.new)) saved result }
+{
+    verdict_is_determined();
+    let text = match read_second(alloc, script, job.certificate, CERTIFICATE_LIMIT) {
+        Ok(text) => text,
+        Err(stop) => return Err(stop),
+    };
+    match judge(alloc, &file.surface, text.as_slice()) {
+        Ok(()) => {}
+        Err(stop) => return Err(stop),
+    }
+    if write_all(out, ACCEPTED.as_bytes()).is_err() {
+        return Err(Stop::WriteFault);
+    }
+    Ok(true)
+}
+
+// Reads a certificate and tries the rules on a surface. Ok says that all of them hold.
+fn judge(alloc: Global, surface: &Surface, text: &[u8]) -> Result<(), Stop>
+    ensures { IsJudged (map_of surface.now) text.now result }
+{
+    let certificate = match read_certificate(alloc, text) {
+        Ok(certificate) => certificate,
+        Err(CertificateError::Memory) => return Err(Stop::Memory),
+        Err(CertificateError::BadLine(line)) => return Err(Stop::Refused(Refusal::Unreadable(
+            line,
+        ))),
+    };
+    match check(alloc, surface, &certificate) {
+        Verdict::Yes => Ok(()),
+        Verdict::No { rule, at } => Err(Stop::Refused(Refusal::RuleFails { rule, at })),
+    }
+}

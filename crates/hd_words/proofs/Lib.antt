@@ -1,0 +1,8 @@
+mod WordLemmas
+mod ParsedRows
+mod ParsedKeys
+mod ParsedWords
+mod Forms
+mod ParsedCommands
+mod Matched
+mod WithinLimits

@@ -1,0 +1,168 @@
+-- Steps of the reading of the words.
+use Rattle.std.proofs.Common.{◌≡◌, ◌≢◌, ◌∙◌, ◌<◌, ◌+◌, ℕ, suc, map, get_or, drop-cons, Bool, true, false, List, [], ◌∷◌, ◌++◌, length, drop, Option, Some, None, IfNone, MatchOption, codes, nat_eq, Bor, refl, sym, ap, append_assoc, arith, if◌then◌else◌}
+use Rattle.std.specs.List.{starts_with}
+use Rattle.std.specs.Option.{option_copied, option_and_then}
+use Rattle.std.specs.Str.{IsCharBoundary}
+use Rattle.std.specs.Prelude.{Decides}
+use Rattle.std.proofs.lemmas.Bool.Decides.{nat_tests}
+use Rattle.std.proofs.lemmas.Slice.Eq.{starts_is}
+use Rattle.hd_words.specs.Words.{Given, given_of, with_name, with_tile, with_save, begins_with_dash, dales_names, run_names, check_names, demo_names, tile_of}
+use Rattle.hd_words.specs.WordSteps.{HasNoForm, IsNoOptionAlone, followed_by}
+use Rattle.hd_words.specs.declared.found.Stage.TheVariants.{Options, TileValue, SaveValue}
+
+two_tiles-dales : (names saves : List (List ℕ)) (first second : List ℕ) (more : List (List ℕ)) → dales_names names (first ∷ (second ∷ more)) saves ≡ None
+two_tiles-dales [] saves first second more = refl
+two_tiles-dales (name ∷ []) saves first second more = refl
+two_tiles-dales (name ∷ (other ∷ names)) saves first second more = refl
+
+two_tiles-run : (names saves : List (List ℕ)) (first second : List ℕ) (more : List (List ℕ)) → run_names names (first ∷ (second ∷ more)) saves ≡ None
+two_tiles-run [] saves first second more = refl
+two_tiles-run (name ∷ []) saves first second more = refl
+two_tiles-run ([] ∷ (script ∷ [])) saves first second more = refl
+two_tiles-run ((byte ∷ bytes) ∷ ([] ∷ [])) saves first second more = refl
+two_tiles-run ((byte ∷ bytes) ∷ ((letter ∷ letters) ∷ [])) saves first second more = refl
+two_tiles-run (name ∷ (script ∷ (other ∷ names))) saves first second more = refl
+
+two_saves-dales : (names tiles : List (List ℕ)) (first second : List ℕ) (more : List (List ℕ)) → dales_names names tiles (first ∷ (second ∷ more)) ≡ None
+two_saves-dales [] tiles first second more = refl
+two_saves-dales (name ∷ []) [] first second more = refl
+two_saves-dales (name ∷ []) (tile ∷ tiles) first second more = refl
+two_saves-dales (name ∷ (other ∷ names)) tiles first second more = refl
+
+two_tiles-check : (names saves : List (List ℕ)) (first second : List ℕ) (more : List (List ℕ)) → check_names names (first ∷ (second ∷ more)) saves ≡ None
+two_tiles-check [] saves first second more = refl
+two_tiles-check (name ∷ []) saves first second more = refl
+two_tiles-check (name ∷ (other ∷ [])) saves first second more = refl
+two_tiles-check (name ∷ (other ∷ (third ∷ names))) saves first second more = refl
+
+two_saves-check : (names tiles : List (List ℕ)) (first second : List ℕ) (more : List (List ℕ)) → check_names names tiles (first ∷ (second ∷ more)) ≡ None
+two_saves-check [] tiles first second more = refl
+two_saves-check (name ∷ []) tiles first second more = refl
+two_saves-check (name ∷ (other ∷ [])) [] first second more = refl
+two_saves-check (name ∷ (other ∷ [])) (tile ∷ tiles) first second more = refl
+two_saves-check (name ∷ (other ∷ (third ∷ names))) tiles first second more = refl
+
+two_tiles-demo : (names saves : List (List ℕ)) (first second : List ℕ) (more : List (List ℕ)) → demo_names names (first ∷ (second ∷ more)) saves ≡ None
+two_tiles-demo [] saves first second more = refl
+two_tiles-demo (one ∷ []) saves first second more = refl
+two_tiles-demo (one ∷ (two ∷ [])) saves first second more = refl
+two_tiles-demo (one ∷ (two ∷ (three ∷ []))) saves first second more = refl
+two_tiles-demo (one ∷ (two ∷ (three ∷ (four ∷ [])))) [] first second more = refl
+two_tiles-demo (one ∷ (two ∷ (three ∷ (four ∷ [])))) (save ∷ saves) first second more = refl
+two_tiles-demo (one ∷ (two ∷ (three ∷ (four ∷ (five ∷ names))))) saves first second more = refl
+
+two_saves-demo : (names tiles : List (List ℕ)) (first second : List ℕ) (more : List (List ℕ)) → demo_names names tiles (first ∷ (second ∷ more)) ≡ None
+two_saves-demo [] tiles first second more = refl
+two_saves-demo (one ∷ []) tiles first second more = refl
+two_saves-demo (one ∷ (two ∷ [])) tiles first second more = refl
+two_saves-demo (one ∷ (two ∷ (three ∷ []))) tiles first second more = refl
+two_saves-demo (one ∷ (two ∷ (three ∷ (four ∷ [])))) tiles first second more = refl
+two_saves-demo (one ∷ (two ∷ (three ∷ (four ∷ (five ∷ names))))) tiles first second more = refl
+
+none_then : {X Y : Type 0} (r : Option X) (f : X → Option Y) → ((x : X) → f x ≡ None) → option_and_then f r ≡ None
+none_then None f h = refl
+none_then (Some x) f h = h x
+
+two_saves-run : (names tiles : List (List ℕ)) (first second : List ℕ) (more : List (List ℕ)) → run_names names tiles (first ∷ (second ∷ more)) ≡ None
+two_saves-run [] tiles first second more = refl
+two_saves-run (name ∷ []) tiles first second more = refl
+two_saves-run ([] ∷ (script ∷ [])) tiles first second more = refl
+two_saves-run ((byte ∷ bytes) ∷ ([] ∷ [])) tiles first second more = refl
+two_saves-run ((byte ∷ bytes) ∷ ((letter ∷ letters) ∷ [])) tiles first second more = none_then (tile_of tiles) _ (λ side. refl)
+two_saves-run (name ∷ (script ∷ (other ∷ names))) tiles first second more = refl
+
+-- a second value of `--tile` has no form
+pub full_tiles : (names saves : List (List ℕ)) (first value : List ℕ) (later : Option Given) → HasNoForm (followed_by (record { names = names; tiles = first ∷ []; saves = saves }) (with_tile value later))
+full_tiles names saves first value None = record { dales = refl; run = refl; check = refl; demo = refl }
+full_tiles names saves first value (Some g) = record { dales = two_tiles-dales (names ++ g.names) (saves ++ g.saves) first value g.tiles; run = two_tiles-run (names ++ g.names) (saves ++ g.saves) first value g.tiles; check = two_tiles-check (names ++ g.names) (saves ++ g.saves) first value g.tiles; demo = two_tiles-demo (names ++ g.names) (saves ++ g.saves) first value g.tiles }
+
+-- a second value of `--save` has no form
+pub full_saves : (names tiles : List (List ℕ)) (first value : List ℕ) (later : Option Given) → HasNoForm (followed_by (record { names = names; tiles = tiles; saves = first ∷ [] }) (with_save value later))
+full_saves names tiles first value None = record { dales = refl; run = refl; check = refl; demo = refl }
+full_saves names tiles first value (Some g) = record { dales = two_saves-dales (names ++ g.names) (tiles ++ g.tiles) first value g.saves; run = two_saves-run (names ++ g.names) (tiles ++ g.tiles) first value g.saves; check = two_saves-check (names ++ g.names) (tiles ++ g.tiles) first value g.saves; demo = two_saves-demo (names ++ g.names) (tiles ++ g.tiles) first value g.saves }
+
+pub first_tile : (names saves : List (List ℕ)) (value : List ℕ) (later : Option Given) → followed_by (record { names = names; tiles = []; saves = saves }) (with_tile value later) ≡ followed_by (record { names = names; tiles = value ∷ []; saves = saves }) later
+first_tile names saves value None = refl
+first_tile names saves value (Some g) = refl
+
+pub first_save : (names tiles : List (List ℕ)) (value : List ℕ) (later : Option Given) → followed_by (record { names = names; tiles = tiles; saves = [] }) (with_save value later) ≡ followed_by (record { names = names; tiles = tiles; saves = value ∷ [] }) later
+first_save names tiles value None = refl
+first_save names tiles value (Some g) = refl
+
+five_names : (names tiles saves : List (List ℕ)) (name : List ℕ) (later : Option Given) → length names ≡ 4 → HasNoForm (followed_by (record { names = names; tiles = tiles; saves = saves }) (with_name name later))
+five_names names tiles saves name None four = record { dales = refl; run = refl; check = refl; demo = refl }
+five_names [] tiles saves name (Some g) four = absurd (omega arith)
+five_names (one ∷ []) tiles saves name (Some g) four = absurd (omega arith)
+five_names (one ∷ (two ∷ [])) tiles saves name (Some g) four = absurd (omega arith)
+five_names (one ∷ (two ∷ (three ∷ []))) tiles saves name (Some g) four = absurd (omega arith)
+five_names (one ∷ (two ∷ (three ∷ (fourth ∷ [])))) tiles saves name (Some g) four = record { dales = refl; run = refl; check = refl; demo = refl }
+five_names (one ∷ (two ∷ (three ∷ (fourth ∷ (fifth ∷ names))))) tiles saves name (Some g) four = absurd (omega arith)
+
+-- a fifth name has no form
+pub full_names : (before : Given) (name : List ℕ) (later : Option Given) → length before.names ≡ 4 → HasNoForm (followed_by before (with_name name later))
+full_names before name later four = five_names before.names before.tiles before.saves name later four
+
+pub one_name : (before : Given) (name : List ℕ) (later : Option Given) → followed_by before (with_name name later) ≡ followed_by (record { names = before.names ++ (name ∷ []); tiles = before.tiles; saves = before.saves }) later
+one_name before name None = refl
+one_name before name (Some g) = rw (append_assoc before.names (name ∷ []) g.names) refl
+
+-- a word that is no option
+pub plain_word : (word : List ℕ) (words : List (List ℕ)) → IsNoOptionAlone word → starts_with nat_eq word (codes "--tile=") ≡ false → starts_with nat_eq word (codes "--save=") ≡ false → begins_with_dash word ≡ false
+    → given_of Options (word ∷ words) ≡ with_name word (given_of Options words)
+plain_word word words alone tile save dash = rw (alone.ends, alone.tile, alone.save, tile, save, dash) refl
+
+-- another word that begins with `-` has no form
+pub refused_word : (before : Given) (word : List ℕ) (words : List (List ℕ)) → IsNoOptionAlone word → starts_with nat_eq word (codes "--tile=") ≡ false → starts_with nat_eq word (codes "--save=") ≡ false → begins_with_dash word ≡ true
+    → HasNoForm (followed_by before (given_of Options (word ∷ words)))
+refused_word before word words alone tile save dash = rw (alone.ends, alone.tile, alone.save, tile, save, dash) (record { dales = refl; run = refl; check = refl; demo = refl })
+
+-- a word `--tile=VALUE`
+pub joined_tile : (word value : List ℕ) (words : List (List ℕ)) → IsNoOptionAlone word → starts_with nat_eq word (codes "--tile=") ≡ true → value ≡ drop 7 word → given_of Options (word ∷ words) ≡ given_of TileValue (value ∷ words)
+joined_tile word value words alone tile is = rw (alone.ends, alone.tile, alone.save, tile, is) refl
+
+-- a word `--save=VALUE`
+pub joined_save : (word value : List ℕ) (words : List (List ℕ)) → IsNoOptionAlone word → starts_with nat_eq word (codes "--tile=") ≡ false → starts_with nat_eq word (codes "--save=") ≡ true → value ≡ drop 7 word
+    → given_of Options (word ∷ words) ≡ given_of SaveValue (value ∷ words)
+joined_save word value words alone tile save is = rw (alone.ends, alone.tile, alone.save, tile, save, is) refl
+
+none_if : (test : Bool) (value : List ℕ) → (test ≡ true → ⊥) → None ≡ (if test then Some value else None)
+none_if true value wrong = absurd (wrong refl)
+none_if false value wrong = refl
+
+some_if : (test : Bool) (x value : List ℕ) → test ≡ true → x ≡ value → Some x ≡ (if test then Some value else None)
+some_if true x value holds is = ap (λ xs. Some xs) is
+some_if false x value holds is = absurd (cc)
+
+pub same_byte : (a b : ℕ) → Decides (nat_eq a b) (a ≡ b)
+same_byte a b = (λ t. grind (arith, nat_tests), λ e. grind (arith, nat_tests))
+
+-- a word without the text that it begins with
+pub strips : (word front : List ℕ) (r : Option (Bor (List ℕ)))
+    → MatchOption r ((rest : List ℕ) → drop 0 word ≢ front ++ rest) (λ x. (n : ℕ) × ((n ≡ length front) × (word ≡ front ++ drop n word) × IsCharBoundary word (length front)) × (x.now ≡ drop n word) × (length x.now + n ≡ length word))
+    → option_copied r ≡ (if starts_with nat_eq word front then Some (drop (length front) word) else None)
+strips word front None lacks = none_if (starts_with nat_eq word front) (drop (length front) word) (λ holds. lacks (drop (length front) word) ((starts_is same_byte word front (starts_with nat_eq word front) refl).0 holds))
+strips word front (Some x) (n, found, is, len) =
+    some_if (starts_with nat_eq word front) x.now (drop (length front) word) ((starts_is same_byte word front (starts_with nat_eq word front) refl).1 (drop n word) found.1) (is ∙ ap (λ k. drop k word) found.0)
+
+pub absent-false : (test : Bool) (value : List ℕ) (r : Option (Bor (List ℕ))) → option_copied r ≡ (if test then Some value else None) → r ≡ None → test ≡ false
+absent-false true value r e is = let wrong : None ≡ Some value = rw is at e in cc
+absent-false false value r e is = refl
+
+pub present-true : (test : Bool) (value : List ℕ) (r : Option (Bor (List ℕ))) (x : Bor (List ℕ)) → option_copied r ≡ (if test then Some value else None) → r ≡ Some x → (test ≡ true) × (x.now ≡ value)
+present-true true value r x e is = let same : Some x.now ≡ Some value = rw is at e in (refl, cc)
+present-true false value r x e is = let wrong : Some x.now ≡ None = rw is at e in cc
+
+-- words that give the same have as little form
+pub same_refused : (before : Given) (later other : Option Given) → later ≡ other → HasNoForm (followed_by before other) → HasNoForm (followed_by before later)
+same_refused before later other same h = rw same h
+
+pub none_more : {X P Q : Type 0} (r : Option X) → (P → Q) → IfNone r P → IfNone r Q
+none_more None more h = more h
+none_more (Some x) more h = h
+
+pub none_before : (given : Option Given) → given ≡ followed_by (record { names = []; tiles = []; saves = [] }) given
+none_before None = refl
+none_before (Some g) = refl
+
+pub left_item : {X Y : Type 0} (f : X → Y) (xs : List X) (i : ℕ) (x : X) → x ≡ get_or xs i x → i < length xs → map f (drop i xs) ≡ f x ∷ map f (drop (suc i) xs)
+left_item f xs i x is within = ap (map f) (drop-cons xs i x within) ∙ ap (λ y. f y ∷ map f (drop (suc i) xs)) (sym is)

@@ -1,0 +1,29 @@
+use Rattle.std.proofs.Common.{◌≡◌, ◌+◌, ◌∙◌, ◌∷◌, ap, arith, drop, map, string_bytes, suc, sym}
+use Rattle.hd_words.specs.Words.{given_of}
+use Rattle.hd_words.specs.WordSteps.{given_after}
+use Rattle.hd_words.specs.declared.found.Stage.TheVariants.{Options}
+use Rattle.hd_words.proofs.WordLemmas.{left_item, none_before}
+use Rattle.hd_words.proofs.found.found_in.Goals as goal
+
+pub loop-word-init : goal.loop-word-init
+loop-word-init c = none_before (given_of Options (map string_bytes c.args.words.now))
+
+pub loop-word-preserved : goal.loop-word-preserved
+loop-word-preserved c =
+    let words = c.args.words.now in
+    let rest = map string_bytes (drop (suc c.loop-word.word-index) words) in
+    let left = left_item string_bytes words c.loop-word.word-index c.word-item.result c.word-item.is c.loop-word-test.true in
+    let text = ap (λ bytes. bytes ∷ rest) (sym c.as_str.ensures.value) in
+    let next : suc c.loop-word.word-index ≡ c.loop-word.word-index + 1 = omega arith in
+    c.loop-word.invariant ∙ ap (given_after c.loop-word.progress) (left ∙ text) ∙ c.in_ok-progress.ensures.some rest
+    ∙ ap (λ i. given_after c.in_ok-progress.progress (map string_bytes (drop i words))) next
+
+pub returns-in_err-progress-clause-none : goal.returns-in_err-progress-clause-none
+returns-in_err-progress-clause-none c =
+    let words = c.args.words.now in
+    let rest = map string_bytes (drop (suc c.loop-word.word-index) words) in
+    let left = left_item string_bytes words c.loop-word.word-index c.word-item.result c.word-item.is c.loop-word-test.true in
+    let text = ap (λ bytes. bytes ∷ rest) (sym c.as_str.ensures.value) in
+    let e : given_of Options (map string_bytes words) ≡ given_after c.loop-word.progress (c.as_str.result.now ∷ rest) =
+    c.loop-word.invariant ∙ ap (given_after c.loop-word.progress) (left ∙ text) in
+    rw (c.from_residual.ensures, e) (c.in_err-progress.ensures.none rest)

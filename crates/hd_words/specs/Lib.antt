@@ -1,0 +1,5 @@
+pub mod Limits
+pub mod Demo
+pub mod Words
+pub mod WordSteps
+pub mod CommandLines

@@ -1,6 +1,0 @@
-use Rattle.std.proofs.Common.{Err, ap}
-use Rattle.hilldale.proofs.Runs.{surface_of-long}
-use Rattle.hilldale.proofs.inputs.read_surface.Goals as goal
-
-pub returns-in-Err-TooLong-clause-told : goal.returns-in-Err-TooLong-clause-told
-returns-in-Err-TooLong-clause-told g c = λ bytes told. surface_of-long bytes (c.in-Err-TooLong.ensures.file.too_long bytes told c.in-Err-TooLong.field-0-0 (ap Err c.in-Err-TooLong.field-0-is))

@@ -1,8 +1,0 @@
-use Rattle.hilldale.proofs.CommandForms.{dales_asked, dales_has}
-use Rattle.hilldale.proofs.jobs.dales_job.Goals as goal
-
-pub name_in-requires : goal.name_in-requires
-name_in-requires c = dales_has c.args.matches.now c.requires.0 c.requires.1
-
-pub returns-clause-form : goal.returns-clause-form
-returns-clause-form c = λ request asked. dales_asked c.args.matches.now request c.name_in.result.now asked c.name_in.ensures

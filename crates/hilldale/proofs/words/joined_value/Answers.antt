@@ -1,5 +1,0 @@
-use Rattle.hilldale.proofs.WordLemmas.{strips}
-use Rattle.hilldale.proofs.words.joined_value.Goals as goal
-
-pub returns : goal.returns
-returns c = strips c.args.word.now c.args.option.now c.strip_prefix.result c.strip_prefix.ensures.cases

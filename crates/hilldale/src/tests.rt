@@ -1,0 +1,11 @@
+// Runs of the program over sources and sinks in memory.
+mod calls;
+mod certificates;
+mod demos;
+mod faults;
+mod reports;
+mod runs;
+mod saves;
+mod surfaces;
+mod trials;
+mod words;

@@ -1,0 +1,140 @@
+// Runs of the program over sources and sinks in memory.
+use crate::{Status, top};
+use hd_base::{List, MemSink, MemSource};
+use std::alloc::Global;
+use std::process::Abort;
+use std::test::Fail;
+
+pub(crate) const HEADER: &str = "aBCR-1.0
+ManufacID = demo
+CreateDate = 010120260000
+ModDate = 010120260000
+";
+
+const SCALES: &str = "Xscale = 1e-6
+Yscale = 1e-6
+Zscale = 1e-9
+Zresolution = -1
+Compression = 0
+";
+
+pub(crate) const PROFILE_DALES: &str = "dales 2\ndale 0 0 0 2\ndale 2 0 1 1\n";
+
+// A file of this type with these data.
+pub(crate) fn file(
+    alloc: Global,
+    points: u32,
+    profiles: u32,
+    code: u32,
+    data: &str,
+) -> Result<String, Fail> {
+    Ok(format!(in alloc;
+        "{HEADER}NumPoints = {points}\nNumProfiles = {profiles}\n{SCALES}DataType = {code}\nCheckType = 0\n*\n{data}\n*\n"
+    )?)
+}
+
+// The three-point profile 0 5 1.
+pub(crate) fn profile(alloc: Global, code: u32) -> Result<String, Fail> {
+    file(alloc, 3, 1, code, "0 5 1")
+}
+
+// How a run is fed: the name of the surface and its text, the text of the second input `B`, the bytes
+// of a piece, and the calls of each source and of the sink that fail.
+#[derive(Drop)]
+pub(crate) struct Feed<'a> {
+    pub(crate) surface_name: &'a str,
+    pub(crate) surface: &'a str,
+    pub(crate) script: &'a str,
+    pub(crate) piece: usize,
+    pub(crate) surface_fails: &'a [u64],
+    pub(crate) script_fails: &'a [u64],
+    pub(crate) sink_fails: &'a [u64],
+}
+
+// A feed of the surface `A` without faults.
+pub(crate) fn whole<'a>(surface: &'a str, script: &'a str) -> Feed<'a> {
+    Feed {
+        surface_name: "A",
+        surface,
+        script,
+        piece: 4096,
+        surface_fails: &[],
+        script_fails: &[],
+        sink_fails: &[],
+    }
+}
+
+// The words as the program gets them.
+pub(crate) fn words_of(alloc: Global, words: &[&str]) -> Result<Vec<String>, Fail> {
+    let mut given = Vec::new(alloc);
+    for word in words {
+        given.push(String::from_str(alloc, word)?)?;
+    }
+    Ok(given)
+}
+
+// A source of one file.
+pub(crate) fn source_of(
+    alloc: Global,
+    name: &str,
+    text: &str,
+    fails: &[u64],
+    piece: usize,
+) -> Result<MemSource, Fail> {
+    let name = List::from_vec(name.as_bytes().to_vec(alloc)?);
+    let bytes = List::from_vec(text.as_bytes().to_vec(alloc)?);
+    let files = List::from_vec(vec![in alloc; (name, bytes)]?);
+    let fails = List::from_vec(fails.to_vec(alloc)?);
+    Ok(MemSource::new(files, fails, piece.max(1)))
+}
+
+// A sink with ample room.
+pub(crate) fn sink_of(alloc: Global, fails: &[u64], piece: usize) -> Result<MemSink, Fail> {
+    let fails = List::from_vec(fails.to_vec(alloc)?);
+    let mut sink = MemSink::new(alloc, fails, piece.max(1));
+    sink.reserve(65536).ok().ok_or("no room")?;
+    Ok(sink)
+}
+
+// The status and the output of a run.
+pub(crate) fn run(alloc: Global, words: &[&str], feed: &Feed) -> Result<(Status, String), Fail> {
+    let mut saved = MemSink::new(alloc, List::new(alloc), 1);
+    run_saving(alloc, words, feed, &mut saved)
+}
+
+// The status and the output of a run that may save to a sink.
+pub(crate) fn run_saving(
+    alloc: Global,
+    words: &[&str],
+    feed: &Feed,
+    saved: &mut MemSink,
+) -> Result<(Status, String), Fail> {
+    let given = words_of(alloc, words)?;
+    let mut surface = source_of(
+        alloc,
+        feed.surface_name,
+        feed.surface,
+        feed.surface_fails,
+        feed.piece,
+    )?;
+    let mut script = source_of(alloc, "B", feed.script, feed.script_fails, feed.piece)?;
+    let mut out = sink_of(alloc, feed.sink_fails, feed.piece)?;
+    let words = given.as_slice();
+    let status = top(alloc, words, &mut surface, &mut script, &mut out, saved);
+    let text = String::from_utf8(out.bytes().to_vec(alloc)?);
+    Ok((status, text.ok().ok_or("no text")?))
+}
+
+// Compares the status and the output of a run.
+pub(crate) fn expect(
+    rt: &(impl Abort + AllocGlobal),
+    words: &[&str],
+    feed: &Feed,
+    wanted: Status,
+    output: &str,
+) -> Result<(), Fail> {
+    let (status, text) = run(rt.alloc(), words, feed)?;
+    assert_eq!(rt; status, wanted);
+    assert_eq!(rt; text.as_str(), output);
+    Ok(())
+}
