@@ -21,8 +21,8 @@ use std::alloc::Global;
 /// Of the paths from the first to the second with that top, its path is one with the fewest points,
 /// and of those with the fewest the first by the list of indexes. Its cut is the points that are
 /// reached from the first by paths wholly below the saddle, or by any path where there is no saddle.
-/// The certificate is right. It takes 9 bytes a point and the queue, and time in proportion to the
-/// points. `Memory` comes where it is refused that memory.
+/// The certificate is right. Measured, it takes 21 bytes a point, or 29 where there is a saddle, and
+/// time in proportion to the points. `Memory` comes where memory is refused.
 pub fn certify<S: Side, G: Heights>(
     alloc: Global,
     grid: &G,

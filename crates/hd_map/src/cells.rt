@@ -8,7 +8,8 @@ use crate::{Cell, DataType, least_of, over_least};
 use hd_base::Memory;
 use std::alloc::Global;
 
-/// The cells of a surface as they are read, by index, in five bytes each. Each is of the data type.
+/// The cells of a surface as they are read, by index. Each is of the data type, and takes five bytes,
+/// as measured.
 #[derive(Debug, Drop)]
 pub struct Cells {
     pub(crate) data_type: DataType,

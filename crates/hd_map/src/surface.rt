@@ -10,7 +10,8 @@ use crate::{
 use hd_base::Memory;
 use std::alloc::Global;
 
-/// A measured surface in memory: four bytes a point for its height and one for its mark.
+/// A surface in memory. As measured, a point takes five bytes: four for its height and one for its
+/// mark.
 #[derive(Debug, Drop)]
 pub struct Surface {
     size: Size,
@@ -52,8 +53,8 @@ impl Surface {
         }
     }
 
-    /// A copy with the same cells, none of them masked. `Memory` comes where its five bytes a point
-    /// are refused.
+    /// A copy with the same cells, none of them masked. `Memory` comes where the copy is refused its
+    /// memory.
     pub fn without_masks(&self, alloc: Global) -> Result<Surface, Memory>
         ensures { IfOk result (λ s. map_of s ≡ unmasked (map_of self.now)) }
     {

@@ -128,12 +128,7 @@ fn type_at(entries: &[Entry], key: &[u8]) -> Option<DataType>
 }
 
 // The scale that a required key of this number has.
-fn scale_at(
-    alloc: Global,
-    entries: &[Entry],
-    key: &[u8],
-    number: u8,
-) -> Result<Decimal, SdfError>
+fn scale_at(alloc: Global, entries: &[Entry], key: &[u8], number: u8) -> Result<Decimal, SdfError>
     ensures value { Gives (λ scale. scale) result (required number (decimal_at key.now (extras_of entries.now))) }
     ensures read { IfOk result IsRead }
 {

@@ -20,9 +20,9 @@ const BLOCK: usize = 65_536;
 /// The passes between the regions with these labels: for each two of them with neighbouring members
 /// one, by the lesser index of their pits and then by the greater.
 ///
-/// The labels are those that `regions` gives for this grid and side. It takes time in proportion to
-/// n log n for n pairs of neighbours in two regions, and memory in proportion to the passes, or for
-/// 65,536 pairs where there are fewer. `Memory` comes where that is refused.
+/// The labels are those that `regions` gives for this grid and side. Measured, it takes time in
+/// proportion to n log n for n pairs of neighbours in two regions, and memory in proportion to the
+/// passes, or for 65,536 pairs where there are fewer. `Memory` comes where memory is refused.
 pub fn passes<S: Side, G: Heights>(
     alloc: Global,
     grid: &G,

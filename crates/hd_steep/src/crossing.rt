@@ -20,9 +20,9 @@ use std::alloc::Global;
 /// other.
 ///
 /// The labels are those that `regions` gives for this grid and side. There may be several passes
-/// for two regions, or none; `passes` gives one for each two that meet. It takes time in proportion
-/// to the points, and memory for the passes, at first for one of three points, and 48 bytes a
-/// column. `Memory` comes where that is refused.
+/// for two regions, or none; `passes` gives one for each two that meet. Measured, it takes time in
+/// proportion to the points, and memory for the passes, at first for one of three points, and
+/// 48 bytes a column. `Memory` comes where memory is refused.
 pub fn crossings<S: Side, G: Heights>(
     alloc: Global,
     grid: &G,

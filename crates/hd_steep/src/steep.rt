@@ -48,8 +48,8 @@ pub fn root<S: Side, G: Heights>(alloc: Global, grid: &G, at: Pos) -> Pos
 /// By index the index of the pit in whose region the point lies, and none for points that are not
 /// present.
 ///
-/// It takes 12 bytes a point and 100 a column, and time in proportion to the points, however long
-/// the ways are. `Memory` comes where these bytes are refused. Dales and hills are those of
+/// Measured, it takes 12 bytes a point and 100 a column, and time in proportion to the points,
+/// however long the ways are. `Memory` comes where memory is refused. Dales and hills are those of
 /// ISO 25178-2; that each point has one steepest way is this project's own rule.
 pub fn regions<S: Side, G: Heights>(alloc: Global, grid: &G) -> Result<List<Option<u32>>, Memory>
     ensures { IfOk result (AreRegions (G.map grid.now) S.NAME) }
