@@ -31,7 +31,7 @@ use Rattle.hd_survey.specs.Values.{AreServing, IsNotationValue}
 use Rattle.hd_survey.proofs.FeatureLists.{features_are, features_heights, features_points, heights_are, no_kept}
 use Rattle.hd_survey.proofs.FeaturePoints.{kept_heights, kept_inside, kept_ordered, range_heights}
 use Rattle.hd_survey.proofs.Lists.{rising_few}
-use Rattle.hd_survey.proofs.Owning.{owned_whole, pruned_inside, tallies_have}
+use Rattle.hd_survey.proofs.Owning.{owned_whole, pruned_inside}
 use Rattle.hd_survey.proofs.OwnedTallies.{owned_few}
 
 -- what is known of the list of regions

@@ -1,9 +1,8 @@
 -- What pruning keeps are points of the map, in position order.
-use Rattle.std.proofs.Common.{◌≡◌, ◌<◌, ◌≤◌, ℕ, ℤ, zero, suc, List, [], ◌∷◌, length, get_or, map, Some, sym, subst, arith}
+use Rattle.std.proofs.Common.{◌≡◌, ◌<◌, ℕ, ℤ, List, get_or, Some, sym, subst, arith}
 use Rattle.std.specs.Prelude.{All, AllPairs, Contains, ◌≤ℤ◌}
 use Rattle.std.proofs.lemmas.Bool.{cond_both}
 use Rattle.std.proofs.lemmas.Int.{ints}
-use Rattle.std.proofs.lemmas.List.{length-map, get_or-map}
 use Rattle.std.proofs.lemmas.List.Elements.{All-filter, Contains-get_or}
 use Rattle.std.proofs.lemmas.List.Kept.{AllPairs-filter}
 use Rattle.hd_map.specs.declared.types.DataType.{DataType}
@@ -25,7 +24,7 @@ use Rattle.hd_map.specs.Presence.{present_heights, range_of}
 use Rattle.hd_survey.specs.Heights.{HasHeights, IsHeight, IsHeightRange}
 use Rattle.hd_survey.proofs.Spans.{point_fits, point_of, range_is}
 use Rattle.hd_survey.proofs.Inside.{path_point, point_inside}
-use Rattle.hd_survey.proofs.Lists.{All-map, All-unmap, AllPairs-map, AllPairs-unmap, rising_few}
+use Rattle.hd_survey.proofs.Lists.{All-map, All-unmap, AllPairs-unmap}
 
 type_height : (t : DataType) (h : ℤ) → least_height t ≤ℤ h → h ≤ℤ greatest_height t → IsHeight h
 type_height U8 h a b = record { least = omega (arith, ints); greatest = omega (arith, ints) }

@@ -1,14 +1,13 @@
 -- The tallies of regions, taken together by owner.
-use Rattle.std.proofs.Common.{◌≡◌, ◌<◌, ◌≤◌, ◌+◌, ◌++◌, ◌∙◌, ℕ, ℤ, Bool, true, false, List, [], ◌∷◌, length, get_or, drop, drop-cons, cond, map, Option, Some, None, inl, inr, refl, sym, ap, subst, nat_eq, arith, add-one}
+use Rattle.std.proofs.Common.{◌≡◌, ◌<◌, ◌+◌, ◌∙◌, ℕ, ℤ, Bool, true, false, List, length, get_or, drop, drop-cons, Option, Some, None, refl, sym, ap, subst, arith, add-one}
 use Rattle.std.specs.Prelude.{if◌then◌else◌}
 use Rattle.std.specs.Int.{int_min, int_max}
 use Rattle.std.proofs.lemmas.Int.{ints, int_min_is, int_max_is}
 use Rattle.hd_map.specs.declared.presence.HeightRange.{HeightRange}
-use Rattle.hd_map.specs.Presence.{widened}
 use Rattle.hd_prune.specs.declared.step.Owned.{Owned}
 use Rattle.hd_survey.specs.declared.tally.Tally.{Tally}
-use Rattle.hd_survey.specs.Owned.{ArePlacedTallies, JoinsAt, is_placed, joined_of}
-use Rattle.hd_survey.specs.Tallies.{edge_with, joined, joined_ranges, no_tally, tally_after, tally_with}
+use Rattle.hd_survey.specs.Owned.{JoinsAt, is_placed, joined_of}
+use Rattle.hd_survey.specs.Tallies.{joined, joined_ranges, no_tally}
 
 min_assoc : (a b c : ℤ) → int_min (int_min a b) c ≡ int_min a (int_min b c)
 min_assoc a b c = omega (arith, ints, int_min_is a b, int_min_is (int_min a b) c, int_min_is b c, int_min_is a (int_min b c))

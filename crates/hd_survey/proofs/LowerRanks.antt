@@ -17,15 +17,14 @@ use Rattle.std.proofs.lemmas.Option.{slice_get-get_or, slice_get-map, slice_get_
 use Rattle.hd_map.specs.declared.types.Pos.{Pos}
 use Rattle.hd_map.specs.declared.types.Rank.{Rank}
 use Rattle.hd_map.specs.declared.types.SideName.{SideName}
-use Rattle.hd_map.specs.Map.{Map, Present, cell_count, place_of, position_at}
+use Rattle.hd_map.specs.Map.{Map, Present, place_of, position_at}
 use Rattle.hd_map.specs.Neighbour.{Neighbour}
 use Rattle.hd_map.specs.Order.{IsStrictOrder}
 use Rattle.hd_map.specs.Rank.{IsPoint, Near, below_by, rank}
 use Rattle.hd_map.specs.Region.{AreRegions, IsRoot, LowerNeighbour}
 use Rattle.hd_map.specs.SideLaws.{below_by-order}
-use Rattle.hd_map.proofs.Levels.{Contains-cases, Contains-none, Contains-head, Contains-tail}
 use Rattle.hd_map.proofs.Nexts.{root-is_pit, root-unique}
-use Rattle.hd_map.proofs.Points.{Near-at, Near-to, place_inside, position_at-of, same_point}
+use Rattle.hd_map.proofs.Points.{Near-at, Near-to, position_at-of, same_point}
 use Rattle.hd_map.proofs.Sides.{below-not_above, not_above-trans}
 use Rattle.hd_prune.specs.Around.{AreLowerNeighbours, IsLowerNeighbourAt}
 use Rattle.hd_survey.specs.declared.falls.Lower.{Lower}

@@ -1,5 +1,5 @@
 -- The tallies of the regions that a kept pit owns, taken together, are the tally of all points that it owns.
-use Rattle.std.proofs.Common.{◌≡◌, ◌<◌, ◌≤◌, ◌+◌, ◌++◌, ◌∙◌, ℕ, ℤ, zero, suc, Bool, true, false, List, [], ◌∷◌, length, get_or, map, Option, Some, None, inl, inr, refl, sym, ap, subst, nat_eq, arith, take, append-nil}
+use Rattle.std.proofs.Common.{◌≡◌, ◌<◌, ◌≤◌, ◌+◌, ◌∙◌, ℕ, ℤ, zero, suc, Bool, true, false, List, [], ◌∷◌, length, get_or, map, Option, Some, None, inl, inr, refl, sym, ap, subst, nat_eq, arith, take}
 use Rattle.std.specs.Prelude.{AllPairs, Contains, filter, if◌then◌else◌}
 use Rattle.std.specs.Int.{int_min, int_max}
 use Rattle.std.specs.List.{range_with_len}
@@ -14,9 +14,8 @@ use Rattle.hd_map.specs.declared.types.Rank.{Rank}
 use Rattle.hd_map.specs.declared.types.SideName.{SideName}
 use Rattle.hd_map.specs.Map.{Map, IsMap, cell_count}
 use Rattle.hd_map.specs.Pruning.{ArePits}
-use Rattle.hd_map.specs.Region.{AreRegions, IsPit}
+use Rattle.hd_map.specs.Region.{AreRegions}
 use Rattle.hd_map.proofs.Levels.{Contains-cases, Contains-head, Contains-none, Contains-tail}
-use Rattle.hd_prune.specs.declared.step.Owned.{Owned}
 use Rattle.hd_prune.specs.Pruned.{owned_by}
 use Rattle.hd_survey.specs.declared.tally.Tally.{Tally}
 use Rattle.hd_survey.specs.Owned.{is_owned, joined_of, owned_below, owned_points, owns}

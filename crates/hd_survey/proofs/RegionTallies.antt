@@ -1,5 +1,5 @@
 -- The tallies of regions, from those by number.
-use Rattle.std.proofs.Common.{◌≡◌, ◌<◌, ◌∙◌, ℕ, Bool, List, length, map, get_or, Option, Some, None, inl, inr, refl, sym, ap, subst, nat_eq, arith}
+use Rattle.std.proofs.Common.{◌≡◌, ◌<◌, ◌∙◌, ℕ, List, length, map, get_or, Option, Some, None, inl, inr, refl, sym, ap, subst, nat_eq, arith}
 use Rattle.std.specs.Prelude.{pos}
 use Rattle.std.proofs.lemmas.Bool.{cases_eq, cases_lt}
 use Rattle.std.proofs.lemmas.Bool.Decides.{nat_tests}
@@ -11,7 +11,7 @@ use Rattle.hd_map.specs.Pruning.{ArePits}
 use Rattle.hd_map.specs.Region.{AreRegions}
 use Rattle.hd_survey.specs.declared.tally.Tally.{Tally}
 use Rattle.hd_survey.specs.Regions.{names}
-use Rattle.hd_survey.specs.Tallies.{AreNumbered, AreNumbers, AreTallies, has_number, no_tally, numbered_below, region_tally, rooted_below, tally_of}
+use Rattle.hd_survey.specs.Tallies.{AreNumbered, AreNumbers, AreTallies, has_number, numbered_below, region_tally, rooted_below, tally_of}
 use Rattle.hd_survey.proofs.Lists.{filter_same, same_lists}
 use Rattle.hd_survey.proofs.RootedPoints.{root_inside, root_pit}
 

@@ -1,5 +1,5 @@
 -- Steps and joins whose points are points of a grid.
-use Rattle.std.specs.Prelude.{◌<◌, List, All}
+use Rattle.std.specs.Prelude.{◌<◌, All}
 use Rattle.hd_graph.specs.declared.trees.Join.{Join}
 use Rattle.hd_map.specs.declared.types.Size.{Size}
 use Rattle.hd_map.specs.Map.{cell_count}

@@ -1,5 +1,5 @@
 // The edge points of a map, where the roots of its points are known.
-ghost use Rattle.std.specs.Prelude.{◌≡◌, ◌<◌, false, not, length, None, slice_index_or};
+ghost use Rattle.std.specs.Prelude.{◌≡◌, ◌<◌, ◌+◌, not, length, None, slice_index_or};
 ghost use Rattle.std.specs.List.{list_any};
 ghost use Rattle.std.specs.Option.{is_some};
 ghost use Rattle.hd_map.specs.Map.{InGrid, cell_count};
@@ -46,19 +46,24 @@ fn is_border(size: Size, at: Pos) -> bool
 #[inline]
 fn has_gap_beside<G: Heights>(grid: &G, roots: &[Option<u32>], at: Pos) -> bool
     requires inside { InGrid (G.map grid.now).size at }
-    requires inner { is_border (G.map grid.now).size at ≡ false }
+    requires left { 0 < at.x }
+    requires up { 0 < at.y }
+    requires right { at.x + 1 < (G.map grid.now).size.points }
+    requires down { at.y + 1 < (G.map grid.now).size.profiles }
     requires whole { length roots.now ≡ cell_count (G.map grid.now).size }
     requires present { HaveRoots (G.map grid.now) roots.now }
     ensures { result ≡ list_any (λ q. not (is_here (G.map grid.now) q)) (beside at) }
 {
-    !is_here(grid, roots, at.x - 1, at.y - 1)
-        || !is_here(grid, roots, at.x, at.y - 1)
-        || !is_here(grid, roots, at.x + 1, at.y - 1)
-        || !is_here(grid, roots, at.x - 1, at.y)
-        || !is_here(grid, roots, at.x + 1, at.y)
-        || !is_here(grid, roots, at.x - 1, at.y + 1)
-        || !is_here(grid, roots, at.x, at.y + 1)
-        || !is_here(grid, roots, at.x + 1, at.y + 1)
+    let (left, right) = (at.x - 1, at.x + 1);
+    let (above, below) = (at.y - 1, at.y + 1);
+    !is_here(grid, roots, left, above)
+        || !is_here(grid, roots, at.x, above)
+        || !is_here(grid, roots, right, above)
+        || !is_here(grid, roots, left, at.y)
+        || !is_here(grid, roots, right, at.y)
+        || !is_here(grid, roots, left, below)
+        || !is_here(grid, roots, at.x, below)
+        || !is_here(grid, roots, right, below)
 }
 
 // Whether a point is present in this column and profile, by its root.

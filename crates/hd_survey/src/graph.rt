@@ -29,8 +29,7 @@ pub fn flood_line<S: Side, G: Heights>(alloc: Global, grid: &G) -> Result<FloodL
     ensures few { IfOk result (λ line. length line < 2 ^ 32) }
 {
     let graph = pit_graph::<S, G>(alloc, grid)?;
-    let line = flood::<S>(alloc, &graph)?;
-    Ok(line)
+    flood::<S>(alloc, &graph)
 }
 
 /// The same by a view of a side.
@@ -42,8 +41,7 @@ pub fn flood_line_of<S: Side, V: SideView<S>>(
     ensures regions { IfOk result (λ _. (roots : Items (Option ℕ)) × AreRegions (V.map view.now) S.NAME roots) }
 {
     let graph = view.graph()?;
-    let line = flood::<S>(alloc, &graph)?;
-    Ok(line)
+    flood::<S>(alloc, &graph)
 }
 
 /// The change tree of a grid on a side. `Memory` comes where the flood line or the tree is refused its
@@ -53,6 +51,5 @@ pub fn change_tree<S: Side, G: Heights>(alloc: Global, grid: &G) -> Result<Chang
     ensures inside { IfOk result (λ tree. All (IsJoinOn (G.map grid.now).size) tree.joins) }
 {
     let line = flood_line::<S, G>(alloc, grid)?;
-    let tree = tree::<S>(alloc, &line)?;
-    Ok(tree)
+    tree::<S>(alloc, &line)
 }

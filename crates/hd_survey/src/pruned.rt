@@ -83,8 +83,7 @@ pub fn pruned_pits<S: Side, G: Heights, V: SideView<S>>(
 {
     let line = flood_line_of::<S, V>(alloc, view)?;
     let falls = Falls::<'_, S, G, V>::new(alloc, grid, view);
-    let pruned = prune::<S, Falls<'_, S, G, V>>(alloc, &line, &falls, percent, height_span(range))?;
-    Ok(pruned)
+    prune::<S, Falls<'_, S, G, V>>(alloc, &line, &falls, percent, height_span(range))
 }
 
 /// The pits that this pruning keeps, with their nearest saddles, in position order. Neither the steps nor

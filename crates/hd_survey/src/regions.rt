@@ -19,6 +19,5 @@ pub fn region_sizes<S: Side, G: Heights>(
     ensures inside { IfOk result (All (λ size. size.pit.index < cell_count (G.map grid.now).size)) }
 {
     let view = GridView::<S, G>::new(alloc, grid)?;
-    let sizes = view.sizes()?;
-    Ok(sizes)
+    view.sizes()
 }

@@ -1,4 +1,4 @@
-use Rattle.std.proofs.Common.{List, Option, map, sym, ap, ◌∙◌}
+use Rattle.std.proofs.Common.{map, sym, ap, ◌∙◌}
 use Rattle.hd_survey.specs.Regions.{pit_ranks, region_size}
 use Rattle.hd_survey.proofs.laws.region_sizes_are_determined.Goals as goal
 

@@ -1,9 +1,10 @@
-use Rattle.std.proofs.Common.{◌++◌, ◌∷◌, [], drop, map, sym, ◌∙◌, ap, subst, append-nil}
+use Rattle.std.proofs.Common.{arith, ◌++◌, ◌∷◌, [], drop, map, sym, ◌∙◌, ap, subst, append-nil}
 use Rattle.std.proofs.lemmas.List.{drop_all}
 use Rattle.hd_map.specs.Pruning.{ArePits}
 use Rattle.hd_survey.specs.Regions.{rank_at}
 use Rattle.hd_survey.proofs.Counts.{pits_from, made-own, made-other}
 use Rattle.hd_survey.proofs.MapPits.{own_present, ranks_pits}
+use Rattle.std.proofs.lemmas.Grind.{common_steps}
 use Rattle.hd_survey.proofs.pits.list_pits.Goals as goal
 use Rattle.hd_survey.proofs.pits.list_pits.Goals.{then-is_root+in_ok-push, else-is_root}
 
@@ -35,3 +36,6 @@ returns-clause-pits g c =
     let pits = c.roots.pits in
     let all = sym (append-nil pits) ∙ ap (λ xs. pits ++ map (rank_at m) (pits_from c.roots.index xs)) (sym (drop_all c.roots.index roots c.roots-test.false)) ∙ c.roots.invariant in
     subst (ArePits m g.S.Side.NAME) (sym all) (ranks_pits m g.S.Side.NAME roots (g.met.G.Heights.whole c.args.grid.now) c.requires)
+
+pub overflow_cast-index : goal.overflow_cast-index
+overflow_cast-index g c = grind (arith, common_steps)

@@ -5,6 +5,7 @@ use Rattle.hd_survey.specs.Edges.{edge_height}
 use Rattle.hd_survey.specs.Tallies.{AddsPoint, AreTallies}
 use Rattle.hd_survey.proofs.Tallying.{tallies_add, tallies_few, tallies_pass}
 use Rattle.hd_map.proofs.Walks.{IsAt, at-inside, at-next, at-position}
+use Rattle.std.proofs.lemmas.Grind.{common_steps}
 use Rattle.hd_survey.proofs.tallies.tally_points.Goals as goal
 use Rattle.hd_survey.proofs.tallies.tally_points.Goals.{in-Some, in_default}
 
@@ -59,3 +60,6 @@ pub add_point-requires-clause-inside : goal.add_point-requires-clause-inside
 add_point-requires-clause-inside g c =
     let small = (c.requires.numbered c.points.root-index c.in-Some.pit c.points-test.true c.in-Some.is).1 in
     omega (arith, small, c.points.invariant.tallies.whole)
+
+pub points-init : goal.points-init
+points-init g c = grind (arith, common_steps)
