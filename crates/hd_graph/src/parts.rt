@@ -59,8 +59,7 @@ pub fn rises_of<S: Side>(alloc: Global, line: &[Stop]) -> Result<Vec<Rise>, Memo
 {
     let lefts = left_lows::<S>(alloc, line)?;
     let rights = right_lows::<S>(alloc, line)?;
-    let rises = with_sides(alloc, line, &lefts, &rights)?;
-    Ok(rises)
+    with_sides(alloc, line, &lefts, &rights)
 }
 
 // The rise over what was passed since the last pit, if anything was.

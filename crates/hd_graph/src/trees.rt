@@ -78,11 +78,9 @@ fn add_part<S: Side>(alloc: Global, joins: &mut Vec<Join>, part: Part) -> Result
             return Ok(());
         }
         joins.push(last)?;
-        add_join(alloc, joins, part)?;
-        return Ok(());
+        return add_join(alloc, joins, part);
     }
-    add_join(alloc, joins, part)?;
-    Ok(())
+    add_join(alloc, joins, part)
 }
 
 // Adds a join of the part alone, with room for a second one.

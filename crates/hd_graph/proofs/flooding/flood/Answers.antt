@@ -1,4 +1,4 @@
-use Rattle.std.proofs.Common.{◌≡◌, length, map, arith, List}
+use Rattle.std.proofs.Common.{ap, ◌≡◌, length, map, arith, List}
 use Rattle.std.specs.Prelude.{All}
 use Rattle.std.proofs.lemmas.Option.{slice_get_within}
 use Rattle.hd_map.specs.Rank.{below_by}
@@ -52,3 +52,11 @@ returns g c =
     let stops = c.in_ok-stops.ensures in
     rw c.new.ensures (stops-line (below_by g.S.Side.NAME) g.met.S.Side.order lows c.args.graph.now.passes c.lows-lows.ensures.whole links kept stand within c.in_ok-kept.ensures.thinned c.in_ok-ways.ways between.of_links c.in_ok-visits.visits.items visited.prim
     (λ v inside. visited.all v (let long = between.long in omega (arith, long, inside))) c.in_ok-stops.stops (rw c.deref-3.ensures.value at stops.long) (rw (c.deref-3.ensures.value, c.lows-lows.ensures.value, c.deref-2.ensures.value) at stops.each))
+
+pub stops_of-requires-clause-lows : goal.stops_of-requires-clause-lows
+stops_of-requires-clause-lows g c = λ k x at.
+    let only = c.in_ok-visits.ensures.only k x (rw c.deref-3.ensures.value at at) in
+    omega (arith, only, c.in_ok-ways.ensures.long)
+
+pub visit_all-requires-clause-few : goal.visit_all-requires-clause-few
+visit_all-requires-clause-few g c = omega (arith, c.in_ok-ways.ensures.long, c.lows-lows.ensures.whole.few, ap length c.lows-lows.ensures.value)

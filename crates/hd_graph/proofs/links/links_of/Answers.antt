@@ -6,6 +6,7 @@ use Rattle.hd_map.specs.declared.types.Rank.{Rank}
 use Rattle.hd_graph.specs.declared.links.Link.{Link}
 use Rattle.hd_graph.specs.Links.{HasEnds}
 use Rattle.hd_graph.proofs.Numbers.{number-within, link-of, links-more}
+use Rattle.std.proofs.lemmas.Grind.{common_steps}
 use Rattle.hd_graph.proofs.links.links_of.Goals as goal
 
 pub number_of-a-requires : goal.number_of-a-requires
@@ -29,3 +30,6 @@ loop-pass-preserved c =
       within = rw c.in_ok-push.ensures.items (All-push (HasEnds _) c.loop-pass.links.items l c.loop-pass.invariant.within is.1);
       long = (let long = c.in_ok-push.ensures.len in let was = c.loop-pass.invariant.long in omega (arith, long, was, c.push.new.self.ok.0, c.loop-pass.links.ok.0));
     }
+
+pub returns-clause-passes : goal.returns-clause-passes
+returns-clause-passes c = grind (arith, common_steps)

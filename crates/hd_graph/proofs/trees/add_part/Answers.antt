@@ -1,4 +1,5 @@
 use Rattle.std.proofs.Common.{◌≡◌, true, false, refl}
+use Rattle.std.proofs.lemmas.Result.{on_ok_weaker}
 use Rattle.hd_map.specs.Rank.{below_by}
 use Rattle.hd_graph.proofs.Adding.{part-grows, part-adds}
 use Rattle.hd_graph.proofs.trees.add_part.Goals as goal
@@ -12,5 +13,5 @@ returns-then-not-below g c =
 pub returns-in-Some : goal.returns-in-Some
 returns-in-Some g c =
     let h : (below_by g.S.Side.NAME) c.in-Some.last.saddle c.args.part.saddle ≡ true = (let e = c.below.ensures in let f = c.if-not-below.false in cc) in
-    part-adds (below_by g.S.Side.NAME) c.args.part c.args.joins.now.items c.pop.new.self.items c.push-in-Some.new.self.items c.add_join.new.joins.items c.in-Some.last
-    c.in-Some.ensures.items c.in_ok-push-2.ensures.items c.in_ok-add_join.ensures h
+    on_ok_weaker c.add_join.result (λ adds. part-adds (below_by g.S.Side.NAME) c.args.part c.args.joins.now.items c.pop.new.self.items c.push-in-Some.new.self.items c.add_join.new.joins.items c.in-Some.last
+    c.in-Some.ensures.items c.in_ok-push-2.ensures.items adds h) c.add_join.ensures
