@@ -1,7 +1,7 @@
 -- Bytes that are read or written piece by piece.
-use Rattle.std.proofs.Common.{◌≡◌, ◌<◌, ◌≤◌, ◌+◌, ℕ, List, [], ◌∷◌, ◌++◌, length, take, drop, min, Option, Some, None, refl, sym, ◌∙◌, ap, subst, arith, length-drop, length-append, length-take, length-take-le}
-use Rattle.std.specs.Io.KnownBytes.{Appends, Consumes}
-use Rattle.std.proofs.KnownBytes.{Appends-trans, Consumes-trans}
+use Rattle.std.proofs.Common.{◌≡◌, ◌<◌, ◌≤◌, ◌+◌, ℕ, List, [], ◌∷◌, ◌++◌, length, take, drop, min, Option, Some, None, refl, sym, ◌∙◌, ap, subst, arith, append-nil, length-drop, length-append, length-take, length-take-le}
+use Rattle.std.specs.Io.KnownBytes.{Appends, Consumes, IsAtEnd, Keeps}
+use Rattle.std.proofs.KnownBytes.{Appends-trans, Consumes-kept, Consumes-trans}
 use Rattle.std.proofs.Math.Seq.{take-add, drop-append_seam}
 use Rattle.std.proofs.lemmas.List.{drop-drop, take-append-drop, take_at}
 use Rattle.hd_base.specs.Told.{TakesFew}
@@ -59,3 +59,29 @@ few_taken bytes got piece limit count file mid left told before more fits =
       omega (arith, length-append got (take count piece), length-take count piece),
       left_after bytes (got ++ take count piece) left taken,
     )
+
+-- a file is read to its end
+pub whole_read : (bytes got piece : List ℕ) (count : ℕ) (file mid left : Option (List ℕ)) → file ≡ Some bytes → Consumes file mid got → Consumes mid left (take count piece)
+    → count ≡ 0 → IsAtEnd left → (got ≡ bytes) × (left ≡ Some [])
+whole_read bytes got piece count file mid left told before more none end =
+    let last : Consumes mid left [] = subst (λ n. Consumes mid left (take n piece)) none more in
+    ended left (subst (λ (f : Option (List ℕ)). Consumes f left (got ++ [])) told (Consumes-trans file mid left got [] before last)) end where
+      ended : (rest : Option (List ℕ)) → Consumes (Some bytes) rest (got ++ []) → IsAtEnd rest → (got ≡ bytes) × (rest ≡ Some [])
+      ended None taken _ = absurd taken
+      ended (Some rest) taken gone = (sym (taken ∙ ap (λ (xs : List ℕ). (got ++ []) ++ xs) gone ∙ append-nil (got ++ []) ∙ append-nil got), ap Some gone)
+
+-- nothing more is taken of a file
+pub few_kept : (bytes got : List ℕ) (limit : ℕ) (file mid left : Option (List ℕ)) → file ≡ Some bytes → Consumes file mid got → Keeps mid left → length got ≤ limit → TakesFew bytes limit left
+few_kept bytes got limit file mid left told before kept fits =
+    (length got, omega arith, left_after bytes got left (subst (λ (f : Option (List ℕ)). Consumes f left got) told (Consumes-kept file mid left got before kept)))
+
+-- a file has more bytes than the limit, and one more than the limit is taken of it
+pub past_limit : (bytes got piece all : List ℕ) (limit count : ℕ) (file mid left : Option (List ℕ)) → file ≡ Some bytes → Consumes file mid got → Consumes mid left (take count piece)
+    → length got + length piece ≤ limit + 1 → all ≡ got ++ take count piece → limit < length all → (left ≡ Some (drop (limit + 1) bytes)) × (limit < length bytes)
+past_limit bytes got piece all limit count file mid left told before more fits is past =
+    let taken : Consumes (Some bytes) left all = rw is (subst (λ (f : Option (List ℕ)). Consumes f left (got ++ take count piece)) told (Consumes-trans file mid left got (take count piece) before more)) in
+    let size : length all ≡ limit + 1 = omega (arith, ap length is, length-append got (take count piece), length-take count piece) in
+    (subst (λ n. left ≡ Some (drop n bytes)) size (left_after bytes all left taken), omega (arith, starts left taken)) where
+      starts : (rest : Option (List ℕ)) → Consumes (Some bytes) rest all → length all ≤ length bytes
+      starts None taken = absurd taken
+      starts (Some rest) taken = omega (arith, ap length taken, length-append all rest)
