@@ -6,8 +6,7 @@ use Rattle.hd_map.specs.declared.types.Rank.{Rank}
 use Rattle.hd_map.specs.Order.{IsNotAbove, IsStrictOrder}
 use Rattle.hd_graph.specs.declared.line.Stop.{Stop}
 use Rattle.hd_graph.specs.Tells.{IsSaddleOn}
-use Rattle.hd_graph.specs.Parts.{lows_of}
-use Rattle.hd_graph.proofs.Lows.{place_of_low}
+use Rattle.hd_graph.proofs.Lows.{place_of_low, lows_of}
 use Rattle.hd_graph.proofs.Places.{less_same_more}
 use Rattle.hd_graph.proofs.Rises.{RiseWithin, IsHighestBetween, highest-from, highest-to, between-within, within-between}
 

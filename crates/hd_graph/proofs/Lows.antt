@@ -1,12 +1,15 @@
 -- The lows of a line by their places, and lists from their other end.
-use Rattle.std.proofs.Common.{◌≡◌, ℕ, zero, suc, ◌+◌, ◌<◌, inl, inr, List, [], ◌∷◌, ◌++◌, length, get_or, take, Some, refl, sym, subst, slice_get, add-one}
+use Rattle.std.proofs.Common.{◌≡◌, ℕ, zero, suc, ◌+◌, ◌<◌, inl, inr, List, [], ◌∷◌, ◌++◌, length, get_or, map, take, Some, refl, sym, subst, slice_get, add-one}
 use Rattle.std.specs.Prelude.{Contains, reverse}
 use Rattle.std.proofs.lemmas.Option.{slice_get_within, get_or_from_slice_get, same_Some}
 use Rattle.std.proofs.lemmas.List.{take_more, reverse-append}
 use Rattle.hd_map.specs.declared.types.Rank.{Rank}
 use Rattle.hd_map.proofs.Items.{Contains-cases, Contains-none, Contains-head, Contains-tail}
 use Rattle.hd_graph.specs.declared.line.Stop.{Stop}
-use Rattle.hd_graph.specs.Parts.{lows_of}
+
+-- the lows of the stops
+abbrev pub lows_of : List Stop → List Rank
+lows_of line = map {A = Stop} {B = Rank} (λ x. x.low) line
 
 pub reverse-take : {X : Type 0} (xs : List X) (i : ℕ) (z : X) → slice_get xs i ≡ Some z → reverse (take (suc i) xs) ≡ z ∷ reverse (take i xs)
 reverse-take xs i z h =

@@ -9,8 +9,12 @@ use Rattle.hd_map.specs.declared.types.Rank.{Rank}
 use Rattle.hd_graph.specs.declared.graph.Low.{Low}
 use Rattle.hd_graph.specs.declared.links.Link.{Link}
 use Rattle.hd_graph.specs.Graph.{IsLow}
-use Rattle.hd_graph.specs.Links.{AreWithin, HasEnds, IsNumbering, pass_of, rank_at}
+use Rattle.hd_graph.specs.Links.{HasEnds, IsNumbering, pass_of, rank_at}
 use Rattle.hd_graph.proofs.Places.{get-set_same, get-set_other, item_at, one_place, place_of}
+
+-- the indexes of the first n lows are below the room
+abbrev pub AreWithin : List Low → ℕ → ℕ → Type 0
+AreWithin lows n room = (k : ℕ) (x : Low) → k < n → slice_get lows k ≡ Some x → x.rank.index < room
 
 module _ (lows : List Low) (different : AllPairs (λ x y. x.rank.index ≢ y.rank.index) lows) where
   -- one low has one number

@@ -5,10 +5,10 @@ use Rattle.std.proofs.lemmas.List.{get_or-reverse, length-reverse}
 use Rattle.std.proofs.lemmas.Option.{slice_get-get_or, slice_get_within, get_or_from_slice_get, same_Some}
 use Rattle.hd_map.specs.declared.types.Rank.{Rank}
 use Rattle.hd_graph.specs.declared.line.Stop.{Stop}
-use Rattle.hd_graph.proofs.Lows.{place_of_low, low_of_place}
+use Rattle.hd_graph.proofs.Lows.{place_of_low, low_of_place, lows_of}
 use Rattle.hd_graph.proofs.Highest.{OnePlace, TellsHighest}
 use Rattle.hd_graph.proofs.Rises.{RiseWithin, IsHighestBetween}
-use Rattle.hd_graph.specs.Parts.{first_rise, turned, lows_of, turned_round}
+use Rattle.hd_graph.specs.Parts.{first_rise, turned, turned_round}
 
 pub stop_at : {X : Type 0} (xs : List X) (i : ℕ) → i < length xs → (x : X) × (slice_get xs i ≡ Some x)
 stop_at [] i h = absurd (omega arith)

@@ -7,12 +7,12 @@ use Rattle.hd_map.proofs.Sides.{below-not_above, not_above-trans, not_above-alon
 use Rattle.hd_map.specs.declared.types.Rank.{Rank}
 use Rattle.hd_graph.specs.declared.line.Stop.{Stop}
 use Rattle.hd_graph.proofs.Places.{less_same_more}
-use Rattle.hd_graph.proofs.Lows.{IsLowOn, place_of_low, low_of_place}
+use Rattle.hd_graph.proofs.Lows.{IsLowOn, place_of_low, low_of_place, lows_of}
 use Rattle.hd_graph.specs.declared.parts.Part.{Part}
 use Rattle.hd_map.specs.ChangeTree.{AreTogether, IsPart}
 use Rattle.hd_graph.proofs.Highest.{OnePlace, TellsHighest}
 use Rattle.hd_graph.proofs.Rises.{RiseWithin, IsHighestBetween}
-use Rattle.hd_graph.specs.Parts.{lows_of, rise_below, lowest_to, IsLeftPart}
+use Rattle.hd_graph.specs.Parts.{rise_below, lowest_to, IsLeftPart}
 use Rattle.hd_graph.proofs.Round.{stop_at}
 use Rattle.hd_graph.proofs.Lowest.{Reaches, reaches-next, reaches-more, IsLowest, LowestIs, lowest-is}
 

@@ -7,9 +7,13 @@ use Rattle.std.proofs.lemmas.Option.{slice_get_within}
 use Rattle.hd_graph.specs.declared.candidate.Candidate.{Candidate}
 use Rattle.hd_graph.specs.declared.flooding.Visit.{Visit}
 use Rattle.hd_graph.specs.declared.ways.Ways.{Ways}
-use Rattle.hd_graph.specs.Flood.{HasWay, AreGrouped, Holds, HoldsLows, Spreads, Takes, IsFlooded, AllDone, lows_of}
+use Rattle.hd_graph.specs.Flood.{HasWay, AreGrouped, Holds, HoldsLows, Spreads, Takes, IsFlooded, lows_of}
 use Rattle.hd_graph.proofs.Heaps.{marked, holds-none}
 use Rattle.hd_graph.proofs.Places.{get-push_old, get-push_new, get-push_cases, get-set_same, get-set_other}
+
+-- the first n lows are done
+abbrev pub AllDone : List Bool → ℕ → Type 0
+AllDone done n = (v : ℕ) → v < n → slice_get done v ≡ Some true
 
 -- how many lows are not done
 abbrev pub undone : List Bool → ℕ

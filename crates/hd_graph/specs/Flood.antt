@@ -33,10 +33,6 @@ pub record AreGrouped (ways : Ways) : Type 0 where
   pub stops : (v k : ℕ) → slice_get ways.starts.items v ≡ Some k → k ≤ length ways.all.items
   pub inside : (a b w : ℕ) → HasWay ways a b w → b < lows_of ways
 
--- it leads from number to number over just the first n links, in both directions
-abbrev pub AreWaysTo : List Link → ℕ → (ℕ → ℕ → ℕ → Type 0) → Type 0
-AreWaysTo links n leads = (a b w : ℕ) → leads a b w ↔ ((w < n) × HasLink links a b w)
-
 -- the heap holds the low of this number, over this pass
 abbrev pub Holds : List Candidate → ℕ → ℕ → Type 0
 Holds heap to at = (c : Candidate) × Contains heap c × (c.to ≡ to) × (c.pass ≡ at)
@@ -90,16 +86,6 @@ pub record IsFlooded (ways : Ways) (n : ℕ) (done : List Bool) (visits : List V
       × HasWay ways y.low to at
   pub complete : (m : ℕ) (y : Visit) (v w : ℕ) → slice_get visits m ≡ Some y → HasWay ways y.low v w
       → slice_get done v ≡ Some false → Holds heap v w
-
--- the first n lows are done
-abbrev pub AllDone : List Bool → ℕ → Type 0
-AllDone done n = (v : ℕ) → v < n → slice_get done v ≡ Some true
-
--- new has the ways of old and one more
-pub record AddsWay (old new : ℕ → ℕ → ℕ → Type 0) (from to at : ℕ) : Type 0 where
-  pub only : (a b w : ℕ) → new a b w → old a b w ⊎ ((a ≡ from) × (b ≡ to) × (w ≡ at))
-  pub kept : (a b w : ℕ) → old a b w → new a b w
-  pub added : new from to at
 
 -- the ways over these links between so many lows, those of each low one after another
 pub record AreWaysBetween (count : ℕ) (links : List Link) (ways : Ways) : Type 0 where

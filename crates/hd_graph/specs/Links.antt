@@ -10,10 +10,6 @@ abbrev pub IsNumbering : List Low → ℕ → List ℕ → Type 0
 IsNumbering lows n numbers = (k : ℕ) (x : Low) → k < n → slice_get lows k ≡ Some x
     → slice_get numbers x.rank.index ≡ Some k
 
--- the indexes of the first n lows are below the room
-abbrev pub AreWithin : List Low → ℕ → ℕ → Type 0
-AreWithin lows n room = (k : ℕ) (x : Low) → k < n → slice_get lows k ≡ Some x → x.rank.index < room
-
 -- the rank of the low of this number
 abbrev pub rank_at : List Low → ℕ → Rank
 rank_at lows k = (get_or lows k (record { rank = record { height = pos 0; index = 0 }; pit = false })).rank

@@ -27,10 +27,6 @@ turned (x ∷ xs) = record { low = x.low; pit = x.pit; rise = first_rise xs } �
 abbrev pub turned_round : List Stop → List Stop
 turned_round line = reverse (turned line)
 
--- the lows of the stops
-abbrev pub lows_of : List Stop → List Rank
-lows_of line = map {A = Stop} {B = Rank} (λ x. x.low) line
-
 -- the rise is there and below s
 abbrev pub rise_below : (Rank → Rank → Bool) → Option Rank → Rank → Bool
 rise_below below None s = false

@@ -1,7 +1,8 @@
 use Rattle.std.proofs.Common.{◌≡◌}
 use Rattle.std.specs.BinaryHeap.{heap_items, heap_len, IsHeap}
 use Rattle.hd_graph.specs.Candidates.{lowest_first}
-use Rattle.hd_graph.specs.Flood.{IsFlooded, AllDone, lows_of}
+use Rattle.hd_graph.specs.Flood.{IsFlooded, lows_of}
+use Rattle.hd_graph.proofs.Visits.{AllDone}
 use Rattle.hd_graph.proofs.flooding.visit_all.Given as goal
 
 abbrev pub invariant-loop-start : goal.invariant-loop-start
