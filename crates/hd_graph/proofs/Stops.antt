@@ -1,6 +1,7 @@
 -- The visits of a flood, as stops, are the flood line of the graph.
-use Rattle.std.proofs.Common.{◌≡◌, ℕ, ◌<◌, inl, inr, Bool, List, map, length, Option, Some, None, refl, sym, ◌∙◌, ap, subst, arith, slice_get}
+use Rattle.std.proofs.Common.{◌≡◌, ℕ, ◌+◌, ◌<◌, ◌++◌, ◌∷◌, [], inl, inr, Bool, List, map, length, Option, Some, None, refl, sym, ◌∙◌, ap, subst, arith, slice_get}
 use Rattle.std.specs.Prelude.{◌↔◌, All, Contains}
+use Rattle.std.proofs.lemmas.Bool.{cases_eq}
 use Rattle.std.proofs.lemmas.List.Elements.{All-contains}
 use Rattle.std.proofs.lemmas.Option.{slice_get_within, same_Some, get_or_from_slice_get}
 use Rattle.hd_map.specs.declared.types.Pass.{Pass}
@@ -20,7 +21,7 @@ use Rattle.hd_graph.specs.Line.{EachOnce, IsPrimOrder, IsFloodLine}
 use Rattle.hd_graph.specs.Links.{HasEnds, HasLink, IsBetween, IsPassAt, pass_of, rank_at}
 use Rattle.hd_graph.specs.Thinning.{IsThinned}
 use Rattle.hd_graph.proofs.Floods.{PassStep, prim-of_all, prim-tells}
-use Rattle.hd_graph.proofs.Places.{at_place, place_of, item_at, one_place, pairs_from_places}
+use Rattle.hd_graph.proofs.Places.{get-push_old, get-push_new, at_place, place_of, item_at, one_place, pairs_from_places}
 use Rattle.hd_graph.proofs.Thinned.{link-pass, thinned-some, thinned-spans}
 use Rattle.hd_graph.proofs.Keeping.{sorted-places}
 
@@ -32,6 +33,19 @@ rise_number links (Some n) rise r h e = (n, refl, h.0, h.1, same_Some (h.0).at r
 -- and the pass of a number
 number_rise : (links : List Link) (o : Option ℕ) (rise : Option Rank) (n : ℕ) → IsPassAt links o rise → o ≡ Some n → (l : Link) × (slice_get links n ≡ Some l) × (rise ≡ Some l.at)
 number_rise links o rise n h e = subst (λ v. IsPassAt links v rise) e h
+
+-- one more visit as a stop
+pub stops-more : (lows : List Low) (links : List Link) (visits : List Visit) (stops : List Stop) (n : ℕ) (v : Visit) (s : Stop) → slice_get visits n ≡ Some v → IsStopOf lows links v s → length stops ≡ n
+    → ((k : ℕ) (w : Visit) → k < n → slice_get visits k ≡ Some w → (t : Stop) × (slice_get stops k ≡ Some t) × IsStopOf lows links w t)
+    → (k : ℕ) (w : Visit) → k < n + 1 → slice_get visits k ≡ Some w → (t : Stop) × (slice_get (stops ++ s ∷ []) k ≡ Some t) × IsStopOf lows links w t
+stops-more lows links visits stops n v s read is long so k w below at = elim (cases_eq k n) [
+  | inl same ↦ (
+    s,
+    subst (λ i. slice_get (stops ++ s ∷ []) i ≡ Some s) (long ∙ sym same) (get-push_new stops s),
+    subst (λ (u : Visit). IsStopOf lows links u s) (same_Some v w (sym read ∙ ap (λ i. slice_get visits i) (sym same) ∙ at)) is,
+  )
+  | inr apart ↦ (let old = so k w (omega arith) at in (old.0, get-push_old stops s old.0 k old.1, old.2))
+]
 
 module _ (below : Rank → Rank → Bool) (order : IsStrictOrder below) (lows : List Low) (passes : List Pass) (graph : IsGraph below lows passes)
     (links kept : List Link) (stand : map (pass_of lows) links ≡ passes) (within : All (HasEnds (length lows)) links) (thinned : IsThinned below links kept)

@@ -3,7 +3,7 @@ use Rattle.std.proofs.lemmas.Option.{same_Some}
 use Rattle.hd_map.specs.declared.types.Rank.{Rank}
 use Rattle.hd_map.specs.Rank.{below_by}
 use Rattle.hd_graph.specs.Parts.{with_low}
-use Rattle.hd_graph.proofs.Grouped.{with_low-last, with_low-inside, with_low-there}
+use Rattle.hd_graph.proofs.Grouped.{below-more, with_low-last, with_low-inside, with_low-there}
 use Rattle.hd_graph.proofs.Places.{get-from_read}
 use Rattle.hd_graph.proofs.trees.add_low.Goals as goal
 use Rattle.hd_graph.proofs.trees.add_low.Goals.{then-loop-at-test+else-below, else-loop-at-test, else-at-len-via-then-at-len+else-not-below, else-at-len-via-else-at-len}
@@ -44,3 +44,13 @@ returns g c =
           with_low-inside below c.args.low xs n x at high less c.loop-at.invariant.so)
       | else-at-len-via-else-at-len v ↦ with_low-last below c.args.low xs n (omega (arith, within, v.if-at-len.false, c.len-2.ensures, c.into_vec-lows.result.ok.0)) c.loop-at.invariant.so
     ]) ∙ ap (λ (ys : List Rank). with_low below c.args.low ys) c.into_vec-lows.ensures
+
+pub loop-at-preserved : goal.loop-at-preserved
+loop-at-preserved g c =
+    let xs : List Rank = c.into_vec-lows.result.items in
+    let n : ℕ = c.loop-at.at in
+    let inside : n < length xs = omega (arith, c.loop-at-test.true, c.len.ensures, c.into_vec-lows.result.ok.0) in
+    record {
+      within = omega arith;
+      so = below-more (below_by g.S.Side.NAME) c.args.low xs n c.index.result.now (get-from_read xs n _ _ inside (sym c.index.ensures)) (sym c.below.ensures ∙ c.if-below.true) c.loop-at.invariant.so;
+    }
