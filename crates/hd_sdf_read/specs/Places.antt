@@ -17,10 +17,11 @@ use Rattle.hd_sdf_read.specs.declared.error.SdfError.TheVariants.{Memory}
 use Rattle.hd_sdf_read.specs.declared.file.Version.{Version}
 use Rattle.hd_sdf_read.specs.declared.file.Extra.{Extra}
 use Rattle.hd_sdf_read.specs.declared.header_lines.Frame as declared
+use Rattle.hd_sdf_read.specs.declared.sdf.Kept.{Kept}
 use Rattle.hd_sdf_read.specs.declared.sdf.Origin.{Origin}
-use Rattle.hd_sdf_read.specs.Entries.{header_from, text_of}
+use Rattle.hd_sdf_read.specs.Entries.{extra_entries, header_from, text_of}
 use Rattle.hd_sdf_read.specs.File.{AreGood, is_gap}
-use Rattle.hd_sdf_read.specs.Grammar.{Cells, Frame, after_lines, after_token, datum_at, version_of}
+use Rattle.hd_sdf_read.specs.Grammar.{Cells, Frame, after_lines, after_token, datum_at, resolution_of, version_of}
 use Rattle.hd_sdf_read.specs.Views.{extras_of}
 
 -- line 2 begins here, behind some bytes
@@ -99,3 +100,9 @@ pub record IsOrigin (origin : Origin) (entries : List Extra) : Type 0 where
   pub manufac_id : origin.manufac_id ≡ text_of (codes "ManufacID") entries
   pub create_date : origin.create_date ≡ text_of (codes "CreateDate") entries
   pub mod_date : origin.mod_date ≡ text_of (codes "ModDate") entries
+
+-- what the entries say beside the frame
+pub record IsKept (kept : Kept) (entries : List Extra) : Type 0 where
+  pub origin : IsOrigin kept.origin entries
+  pub z_resolution : kept.z_resolution ≡ resolution_of entries
+  pub extra : kept.extra ≡ extra_entries entries

@@ -6,7 +6,7 @@ ghost use Rattle.hd_sdf_read.specs.Entries.{extra_entries, text_of};
 ghost use Rattle.hd_sdf_read.specs.File.{AreGood, is_trailer};
 ghost use Rattle.hd_sdf_read.specs.FileOf.{file_of};
 ghost use Rattle.hd_sdf_read.specs.Grammar.{body_in, file_in, file_with, resolution_of, trailer_of};
-ghost use Rattle.hd_sdf_read.specs.Places.{HasDecimals, IsOrigin, frame_view};
+ghost use Rattle.hd_sdf_read.specs.Places.{HasDecimals, IsKept, IsOrigin, frame_view};
 ghost use Rattle.hd_sdf_read.specs.Reads.{Gives};
 ghost use Rattle.hd_sdf_read.specs.Views.{extra_of, extras_of};
 
@@ -92,9 +92,7 @@ fn build(
     requires trailer { is_trailer trailer ≡ true }
     ensures { IfOk result (λ f. file_of f ≡ file_with version (extras_of entries.now) (frame_view frame) (cells_in cells) trailer) }
 {
-    let origin = origin_of(alloc, entries)?;
-    let z_resolution = resolution_of(alloc, entries)?;
-    let extra = extra_entries(alloc, entries)?;
+    let kept = kept_of(alloc, entries)?;
     let Frame {
         size,
         data_type: _,
@@ -105,16 +103,38 @@ fn build(
     let surface = Surface::new(size, cells);
     Ok(SdfFile {
         version,
-        manufac_id: origin.manufac_id,
-        create_date: origin.create_date,
-        mod_date: origin.mod_date,
+        manufac_id: kept.origin.manufac_id,
+        create_date: kept.origin.create_date,
+        mod_date: kept.origin.mod_date,
         x_scale,
         y_scale,
         z_scale,
-        z_resolution,
-        extra,
+        z_resolution: kept.z_resolution,
+        extra: kept.extra,
         surface,
         trailer,
+    })
+}
+
+// What a file keeps of its header beside the frame.
+#[derive(Drop)]
+struct Kept {
+    origin: Origin,
+    z_resolution: Decimal,
+    extra: List<Extra>,
+}
+
+// What the entries of a header say beside the frame.
+fn kept_of(alloc: Global, entries: &[Entry]) -> Result<Kept, Memory>
+    ensures { IfOk result (λ kept. IsKept kept (extras_of entries.now)) }
+{
+    let origin = origin_of(alloc, entries)?;
+    let z_resolution = resolution_of(alloc, entries)?;
+    let extra = extra_entries(alloc, entries)?;
+    Ok(Kept {
+        origin,
+        z_resolution,
+        extra,
     })
 }
 

@@ -13,7 +13,8 @@ pub invariant_of-result : goal.invariant_of-result
 invariant_of-result c =
     let m : Map = map_with (frame_view c.args.frame) (cells_in c.args.cells) in
     let made : map_of c.new-surface.result ≡ m = c.new-surface.ensures ∙ ap (λ (t : DataType). record m { data_type = t }) c.requires.data_type in
+    let kept = c.in_ok-kept.ensures in
     record {
-      forms = rw (c.in_ok-origin.ensures.manufac_id, c.in_ok-origin.ensures.create_date, c.in_ok-origin.ensures.mod_date, c.in_ok-z_resolution.ensures, c.in_ok-extra.ensures, made)
+      forms = rw (kept.origin.manufac_id, kept.origin.create_date, kept.origin.mod_date, kept.z_resolution, kept.extra, made)
           (forms_good c.args.version (extras_of c.args.entries.now) (frame_view c.args.frame) (cells_in c.args.cells) c.args.trailer c.requires.entries c.requires.decimals c.requires.trailer);
     }
