@@ -2,6 +2,7 @@
 pub mod Searching
 pub mod Paths
 pub mod Pits
+mod Pairs
 mod Leaks
 mod Verdicts
 mod Across

@@ -40,3 +40,25 @@ returns-in-Some-first_leak g c =
         ),
       ),
     )
+
+pub returns-in-Some : goal.returns-in-Some
+returns-in-Some g c =
+    let m = g.G.Heights.map c.args.surface.now in
+    let f = c.args.certificate.now in
+    inl (refl, rule_rises m f c.as_slice-cut.result.now c.as_slice-cut.ensures (Some c.in-Some.at) c.size-size.result c.size-size.ensures c.in-Some.ensures)
+
+pub returns : goal.returns
+returns g c =
+    let m = g.G.Heights.map c.args.surface.now in
+    let f = c.args.certificate.now in
+    let cut = c.as_slice-cut.result.now in
+    let e = c.as_slice-cut.ensures in (
+      rule_rises m f cut e None c.size-size.result c.size-size.ensures c.in_default.ensures,
+      (
+        rule_parts m f cut e None c.in_default-wrong_part.ensures,
+        (
+          rule_low m f cut e None c.level-level.result c.level-level.ensures c.in_default-first_not_below.ensures,
+          (rule_closed m f cut e None c.level-level.result c.level-level.ensures c.in_default-first_leak.ensures, tt),
+        ),
+      ),
+    )

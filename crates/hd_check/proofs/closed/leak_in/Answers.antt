@@ -5,6 +5,7 @@ use Rattle.std.proofs.lemmas.List.Elements.{Contains-get_or}
 use Rattle.hd_map.specs.declared.types.Pos.{Pos}
 use Rattle.hd_map.specs.declared.types.Size.{Size}
 use Rattle.hd_map.specs.Map.{InGrid, place_of}
+use Rattle.hd_check.specs.Profiles.{IsBehind, left_index}
 use Rattle.hd_check.specs.Rules.{point_of}
 use Rattle.hd_check.proofs.Leaks.{behind_left, first_after, first_stays, is_leak, none_more, not_in_cut, other_point, place_goes_on}
 use Rattle.hd_check.proofs.closed.leak_in.Goals as goal
@@ -69,3 +70,41 @@ returns-clause-place g c =
     let m = g.G.Heights.map c.args.surface.now in
     place_goes_on m.size c.args.cut.now c.args.at c.args.step c.first_from.result (omega (arith, c.if-at-step-eq0.false))
     (behind_left c.size-size.result m.size c.args.cut.now c.args.at c.args.step c.saturating_sub-left.result c.index_of.result c.first_from.result c.size-size.ensures (omega (arith, c.saturating_sub-left.ensures)) c.index_of.ensures.value c.first_from.ensures)
+
+pub index_of-requires : goal.index_of-requires
+index_of-requires g c =
+    let left = c.saturating_sub-left.ensures in
+    let column = c.requires.here.in_grid.column in
+    let width = ap (λ (s : Size). s.points) c.size-size.ensures in
+    record {
+      limits = rw c.size-size.ensures (g.met.G.Heights.whole c.args.surface.now).size;
+      in_grid = record { column = omega (arith, left, column, width); profile = omega (arith, c.if-at-step-eq0.false, c.if-at-step.false) };
+    }
+
+pub first_from-requires-clause-inside : goal.first_from-requires-clause-inside
+first_from-requires-clause-inside g c = λ k below. rw c.size-size.ensures (c.requires.present k below).in_grid
+
+pub is_open-requires-clause-at : goal.is_open-requires-clause-at
+is_open-requires-clause-at g c =
+    let right = c.min-x-end.ensures in
+    let width = ap (λ (s : Size). s.points) c.size-size.ensures in
+    let height = ap (λ (s : Size). s.profiles) c.size-size.ensures in
+    record { column = omega (arith, right, width, c.loop-x-test.true); profile = omega (arith, height, c.if-at-step-eq0.false, c.if-at-step.false) }
+
+pub returns-clause-first : goal.returns-clause-first
+returns-clause-first g c = λ q row leak.
+    let right = c.min-x-end.ensures in
+    let width = ap (λ (s : Size). s.points) c.size-size.ensures in
+    let inside = leak.neighbour.to.in_grid.column in
+    let near = leak.neighbour.columns in
+    let end = c.loop-x-test.false in
+    c.loop-x.invariant.none q (omega (arith, row, c.if-at-step-eq0.false)) (omega (arith, right, width, inside, near, end)) leak
+
+pub first_from-requires-clause-start : goal.first_from-requires-clause-start
+first_from-requires-clause-start g c =
+    let m = g.G.Heights.map c.args.surface.now in
+    let at = c.args.at in
+    let q : Pos = record { x = c.saturating_sub-left.result; y = at.y + c.args.step - 1 } in
+    let left : at.x - 1 ≡ c.saturating_sub-left.result = omega (arith, c.saturating_sub-left.ensures) in
+    let index : left_index m.size at c.args.step ≡ c.index_of.result = ap (λ l. (at.y + c.args.step - 1) * m.size.points + l) left ∙ sym (c.index_of.ensures.value ∙ ap (λ (s : Size). place_of s q) c.size-size.ensures) in
+    rw c.size-size.ensures (subst (λ i. IsBehind m.size c.args.cut.now i c.args.place.now) index (c.requires.place at (omega arith) (omega (arith, c.if-at-step-eq0.false))))
