@@ -1,4 +1,4 @@
-use Rattle.std.proofs.Common.{pos, get_or, refl, rules, SFits, w64}
+use Rattle.std.proofs.Common.{arith, pos, get_or, refl, rules, SFits, w64}
 use Rattle.std.proofs.lemmas.Bool.{false≢true}
 use Rattle.std.proofs.lemmas.Int.{to_z-of_z}
 use Rattle.hd_morph.proofs.PlainLemmas.{value_read}
@@ -29,3 +29,16 @@ returns g c =
     let greatest : SFits w64 c.greatest_of-greatest.result = search rules in
     let before = rw (to_z-of_z w64 _ least, to_z-of_z w64 _ greatest, c.least_of-least.ensures, c.greatest_of-greatest.ensures, c.data_type-data_type.ensures) at c.loop-index.invariant in
     between_all m c.args.numbers.now c.loop-index.index (rw c.requires at c.loop-index-test.false) before
+
+pub position_of-requires : goal.position_of-requires
+position_of-requires g c =
+    let inside = c.loop-index-test.true in
+    let whole = c.requires in
+    rw c.size.ensures (omega (arith, inside, whole))
+
+pub overflow_cast-index : goal.overflow_cast-index
+overflow_cast-index g c =
+    let inside = c.loop-index-test.true in
+    let whole = c.requires in
+    let cells = (g.met.G.Heights.whole c.args.grid.now).size.cells in
+    omega (arith, inside, whole, cells)

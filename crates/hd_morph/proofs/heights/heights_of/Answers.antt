@@ -29,3 +29,21 @@ returns g c =
     let m = g.G.Heights.map c.args.grid.now in
     heights_all m c.loop-index.index c.loop-index.at c.loop-index.heights.items (g.met.G.Heights.whole c.args.grid.now).size.some_points
     (subst (λ (s : Size). cell_count s ≤ c.loop-index.index) c.size-size.ensures c.loop-index-test.false) c.loop-index.invariant
+
+pub overflow_mul-count : goal.overflow_mul-count
+overflow_mul-count g c =
+    let cells = (g.met.G.Heights.whole c.args.grid.now).size.cells in
+    rw c.size-size.ensures (omega (arith, cells))
+
+pub plain_height-requires : goal.plain_height-requires
+plain_height-requires g c =
+    let before = c.loop-index.invariant in
+    at_inside (g.G.Heights.map c.args.grid.now) c.size-size.result c.loop-index.index c.loop-index.at c.size-size.ensures before.column before.place c.loop-index-test.true
+
+pub position_after-at-requires : goal.position_after-at-requires
+position_after-at-requires g c =
+    let before = c.loop-index.invariant in
+    record {
+      limits = rw c.size-size.ensures (g.met.G.Heights.whole c.args.grid.now).size;
+      in_grid = rw c.size-size.ensures (at_inside (g.G.Heights.map c.args.grid.now) c.size-size.result c.loop-index.index c.loop-index.at c.size-size.ensures before.column before.place c.loop-index-test.true);
+    }
