@@ -1,5 +1,5 @@
 // The command that defines an element, whose number of words its own words tell.
-ghost use Rattle.std.specs.Prelude.{◌≡◌, ◌⊎◌, ◌<◌, ◌^◌, Err, All, IfOk, length, map};
+ghost use Rattle.std.specs.Prelude.{◌≡◌, ◌⊎◌, ◌∷◌, ◌<◌, ◌^◌, Err, All, IfOk, length, map};
 ghost use Rattle.hd_morph.specs.Element.{IsEntry};
 ghost use Rattle.hd_num.specs.Span.{IsPart, text_at};
 ghost use Rattle.hd_script.specs.Rows.{element_words};
@@ -23,9 +23,28 @@ pub fn element_words(alloc: Global, line: &[u8], words: &[Span]) -> Result<Comma
     let [name, width, height, entries @ ..] = words else {
         return Err(LineError::WordCount);
     };
-    let name = name_word(alloc, 2, text(line, *name))?;
-    let width = count_word(3, text(line, *width))?;
-    let height = count_word(4, text(line, *height))?;
+    let name = text(line, *name);
+    let (width, height) = (text(line, *width), text(line, *height));
+    element_command(alloc, line, name, width, height, entries)
+}
+
+// The command of the words after `element`, of which the first three are given by their bytes.
+fn element_command(
+    alloc: Global,
+    line: &[u8],
+    name: &[u8],
+    width: &[u8],
+    height: &[u8],
+    entries: &[Span],
+) -> Result<Command, LineError>
+    requires parts { All (IsPart line.now) entries.now }
+    requires few { length entries.now < 2 ^ 16 }
+    ensures value { (result ≡ Err LineError.Memory) ⊎ (result ≡ element_words (name.now ∷ width.now ∷ height.now ∷ map (text_at line.now) entries.now)) }
+    ensures whole { IfOk result IsWhole }
+{
+    let name = name_word(alloc, 2, name)?;
+    let width = count_word(3, width)?;
+    let height = count_word(4, height)?;
     if entries.len() as u64 != u64::from(width) * u64::from(height) {
         return Err(LineError::WordCount);
     }
