@@ -1,15 +1,27 @@
-use Rattle.std.proofs.Common.{◌≡◌, ◌<◌, ◌≤◌, ◌*◌, ◌∙◌, rules, ap, subst, arith, [], ◌∷◌, length, replicate, Some, None}
+use Rattle.std.proofs.Common.{◌≡◌, ◌<◌, ◌≤◌, ◌*◌, ◌∙◌, rules, ap, subst, arith, List, [], ◌∷◌, ◌++◌, length, replicate, Some, None}
 use Rattle.hd_map.specs.declared.types.Size.{Size}
 use Rattle.hd_map.specs.Map.{place_of, cell_count}
+use Rattle.hd_cert.specs.declared.flood.Reached.{Reached}
 use Rattle.hd_cert.proofs.Flooding.{flood_begin, flood_end, flood_stop, head_entry}
 use Rattle.hd_cert.proofs.flood.steps_from.Goals as goal
+
+pub overflow_mul-count : goal.overflow_mul-count
+overflow_mul-count g c =
+    let cells = (g.met.G.Heights.whole c.args.grid.now).size.cells in
+    rw c.size-size.ensures (omega (arith, cells))
+
+pub index_of-requires : goal.index_of-requires
+index_of-requires g c = record {
+  limits = rw c.size-size.ensures (g.met.G.Heights.whole c.args.grid.now).size;
+  in_grid = rw c.size-size.ensures c.requires.start.in_grid;
+}
 
 pub loop-head-init : goal.loop-head-init
 loop-head-init g c =
     let m = g.G.Heights.map c.args.grid.now in
     let count : c.size-size.result.profiles * c.size-size.result.points ≡ cell_count m.size = ap cell_count c.size-size.ensures in
     let blank : c.in_ok-steps.steps.items ≡ replicate (c.size-size.result.profiles * c.size-size.result.points) None = search rules in
-    let queue : c.push.new.self.items ≡ record { at = c.args.start; steps = 0 } ∷ [] = search rules in
+    let queue : c.push.new.self.items ≡ record { at = c.args.start; steps = 0 } ∷ [] = c.in_ok-push.ensures.items ∙ ap (λ (q : List Reached). q ++ record { at = c.args.start; steps = 0 } ∷ []) c.in_ok-queue.ensures.items in
     let place : c.index_of.result ≡ place_of m.size c.args.start = c.index_of.ensures.value ∙ ap (λ (s : Size). place_of s c.args.start) c.size-size.ensures in
     rw (blank, count, queue, place) (flood_begin m c.args.marks.now c.args.start c.requires.start c.requires.open)
 

@@ -1,12 +1,21 @@
-use Rattle.std.proofs.Common.{◌≡◌, refl, subst, arith, ℕ}
+use Rattle.std.proofs.Common.{◌≡◌, refl, subst, arith, rules, ℕ}
 use Rattle.hd_map.specs.Map.{cell_count}
 use Rattle.hd_cert.specs.Listed.{AreListed, Lists}
-use Rattle.hd_map.proofs.Walks.{at-inside, at-next}
+use Rattle.hd_map.proofs.Walks.{at-first, at-inside, at-next}
 use Rattle.hd_cert.proofs.Listing.{listed_more}
 use Rattle.hd_cert.proofs.listed_points.listed.Goals as goal
 
 pub list_one-requires-clause-at : goal.list_one-requires-clause-at
 list_one-requires-clause-at c = at-inside c.args.size c.args.size c.loop-index.index c.loop-index.at refl c.loop-index.invariant.0 c.loop-index-test.true
+
+pub position_after-at-requires-clause-in_grid : goal.position_after-at-requires-clause-in_grid
+position_after-at-requires-clause-in_grid c = at-inside c.args.size c.args.size c.loop-index.index c.loop-index.at refl c.loop-index.invariant.0 c.loop-index-test.true
+
+pub overflow_mul-index-end : goal.overflow_mul-index-end
+overflow_mul-index-end c = omega (arith, c.requires.limits.cells)
+
+pub loop-index-init : goal.loop-index-init
+loop-index-init c = (at-first c.args.size (record { x = 0; y = 0 }) refl refl c.requires.limits.some_points, search rules)
 
 pub loop-index-preserved : goal.loop-index-preserved
 loop-index-preserved c =

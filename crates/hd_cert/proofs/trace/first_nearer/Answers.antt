@@ -5,6 +5,7 @@ use Rattle.hd_map.specs.declared.types.Pos.{Pos}
 use Rattle.hd_map.specs.declared.types.Size.{Size}
 use Rattle.hd_map.specs.Map.{place_of}
 use Rattle.hd_map.specs.Neighbour.{Neighbour}
+use Rattle.hd_map.proofs.Points.{place_inside}
 use Rattle.hd_check.specs.Rules.{point_of}
 use Rattle.hd_check.proofs.Searching.{place_found}
 use Rattle.hd_cert.specs.Nearer.{IsNearer}
@@ -17,6 +18,16 @@ index_of-requires-clause-in_grid g c =
     let m = g.G.Heights.map c.args.grid.now in
     let all : (q : Pos) → Contains c.as_slice-round.result.now q ↔ Neighbour m c.args.at q = rw c.as_slice-round.ensures c.neighbours-near.ensures.all in
     rw c.size-size.ensures (near_at m c.args.at c.as_slice-round.result.now all c.loop-k.k c.loop-k-test.true).to.in_grid
+
+pub bounds-steps-index_of : goal.bounds-steps-index_of
+bounds-steps-index_of g c =
+    let m = g.G.Heights.map c.args.grid.now in
+    let round = c.as_slice-round.result.now in
+    let all : (q : Pos) → Contains round q ↔ Neighbour m c.args.at q = rw c.as_slice-round.ensures c.neighbours-near.ensures.all in
+    let place : c.index_of.result ≡ place_of m.size (point_of round c.loop-k.k) = c.index_of.ensures.value ∙ ap (λ (s : Size). place_of s (point_of round c.loop-k.k)) c.size-size.ensures in
+    let inside = place_inside m.size (point_of round c.loop-k.k) (near_at m c.args.at round all c.loop-k.k c.loop-k-test.true).to.in_grid in
+    let whole = c.requires.whole in
+    omega (arith, place, inside, whole)
 
 pub returns-then-eq : goal.returns-then-eq
 returns-then-eq g c =
