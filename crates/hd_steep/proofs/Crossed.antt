@@ -1,7 +1,7 @@
 -- Lists of passes that are gathered point by point, and what they are in the end.
 use Rattle.std.proofs.Common.{◌≡◌, ◌<◌, ◌+◌, ℕ, Bool, true, false, List, [], ◌∷◌, ◌++◌, Option, ◌⊎◌, inl, inr, ap, ◌∙◌, sym, subst, refl, arith}
 use Rattle.std.specs.Prelude.{Contains}
-use Rattle.std.proofs.lemmas.Bool.{cases_eq}
+use Rattle.std.proofs.lemmas.Bool.{cases_eq, cases_lt}
 use Rattle.std.proofs.lemmas.List.Elements.{Contains-push, Contains-push_cases, Contains-append_left}
 use Rattle.hd_map.specs.declared.types.Pass.{Pass}
 use Rattle.hd_map.specs.declared.types.Pos.{Pos}
@@ -21,7 +21,7 @@ use Rattle.hd_map.proofs.Points.{Near-from, Near-to, place_inside, position_at-o
 use Rattle.hd_map.proofs.Regions.{labelled-root, root-labelled}
 use Rattle.hd_map.proofs.Saddles.{near-sym}
 use Rattle.hd_map.proofs.Sides.{below-not_above}
-use Rattle.hd_steep.specs.Crossed.{IsPitOf, AreInOne, IsPassTo, IsCrossing, Extends, IsCrossed, IsServed, Gathers}
+use Rattle.hd_steep.specs.Crossed.{IsPitOf, AreInOne, IsPassTo, IsCrossing, Extends, IsCrossed, AreCrossedTo, IsServed, Gathers}
 use Rattle.hd_steep.specs.Ring.{is_marked}
 use Rattle.hd_steep.specs.Rows.{rank_in}
 use Rattle.hd_steep.proofs.Round.{same_or_below}
@@ -201,25 +201,31 @@ module _ (m : Map) (side : SideName) where
   pub crossed_in_one : (xs : List Pass) (x y : Rank) → AreInOne m side x y → IsCrossed m side xs x y
   crossed_in_one xs x y one = record { a = one.root; b = one.root; from = one.from; to = one.to; by = inl refl }
 
--- of the first n places round x the marked ones are crossed by what was added
-pub record AreCrossedTo (m : Map) (side : SideName) (old new : List Pass) (x : Rank) (ring : List Rank) (marks : List Bool) (n : ℕ) : Type 0 where
-  pub extends : Extends m side old new
-  pub crossed : (k : ℕ) → k < n → is_marked marks k ≡ true → IsCrossed m side new x (rank_in ring k)
-
-module _ (m : Map) (side : SideName) (old : List Pass) (x : Rank) (ring : List Rank) (marks : List Bool) where
-  -- none of them
-  pub crossed_to_none : AreCrossedTo m side old old x ring marks 0
-  crossed_to_none = record { extends = extends_none m side old; crossed = λ k below marked. absurd (omega (arith, below)) }
+module _ (m : Map) (side : SideName) (x : Rank) (ring : List Rank) (marks : List Bool) where
+  -- no place
+  pub crossed_to_none : (old : List Pass) (first : ℕ) → AreCrossedTo m side old old x ring marks first first
+  crossed_to_none old first = record { extends = extends_none m side old; crossed = λ k from below marked. absurd (omega (arith, from, below)) }
 
   -- and the next one
-  pub crossed_to_more : (now new : List Pass) (n : ℕ) (y : Rank) → y ≡ rank_in ring n → Extends m side now new → (is_marked marks n ≡ true → IsCrossed m side new x y)
-      → AreCrossedTo m side old now x ring marks n → AreCrossedTo m side old new x ring marks (n + 1)
-  crossed_to_more now new n y is extends crossed before = record {
+  pub crossed_to_more : (old now new : List Pass) (first n : ℕ) (y : Rank) → y ≡ rank_in ring n → Extends m side now new → (is_marked marks n ≡ true → IsCrossed m side new x y)
+      → AreCrossedTo m side old now x ring marks first n → AreCrossedTo m side old new x ring marks first (n + 1)
+  crossed_to_more old now new first n y is extends crossed before = record {
     extends = extends_on m side old now new before.extends extends;
-    crossed = λ k below marked. elim (cases_eq k n) [
+    crossed = λ k from below marked. elim (cases_eq k n) [
       | inl same ↦
           let there : IsCrossed m side new x (rank_in ring n) = subst (λ (r : Rank). IsCrossed m side new x r) is (crossed (subst (λ i. is_marked marks i ≡ true) same marked)) in
           subst (λ i. IsCrossed m side new x (rank_in ring i)) (sym same) there
-      | inr other ↦ crossed_kept m side now new x (rank_in ring k) extends (before.crossed k (omega (arith, below, other)) marked)
+      | inr other ↦ crossed_kept m side now new x (rank_in ring k) extends (before.crossed k from (omega (arith, below, other)) marked)
+    ];
+  }
+
+  -- and those from there on
+  pub crossed_to_join : (old now new : List Pass) (first n end : ℕ) → AreCrossedTo m side old now x ring marks first n → AreCrossedTo m side now new x ring marks n end
+      → AreCrossedTo m side old new x ring marks first end
+  crossed_to_join old now new first n end before after = record {
+    extends = extends_on m side old now new before.extends after.extends;
+    crossed = λ k from below marked. elim (cases_lt k n) [
+      | inl less ↦ crossed_kept m side now new x (rank_in ring k) after.extends (before.crossed k from less marked)
+      | inr past ↦ after.crossed k past below marked
     ];
   }

@@ -68,3 +68,10 @@ module _ (m : Map) (side : SideName) where
         let is : get_or labels k None ≡ None = ap (λ i. get_or labels i None) e ∙ sym (unwrap_or-slice_get labels (place_of m.size at) None) ∙ ap (λ (o : Option (Option ℕ)). unwrap_or o None) (are.absent at in_grid not) in
         rw is not
   ]
+
+  -- a point is labelled with the pit of its region
+  pub label_of_point : (labels : List (Option ℕ)) (x : Rank) → AreRegions m side labels → IsPoint m x → (r : Rank) × IsRoot m side x r × (get_or labels x.index None ≡ Some r.index)
+  label_of_point labels x are point =
+      let found = are.present point.at point.present in
+      let is : get_or labels (place_of m.size point.at) None ≡ Some found.0.index = sym (unwrap_or-slice_get labels (place_of m.size point.at) None) ∙ ap (λ (o : Option (Option ℕ)). unwrap_or o None) found.2 in
+      (found.0, rw point.rank_is found.1, rw point.rank_is is)

@@ -1,6 +1,7 @@
 pub mod Lower
 pub mod Lows
 pub mod Rows
+pub mod ProfilesRound
 pub mod Looking
 pub mod Ways
 pub mod Round

@@ -1,5 +1,5 @@
 -- Crossings as they are gathered, point by point.
-use Rattle.std.specs.Prelude.{◌≡◌, ◌<◌, ◌⊎◌, ◌+◌, ℕ, true, List, Contains, length}
+use Rattle.std.specs.Prelude.{◌≡◌, ◌<◌, ◌≤◌, ◌⊎◌, ◌+◌, ℕ, Bool, true, List, Contains, length}
 use Rattle.hd_map.specs.declared.types.Pass.{Pass}
 use Rattle.hd_map.specs.declared.types.Pos.{Pos}
 use Rattle.hd_map.specs.declared.types.Rank.{Rank}
@@ -10,8 +10,8 @@ use Rattle.hd_map.specs.Rank.{rank, below_by, Near}
 use Rattle.hd_map.specs.Region.{LowerNeighbour, IsRoot}
 use Rattle.hd_map.specs.Walks.{HasPass}
 use Rattle.hd_steep.specs.declared.rolling.Rows.{Rows}
-use Rattle.hd_steep.specs.Ring.{ring_of}
-use Rattle.hd_steep.specs.Rows.{IsFramed, IsRowOf}
+use Rattle.hd_steep.specs.Ring.{is_marked, ring_of}
+use Rattle.hd_steep.specs.Rows.{rank_in, IsFramed, IsRowOf}
 
 -- each row has the place of a column, and one on each side of it
 pub record AreWide (rows : Rows) (x : ℕ) : Type 0 where
@@ -79,6 +79,11 @@ module _ (m : Map) (side : SideName) where
     pub from : IsRoot m side x a
     pub to : IsRoot m side y b
     pub by : (a ≡ b) ⊎ HasPass passes a b x
+
+  -- the list is extended, so that x is crossed to the marked places of a ring from a first one up to an end
+  pub record AreCrossedTo (old new : List Pass) (x : Rank) (ring : List Rank) (marks : List Bool) (first end : ℕ) : Type 0 where
+    pub extends : Extends old new
+    pub crossed : (k : ℕ) → first ≤ k → k < end → is_marked marks k ≡ true → IsCrossed new x (rank_in ring k)
 
   -- y leads round x to one that lies in the region of x, or in one that a pass at x joins with it
   pub record IsServed (passes : List Pass) (x y : Rank) : Type 0 where

@@ -1,5 +1,6 @@
 pub mod Lowest
 pub mod Rows
+pub mod Profiles
 pub mod Links
 pub mod Borders
 pub mod Meetings

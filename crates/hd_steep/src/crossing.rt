@@ -1,12 +1,12 @@
 // The passes at points whose lower neighbours fall into several groups.
-ghost use Rattle.std.specs.Prelude.{◌≡◌, ◌<◌, ℕ, [], true, IfOk, OnOk, MatchOption};
+ghost use Rattle.std.specs.Prelude.{◌≡◌, ◌<◌, ◌≤◌, ◌+◌, ℕ, [], true, IfOk, OnOk, MatchOption};
 ghost use Rattle.hd_map.specs.Map.{InGrid};
 ghost use Rattle.hd_map.specs.Crossings.{AreCrossingsUnder};
 ghost use Rattle.hd_map.specs.Rank.{IsPoint};
 ghost use Rattle.hd_map.specs.Region.{LowerNeighbour, AreRegions, IsRoot};
 ghost use Rattle.hd_steep.specs.Rows.{rank_in};
 ghost use Rattle.hd_steep.specs.Ring.{is_marked};
-ghost use Rattle.hd_steep.specs.Crossed.{AreRowsRound, AreWide, ring_round, IsPitOf, AreInOne, IsPassTo, Extends, IsCrossed, Gathers};
+ghost use Rattle.hd_steep.specs.Crossed.{AreRowsRound, AreWide, ring_round, IsPitOf, AreInOne, IsPassTo, Extends, IsCrossed, AreCrossedTo, Gathers};
 
 use crate::lowest::is_missing;
 use crate::places::{are_several, firsts, lower_at};
@@ -100,8 +100,7 @@ fn gather_point<S: Side, G: Heights>(
     Ok(())
 }
 
-// Adds the passes at a point to the marked ones of its lower neighbours. Each place is written out:
-// a loop would have to store the marks, and to look for the row of each place.
+// Adds the passes at a point to the marked ones of its lower neighbours.
 #[inline]
 fn cross<S: Side, G: Heights>(
     grid: &G,
@@ -120,37 +119,64 @@ fn cross<S: Side, G: Heights>(
     ensures crossed { OnOk result ((k : ℕ) → is_marked marks.now k ≡ true → IsCrossed (G.map grid.now) S.NAME passes.new.items own (rank_in (ring_round rows.now x) k)) }
 {
     let pit = pit_rank::<S, G>(grid, own, pit_of::<S, G>(grid, labels, own));
-    cross_if::<S, G>(grid, labels, own, pit, marks[0], rows.around(x, 0), passes)?;
-    cross_if::<S, G>(grid, labels, own, pit, marks[1], rows.around(x, 1), passes)?;
-    cross_if::<S, G>(grid, labels, own, pit, marks[2], rows.around(x, 2), passes)?;
-    cross_if::<S, G>(grid, labels, own, pit, marks[3], rows.around(x, 3), passes)?;
-    cross_if::<S, G>(grid, labels, own, pit, marks[4], rows.around(x, 4), passes)?;
-    cross_if::<S, G>(grid, labels, own, pit, marks[5], rows.around(x, 5), passes)?;
-    cross_if::<S, G>(grid, labels, own, pit, marks[6], rows.around(x, 6), passes)?;
-    cross_if::<S, G>(grid, labels, own, pit, marks[7], rows.around(x, 7), passes)?;
+    cross_four::<S, G>(grid, labels, own, pit, rows, x, marks, 0, passes)?;
+    cross_four::<S, G>(grid, labels, own, pit, rows, x, marks, 4, passes)?;
     Ok(())
 }
 
-// Adds the pass at a point to one of its lower neighbours, if that is marked and lies in another
-// region.
+// Adds the passes at a point, whose pit is known, to the marked ones among four of its lower
+// neighbours, from one of the eight places on. Each is written out: a loop would have to store the
+// marks, and to look for the row of each place.
+#[inline(always)]
+fn cross_four<S: Side, G: Heights>(
+    grid: &G,
+    labels: &[Option<u32>],
+    own: Rank,
+    pit: Rank,
+    rows: &Rows,
+    x: usize,
+    marks: &[bool; 8],
+    first: usize,
+    passes: &mut Vec<Pass>,
+) -> Result<(), Memory>
+    requires regions { AreRegions (G.map grid.now) S.NAME labels.now }
+    requires pit { IsRoot (G.map grid.now) S.NAME own pit }
+    requires wide { AreWide rows.now x }
+    requires lower { (k : ℕ) → is_marked marks.now k ≡ true → LowerNeighbour (G.map grid.now) S.NAME own (rank_in (ring_round rows.now x) k) }
+    requires first { first ≤ 4 }
+    ensures { OnOk result (AreCrossedTo (G.map grid.now) S.NAME passes.old.items passes.new.items own (ring_round rows.now x) marks.now first (first + 4)) }
+{
+    cross_if::<S, G>(grid, labels, own, pit, rows, x, marks, first, passes)?;
+    cross_if::<S, G>(grid, labels, own, pit, rows, x, marks, first + 1, passes)?;
+    cross_if::<S, G>(grid, labels, own, pit, rows, x, marks, first + 2, passes)?;
+    cross_if::<S, G>(grid, labels, own, pit, rows, x, marks, first + 3, passes)?;
+    Ok(())
+}
+
+// Adds the pass at a point to its lower neighbour at one of the eight places, if that is marked and
+// lies in another region.
 #[inline(always)]
 fn cross_if<S: Side, G: Heights>(
     grid: &G,
     labels: &[Option<u32>],
     own: Rank,
     pit: Rank,
-    marked: bool,
-    other: Rank,
+    rows: &Rows,
+    x: usize,
+    marks: &[bool; 8],
+    place: usize,
     passes: &mut Vec<Pass>,
 ) -> Result<(), Memory>
     requires regions { AreRegions (G.map grid.now) S.NAME labels.now }
     requires pit { IsRoot (G.map grid.now) S.NAME own pit }
-    requires lower { marked ≡ true → LowerNeighbour (G.map grid.now) S.NAME own other }
+    requires wide { AreWide rows.now x }
+    requires place { place < 8 }
+    requires lower { is_marked marks.now place ≡ true → LowerNeighbour (G.map grid.now) S.NAME own (rank_in (ring_round rows.now x) place) }
     ensures extends { OnOk result (Extends (G.map grid.now) S.NAME passes.old.items passes.new.items) }
-    ensures crossed { OnOk result (marked ≡ true → IsCrossed (G.map grid.now) S.NAME passes.new.items own other) }
+    ensures crossed { OnOk result (is_marked marks.now place ≡ true → IsCrossed (G.map grid.now) S.NAME passes.new.items own (rank_in (ring_round rows.now x) place)) }
 {
-    if marked {
-        cross_to::<S, G>(grid, labels, own, pit, other, passes)?;
+    if marks[place] {
+        cross_to::<S, G>(grid, labels, own, pit, rows.around(x, place), passes)?;
     }
     Ok(())
 }

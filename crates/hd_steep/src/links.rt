@@ -1,15 +1,15 @@
 // The first link of each point, to its next, and of a pit to itself. Profiles are looked at by
 // threes, so that each height is read once.
-ghost use Rattle.std.specs.Prelude.{◌≡◌, ◌<◌, ◌≤◌, ◌+◌, ◌*◌, IfOk, length};
-ghost use Rattle.hd_steep.specs.Rows.{IsRowOf, AreLowsOf, AreLinked};
+ghost use Rattle.std.specs.Prelude.{◌≡◌, ◌<◌, ◌+◌, ◌*◌, IfOk, length};
+ghost use Rattle.hd_steep.specs.Profiles.{AreProfilesRound};
+ghost use Rattle.hd_steep.specs.Rows.{AreLinked};
 ghost use Rattle.hd_steep.specs.Links.{no_link, AreLinksFrom, AreLinks};
 
 use crate::lowest::{lower, missing_rank};
-use crate::profile::Profile;
+use crate::rolling::Profiles;
 use hd_base::Memory;
 use hd_map::{Heights, Rank, Side};
 use std::alloc::Global;
-use std::mem::swap;
 
 /// Stands where there is no link, since no point is present. It is above each index.
 pub const NO_LINK: u32 = u32::MAX;
@@ -25,37 +25,23 @@ pub fn first_links<S: Side, G: Heights>(alloc: Global, grid: &G) -> Result<Vec<u
     let width = size.points as usize;
     let mut links = Vec::with_capacity(alloc, width * size.profiles as usize)?;
     let mut row = vec![in alloc; NO_LINK; width]?;
-    let mut above = Profile::empty::<S>(alloc, size.points)?;
-    let mut level = Profile::empty::<S>(alloc, size.points)?;
-    let mut below = Profile::empty::<S>(alloc, size.points)?;
-    level.take::<S, G>(grid, 0);
+    let mut profiles = Profiles::new::<S, G>(alloc, grid)?;
     'profiles: for y in 0..size.profiles {
-        below.take::<S, G>(grid, y + 1);
-        link_profile::<S, G>(grid, y, &above, &level, &below, &mut row);
+        profiles.advance::<S, G>(grid, y);
+        link_profile::<S, G>(grid, y, &profiles, &mut row);
         links.extend_from_slice(&row)?;
-        swap(&mut above, &mut level);
-        swap(&mut level, &mut below);
     }
     Ok(links)
 }
 
 // The links of a profile, from the one before, itself and the one after.
-fn link_profile<S: Side, G: Heights>(
-    _grid: &G,
-    _y: u32,
-    above: &Profile,
-    level: &Profile,
-    below: &Profile,
-    links: &mut [u32],
-)
+fn link_profile<S: Side, G: Heights>(_grid: &G, _y: u32, profiles: &Profiles, links: &mut [u32])
     requires profile { _y < (G.map _grid.now).size.profiles }
-    requires above { AreLowsOf (G.map _grid.now) S.NAME _y above.now.lows.items }
-    requires ranks { IsRowOf (G.map _grid.now) S.NAME (_y + 1) level.now.ranks.items }
-    requires level { AreLowsOf (G.map _grid.now) S.NAME (_y + 1) level.now.lows.items }
-    requires below { AreLowsOf (G.map _grid.now) S.NAME (_y + 2) below.now.lows.items }
+    requires round { AreProfilesRound (G.map _grid.now) S.NAME _y profiles.now }
     requires links { length links.old ≡ (G.map _grid.now).size.points }
     ensures { AreLinksFrom (G.map _grid.now) S.NAME (_y * (G.map _grid.now).size.points) links.new }
 {
+    let (above, level, below) = (&profiles.above, &profiles.level, &profiles.below);
     link_row::<S>(&level.ranks, &above.lows, &level.lows, &below.lows, links);
 }
 

@@ -1,10 +1,11 @@
-// The rows of three profiles, which roll over the map.
+// Three profiles, or their rows alone, which roll over the map.
 ghost use Rattle.std.specs.Prelude.{◌≡◌, ◌<◌, ◌+◌, IfOk};
 ghost use Rattle.hd_steep.specs.Crossed.{AreRowsRound, AreRowsBefore, AreWide, ring_round};
+ghost use Rattle.hd_steep.specs.Profiles.{AreProfilesRound, AreProfilesBefore};
 ghost use Rattle.hd_steep.specs.Rows.{rank_in};
 
 use crate::lowest::missing_rank;
-use crate::profile::fill_row;
+use crate::profile::{Profile, fill_row};
 use hd_base::Memory;
 use hd_map::{Heights, Rank, Side};
 use std::alloc::Global;
@@ -65,5 +66,43 @@ impl Rows {
             6 => self.level[x],
             _ => self.above[x],
         }
+    }
+}
+
+/// Three profiles, one after the other.
+#[derive(Drop)]
+pub struct Profiles {
+    pub above: Profile,
+    pub level: Profile,
+    pub below: Profile,
+}
+
+impl Profiles {
+    /// The profiles before those of the first one. `Memory` comes where their 96 bytes a column are
+    /// refused.
+    pub fn new<S: Side, G: Heights>(alloc: Global, grid: &G) -> Result<Profiles, Memory>
+        ensures { IfOk result (AreProfilesBefore (G.map grid.now) S.NAME 0) }
+    {
+        let points = grid.size().points;
+        let above = Profile::empty::<S>(alloc, points)?;
+        let level = Profile::empty::<S>(alloc, points)?;
+        let mut below = Profile::empty::<S>(alloc, points)?;
+        below.take::<S, G>(grid, 0);
+        Ok(Profiles {
+            above,
+            level,
+            below,
+        })
+    }
+
+    /// Goes on to a profile and those beside it. Past the last one no point is present.
+    pub fn advance<S: Side, G: Heights>(&mut self, grid: &G, y: u32)
+        requires profile { y < (G.map grid.now).size.profiles }
+        requires before { AreProfilesBefore (G.map grid.now) S.NAME y self.old }
+        ensures { AreProfilesRound (G.map grid.now) S.NAME y self.new }
+    {
+        swap(&mut self.above, &mut self.level);
+        swap(&mut self.level, &mut self.below);
+        self.below.take::<S, G>(grid, y + 1);
     }
 }
