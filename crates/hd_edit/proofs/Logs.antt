@@ -1,7 +1,7 @@
 -- The maps that a log stands for.
-use Rattle.std.proofs.Common.{◌≡◌, ◌+◌, ◌-◌, ℕ, zero, suc, List, [], ◌∷◌, ◌++◌, length, take, drop, get_or, All, Option, Some, None, refl, sym, ap, subst, ◌∙◌, arith}
+use Rattle.std.proofs.Common.{◌≡◌, ◌+◌, ◌-◌, ℕ, zero, suc, List, [], ◌∷◌, ◌++◌, length, take, drop, get_or, All, Option, Some, None, refl, sym, ap, subst, ◌∙◌, length-drop, arith}
 use Rattle.std.proofs.Math.ListN.{length-take}
-use Rattle.std.proofs.lemmas.List.Elements.{All-take}
+use Rattle.std.proofs.lemmas.List.Elements.{All-take, All-drop, All-push}
 use Rattle.std.proofs.lemmas.List.{take_more, take-take, take-append-le, take_at, take_all, get_or-take, get_or_at, length_push}
 use Rattle.std.proofs.lemmas.Option.{get_or_from_slice_get, slice_get-get_or, slice_get_within}
 use Rattle.circular_buffer.specs.Buffer.{Buffer, buffer, keep_last, last_item}
@@ -44,6 +44,18 @@ earlier-kept es es' e capacity m m' kept places before =
     ∙ earlier-drop (length (es ++ e ∷ []) - log_places) (es ++ e ∷ []) m'
     ∙ ap (λ (n : ℕ). drop (n - log_places) (earlier_maps (es ++ e ∷ []) m')) lengths
     ∙ ap (λ (xs : List Map). drop (length maps - log_places) xs) told
+
+-- and it is a log of the map that the entry makes
+pub log-kept : (log log' : Buffer (List Change)) (e : List Change) (m m' : Map) → IsLog m log → log' ≡ buffer (keep_last log.capacity (log.items ++ e ∷ [])) log.capacity
+    → AreChanges m' e → m'.size ≡ m.size → m'.data_type ≡ m.data_type → IsLog m' log'
+log-kept log log' e m m' is kept are size type =
+    let all = log.items ++ e ∷ [] in
+    let before : All (AreChanges m') log.items = rw (size, type) is.each in
+    rw kept (record {
+      places = is.places;
+      few = omega (arith, is.places, length-drop (length all - log.capacity) all);
+      each = All-drop (AreChanges m') (length all - log.capacity) all (All-push (AreChanges m') log.items e before are);
+    })
 
 -- a list and its last item
 pub last_split : {X : Type 0} (xs : List X) (x : X) → Some x ≡ last_item xs → xs ≡ take (length xs - 1) xs ++ x ∷ []

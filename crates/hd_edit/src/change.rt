@@ -89,7 +89,7 @@ pub fn change_cell<G: Grid>(grid: &mut G, at: Pos, new: Cell, notes: &mut Vec<Ch
 }
 
 // Sets a mask.
-pub fn put_mask<G: Grid>(grid: &mut G, at: Pos, masked: bool)
+fn put_mask<G: Grid>(grid: &mut G, at: Pos, masked: bool)
     requires in_grid { InGrid (G.map grid.old).size at }
     requires count { G.changes grid.old < 2 ^ 63 }
     ensures map { G.map grid.new ≡ with_mask (G.map grid.old) at masked }
@@ -97,6 +97,30 @@ pub fn put_mask<G: Grid>(grid: &mut G, at: Pos, masked: bool)
     ensures count { RisesUpTo 1 (G.changes grid.old) (G.changes grid.new) }
 {
     let _ = grid.set_mask(at, masked);
+}
+
+/// Sets a mask to another one, and notes what it was. Inlined, it reads no mask that its caller has
+/// read.
+#[inline(always)]
+pub fn change_mask<G: Grid>(grid: &mut G, at: Pos, new: bool, notes: &mut Vec<Change>)
+    requires in_grid { InGrid (G.map grid.old).size at }
+    requires count { G.changes grid.old < 2 ^ 63 }
+    requires room { vec_len notes.old < vec_capacity notes.old }
+    requires notes { All (IsChange (G.map grid.old)) notes.old.items }
+    ensures map { G.map grid.new ≡ with_mask (G.map grid.old) at new }
+    ensures before { let back = before_changes notes.old.items (G.map grid.old) in
+        before_changes notes.new.items (G.map grid.new) ≡ back }
+    ensures notes { All (IsChange (G.map grid.old)) notes.new.items }
+    ensures len { vec_len notes.new ≡ vec_len notes.old + 1 }
+    ensures capacity { vec_capacity notes.new ≡ vec_capacity notes.old }
+    ensures origin { G.comes_from grid.old grid.new }
+    ensures count { RisesUpTo 1 (G.changes grid.old) (G.changes grid.new) }
+{
+    let masked = grid.masked(at);
+    let index = index_of(grid.size(), at);
+    let was = Was::Mask(masked);
+    notes.push_reserved(Change { index, was });
+    put_mask(grid, at, new);
 }
 
 // Puts back what stood at a point.

@@ -7,10 +7,10 @@ ghost use Rattle.hd_edit.specs.Board.{RisesUpTo};
 ghost use Rattle.hd_edit.specs.Change.{IsChange, AreChanges, before_changes};
 ghost use Rattle.hd_edit.specs.Stroke.{next_in, IsRectangle, IsStrokeOf, stroked, touched, cell_after, changes, one_if_changed, changed_points};
 
-use crate::change::{Change, Was, change_cell, put_mask};
+use crate::change::{Change, change_cell, change_mask};
 use crate::stroke::{Stroke, Touch, touch_of};
 use hd_base::{List, Memory};
-use hd_map::{Grid, Heights, Pos, index_of};
+use hd_map::{Grid, Heights, Pos};
 use std::alloc::Global;
 
 // The position after this one in the rectangle, profile by profile; past its end it is in the
@@ -88,15 +88,9 @@ fn touch_point<G: Grid>(grid: &mut G, at: Pos, stroke: Stroke, notes: &mut Vec<C
     ensures rises { G.changes grid.old ≤ G.changes grid.new }
     ensures count { G.changes grid.new + vec_len notes.old ≤ G.changes grid.old + vec_len notes.new }
 {
-    let masked = grid.masked(at);
-    match touch_of(stroke, grid.data_type(), grid.cell(at), masked) {
+    match touch_of(stroke, grid.data_type(), grid.cell(at), grid.masked(at)) {
         Some(Touch::Cell(new)) => change_cell(grid, at, new, notes),
-        Some(Touch::Mask(new)) => {
-            let index = index_of(grid.size(), at);
-            let was = Was::Mask(masked);
-            notes.push_reserved(Change { index, was });
-            put_mask(grid, at, new);
-        }
+        Some(Touch::Mask(new)) => change_mask(grid, at, new, notes),
         _ => {}
     }
 }

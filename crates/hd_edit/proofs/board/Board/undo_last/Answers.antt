@@ -7,6 +7,14 @@ use Rattle.hd_edit.specs.Log.{earlier_maps}
 use Rattle.hd_edit.proofs.Logs.{earlier-undone, log-undone, last_of, no_last}
 use Rattle.hd_edit.proofs.board.Board.undo_last.Goals as goal
 
+pub put_back-requires : goal.put_back-requires
+put_back-requires g c =
+    let m = g.G.Heights.map c.self.inside.grid in
+    let are = last_of (AreChanges m) c.self.inside.log.items c.in-Some.changes c.in-Some.ensures.value c.self.invariant.each in
+    let cells = (g.met.G.Heights.whole c.self.inside.grid).size.cells in
+    let below = rw (← c.self.view_is) at c.requires.count in
+    record { changes = are; count = omega (arith, are.few, cells, below) }
+
 pub invariant_of-self : goal.invariant_of-self
 invariant_of-self g c =
     log-undone c.self.inside.log c.pop_back.new.self c.in-Some.changes (g.G.Heights.map c.self.inside.grid) (g.G.Heights.map c.put_back.new.grid) c.self.invariant c.in-Some.ensures.items c.put_back.ensures.map
