@@ -1,10 +1,11 @@
 -- The lines of a summary, one after another, and what a demo determines.
-use Rattle.std.proofs.Common.{◌≡◌, ◌+◌, ◌++◌, ◌∙◌, ℕ, zero, suc, List, [], ◌∷◌, refl, sym, ap, subst, arith, append_assoc, append-nil}
+use Rattle.std.proofs.Common.{◌≡◌, ◌+◌, ◌++◌, ◌∙◌, ℕ, zero, suc, List, [], ◌∷◌, Result, Ok, Err, refl, sym, ap, subst, arith, append_assoc, append-nil}
+use Rattle.std.specs.Prelude.{IfOk}
 use Rattle.hd_engine.specs.State.{State, IsState}
 use Rattle.hd_engine.specs.Answers.{IsAnswer}
 use Rattle.hd_engine.specs.Reply.{Reply}
 use Rattle.hd_words.specs.declared.demo.Demo.{Demo}
-use Rattle.hd_demo.specs.DemoText.{AddsRow, AddsRows, AddsTold, AreEdits, AreRowTexts, IsDemoText, IsRowText, IsTold, Row, demo_state, edits_line, row_text, summary_rows, title, value_in}
+use Rattle.hd_demo.specs.DemoText.{AddsRow, AddsRows, AddsTold, AreEdits, AreRowTexts, IsDemoText, IsRowText, IsTheDemoText, IsTold, Row, demo_state, edits_line, row_text, summary_rows, title, value_in}
 use Rattle.hd_demo.specs.Generator.{drawn_edit}
 
 -- no lines
@@ -43,9 +44,14 @@ told_of demo s shown edited last old before between new (first, are, e) edits li
 )
 
 -- what is told after the title
-pub demo_is : (demo : Demo) (s : State) (front text : List ℕ) → s ≡ demo_state demo → front ≡ title demo → AddsTold demo s front text → IsDemoText demo text
-demo_is demo s front text state front_is (told, is, e) =
-    (told, subst (λ (t : State). IsTold demo t told) state is, e ∙ ap (λ t. t ++ told) front_is)
+demo_is : (demo : Demo) (s : State) (text : List ℕ) → s ≡ demo_state demo → AddsTold demo s (title demo) text → IsDemoText demo text
+demo_is demo s text state (told, is, e) = (told, subst (λ (t : State). IsTold demo t told) state is, e)
+
+-- and it is the one text, where a demo prints one
+pub told-is_the_text : {E : Type 0} (demo : Demo) (s : State) (result : Result (List ℕ) E) → s ≡ demo_state demo → ((a b : List ℕ) → IsDemoText demo a → IsDemoText demo b → a ≡ b)
+    → IfOk result (λ text. AddsTold demo s (title demo) text) → IfOk result (λ text. IsTheDemoText demo text)
+told-is_the_text demo s (Ok text) state one told = let is = demo_is demo s text state told in record { is = is; only = λ other h. one other text h is }
+told-is_the_text demo s (Err error) state one told = tt
 
 -- two texts and the states after them agree
 pub record Agree (a b : List ℕ) (s' s'' : State) : Type 0 where

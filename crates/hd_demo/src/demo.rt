@@ -24,10 +24,7 @@ pub fn demo_text(alloc: Global, demo: Demo) -> Result<List<u8>, Memory>
     let mut draws = Draws { last: demo.number };
     let file = drawn_file(alloc, demo.size, &mut draws)?;
     let mut session = Session::new(alloc, file, demo.tile)?;
-    let mut text = List::new(alloc);
-    push_title(&mut text, demo)?;
-    push_told(alloc, &mut text, &mut session, draws, demo)?;
-    Ok(text)
+    told_text(alloc, &mut session, draws, demo)
 }
 
 // A demo prints one text.
@@ -36,6 +33,24 @@ fn demo_text_is_determined()
 {
     answer_is_determined();
     answer_keeps_a_state();
+}
+
+// What a demo prints, told by a session on its surface.
+fn told_text(
+    alloc: Global,
+    session: &mut Session,
+    draws: Draws,
+    demo: Demo,
+) -> Result<List<u8>, Memory>
+    requires demo { IsDemo demo }
+    requires fresh { session.old.asked ≡ 0 }
+    requires drawn { draws.last ≡ drawn demo.number (cell_count demo.size) }
+    ensures { IfOk result (λ text. AddsTold demo session.old.state (title demo) text) }
+{
+    let mut text = List::new(alloc);
+    push_title(&mut text, demo)?;
+    push_told(alloc, &mut text, session, draws, demo)?;
+    Ok(text)
 }
 
 // Adds the numbers of a demo.
