@@ -3,3 +3,4 @@ mod Readings
 mod Runs
 mod Checks
 mod Savings
+mod Stops

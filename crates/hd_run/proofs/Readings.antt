@@ -1,5 +1,5 @@
 -- How far an input is read, and what stops it.
-use Rattle.std.proofs.Common.{◌≡◌, ◌⊎◌, ◌∙◌, ◌<◌, ℕ, List, length, Option, Some, Result, Err, inl, inr, ap, sym, nat_lt, true, refl, arith}
+use Rattle.std.proofs.Common.{◌≡◌, ◌∙◌, ◌<◌, ℕ, List, length, Option, Some, Result, Err, inl, inr, ap, sym, nat_lt, true, refl, arith}
 use Rattle.std.proofs.lemmas.Bool.Decides.{nat_tests}
 use Rattle.hd_base.specs.declared.source.ReadError.{ReadError}
 use Rattle.hd_base.specs.Told.{HasReadCause, StopsInFile}

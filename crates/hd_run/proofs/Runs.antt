@@ -1,5 +1,5 @@
 -- What a run comes to, from its parts.
-use Rattle.std.proofs.Common.{◌≡◌, ◌<◌, ◌≤◌, ℕ, Bool, true, false, List, [], ◌∷◌, length, Option, Some, None, Result, Ok, Err, inl, inr, refl, sym, ap, ◌∙◌, subst, arith, nat_lt, codes}
+use Rattle.std.proofs.Common.{◌≡◌, ◌<◌, ◌≤◌, ◌⊎◌, ℕ, Bool, true, false, List, [], ◌∷◌, length, Option, Some, None, Result, Ok, Err, inl, inr, refl, sym, ap, ◌∙◌, subst, arith, nat_lt, codes}
 use Rattle.std.specs.Io.{StartsWith}
 use Rattle.std.proofs.KnownBytes.{Keeps-refl}
 use Rattle.std.proofs.lemmas.Bool.Decides.{nat_tests}
@@ -10,12 +10,12 @@ use Rattle.hd_engine.specs.Answers.{AreAnswers}
 use Rattle.hd_sdf_read.specs.File.{File}
 use Rattle.hd_words.specs.Words.{RunRequest}
 use Rattle.hd_run.specs.declared.stop.Refusal.{Refusal}
-use Rattle.hd_run.specs.declared.stop.Refusal.TheVariants.{SurfaceTooLong, SecondTooLong}
+use Rattle.hd_run.specs.declared.stop.Refusal.TheVariants.{SecondTooLong}
 use Rattle.hd_run.specs.declared.stop.Stop.{Stop}
 use Rattle.hd_run.specs.declared.stop.Stop.TheVariants.{Memory, ReadFault, WriteFault, Refused}
-use Rattle.hd_run.specs.Limits.{script_limit, surface_limit}
+use Rattle.hd_run.specs.Limits.{script_limit}
 use Rattle.hd_run.specs.FaultCounts.{Count, Stays}
-use Rattle.hd_run.specs.ReadOrder.{SecondComesLast}
+use Rattle.hd_run.specs.ReadOrder.{Reading, SecondComesLast, StopsWithin}
 use Rattle.hd_run.specs.Inputs.{IsSurfaceRead, IsSecondRead}
 use Rattle.hd_run.specs.Outcome.{RunOutcome, Work, Inputs, IsTheRunOutcome, surface_of, lines_to_answer, both_inputs, inputs_of, answered, IsOutcomeOfRun, IsOutcomeOfInputs, IsOutcomeOfLines}
 use Rattle.hd_run.specs.RunResult.{IsRun, IsBegun, AnswersAndSaves}
@@ -35,6 +35,10 @@ second_after given surface surfaces script script' name file named stays accepte
   failed = λ rose. absurd (rose stays);
   refused = λ bytes refusal told no. absurd (let yes = accepted bytes told in cc);
 }
+
+-- how far it is read, whatever name is meant
+pub second_read : {U : Type 0} (given : Option (List ℕ)) (name other : List ℕ) (limit : ℕ) (r : Reading) → given ≡ Some name → given ≡ Some other → StopsWithin limit name r → U ⊎ StopsWithin limit other r
+second_read given name other limit r named is read = let same : name ≡ other = cc in inr (subst (λ (n : List ℕ). StopsWithin limit n r) same read)
 
 pub lines_to_answer-none : (script : Option (List ℕ)) (bytes : List ℕ) → script ≡ None → lines_to_answer script bytes ≡ Ok (codes "dales" ∷ [])
 lines_to_answer-none script bytes is = rw is refl

@@ -1,8 +1,11 @@
 -- What is saved, from its parts.
-use Rattle.std.proofs.Common.{◌≡◌, ℕ, Bool, List, [], Option, Some, None, Result, Ok, Err, inl, inr, refl, sym, ap, subst}
+use Rattle.std.proofs.Common.{◌≡◌, ℕ, Bool, List, [], Option, Some, None, Result, Ok, Err, inl, inr, refl, sym, ap, subst, append-nil}
+use Rattle.std.specs.Io.{StartsWith}
 use Rattle.std.specs.Io.KnownBytes.{Appends, Keeps}
 use Rattle.std.proofs.KnownBytes.{Appends-nil, Appends-trans, Appends-kept}
-use Rattle.hd_base.specs.Told.{Told, OnTold}
+use Rattle.hd_base.specs.Causes.{Rose}
+use Rattle.hd_base.specs.Told.{AppendsPart, AppendsStart, Told, OnTold}
+use Rattle.hd_base.proofs.Told.{start_of}
 use Rattle.hd_engine.specs.State.{State, saved_file}
 use Rattle.hd_sdf_write.specs.Canonical.{canonical}
 use Rattle.hd_run.specs.declared.stop.Stop.{Stop}
@@ -11,7 +14,7 @@ use Rattle.hd_run.specs.FaultCounts.{Count, Stays}
 use Rattle.hd_run.specs.Outcome.{saved_of}
 use Rattle.hd_run.specs.RunResult.{AnswersAndSaves, HasSinkStop}
 use Rattle.hd_run.specs.Saving.{Saving, SavesAll, IsSavedAs, Saves, SavesLast, emptied}
-use Rattle.hd_run.specs.WrittenAnswers.{WritesAnswers, HasWriteStop}
+use Rattle.hd_run.specs.WrittenAnswers.{WritesAnswers}
 use Rattle.hd_run.proofs.Answered.{all_answers}
 
 -- after an accepted open no byte is written yet
@@ -22,6 +25,22 @@ emptied-open (Some bytes) new empty = rw (empty bytes refl) refl
 -- what is appended to no byte
 pub after_open : (old mid new : Told) (text : List ℕ) → Keeps (emptied old) mid → Appends mid new text → Appends (emptied old) new text
 after_open old mid new text opened written = Appends-trans (emptied old) mid new [] text (Appends-kept (emptied old) (emptied old) mid [] (Appends-nil (emptied old)) opened) written
+
+-- after it not all of a text is written
+pub cut_after_open : (old mid new : Told) (text : List ℕ) → Keeps (emptied old) mid → AppendsPart mid new text → AppendsStart (emptied old) new text
+cut_after_open old mid new text opened (got, begins, short, more) = (got, begins, after_open old mid new got opened more)
+
+-- or all of it is, and nothing more
+pub all_after_open : (old mid new last : Told) (text : List ℕ) → Keeps (emptied old) mid → Appends mid new text → Keeps new last → Appends (emptied old) last text
+all_after_open old mid new last text opened written kept = Appends-kept (emptied old) new last text (after_open old mid new text opened written) kept
+
+-- all of a text begins it
+pub start-whole : (old new : Told) (text : List ℕ) → Appends old new text → AppendsStart old new text
+start-whole old new text written = (text, subst (λ (whole : List ℕ). StartsWith whole text) (append-nil text) (start_of text []), written)
+
+-- a count that rose later
+pub rose_later : (before mid now : ℕ) → mid ≡ before → Rose mid now → Rose before now
+rose_later before mid now same rose = subst (λ (n : ℕ). Rose n now) same rose
 
 module _ (save : Option (List ℕ)) (first : State) (lines : List (List ℕ)) (stays : Type 0) (s : Saving) (old new : Told) where
   -- the answering stops, and nothing is saved
@@ -52,7 +71,7 @@ module _ (save : Option (List ℕ)) (first : State) (lines : List (List ℕ)) (s
 
 module _ (save : Option (List ℕ)) (result : Result Bool Stop) (stays : Type 0) (surface script out : Count) (s : Saving) where
   -- `saved` is not touched
-  pub last_untouched : stays → Stays s.faults → ((accepted : Bool) (name : List ℕ) → result ≡ Ok accepted → save ≡ Some name → ⊥) → SavesLast save result stays surface script out s
+  last_untouched : stays → Stays s.faults → ((accepted : Bool) (name : List ℕ) → result ≡ Ok accepted → save ≡ Some name → ⊥) → SavesLast save result stays surface script out s
   last_untouched kept count unsaved = record {
     unasked = λ none. kept;
     stopped = λ stop is other. kept;
@@ -60,6 +79,14 @@ module _ (save : Option (List ℕ)) (result : Result Bool Stop) (stays : Type 0)
     failed = λ rose. absurd (rose count);
     flushed_all = λ accepted name is asked. absurd (unsaved accepted name is asked);
   }
+
+  -- it is not touched, since nothing is to be saved
+  pub last_unasked : save ≡ None → stays → Stays s.faults → SavesLast save result stays surface script out s
+  last_unasked none kept count = last_untouched kept count (λ accepted name done asked. cc)
+
+  -- or since something stops before
+  pub last_unreached : (stop : Stop) → result ≡ Err stop → stays → Stays s.faults → SavesLast save result stays surface script out s
+  last_unreached stop is kept count = last_untouched kept count (λ accepted name done asked. cc)
 
   -- the file is saved
   pub last_saved : (accepted : Bool) (name text : List ℕ) → save ≡ Some name → result ≡ Ok accepted → Stays surface → Stays script → SavesAll text s → SavesLast save result stays surface script out s
@@ -86,14 +113,6 @@ module _ (save : Option (List ℕ)) (result : Result Bool Stop) (stays : Type 0)
   last_stopped T (Refused refusal) name text named is a b c h = absurd h
 
 module _ (out : Count) (s : Saving) where
-  -- the answering stops
-  pub lines_cause : (stop : Stop) → HasWriteStop {T = Bool} out.before out.now (Err stop) → Stays s.faults → HasSinkStop {T = Bool} out s.faults (Err stop)
-  lines_cause stop cause kept = record {
-    write = λ e. inl (cause.fault e);
-    other = λ e. (cause.no_fault e, kept);
-    only = cause.only;
-  }
-
   -- the saving stops
   pub saving_cause : (T : Type 0) (stop : Stop) (text : List ℕ) (stays : Type 0) → Stays out → Saves {T = T} text stays (Err stop) s → HasSinkStop {T = Bool} out s.faults (Err stop)
   saving_cause T Memory text stays kept h = record { write = λ e. absurd (cc); other = λ e. (kept, h.1); only = λ stop e. inr (cc) }

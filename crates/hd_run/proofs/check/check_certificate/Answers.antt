@@ -1,6 +1,10 @@
-use Rattle.std.proofs.Common.{Some, inr, refl}
+use Rattle.std.proofs.Common.{Some, inl, inr, refl}
+use Rattle.std.proofs.KnownBytes.{Keeps-refl}
 use Rattle.hd_sdf_read.specs.FileOf.{file_of}
-use Rattle.hd_run.proofs.Runs.{second_after}
+use Rattle.hd_run.proofs.Checks.{check_surface_stops}
+use Rattle.hd_run.proofs.Readings.{stop_moved}
+use Rattle.hd_run.proofs.Runs.{second_after, second_untouched}
+use Rattle.hd_run.proofs.Stops.{read_stays, surface_stopped}
 use Rattle.hd_run.proofs.check.check_certificate.Goals as goal
 
 pub returns-clause-told : goal.returns-clause-told
@@ -8,10 +12,46 @@ returns-clause-told g c = λ bytes second told named. c.check_second.ensures.tol
 
 pub returns-clause-order : goal.returns-clause-order
 returns-clause-order g c =
-    second_after (Some c.args.job.now.certificate.now) _ _ c.args.script.now _ c.args.job.now.certificate.now (file_of c.in-Ok.file) refl (c.in-Ok.ensures.cause.no_fault (λ e. cc)) c.in-Ok.ensures.told
+    second_after (Some c.args.job.now.certificate.now) _ _ c.args.script.now _ c.args.job.now.certificate.now (file_of c.in-Ok.file) refl (read_stays _ _ c.in-Ok.file c.in-Ok.ensures.cause) c.in-Ok.ensures.told
 
 pub returns-clause-failed : goal.returns-clause-failed
 returns-clause-failed g c = λ bytes told e. inr (file_of c.in-Ok.file, c.in-Ok.ensures.told bytes told, c.check_second.ensures.failed e)
 
 pub returns-clause-cause : goal.returns-clause-cause
-returns-clause-cause g c = λ saved kept. c.check_second.ensures.cause _ saved (c.in-Ok.ensures.cause.no_fault (λ e. cc)) kept
+returns-clause-cause g c = λ saved kept. c.check_second.ensures.cause _ saved (read_stays _ _ c.in-Ok.file c.in-Ok.ensures.cause) kept
+
+pub returns-in-Err-clause-open : goal.returns-in-Err-clause-open
+returns-in-Err-clause-open g c = c.requires.open
+
+pub returns-in-Err-clause-told : goal.returns-in-Err-clause-told
+returns-in-Err-clause-told g c = λ bytes second told named. check_surface_stops bytes second c.in-Err.stop (g.W.Sink.written c.args.out.now) (c.in-Err.ensures.told bytes told)
+
+pub returns-in-Err-clause-unwritten : goal.returns-in-Err-clause-unwritten
+returns-in-Err-clause-unwritten g c = λ e. Keeps-refl (g.W.Sink.written c.args.out.now)
+
+pub returns-in-Err-clause-order : goal.returns-in-Err-clause-order
+returns-in-Err-clause-order g c = second_untouched (Some c.args.job.now.certificate.now) _ _ c.args.script.now
+
+pub returns-in-Err-clause-surface_left : goal.returns-in-Err-clause-surface_left
+returns-in-Err-clause-surface_left g c = c.in-Err.ensures.left
+
+pub returns-in-Err-clause-certificate_left : goal.returns-in-Err-clause-certificate_left
+returns-in-Err-clause-certificate_left g c = inl refl
+
+pub returns-in-Err-clause-failed : goal.returns-in-Err-clause-failed
+returns-in-Err-clause-failed g c = λ bytes told e. inl ((stop_moved _ _ c.in-Err.stop c.in-Err.ensures.cause).fault e)
+
+pub returns-in-Err-clause-cause : goal.returns-in-Err-clause-cause
+returns-in-Err-clause-cause g c = λ saved kept. surface_stopped _ _ _ saved c.in-Err.stop c.in-Err.ensures.cause refl refl kept
+
+pub returns-clause-open : goal.returns-clause-open
+returns-clause-open g c = c.check_second.ensures.open
+
+pub returns-clause-unwritten : goal.returns-clause-unwritten
+returns-clause-unwritten g c = c.check_second.ensures.unwritten
+
+pub returns-clause-surface_left : goal.returns-clause-surface_left
+returns-clause-surface_left g c = c.in-Ok.ensures.left
+
+pub returns-clause-certificate_left : goal.returns-clause-certificate_left
+returns-clause-certificate_left g c = inr c.check_second.ensures.certificate_left

@@ -1,5 +1,4 @@
 use Rattle.std.proofs.Common.{Err, ap, refl}
-use Rattle.hd_run.proofs.Readings.{stops_within}
 use Rattle.hd_run.proofs.inputs.read_input.Goals as goal
 
 pub returns-in-Err-TooLong-clause-told : goal.returns-in-Err-TooLong-clause-told

@@ -1,14 +1,16 @@
-use Rattle.std.proofs.Common.{◌≡◌, ◌∷◌, [], ◌∙◌, ℕ, List, Some, Ok, Err, codes, inl, inr, sym, ap, refl, subst}
+use Rattle.std.proofs.Common.{◌≡◌, ◌∷◌, [], ◌∙◌, Some, Ok, codes, inl, inr, sym, ap, refl}
 use Rattle.std.specs.Option.{option_copied}
+use Rattle.std.proofs.KnownBytes.{Keeps-refl}
 use Rattle.hd_num.specs.Lines.{lines_of}
 use Rattle.hd_sdf_read.specs.FileOf.{file_of}
 use Rattle.hd_words.specs.Words.{run_request_of}
 use Rattle.hd_run.specs.FaultCounts.{over}
 use Rattle.hd_run.specs.Limits.{script_limit}
-use Rattle.hd_run.specs.ReadOrder.{StopsWithin, reading}
-use Rattle.hd_run.specs.declared.stop.Stop.TheVariants.{ReadFault}
-use Rattle.hd_run.proofs.Runs.{inputs_of-ok, lines_to_answer-none, lines_to_answer-fits, run_answered, second_after, script_stops, second_untouched, surface_stops}
-use Rattle.hd_run.proofs.Savings.{last_untouched}
+use Rattle.hd_run.specs.ReadOrder.{reading}
+use Rattle.hd_run.proofs.Readings.{stop_moved}
+use Rattle.hd_run.proofs.Runs.{inputs_of-ok, lines_to_answer-none, lines_to_answer-fits, run_answered, second_after, second_read, script_stops, second_untouched, surface_stops}
+use Rattle.hd_run.proofs.Savings.{last_unreached}
+use Rattle.hd_run.proofs.Stops.{answering_stopped, no_read_fault, read_stays, second_stopped, surface_stopped}
 use Rattle.hd_run.proofs.running.run.Goals as goal
 
 pub returns-in-Err-clause-told : goal.returns-in-Err-clause-told
@@ -19,10 +21,10 @@ pub returns-in-Err-clause-order : goal.returns-in-Err-clause-order
 returns-in-Err-clause-order g c = second_untouched (option_copied c.args.job.now.script) _ _ c.args.script.now
 
 pub returns-in-Err-clause-failed : goal.returns-in-Err-clause-failed
-returns-in-Err-clause-failed g c = λ bytes told e. let is : c.in-Err.stop ≡ ReadFault = cc in inl (c.in-Err.ensures.cause.fault (ap Err is))
+returns-in-Err-clause-failed g c = λ bytes told e. inl ((stop_moved _ _ c.in-Err.stop c.in-Err.ensures.cause).fault e)
 
 pub returns-in-Err-clause-saved : goal.returns-in-Err-clause-saved
-returns-in-Err-clause-saved g c = last_untouched _ _ _ _ _ _ _ refl refl (λ accepted name is asked. cc)
+returns-in-Err-clause-saved g c = last_unreached _ _ _ _ _ _ _ c.in-Err.stop refl refl refl
 
 pub returns-in_default-clause-told : goal.returns-in_default-clause-told
 returns-in_default-clause-told g c = λ bytes second told named.
@@ -38,10 +40,10 @@ pub returns-in_default-clause-order : goal.returns-in_default-clause-order
 returns-in_default-clause-order g c = second_untouched (option_copied c.args.job.now.script) _ _ c.args.script.now
 
 pub returns-in_default-clause-failed : goal.returns-in_default-clause-failed
-returns-in_default-clause-failed g c = λ bytes told e. elim (c.answer_all.ensures.cause.only ReadFault e) [ inl w ↦ absurd (cc) | inr w ↦ absurd (cc) ]
+returns-in_default-clause-failed g c = λ bytes told e. absurd (no_read_fault _ _ c.answer_all.result c.answer_all.ensures.cause e)
 
 pub returns-in_default-clause-saved : goal.returns-in_default-clause-saved
-returns-in_default-clause-saved g c = c.answer_all.ensures.saved _ _ (c.in-Ok.ensures.cause.no_fault (λ e. cc)) refl
+returns-in_default-clause-saved g c = c.answer_all.ensures.saved _ _ (read_stays _ _ c.in-Ok.file c.in-Ok.ensures.cause) refl
 
 pub returns-in-Err-read_second-clause-told : goal.returns-in-Err-read_second-clause-told
 returns-in-Err-read_second-clause-told g c = λ bytes second told named.
@@ -51,14 +53,14 @@ returns-in-Err-read_second-clause-told g c = λ bytes second told named.
 
 pub returns-in-Err-read_second-clause-order : goal.returns-in-Err-read_second-clause-order
 returns-in-Err-read_second-clause-order g c =
-    second_after (option_copied c.args.job.now.script) _ _ c.args.script.now _ c.in-Some.name.now (file_of c.in-Ok.file) (ap option_copied c.in-Some.is) (c.in-Ok.ensures.cause.no_fault (λ e. cc)) c.in-Ok.ensures.told
+    second_after (option_copied c.args.job.now.script) _ _ c.args.script.now _ c.in-Some.name.now (file_of c.in-Ok.file) (ap option_copied c.in-Some.is) (read_stays _ _ c.in-Ok.file c.in-Ok.ensures.cause) c.in-Ok.ensures.told
 
 pub returns-in-Err-read_second-clause-failed : goal.returns-in-Err-read_second-clause-failed
 returns-in-Err-read_second-clause-failed g c = λ bytes told e.
-    let is : c.in-Err-read_second.stop ≡ ReadFault = cc in inr (file_of c.in-Ok.file, c.in-Ok.ensures.told bytes told, c.in-Err-read_second.ensures.cause.fault (ap Err is))
+    inr (file_of c.in-Ok.file, c.in-Ok.ensures.told bytes told, (stop_moved _ _ c.in-Err-read_second.stop c.in-Err-read_second.ensures.cause).fault e)
 
 pub returns-in-Err-read_second-clause-saved : goal.returns-in-Err-read_second-clause-saved
-returns-in-Err-read_second-clause-saved g c = last_untouched _ _ _ _ _ _ _ refl refl (λ accepted name is asked. cc)
+returns-in-Err-read_second-clause-saved g c = last_unreached _ _ _ _ _ _ _ c.in-Err-read_second.stop refl refl refl
 
 pub returns-clause-told : goal.returns-clause-told
 returns-clause-told g c = λ bytes second told named.
@@ -74,18 +76,76 @@ returns-clause-told g c = λ bytes second told named.
 
 pub returns-clause-order : goal.returns-clause-order
 returns-clause-order g c =
-    second_after (option_copied c.args.job.now.script) _ _ c.args.script.now _ c.in-Some.name.now (file_of c.in-Ok.file) (ap option_copied c.in-Some.is) (c.in-Ok.ensures.cause.no_fault (λ e. cc)) c.in-Ok.ensures.told
+    second_after (option_copied c.args.job.now.script) _ _ c.args.script.now _ c.in-Some.name.now (file_of c.in-Ok.file) (ap option_copied c.in-Some.is) (read_stays _ _ c.in-Ok.file c.in-Ok.ensures.cause) c.in-Ok.ensures.told
 
 pub returns-clause-script_left : goal.returns-clause-script_left
 returns-clause-script_left g c = λ name named.
-    let is : option_copied c.args.job.now.script ≡ Some c.in-Some.name.now = ap option_copied c.in-Some.is in
-    let same : c.in-Some.name.now ≡ name = cc in
     let read = reading (g.R.Source.files c.args.script.now) (g.R.Source.left c.args.script.now) (g.R.Source.left c.read_second.new.source)
     (over (g.R.Source.faults c.args.script.now) (g.R.Source.faults c.read_second.new.source)) in
-    inr (subst (λ (n : List ℕ). StopsWithin script_limit n read) same c.in-Ok-read_second.ensures.left)
+    second_read (option_copied c.args.job.now.script) c.in-Some.name.now name script_limit read (ap option_copied c.in-Some.is) named c.in-Ok-read_second.ensures.left
 
 pub returns-clause-failed : goal.returns-clause-failed
-returns-clause-failed g c = λ bytes told e. elim (c.answer_all-2.ensures.cause.only ReadFault e) [ inl w ↦ absurd (cc) | inr w ↦ absurd (cc) ]
+returns-clause-failed g c = λ bytes told e. absurd (no_read_fault _ _ c.answer_all-2.result c.answer_all-2.ensures.cause e)
 
 pub returns-clause-saved : goal.returns-clause-saved
-returns-clause-saved g c = c.answer_all-2.ensures.saved _ _ (c.in-Ok.ensures.cause.no_fault (λ e. cc)) (c.in-Ok-read_second.ensures.cause.no_fault (λ e. cc))
+returns-clause-saved g c = c.answer_all-2.ensures.saved _ _ (read_stays _ _ c.in-Ok.file c.in-Ok.ensures.cause) (read_stays _ _ c.in-Ok-read_second.lines c.in-Ok-read_second.ensures.cause)
+
+pub returns-in-Err-clause-open : goal.returns-in-Err-clause-open
+returns-in-Err-clause-open g c = c.requires.open
+
+pub returns-in-Err-clause-unwritten : goal.returns-in-Err-clause-unwritten
+returns-in-Err-clause-unwritten g c = λ e. Keeps-refl (g.W.Sink.written c.args.out.now)
+
+pub returns-in-Err-clause-surface_left : goal.returns-in-Err-clause-surface_left
+returns-in-Err-clause-surface_left g c = c.in-Err.ensures.left
+
+pub returns-in-Err-clause-script_left : goal.returns-in-Err-clause-script_left
+returns-in-Err-clause-script_left g c = λ name named. inl refl
+
+pub returns-in-Err-clause-cause : goal.returns-in-Err-clause-cause
+returns-in-Err-clause-cause g c = surface_stopped _ _ _ _ c.in-Err.stop c.in-Err.ensures.cause refl refl refl
+
+pub returns-in_default-clause-open : goal.returns-in_default-clause-open
+returns-in_default-clause-open g c = c.answer_all.ensures.open
+
+pub returns-in_default-clause-unwritten : goal.returns-in_default-clause-unwritten
+returns-in_default-clause-unwritten g c = λ e. absurd (no_read_fault _ _ c.answer_all.result c.answer_all.ensures.cause e)
+
+pub returns-in_default-clause-surface_left : goal.returns-in_default-clause-surface_left
+returns-in_default-clause-surface_left g c = c.in-Ok.ensures.left
+
+pub returns-in_default-clause-script_left : goal.returns-in_default-clause-script_left
+returns-in_default-clause-script_left g c = λ name named. inl refl
+
+pub returns-in_default-clause-cause : goal.returns-in_default-clause-cause
+returns-in_default-clause-cause g c = answering_stopped _ _ _ _ c.answer_all.result (read_stays _ _ c.in-Ok.file c.in-Ok.ensures.cause) refl c.answer_all.ensures.cause
+
+pub returns-in-Err-read_second-clause-open : goal.returns-in-Err-read_second-clause-open
+returns-in-Err-read_second-clause-open g c = c.requires.open
+
+pub returns-in-Err-read_second-clause-unwritten : goal.returns-in-Err-read_second-clause-unwritten
+returns-in-Err-read_second-clause-unwritten g c = λ e. Keeps-refl (g.W.Sink.written c.args.out.now)
+
+pub returns-in-Err-read_second-clause-surface_left : goal.returns-in-Err-read_second-clause-surface_left
+returns-in-Err-read_second-clause-surface_left g c = c.in-Ok.ensures.left
+
+pub returns-in-Err-read_second-clause-script_left : goal.returns-in-Err-read_second-clause-script_left
+returns-in-Err-read_second-clause-script_left g c = λ name named.
+    let read = reading (g.R.Source.files c.args.script.now) (g.R.Source.left c.args.script.now) (g.R.Source.left c.read_second.new.source)
+    (over (g.R.Source.faults c.args.script.now) (g.R.Source.faults c.read_second.new.source)) in
+    second_read (option_copied c.args.job.now.script) c.in-Some.name.now name script_limit read (ap option_copied c.in-Some.is) named c.in-Err-read_second.ensures.left
+
+pub returns-in-Err-read_second-clause-cause : goal.returns-in-Err-read_second-clause-cause
+returns-in-Err-read_second-clause-cause g c = second_stopped _ _ _ _ c.in-Err-read_second.stop (read_stays _ _ c.in-Ok.file c.in-Ok.ensures.cause) c.in-Err-read_second.ensures.cause refl refl
+
+pub returns-clause-open : goal.returns-clause-open
+returns-clause-open g c = c.answer_all-2.ensures.open
+
+pub returns-clause-unwritten : goal.returns-clause-unwritten
+returns-clause-unwritten g c = λ e. absurd (no_read_fault _ _ c.answer_all-2.result c.answer_all-2.ensures.cause e)
+
+pub returns-clause-surface_left : goal.returns-clause-surface_left
+returns-clause-surface_left g c = c.in-Ok.ensures.left
+
+pub returns-clause-cause : goal.returns-clause-cause
+returns-clause-cause g c = answering_stopped _ _ _ _ c.answer_all-2.result (read_stays _ _ c.in-Ok.file c.in-Ok.ensures.cause) (read_stays _ _ c.in-Ok-read_second.lines c.in-Ok-read_second.ensures.cause) c.answer_all-2.ensures.cause

@@ -1,0 +1,69 @@
+-- What stops a run or a check, from what stops its parts.
+use Rattle.std.proofs.Common.{◌≡◌, Result, Ok, Err, List, ℕ, inl, inr, ap, subst}
+use Rattle.std.specs.Prelude.{◌≢◌}
+use Rattle.hd_map.specs.Map.{Map}
+use Rattle.hd_run.specs.declared.stop.Stop.{Stop}
+use Rattle.hd_run.specs.declared.stop.Stop.TheVariants.{Memory, ReadFault, WriteFault, Refused}
+use Rattle.hd_run.specs.FaultCounts.{Count, Stays}
+use Rattle.hd_run.specs.Inputs.{HasReadStop}
+use Rattle.hd_run.specs.RunResult.{HasRunStop, HasSinkStop, IsJudged}
+use Rattle.hd_run.specs.WrittenAnswers.{HasWriteStop}
+
+-- a value is no error, and one fault is not the other
+pub ok≢err : {T E : Type 0} (x : T) (e : E) → Ok x ≢ Err e
+ok≢err x e is = cc
+
+pub write≢read : {T : Type 0} (result : Result T Stop) → result ≡ Err WriteFault → result ≢ Err ReadFault
+write≢read result is e = cc
+
+-- what is read leaves the count of faults
+pub read_stays : {T : Type 0} (before now : ℕ) (x : T) → HasReadStop before now (Ok x) → now ≡ before
+read_stays before now x cause = cause.no_fault (ok≢err x ReadFault)
+
+-- what is written leaves it
+pub write_stays : {T : Type 0} (before now : ℕ) (x : T) → HasWriteStop before now (Ok x) → now ≡ before
+write_stays before now x cause = cause.no_fault (ok≢err x WriteFault)
+
+-- where no source is read no source fails
+pub no_read_fault : {T : Type 0} (out saved : Count) (result : Result T Stop) → HasSinkStop out saved result → result ≢ Err ReadFault
+no_read_fault out saved result cause e = elim (cause.only ReadFault e) [ inl w ↦ absurd (cc) | inr w ↦ absurd (cc) ]
+
+-- a certificate that is refused is no read fault
+pub judged_no_fault : {U : Type 0} (T : Type 0) (m : Map) (text : List ℕ) (stop : Stop) → IsJudged {T = T} m text (Err stop) → ◌≡◌ {A = Result U Stop} (Err stop) (Err ReadFault) → ⊥
+judged_no_fault T m text Memory h e = cc
+judged_no_fault T m text (Refused refusal) h e = cc
+judged_no_fault T m text ReadFault h e = absurd h
+judged_no_fault T m text WriteFault h e = absurd h
+
+module _ {U : Type 0} (surface script out saved : Count) (stop : Stop) where
+  -- the surface is not read
+  pub surface_stopped : {T : Type 0} → HasReadStop {T = T} surface.before surface.now (Err stop) → Stays script → Stays out → Stays saved → HasRunStop {T = U} surface script out saved (Err stop)
+  surface_stopped cause b c d = record {
+    read = λ e. let same : stop ≡ ReadFault = cc in (inl (cause.fault (ap Err same)), c, d);
+    write = λ e. let same : stop ≡ WriteFault = cc in absurd (cause.no_write (ap Err same));
+    other = λ not_read not_write. (cause.no_fault (λ e. let same : stop ≡ ReadFault = cc in not_read (ap Err same)), b, c, d);
+  }
+
+  -- the second input is not read
+  pub second_stopped : {T : Type 0} → Stays surface → HasReadStop {T = T} script.before script.now (Err stop) → Stays out → Stays saved → HasRunStop {T = U} surface script out saved (Err stop)
+  second_stopped a cause c d = record {
+    read = λ e. let same : stop ≡ ReadFault = cc in (inr (cause.fault (ap Err same)), c, d);
+    write = λ e. let same : stop ≡ WriteFault = cc in absurd (cause.no_write (ap Err same));
+    other = λ not_read not_write. (a, cause.no_fault (λ e. let same : stop ≡ ReadFault = cc in not_read (ap Err same)), c, d);
+  }
+
+  -- the certificate is refused
+  pub judged_stopped : (T : Type 0) (m : Map) (text : List ℕ) → IsJudged {T = T} m text (Err stop) → Stays surface → Stays script → Stays out → Stays saved → HasRunStop {T = U} surface script out saved (Err stop)
+  judged_stopped T m text h a b c d = record {
+    read = λ e. absurd (judged_no_fault T m text stop h e);
+    write = λ e. let same : stop ≡ WriteFault = cc in absurd (subst (λ (s : Stop). IsJudged {T = T} m text (Err s)) same h);
+    other = λ _ _. (a, b, c, d);
+  }
+
+-- both inputs are read, and the lines answered or not
+pub answering_stopped : {T : Type 0} (surface script out saved : Count) (result : Result T Stop) → Stays surface → Stays script → HasSinkStop out saved result → HasRunStop surface script out saved result
+answering_stopped surface script out saved result a b cause = record {
+  read = λ e. absurd (no_read_fault out saved result cause e);
+  write = cause.write;
+  other = λ not_read not_write. let still = cause.other not_write in (a, b, still.0, still.1);
+}
