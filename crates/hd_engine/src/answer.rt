@@ -1,10 +1,12 @@
 // The answer to a line.
 ghost use Rattle.std.specs.Prelude.{◌≡◌, IfOk};
 ghost use Rattle.hd_report.specs.Lines.{ok_line};
+ghost use Rattle.hd_report.specs.Points.{not_present_text, outside_text};
 ghost use Rattle.hd_engine.specs.Reply.{accepted_with, refused_for, reply_of};
 
 use hd_base::{List, Memory};
-use hd_report::{ok_line, refused_line};
+use hd_map::Pos;
+use hd_report::{not_present_cause, ok_line, outside_cause, refused_line};
 use std::alloc::Global;
 
 /// The answer to a line of a script.
@@ -44,5 +46,20 @@ impl Answer {
             accepted: false,
             text,
         })
+    }
+    /// The answer that refuses a position outside the map.
+    pub(crate) fn outside(alloc: Global, number: u64, at: Pos) -> Result<Answer, Memory>
+        ensures { IfOk result (λ answer. reply_of answer ≡ refused_for number (outside_text at)) }
+    {
+        let cause = outside_cause(alloc, at)?;
+        Answer::refused(alloc, number, cause.as_slice())
+    }
+
+    /// The answer that refuses a position that is not present.
+    pub(crate) fn not_present(alloc: Global, number: u64, at: Pos) -> Result<Answer, Memory>
+        ensures { IfOk result (λ answer. reply_of answer ≡ refused_for number (not_present_text at)) }
+    {
+        let cause = not_present_cause(alloc, at)?;
+        Answer::refused(alloc, number, cause.as_slice())
     }
 }

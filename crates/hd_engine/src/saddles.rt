@@ -13,7 +13,7 @@ use hd_base::{List, Memory};
 use hd_cert::certify;
 use hd_check::write_certificate;
 use hd_map::{Heights, Pos, Side, contains, is_present, rank_of};
-use hd_report::{not_present_cause, one_region_cause, outside_cause};
+use hd_report::one_region_cause;
 use hd_steep::root;
 use hd_survey::saddle_between;
 use std::alloc::Global;
@@ -34,20 +34,16 @@ pub fn show_saddle<S: Side, G: Heights>(
 {
     let size = grid.size();
     if !contains(size, a) {
-        let cause = outside_cause(alloc, a)?;
-        return Answer::refused(alloc, number, cause.as_slice());
+        return Answer::outside(alloc, number, a);
     }
     if !contains(size, b) {
-        let cause = outside_cause(alloc, b)?;
-        return Answer::refused(alloc, number, cause.as_slice());
+        return Answer::outside(alloc, number, b);
     }
     if !is_present(grid, a) {
-        let cause = not_present_cause(alloc, a)?;
-        return Answer::refused(alloc, number, cause.as_slice());
+        return Answer::not_present(alloc, number, a);
     }
     if !is_present(grid, b) {
-        let cause = not_present_cause(alloc, b)?;
-        return Answer::refused(alloc, number, cause.as_slice());
+        return Answer::not_present(alloc, number, b);
     }
     show_pair::<S, G>(alloc, grid, number, a, b)
 }

@@ -3,7 +3,8 @@ ghost use Rattle.std.specs.Prelude.{◌≡◌, ◌≤◌, ◌<◌, ◌+◌, [], 
 ghost use Rattle.hd_map.specs.Map.{Present};
 ghost use Rattle.hd_script.specs.Whole.{IsTable, IsWhole};
 ghost use Rattle.hd_sdf_read.specs.FileOf.{file_of};
-ghost use Rattle.hd_report.specs.Edits.{edit_text};
+ghost use Rattle.hd_report.specs.Edits.{edit_text, kept_text};
+ghost use Rattle.hd_report.specs.Elements.{element_text};
 ghost use Rattle.hd_report.specs.Forms.{form_text};
 ghost use Rattle.hd_engine.specs.Answers.{IsAnswer, IsCommandAnswer};
 ghost use Rattle.hd_engine.specs.Edits.{IsEditAnswer, IsUndoAnswer};
@@ -26,15 +27,12 @@ use crate::reports::{
 use crate::saddles::show_saddle;
 use crate::texts::Texts;
 use hd_base::{List, Memory};
-use hd_edit::{Board, Edit, EditError};
+use hd_edit::{Board, Edit, EditError, LogEnds};
 use hd_feature::{named, read_notation};
 use hd_map::{Down, Heights, Pos, Side, SideName, Surface, Up, contains, is_present};
-use hd_morph::Element;
+use hd_morph::{Element, ElementError};
 use hd_num::Percent;
-use hd_report::{
-    edit_cause, element_cause, form_cause, kept_cause, list_elements, not_present_cause,
-    notation_cause, outside_cause,
-};
+use hd_report::{edit_cause, element_cause, form_cause, kept_cause, list_elements, notation_cause};
 use hd_script::{Command, LineError, read_line};
 use hd_sdf_read::SdfFile;
 use std::alloc::Global;
@@ -194,11 +192,16 @@ impl Session {
         let ok = Answer::ok(self.alloc, number)?;
         match self.board.undo(count) {
             Ok(()) => Ok(ok),
-            Err(ends) => {
-                let cause = kept_cause(self.alloc, ends.kept)?;
-                Answer::refused(self.alloc, number, cause.as_slice())
-            }
+            Err(ends) => self.refuse_undo(number, ends),
         }
+    }
+
+    // The answer to an undo of more edits than are kept.
+    fn refuse_undo(&self, number: u64, ends: LogEnds) -> Result<Answer, Memory>
+        ensures { IfOk result (λ a. reply_of a ≡ refused_for number (kept_text ends.kept)) }
+    {
+        let cause = kept_cause(self.alloc, ends.kept)?;
+        Answer::refused(self.alloc, number, cause.as_slice())
     }
 
     // Defines an element, once the memory for its answer is there.
@@ -221,11 +224,16 @@ impl Session {
                 self.board.define(element)?;
                 Ok(ok)
             }
-            Err(error) => {
-                let cause = element_cause(self.alloc, error)?;
-                Answer::refused(self.alloc, number, cause.as_slice())
-            }
+            Err(error) => self.refuse_element(number, error),
         }
+    }
+
+    // The answer to a table that makes no element.
+    fn refuse_element(&self, number: u64, error: ElementError) -> Result<Answer, Memory>
+        ensures { IfOk result (λ a. reply_of a ≡ refused_for number (element_text error)) }
+    {
+        let cause = element_cause(self.alloc, error)?;
+        Answer::refused(self.alloc, number, cause.as_slice())
     }
 
     // The answer that lists the elements.
@@ -259,12 +267,10 @@ impl Session {
     {
         let grid = self.board.grid();
         if !contains(grid.size(), at) {
-            let cause = outside_cause(self.alloc, at)?;
-            return Answer::refused(self.alloc, number, cause.as_slice());
+            return Answer::outside(self.alloc, number, at);
         }
         if !is_present(grid, at) {
-            let cause = not_present_cause(self.alloc, at)?;
-            return Answer::refused(self.alloc, number, cause.as_slice());
+            return Answer::not_present(self.alloc, number, at);
         }
         match side {
             SideName::Dales => self.tell_root::<Down>(at),

@@ -1,7 +1,7 @@
 // The command lines that `clap` reads.
 ghost use Rattle.std.specs.Prelude.{◌≡◌, false, IfErr, IfOk, codes, map, string_bytes};
 ghost use Rattle.clap.specs.Words.{app_of, kind_of, rule_of};
-ghost use Rattle.hd_words.specs.CommandLines.{HasForm, HasGiven, app_for, name_rule, option_rule, plain_app};
+ghost use Rattle.hd_words.specs.CommandLines.{HasForm, HasGiven, app_for, app_of_two, name_rule, option_rule, plain_app};
 
 use clap::error::ErrorKind;
 use clap::{Arg, ArgAction, ArgMatches, Command, Error};
@@ -53,9 +53,7 @@ fn dales_line<'a>(alloc: Global) -> Result<Command<'a>, AllocError>
 fn run_line<'a>(alloc: Global) -> Result<Command<'a>, AllocError>
     ensures { IfOk result (λ command. app_of command ≡ app_for CommandLine.Run) }
 {
-    plain_command(alloc, "run")
-        .arg(name_arg(alloc, "SURFACE"))?
-        .arg(name_arg(alloc, "SCRIPT"))?
+    two_names_line(alloc, "run", "SURFACE", "SCRIPT")?
         .arg(option_arg(alloc, "tile"))?
         .arg(option_arg(alloc, "save"))
 }
@@ -64,9 +62,21 @@ fn run_line<'a>(alloc: Global) -> Result<Command<'a>, AllocError>
 fn check_line<'a>(alloc: Global) -> Result<Command<'a>, AllocError>
     ensures { IfOk result (λ command. app_of command ≡ app_for CommandLine.Check) }
 {
-    plain_command(alloc, "check")
-        .arg(name_arg(alloc, "SURFACE"))?
-        .arg(name_arg(alloc, "CERT"))
+    two_names_line(alloc, "check", "SURFACE", "CERT")
+}
+
+// A command line that takes two names.
+fn two_names_line<'a>(
+    alloc: Global,
+    name: &'a str,
+    first: &'a str,
+    second: &'a str,
+) -> Result<Command<'a>, AllocError>
+    ensures { IfOk result (λ command. app_of command ≡ app_of_two name.entry.now first.entry.now second.entry.now) }
+{
+    plain_command(alloc, name)
+        .arg(name_arg(alloc, first))?
+        .arg(name_arg(alloc, second))
 }
 
 // A command without the flags that `clap` adds.
