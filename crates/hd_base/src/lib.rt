@@ -1,4 +1,4 @@
-//! Lists, and the traits through which the program reads and writes.
+//! The traits through which the program reads and writes.
 //!
 //! A source or a sink counts its faults, so that a caller can tell which of them a call has met.
 //! Those in memory tell each byte; those over readers and writers of the library tell what these do.
@@ -7,7 +7,6 @@
 mod faults;
 mod file_sink;
 mod file_source;
-mod list;
 mod mem_sink;
 mod mem_source;
 #[cfg(test)]
@@ -21,7 +20,7 @@ mod tests;
 
 pub use file_sink::FileSink;
 pub use file_source::FileSource;
-pub use list::{List, Memory};
+pub use hd_list::{List, Memory};
 pub use mem_sink::MemSink;
 pub use mem_source::MemSource;
 pub use sink::{Sink, WriteFault, write_all};

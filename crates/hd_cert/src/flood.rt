@@ -4,7 +4,7 @@ ghost use Rattle.hd_map.specs.Map.{IsSize, InGrid, Present, cell_count};
 ghost use Rattle.hd_cert.specs.Steps.{IsOpen, OpenArePresent, AreSteps, LooksAt, Reaches};
 ghost use Rattle.hd_cert.specs.Flood.{FloodsRound};
 
-use hd_base::Memory;
+use hd_list::Memory;
 use hd_map::{Heights, Pos, Size, contains, index_of};
 use std::alloc::Global;
 

@@ -3,7 +3,7 @@ ghost use Rattle.std.specs.Prelude.{◌≡◌, IfOk, OnOk, length};
 ghost use Rattle.hd_map.specs.Map.{IsSize, InGrid, cell_count, place_of};
 ghost use Rattle.hd_cert.specs.Listed.{AreListed, Lists};
 
-use hd_base::{List, Memory};
+use hd_list::{List, Memory};
 use hd_map::{Pos, Size, index_of, position_after};
 use std::alloc::Global;
 

@@ -11,8 +11,8 @@ ghost use Rattle.hd_cert.specs.Shown.{IsWritten, AreTwoPits, IsShownCertificate}
 use crate::flood::steps_from;
 use crate::listed_points::listed;
 use crate::trace::{marks_within, path_down};
-use hd_base::{List, Memory};
 use hd_check::Certificate;
+use hd_list::{List, Memory};
 use hd_map::{Heights, Pos, Rank, Side, index_of, position_of};
 use std::alloc::Global;
 

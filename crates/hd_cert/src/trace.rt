@@ -7,7 +7,7 @@ ghost use Rattle.hd_cert.specs.Marks.{within, AreMarks};
 ghost use Rattle.hd_cert.specs.Steps.{AreSteps, steps_at};
 ghost use Rattle.hd_cert.specs.Nearer.{IsNearer, IsFirstNearer, GoesNearer};
 
-use hd_base::{List, Memory};
+use hd_list::{List, Memory};
 use hd_map::{Heights, Pos, Rank, Side, index_of, neighbours, position_after};
 use std::alloc::Global;
 

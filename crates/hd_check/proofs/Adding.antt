@@ -1,7 +1,7 @@
 -- Texts that are added one after the other, and prefixes of them.
 use Rattle.std.proofs.Common.{◌≡◌, ℕ, zero, suc, List, [], ◌∷◌, ◌++◌, take, Ok, Err, refl, ap, ◌∙◌, append_assoc}
 use Rattle.std.specs.Prelude.{Result, OnOk, OnErr}
-use Rattle.hd_base.specs.declared.list.Memory.{Memory}
+use Rattle.hd_list.specs.declared.list.Memory.{Memory}
 use Rattle.hd_num.specs.Text.{AppendsPrefix}
 use Rattle.hd_check.specs.Text.{Adds}
 

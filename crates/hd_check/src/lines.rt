@@ -4,7 +4,7 @@ ghost use Rattle.hd_num.specs.Span.{IsPart, text_at};
 ghost use Rattle.hd_check.specs.Places.{IsPlace, Takes, TakesLine};
 
 use crate::CertificateError;
-use hd_base::List;
+use hd_list::List;
 use hd_num::{Span, next_line, split_words};
 use std::alloc::Global;
 

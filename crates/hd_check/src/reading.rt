@@ -7,7 +7,7 @@ use crate::lines::{Place, line_at, part, take_line};
 use crate::points::point_in;
 use crate::words::{count_words, end_point_words, end_words, head_words, saddle_words};
 use crate::{Certificate, CertificateError};
-use hd_base::List;
+use hd_list::List;
 use hd_map::{Pos, SideName};
 use std::alloc::Global;
 

@@ -2,7 +2,7 @@
 ghost use Rattle.hd_map.specs.Map.{IsSize};
 
 use crate::{Certificate, CertificateError, Verdict, check, read_certificate, write_certificate};
-use hd_base::List;
+use hd_list::List;
 use hd_map::{Cell, Cells, DataType, Grid, Pos, SideName, Size, Surface, is_cell_of};
 use std::alloc::Global;
 use std::test::Fail;

@@ -2,7 +2,7 @@
 ghost use Rattle.std.specs.Prelude.{◌≡◌};
 ghost use Rattle.hd_check.specs.declared.types.CertificateError.TheVariants.{Memory as out_of_memory};
 
-use hd_base::{List, Memory};
+use hd_list::{List, Memory};
 use hd_map::{Pos, SideName};
 use thiserror::Error;
 

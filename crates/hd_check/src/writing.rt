@@ -5,7 +5,7 @@ ghost use Rattle.std.specs.List.{flat_map};
 ghost use Rattle.hd_check.specs.Text.{Adds, certificate_text, line_text, point_line, point_words, saddle_lines, side_word};
 
 use crate::Certificate;
-use hd_base::{List, Memory};
+use hd_list::{List, Memory};
 use hd_map::{Pos, SideName};
 use hd_num::{push_text, push_unsigned, push_whole};
 

@@ -7,8 +7,8 @@ ghost use Rattle.hd_demo.specs.Generator.{drawn};
 
 use crate::generator::{Draws, drawn_edit, drawn_file};
 use crate::summary::push_summary;
-use hd_base::{List, Memory};
 use hd_engine::{Session, answer_is_determined, answer_keeps_a_state};
+use hd_list::{List, Memory};
 use hd_num::{push_text, push_unsigned};
 use hd_words::Demo;
 use std::alloc::Global;

@@ -6,7 +6,7 @@ ghost use Rattle.hd_map.specs.declared.types.DataType.TheVariants.{U16};
 ghost use Rattle.hd_sdf_read.specs.FileOf.{file_of};
 ghost use Rattle.hd_demo.specs.Generator.{cell_in, drawn, drawn_cells, drawn_file, drawn_map, edit_by, file_on, height_in, index_in, next_draw, set_line};
 
-use hd_base::{List, Memory};
+use hd_list::{List, Memory};
 use hd_map::{Cell, Cells, DataType, Pos, Size, Surface, position_of};
 use hd_num::{Decimal, push_text, push_unsigned};
 use hd_sdf_read::{SdfFile, Version};

@@ -4,8 +4,8 @@ ghost use Rattle.std.specs.List.{before_first};
 ghost use Rattle.hd_num.specs.Lines.{is_line_feed};
 ghost use Rattle.hd_demo.specs.DemoText.{AddsRow, AddsRows, row, summary_rows, value_in};
 
-use hd_base::{List, Memory};
 use hd_engine::Session;
+use hd_list::{List, Memory};
 use hd_num::{next_line, push_text, split_words};
 use std::alloc::Global;
 

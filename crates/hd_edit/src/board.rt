@@ -9,7 +9,7 @@ use crate::elements::Elements;
 use crate::make::make;
 use crate::{Edit, EditError, ElementLine, LogEnds};
 use circular_buffer::HeapCircularBuffer;
-use hd_base::{List, Memory};
+use hd_list::{List, Memory};
 use hd_map::Grid;
 use hd_morph::Element;
 use std::alloc::Global;

@@ -6,7 +6,7 @@ ghost use Rattle.hd_map.specs.Sets.{with_cell, with_mask};
 ghost use Rattle.hd_edit.specs.Board.{RisesUpTo};
 ghost use Rattle.hd_edit.specs.Change.{height_over, IsCellThatWas, IsChange, AreChanges, with_was, before_changes};
 
-use hd_base::List;
+use hd_list::List;
 use hd_map::{Cell, DataType, Grid, Heights, Pos, index_of, least_of, over_least, position_of};
 
 /// What stood at a point before it was changed.

@@ -1,5 +1,5 @@
 // The edits and their refusals.
-use hd_base::List;
+use hd_list::List;
 use hd_map::Pos;
 use thiserror::Error;
 

@@ -4,7 +4,7 @@ ghost use Rattle.hd_edit.specs.declared.edit.EditError.TheVariants.{NoElement};
 ghost use Rattle.hd_edit.specs.Elements.{first_named, elements_with, line_of as line};
 
 use crate::EditError;
-use hd_base::{List, Memory};
+use hd_list::{List, Memory};
 use hd_morph::Element;
 use indexmap::IndexMap;
 use std::alloc::Global;

@@ -12,7 +12,7 @@ ghost use Rattle.hd_edit.specs.Stroke.{same_cell, stroke_parts};
 use crate::change::{Change, change_cell};
 use crate::elements::Elements;
 use crate::{Edit, EditError};
-use hd_base::{List, Memory};
+use hd_list::{List, Memory};
 use hd_map::{Cell, Grid, Heights, Pos, index_of, position_after};
 use hd_morph::{
     MorphError, NewHeights, closed_heights, dilated_heights, eroded_heights, opened_heights,

@@ -12,7 +12,7 @@ use crate::filter::{filtered, put_heights};
 use crate::paint::{count_changes, stroke_points};
 use crate::stroke::Stroke;
 use crate::{Edit, EditError};
-use hd_base::{List, Memory};
+use hd_list::{List, Memory};
 use hd_map::{Cell, Grid, Heights, Pos, Size, contains};
 use std::alloc::Global;
 

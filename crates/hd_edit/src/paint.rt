@@ -9,7 +9,7 @@ ghost use Rattle.hd_edit.specs.Stroke.{next_in, IsRectangle, IsStrokeOf, stroked
 
 use crate::change::{Change, change_cell, change_mask};
 use crate::stroke::{Stroke, Touch, touch_of};
-use hd_base::{List, Memory};
+use hd_list::{List, Memory};
 use hd_map::{Grid, Heights, Pos};
 use std::alloc::Global;
 

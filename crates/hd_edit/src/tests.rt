@@ -6,7 +6,7 @@ ghost use Rattle.hd_map.specs.declared.types.DataType.TheVariants.{I8};
 ghost use Rattle.hd_map.specs.Map.{IsCellOf};
 
 use crate::{Board, Edit, EditError, LogEnds};
-use hd_base::List;
+use hd_list::List;
 use hd_map::{
     Cell, Cells, DataType, Grid, Heights, MapError, Pos, Size, Surface, contains, height,
     is_cell_of,

@@ -4,7 +4,7 @@ ghost use Rattle.hd_report.specs.Lines.{ok_line};
 ghost use Rattle.hd_report.specs.Points.{not_present_text, outside_text};
 ghost use Rattle.hd_engine.specs.Reply.{accepted_with, refused_for, reply_of};
 
-use hd_base::{List, Memory};
+use hd_list::{List, Memory};
 use hd_map::Pos;
 use hd_report::{not_present_cause, ok_line, outside_cause, refused_line};
 use std::alloc::Global;

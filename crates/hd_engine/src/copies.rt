@@ -1,7 +1,7 @@
 // Copies of what a session keeps.
 ghost use Rattle.std.specs.Prelude.{◌≡◌, IfOk};
 
-use hd_base::{List, Memory};
+use hd_list::{List, Memory};
 use hd_num::Decimal;
 use hd_sdf_read::Extra;
 use std::alloc::Global;
@@ -36,5 +36,5 @@ pub(crate) fn extras(alloc: Global, entries: &[Extra]) -> Result<List<Extra>, Me
 pub(crate) fn copied(alloc: Global, text: &List<u8>) -> Result<List<u8>, Memory>
     ensures { IfOk result (λ copy. copy ≡ text.now) }
 {
-    Ok(List::from_vec(Vec::from_slice(alloc, text.as_slice())?))
+    List::from_slice(alloc, text.as_slice())
 }

@@ -8,7 +8,7 @@ ghost use Rattle.hd_engine.specs.Texts.{texts_view};
 
 use crate::copies::{copied, decimal, extras};
 use crate::texts::Texts;
-use hd_base::{List, Memory};
+use hd_list::{List, Memory};
 use hd_map::Surface;
 use hd_num::Decimal;
 use hd_sdf_read::SdfFile;

@@ -21,8 +21,8 @@ ghost use Rattle.hd_engine.specs.Info.{info_on};
 ghost use Rattle.hd_engine.specs.Texts.{texts_view};
 
 use crate::texts::Texts;
-use hd_base::{List, Memory};
 use hd_feature::{Notation, Parameter};
+use hd_list::{List, Memory};
 use hd_map::{Grid, Heights, Pos, Side, Surface, presence_of};
 use hd_num::Percent;
 use hd_report::{

@@ -9,9 +9,9 @@ ghost use Rattle.hd_engine.specs.Reply.{reply_of};
 ghost use Rattle.hd_engine.specs.Saddles.{IsPairReply, IsSaddleReply};
 
 use crate::Answer;
-use hd_base::{List, Memory};
 use hd_cert::certify;
 use hd_check::write_certificate;
+use hd_list::{List, Memory};
 use hd_map::{Heights, Pos, Side, contains, is_present, rank_of};
 use hd_report::one_region_cause;
 use hd_steep::root;

@@ -26,9 +26,9 @@ use crate::reports::{
 };
 use crate::saddles::show_saddle;
 use crate::texts::Texts;
-use hd_base::{List, Memory};
 use hd_edit::{Board, Edit, EditError, LogEnds};
 use hd_feature::{named, read_notation};
+use hd_list::{List, Memory};
 use hd_map::{Down, Heights, Pos, Side, SideName, Surface, Up, contains, is_present};
 use hd_morph::{Element, ElementError};
 use hd_num::Percent;

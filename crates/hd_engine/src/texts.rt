@@ -2,7 +2,7 @@
 ghost use Rattle.hd_map.specs.Map.{Map};
 ghost use Rattle.hd_sdf_read.specs.File.{HasForms};
 
-use hd_base::List;
+use hd_list::List;
 use hd_num::Decimal;
 use hd_sdf_read::{Extra, Version};
 

@@ -6,7 +6,7 @@ ghost use Rattle.hd_feature.specs.Cut.{IsCut, is_ahead, is_within, place_of, sig
 ghost use Rattle.hd_feature.specs.Value.{is_among, is_at_least, is_at_most, is_open, is_significant};
 
 use crate::{Kind, Region, Significance};
-use hd_base::Memory;
+use hd_list::Memory;
 use std::alloc::Global;
 use std::cmp::Ordering;
 

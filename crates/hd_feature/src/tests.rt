@@ -3,7 +3,7 @@ ghost use Rattle.std.specs.Prelude.{◌≤◌, All, IfOk};
 ghost use Rattle.hd_feature.specs.declared.region.Region.{Region};
 
 use crate::{NotationError, Parameter, Region, evaluate, named, read_notation};
-use hd_base::{List, Memory};
+use hd_list::{List, Memory};
 use hd_map::Rank;
 use hd_num::{push_frac, push_text};
 use std::alloc::Global;

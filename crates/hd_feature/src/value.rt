@@ -6,7 +6,7 @@ ghost use Rattle.hd_feature.specs.Value.{IsValue, attribute, attributes};
 use crate::significance::{Place, cut_of, is_significant};
 use crate::statistic::statistic_of;
 use crate::{Attribute, Notation, Region};
-use hd_base::{List, Memory};
+use hd_list::{List, Memory};
 use hd_num::Frac;
 use std::alloc::Global;
 

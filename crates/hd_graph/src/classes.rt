@@ -2,7 +2,7 @@
 ghost use Rattle.std.specs.Prelude.{◌≡◌, ◌≢◌, ◌<◌, ◌^◌, ◌↔◌, ℕ, IfOk, true, false, length};
 ghost use Rattle.hd_graph.specs.Classes.{AreFalling, AreOneClass, IsLeast, Joins, LosesLeast};
 
-use hd_base::Memory;
+use hd_list::Memory;
 use std::alloc::Global;
 
 /// The numbers below a bound in classes.

@@ -14,7 +14,7 @@ use crate::line::{FloodLine, Stop};
 use crate::links::{Link, links_of};
 use crate::thinning::thin;
 use crate::ways::{Way, Ways, ways_between};
-use hd_base::{List, Memory};
+use hd_list::{List, Memory};
 use hd_map::{Rank, Side};
 use std::alloc::Global;
 use std::collections::BinaryHeap;

@@ -2,7 +2,7 @@
 ghost use Rattle.std.specs.Prelude.{◌≡◌, ◌<◌, length, if◌then◌else◌};
 ghost use Rattle.hd_map.specs.Rank.{below_by};
 
-use hd_base::List;
+use hd_list::List;
 use hd_map::{Rank, Side};
 use std::marker::{Model, PhantomData};
 

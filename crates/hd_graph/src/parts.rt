@@ -6,7 +6,7 @@ ghost use Rattle.hd_map.specs.Rank.{below_by};
 ghost use Rattle.hd_graph.specs.Parts.{over, only_pits, lower, rise_below, lowest_to, LookAlike, AreLeftLows, IsRiseOf, IsSidePart, sides_of, turned_round};
 
 use crate::line::{Stop, higher_of};
-use hd_base::Memory;
+use hd_list::Memory;
 use hd_map::{Rank, Side};
 use std::alloc::Global;
 

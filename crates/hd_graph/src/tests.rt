@@ -5,7 +5,7 @@ ghost use Rattle.hd_map.specs.Rank.{below_by};
 ghost use Rattle.hd_graph.specs.Literal.{is_graph};
 
 use crate::{FloodLine, Graph, Low, Merge, flood, merges_of, tree};
-use hd_base::{List, Memory};
+use hd_list::{List, Memory};
 use hd_map::{Down, Pass, Rank, Side, Up};
 use std::alloc::Global;
 

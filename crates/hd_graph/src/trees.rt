@@ -10,7 +10,7 @@ ghost use Rattle.hd_graph.specs.Tells.{IsPitOn, IsSaddleOn, TellsSaddles, joins_
 
 use crate::line::FloodLine;
 use crate::parts::{Part, Rise, pits_line, rises_of};
-use hd_base::{List, Memory};
+use hd_list::{List, Memory};
 use hd_map::{Rank, Side};
 use std::alloc::Global;
 use std::cmp::Ordering;

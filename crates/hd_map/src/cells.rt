@@ -5,7 +5,7 @@ ghost use Rattle.hd_map.specs.Packing.{cell_from, masks, packed_cells};
 
 use crate::packing::Mark;
 use crate::{Cell, DataType, least_of, over_least};
-use hd_base::Memory;
+use hd_list::Memory;
 use std::alloc::Global;
 
 /// The cells of a surface as they are read, by index. Each is of the data type, and takes five bytes,

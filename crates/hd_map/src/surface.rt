@@ -7,7 +7,7 @@ use crate::packing::{Mark, pack};
 use crate::{
     Cell, Cells, DataType, Grid, Heights, MapError, Pos, Size, contains, index_of, is_cell_of,
 };
-use hd_base::Memory;
+use hd_list::Memory;
 use std::alloc::Global;
 
 /// A surface in memory. As measured, a point takes five bytes: four for its height and one for its

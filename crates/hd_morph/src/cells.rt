@@ -7,7 +7,7 @@ ghost use Rattle.hd_morph.specs.NewHeights.{cells_after};
 
 use crate::heights::{NewHeights, closed_heights, dilated_heights, eroded_heights, opened_heights};
 use crate::{Element, MorphError};
-use hd_base::{List, Memory};
+use hd_list::{List, Memory};
 use hd_map::{Cell, Grid, Pos, position_after};
 use std::alloc::Global;
 

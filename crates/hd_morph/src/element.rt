@@ -4,7 +4,7 @@ ghost use Rattle.hd_morph.specs.Element.{IsEntry, MakesElement, IsElement};
 ghost use Rattle.hd_morph.specs.Turned.{turned_table};
 
 use crate::ElementError;
-use hd_base::{List, Memory};
+use hd_list::{List, Memory};
 use std::alloc::Global;
 use std::marker::Model;
 

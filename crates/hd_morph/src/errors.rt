@@ -1,5 +1,5 @@
 // The refusals of elements and filters.
-use hd_base::Memory;
+use hd_list::Memory;
 use hd_map::Pos;
 use thiserror::Error;
 

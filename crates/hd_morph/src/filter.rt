@@ -12,7 +12,7 @@ use crate::element::turned;
 use crate::flat::dilate_flat;
 use crate::offsets::dilate_by_offsets;
 use crate::plain::negate;
-use hd_base::Memory;
+use hd_list::Memory;
 use hd_map::Size;
 use std::alloc::Global;
 

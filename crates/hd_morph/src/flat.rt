@@ -6,7 +6,7 @@ ghost use Rattle.hd_morph.specs.Raised.{AreFlatlyDilated};
 
 use crate::plain::settle;
 use crate::round::spread_round;
-use hd_base::Memory;
+use hd_list::Memory;
 use hd_map::Size;
 
 /// The dilation by each element of `2 * across + 1` columns and `2 * down + 1` rows that has this

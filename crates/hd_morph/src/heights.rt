@@ -10,7 +10,7 @@ ghost use Rattle.hd_morph.specs.Listed.{AreHeightsOf, AreOfType, IsPlainHeight, 
 use crate::filter::{closed, dilated, eroded, opened};
 use crate::plain::{MISSING, is_shown};
 use crate::{Element, MorphError};
-use hd_base::Memory;
+use hd_list::Memory;
 use hd_map::{Cell, Grid, Pos, greatest_of, height, least_of, position_after, position_of};
 use std::alloc::Global;
 use std::marker::Model;

@@ -8,7 +8,7 @@ ghost use Rattle.hd_morph.specs.Raised.{ArePlainlyFiltered, AreRaisedTo, AreRais
 
 use crate::Element;
 use crate::plain::{MISSING, larger_of, settle};
-use hd_base::Memory;
+use hd_list::Memory;
 use hd_map::{Pos, Size};
 
 /// The dilation of heights by an element, in the memory of `room` where that suffices. It takes time

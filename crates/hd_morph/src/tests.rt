@@ -4,7 +4,7 @@ ghost use Rattle.hd_map.specs.Map.{IsSize};
 ghost use Rattle.hd_morph.specs.Element.{IsEntry};
 
 use crate::{Element, MorphError, close, dilate, erode, open};
-use hd_base::List;
+use hd_list::List;
 use hd_map::{Cell, Cells, DataType, Grid, Pos, Size, Surface, is_cell_of};
 use std::alloc::Global;
 use std::test::Fail;

@@ -8,7 +8,7 @@ ghost use Rattle.hd_num.specs.Decimal.{IsSplit, IsValueOf, IsWithin, decimal_of,
 
 use crate::whole::{is_negative, read_count, unsigned_part};
 use bstr::ByteSlice;
-use hd_base::{List, Memory};
+use hd_list::{List, Memory};
 use std::alloc::Global;
 
 /// A decimal as a word writes it. Its value is `digits * 10^exponent`, with the sign.

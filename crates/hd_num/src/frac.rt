@@ -6,7 +6,7 @@ ghost use Rattle.hd_num.specs.Text.{AppendsPrefix};
 ghost use Rattle.hd_num.specs.Whole.{signed_number};
 
 use crate::push_text;
-use hd_base::{List, Memory};
+use hd_list::{List, Memory};
 use itoa::Buffer;
 
 /// A fraction in lowest terms. Where its value is 0, the denominator is 1.

@@ -5,7 +5,7 @@ ghost use Rattle.hd_num.specs.Text.{AppendsPrefix};
 
 use crate::decimal::split_point;
 use crate::{push_text, push_unsigned, read_count};
-use hd_base::{List, Memory};
+use hd_list::{List, Memory};
 
 /// A part of a whole in thousandths of a percent.
 #[derive(Clone, Copy, Debug, PartialEq, Eq)]

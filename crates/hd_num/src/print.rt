@@ -5,7 +5,7 @@ ghost use Rattle.hd_num.specs.Text.{AppendsPrefix};
 ghost use Rattle.hd_num.specs.Whole.{count_of, whole_of, whole_value};
 
 use crate::Whole;
-use hd_base::{List, Memory};
+use hd_list::{List, Memory};
 use itoa::Buffer;
 
 /// Adds a text at the end. Where memory is refused, a prefix of the text may stand there.

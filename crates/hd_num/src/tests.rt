@@ -4,7 +4,7 @@ use crate::{
     push_percent, push_text, push_unsigned, push_whole, read_count, read_decimal, read_percent,
     read_whole, split_words, trim,
 };
-use hd_base::List;
+use hd_list::List;
 use std::test::Fail;
 
 #[test]

@@ -6,7 +6,7 @@ ghost use Rattle.std.specs.List.{AllPairs};
 
 use crate::Span;
 use bstr::ByteSlice;
-use hd_base::{List, Memory};
+use hd_list::{List, Memory};
 use std::alloc::Global;
 
 /// The words of a line in order, each at its place: the longest runs of bytes that are not blanks.

@@ -7,7 +7,7 @@ ghost use Rattle.hd_prune.specs.Line.{gap_at};
 use crate::line::{PitStop, lower_bound};
 use crate::order::compare_indexes;
 use crate::step::Kept;
-use hd_base::{List, Memory};
+use hd_list::{List, Memory};
 use hd_map::{Rank, Side};
 use std::alloc::Global;
 

@@ -4,8 +4,8 @@ ghost use Rattle.hd_map.specs.Rank.{below_by};
 ghost use Rattle.hd_prune.specs.Line.{higher, lower, over, line_of, pit_line};
 ghost use Rattle.hd_prune.specs.Taken.{is_left};
 
-use hd_base::Memory;
 use hd_graph::Stop;
+use hd_list::Memory;
 use hd_map::{Rank, Side};
 use std::alloc::Global;
 use std::collections::HashMap;

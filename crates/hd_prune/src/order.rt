@@ -11,7 +11,7 @@ use crate::around::Around;
 use crate::line::PitStop;
 use crate::step::Owned;
 use crate::taking::owner_of;
-use hd_base::{List, Memory};
+use hd_list::{List, Memory};
 use hd_map::{Rank, Side};
 use std::alloc::Global;
 use std::cmp::Ordering;

@@ -5,8 +5,8 @@ ghost use Rattle.hd_report.specs.Place.{place_text};
 
 use crate::place::push_place;
 use crate::points::outside_cause;
-use hd_base::{List, Memory};
 use hd_edit::EditError;
+use hd_list::{List, Memory};
 use hd_map::Pos;
 use hd_num::{push_text, push_unsigned};
 use std::alloc::Global;

@@ -3,8 +3,8 @@ ghost use Rattle.std.specs.Prelude.{◌≡◌, ◌++◌, IfOk, OnOk};
 ghost use Rattle.std.specs.List.{flat_map};
 ghost use Rattle.hd_report.specs.Elements.{element_line, element_text, elements_text};
 
-use hd_base::{List, Memory};
 use hd_edit::ElementLine;
+use hd_list::{List, Memory};
 use hd_morph::ElementError;
 use hd_num::{push_text, push_unsigned};
 use std::alloc::Global;

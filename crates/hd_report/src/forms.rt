@@ -2,7 +2,7 @@
 ghost use Rattle.std.specs.Prelude.{◌≡◌, ◌++◌, IfOk, OnOk, codes, decimal};
 ghost use Rattle.hd_report.specs.Forms.{form_text};
 
-use hd_base::{List, Memory};
+use hd_list::{List, Memory};
 use hd_num::{push_text, push_unsigned};
 use hd_script::LineError;
 use std::alloc::Global;

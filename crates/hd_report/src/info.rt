@@ -3,7 +3,7 @@ ghost use Rattle.std.specs.Prelude.{◌≡◌, ◌++◌, IfOk, OnOk, Some};
 ghost use Rattle.std.specs.Fmt.{signed_decimal};
 ghost use Rattle.hd_report.specs.Info.{code_text, info_text, present_line, range_line, scales_line, size_line, type_line};
 
-use hd_base::{List, Memory};
+use hd_list::{List, Memory};
 use hd_map::{DataType, HeightRange, Presence, Size};
 use hd_num::{push_text, push_unsigned, push_whole};
 use std::alloc::Global;

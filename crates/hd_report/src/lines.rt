@@ -2,7 +2,7 @@
 ghost use Rattle.std.specs.Prelude.{◌≡◌, IfOk};
 ghost use Rattle.hd_report.specs.Lines.{ok_line, refused_line};
 
-use hd_base::{List, Memory};
+use hd_list::{List, Memory};
 use hd_num::{push_text, push_unsigned};
 use std::alloc::Global;
 

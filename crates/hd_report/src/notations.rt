@@ -2,8 +2,8 @@
 ghost use Rattle.std.specs.Prelude.{◌≡◌, ◌++◌, codes, decimal, IfOk, OnOk};
 ghost use Rattle.hd_report.specs.Notations.{notation_text};
 
-use hd_base::{List, Memory};
 use hd_feature::NotationError;
+use hd_list::{List, Memory};
 use hd_num::{push_text, push_unsigned};
 use std::alloc::Global;
 

@@ -3,7 +3,7 @@ ghost use Rattle.std.specs.Prelude.{◌≡◌, ◌<◌, ◌++◌, OnOk};
 ghost use Rattle.hd_map.specs.Map.{cell_count};
 ghost use Rattle.hd_report.specs.Place.{place_text, point_text, rank_text, side_text};
 
-use hd_base::{List, Memory};
+use hd_list::{List, Memory};
 use hd_map::{Pos, Rank, SideName, Size, position_of};
 use hd_num::{push_text, push_unsigned, push_whole};
 

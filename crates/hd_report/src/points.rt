@@ -3,7 +3,7 @@ ghost use Rattle.std.specs.Prelude.{◌≡◌, IfOk};
 ghost use Rattle.hd_report.specs.Points.{not_present_text, one_region_text, outside_text};
 
 use crate::place::push_place;
-use hd_base::{List, Memory};
+use hd_list::{List, Memory};
 use hd_map::Pos;
 use hd_num::push_text;
 use std::alloc::Global;

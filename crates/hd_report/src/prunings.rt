@@ -7,7 +7,7 @@ ghost use Rattle.hd_report.specs.Prunings.{IsStepInside, prune_heading, prune_te
 
 use crate::place::{push_point, push_side};
 use crate::regions::push_regions;
-use hd_base::{List, Memory};
+use hd_list::{List, Memory};
 use hd_map::{RegionSize, SideName, Size};
 use hd_num::{Percent, push_percent, push_text, push_unsigned, push_whole};
 use hd_prune::Step;

@@ -5,7 +5,7 @@ ghost use Rattle.hd_map.specs.Map.{cell_count};
 ghost use Rattle.hd_report.specs.Regions.{label_text, many_word, one_word, region_line, regions_text};
 
 use crate::place::{push_place, push_rank, push_side};
-use hd_base::{List, Memory};
+use hd_list::{List, Memory};
 use hd_map::{Pos, RegionSize, SideName, Size};
 use hd_num::{push_text, push_unsigned};
 use std::alloc::Global;

@@ -6,8 +6,8 @@ ghost use Rattle.hd_map.specs.Map.{cell_count};
 ghost use Rattle.hd_report.specs.Trees.{IsJoinInside, join_line, joining_of, part_text, saddle_text, tree_text};
 
 use crate::place::{push_point, push_rank, push_side};
-use hd_base::{List, Memory};
 use hd_graph::Join;
+use hd_list::{List, Memory};
 use hd_map::{Rank, SideName, Size};
 use hd_num::{push_text, push_unsigned};
 use std::alloc::Global;

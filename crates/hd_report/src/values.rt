@@ -2,7 +2,7 @@
 ghost use Rattle.std.specs.Prelude.{◌≡◌, ◌++◌, ◌∷◌, [], IfOk, OnOk};
 ghost use Rattle.hd_report.specs.Values.{feature_line, height_text, param_line, value_text};
 
-use hd_base::{List, Memory};
+use hd_list::{List, Memory};
 use hd_num::{Frac, push_frac, push_text, push_whole};
 use std::alloc::Global;
 

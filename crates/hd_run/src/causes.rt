@@ -3,7 +3,7 @@ ghost use Rattle.std.specs.Prelude.{◌≡◌, ◌++◌, IfOk, OnOk};
 ghost use Rattle.hd_run.specs.Refusals.{at_datum, at_line, missing_key, refusal_text, surface_cause};
 ghost use Rattle.hd_run.specs.declared.stop.Refusal.TheVariants.{Surface};
 
-use hd_base::{List, Memory};
+use hd_list::{List, Memory};
 use hd_num::{push_text, push_unsigned};
 use hd_sdf_read::SdfError;
 use std::alloc::Global;

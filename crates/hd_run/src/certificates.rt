@@ -3,7 +3,7 @@ ghost use Rattle.std.specs.Prelude.{◌≡◌, ◌++◌, IfOk, OnOk};
 ghost use Rattle.hd_run.specs.Refusals.{at_rule, refusal_text};
 ghost use Rattle.hd_run.specs.declared.stop.Refusal.TheVariants.{RuleFails, Unreadable};
 
-use hd_base::{List, Memory};
+use hd_list::{List, Memory};
 use hd_map::Pos;
 use hd_num::{push_text, push_unsigned};
 use std::alloc::Global;

@@ -7,7 +7,8 @@ ghost use Rattle.hd_run.specs.ReadOrder.{StopsWithin, reading};
 
 use crate::limits::SURFACE_LIMIT;
 use crate::stop::{Refusal, Stop};
-use hd_base::{List, ReadError, Source, read_all};
+use hd_base::{ReadError, Source, read_all};
+use hd_list::List;
 use hd_sdf_read::{SdfError, SdfFile, read_sdf};
 use std::alloc::Global;
 

@@ -6,8 +6,9 @@ ghost use Rattle.hd_run.specs.FaultCounts.{over};
 ghost use Rattle.hd_run.specs.Saving.{Saves, saving};
 
 use crate::stop::Stop;
-use hd_base::{List, Memory, Sink, write_all};
+use hd_base::{Sink, write_all};
 use hd_engine::Session;
+use hd_list::{List, Memory};
 use hd_sdf_write::write_sdf;
 use std::alloc::Global;
 

@@ -5,7 +5,7 @@ ghost use Rattle.hd_run.specs.Refusals.{refusal_text};
 use crate::causes::surface_line;
 use crate::certificates::{rule_line, unreadable_line};
 use crate::texts::{SECOND_TOO_LONG, SURFACE_TOO_LONG};
-use hd_base::{List, Memory};
+use hd_list::{List, Memory};
 use hd_map::Pos;
 use hd_sdf_read::SdfError;
 use std::alloc::Global;
@@ -50,18 +50,11 @@ impl Refusal {
         ensures { IfOk result (λ text. text ≡ refusal_text self) }
     {
         match self {
-            Refusal::SurfaceTooLong => copied(alloc, SURFACE_TOO_LONG.as_bytes()),
+            Refusal::SurfaceTooLong => List::from_slice(alloc, SURFACE_TOO_LONG.as_bytes()),
             Refusal::Surface(error) => surface_line(alloc, error),
-            Refusal::SecondTooLong => copied(alloc, SECOND_TOO_LONG.as_bytes()),
+            Refusal::SecondTooLong => List::from_slice(alloc, SECOND_TOO_LONG.as_bytes()),
             Refusal::Unreadable(line) => unreadable_line(alloc, line),
             Refusal::RuleFails { rule, at } => rule_line(alloc, rule, at),
         }
     }
-}
-
-// A copy of a text.
-fn copied(alloc: Global, text: &[u8]) -> Result<List<u8>, Memory>
-    ensures { IfOk result (λ copy. copy ≡ text.now) }
-{
-    Ok(List::from_vec(Vec::from_slice(alloc, text)?))
 }

@@ -2,8 +2,8 @@
 ghost use Rattle.std.specs.Prelude.{◌≡◌};
 ghost use Rattle.hd_script.specs.declared.command.LineError.TheVariants.{Memory as out_of_memory};
 
-use hd_base::{List, Memory};
 use hd_edit::Edit;
+use hd_list::{List, Memory};
 use hd_map::{Pos, SideName};
 use hd_num::Percent;
 use thiserror::Error;

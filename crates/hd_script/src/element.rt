@@ -8,7 +8,7 @@ ghost use Rattle.hd_script.specs.Words.{entry_words};
 
 use crate::words::{count_word, entry_word, name_word, text};
 use crate::{Command, LineError};
-use hd_base::List;
+use hd_list::List;
 use hd_num::Span;
 use std::alloc::Global;
 

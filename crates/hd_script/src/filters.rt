@@ -7,8 +7,8 @@ ghost use Rattle.hd_script.specs.Whole.{IsWhole};
 
 use crate::words::{name_word, text};
 use crate::{Command, LineError};
-use hd_base::List;
 use hd_edit::Edit;
+use hd_list::List;
 use hd_num::Span;
 use std::alloc::Global;
 

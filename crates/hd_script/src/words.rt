@@ -6,7 +6,7 @@ ghost use Rattle.std.specs.List.{list_all};
 ghost use Rattle.hd_script.specs.Words.{corner_words, count_word, entry_word, is_name_byte, name_word, percent_word, position_words, side_word, whole_word};
 
 use crate::LineError;
-use hd_base::List;
+use hd_list::List;
 use hd_map::{Pos, SideName};
 use hd_num::{Percent, Span, Whole, read_count, read_percent, read_whole};
 use std::alloc::Global;

@@ -2,7 +2,7 @@
 ghost use Rattle.std.specs.Prelude.{◌≡◌};
 ghost use Rattle.hd_sdf_read.specs.declared.error.SdfError.TheVariants.{Memory as out_of_memory};
 
-use hd_base::Memory;
+use hd_list::Memory;
 use thiserror::Error;
 
 /// Why a file was not read: the first offence against the grammar, from the front, with the number

@@ -11,7 +11,7 @@ ghost use Rattle.hd_sdf_read.specs.Views.{extras_of};
 use crate::entries::{Entry, Line, kind_of, offence, value_of};
 use crate::keys::{extent_of, type_of};
 use crate::{SdfError, Version};
-use hd_base::{List, Memory};
+use hd_list::{List, Memory};
 use hd_map::{DataType, Size};
 use hd_num::{Decimal, next_line, read_decimal, trim};
 use std::alloc::Global;

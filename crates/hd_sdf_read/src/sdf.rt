@@ -16,7 +16,7 @@ use crate::header_lines::{Frame, decimal_at, read_frame, read_header, read_versi
 use crate::keys::form_of;
 use crate::token::{next_token, trim_gaps};
 use crate::{Extra, SdfError, SdfFile, Version};
-use hd_base::{List, Memory};
+use hd_list::{List, Memory};
 use hd_map::{Cells, Surface};
 use hd_num::Decimal;
 use std::alloc::Global;
@@ -162,7 +162,7 @@ fn text_of(alloc: Global, entries: &[Entry], key: &[u8]) -> Result<List<u8>, Mem
     ensures { IfOk result (λ text. text ≡ text_of key.now (extras_of entries.now)) }
 {
     match value_of(entries, key) {
-        Some(value) => copied(alloc, value),
+        Some(value) => List::from_slice(alloc, value),
         None => Ok(List::new(alloc)),
     }
 }
@@ -177,7 +177,7 @@ fn resolution_of(alloc: Global, entries: &[Entry]) -> Result<Decimal, Memory>
             negative: true,
             digits: 1,
             exponent: 0,
-            literal: copied(alloc, b"-1")?,
+            literal: List::from_slice(alloc, b"-1")?,
         }),
     }
 }
@@ -200,8 +200,8 @@ fn extra_of(alloc: Global, entry: &Entry) -> Result<Extra, Memory>
     ensures { IfOk result (λ extra. extra ≡ extra_of entry.now) }
 {
     Ok(Extra {
-        key: copied(alloc, entry.key)?,
-        value: copied(alloc, entry.value)?,
+        key: List::from_slice(alloc, entry.key)?,
+        value: List::from_slice(alloc, entry.value)?,
     })
 }
 
@@ -223,12 +223,5 @@ fn read_trailer(alloc: Global, count: u64, text: &[u8]) -> Result<List<u8>, SdfE
     if trailer.len() > 65_536 {
         return Err(SdfError::TrailerTooLong);
     }
-    Ok(copied(alloc, trailer)?)
-}
-
-// A copy of a text.
-fn copied(alloc: Global, text: &[u8]) -> Result<List<u8>, Memory>
-    ensures { IfOk result (λ copy. copy ≡ text.now) }
-{
-    Ok(List::from_vec(Vec::from_slice(alloc, text)?))
+    Ok(List::from_slice(alloc, trailer)?)
 }

@@ -1,6 +1,6 @@
 // What no clause says: the outcomes that the format gives for texts from outside, at its borders.
 use crate::{SdfError, Version, read_sdf};
-use hd_base::List;
+use hd_list::List;
 use hd_map::{Cell, Grid, Heights, Pos, Size};
 use hd_num::{push_text, push_unsigned};
 use std::test::Fail;

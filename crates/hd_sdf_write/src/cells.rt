@@ -4,7 +4,7 @@ ghost use Rattle.hd_map.specs.Surface.{map_of};
 ghost use Rattle.hd_sdf_write.specs.Canonical.{cell_text, line, profile, profile_lines, spaced};
 
 use crate::lines::push_line;
-use hd_base::{List, Memory};
+use hd_list::{List, Memory};
 use hd_map::{Cell, Grid, Heights, Pos, Surface};
 use hd_num::{push_text, push_whole};
 

@@ -2,7 +2,7 @@
 ghost use Rattle.std.specs.Prelude.{◌≡◌, ◌++◌, OnOk};
 ghost use Rattle.hd_sdf_write.specs.Canonical.{end_lines, entry_line, extra_lines, line};
 
-use hd_base::{List, Memory};
+use hd_list::{List, Memory};
 use hd_num::push_text;
 use hd_sdf_read::Extra;
 

@@ -5,7 +5,7 @@ ghost use Rattle.hd_sdf_write.specs.Canonical.{canonical, encoding_lines, entry_
 
 use crate::cells::push_profiles;
 use crate::lines::{push_end, push_entry, push_extra, push_line};
-use hd_base::{List, Memory};
+use hd_list::{List, Memory};
 use hd_map::{Grid, Heights};
 use hd_num::push_unsigned;
 use hd_sdf_read::{SdfFile, Version};

@@ -10,7 +10,7 @@ ghost use Rattle.hd_map.specs.Region.{IsRoot, AreRegions};
 ghost use Rattle.hd_steep.specs.Meetings.{LiesIn, IsMeetingOf, IsPassOf, DoNotMeet, Adds, AreMeetings, InOrder};
 
 use crate::meetings::{Meeting, add_meeting, settle};
-use hd_base::{List, Memory};
+use hd_list::{List, Memory};
 use hd_map::{Heights, Pass, Pos, Side, index_of, position_of, rank_of};
 use std::alloc::Global;
 

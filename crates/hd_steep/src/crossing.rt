@@ -11,7 +11,7 @@ ghost use Rattle.hd_steep.specs.Crossed.{AreRowsRound, AreWide, ring_round, IsPi
 use crate::lowest::is_missing;
 use crate::places::{are_several, firsts, lower_at};
 use crate::rolling::Rows;
-use hd_base::{List, Memory};
+use hd_list::{List, Memory};
 use hd_map::{Heights, Pass, Pos, Rank, Side, position_of, rank_of};
 use std::alloc::Global;
 

@@ -4,7 +4,7 @@ ghost use Rattle.hd_map.specs.Region.{AreRegions};
 ghost use Rattle.hd_steep.specs.Links.{no_link, AreLinks, IsRootAt, IsLabelOf};
 
 use crate::links::NO_LINK;
-use hd_base::{List, Memory};
+use hd_list::{List, Memory};
 use hd_map::{Heights, Side};
 use std::alloc::Global;
 

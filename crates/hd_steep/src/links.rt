@@ -7,7 +7,7 @@ ghost use Rattle.hd_steep.specs.Links.{no_link, AreLinksFrom, AreLinks};
 
 use crate::lowest::{lower, missing_rank};
 use crate::rolling::Profiles;
-use hd_base::Memory;
+use hd_list::Memory;
 use hd_map::{Heights, Rank, Side};
 use std::alloc::Global;
 

@@ -3,7 +3,7 @@ ghost use Rattle.std.specs.Prelude.{◌≡◌, ◌++◌, ◌∷◌, [], OnOk, If
 ghost use Rattle.std.specs.List.{AllPairs};
 ghost use Rattle.hd_steep.specs.Meetings.{Keeps, ComesBefore, ComesLast, EndsWith, AreSorted};
 
-use hd_base::Memory;
+use hd_list::Memory;
 use hd_map::{Rank, Side};
 use std::alloc::Global;
 

@@ -4,7 +4,7 @@ ghost use Rattle.hd_steep.specs.Lowest.{missing};
 ghost use Rattle.hd_steep.specs.Rows.{IsFramed, IsFilled, IsRowOf, AreLowestOfThree, AreLowsOf};
 
 use crate::lowest::{lower, missing_rank, rank_at};
-use hd_base::Memory;
+use hd_list::Memory;
 use hd_map::{Heights, Pos, Rank, Side};
 use std::alloc::Global;
 

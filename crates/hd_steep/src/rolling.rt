@@ -6,7 +6,7 @@ ghost use Rattle.hd_steep.specs.Rows.{rank_in};
 
 use crate::lowest::missing_rank;
 use crate::profile::{Profile, fill_row};
-use hd_base::Memory;
+use hd_list::Memory;
 use hd_map::{Heights, Rank, Side};
 use std::alloc::Global;
 use std::mem::swap;

@@ -7,7 +7,7 @@ ghost use Rattle.hd_map.specs.Region.{IsPit, IsNext, IsRoot, AreRegions};
 use crate::leading::{labels_of, sweep, sweep_back};
 use crate::links::first_links;
 use crate::lowest::lowest_round;
-use hd_base::{List, Memory};
+use hd_list::{List, Memory};
 use hd_map::{Heights, Pos, Side, index_of, position_of};
 use std::alloc::Global;
 

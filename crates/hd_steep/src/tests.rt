@@ -3,7 +3,7 @@ ghost use Rattle.std.specs.Prelude.{◌≤◌};
 ghost use Rattle.hd_map.specs.Map.{IsCellOf, IsSize};
 
 use crate::{crossings, next, passes, regions, root};
-use hd_base::Memory;
+use hd_list::Memory;
 use hd_map::{
     Cell, Cells, DataType, Down, Heights, Pass, Rank, Side, Size, Surface, Up, index_of,
     is_cell_of, is_present, position_of,

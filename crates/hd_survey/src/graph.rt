@@ -8,8 +8,8 @@ ghost use Rattle.hd_survey.specs.PitGraph.{IsPitGraph};
 
 use crate::grid_view::GridView;
 use crate::view::SideView;
-use hd_base::Memory;
 use hd_graph::{ChangeTree, FloodLine, Graph, flood, tree};
+use hd_list::Memory;
 use hd_map::{Heights, Side};
 use std::alloc::Global;
 

@@ -9,7 +9,7 @@ ghost use Rattle.hd_survey.specs.declared.tally.Tally.{Tally};
 
 use crate::tallies::no_tallies;
 use crate::tally::{Tally, joined};
-use hd_base::{List, Memory};
+use hd_list::{List, Memory};
 use hd_map::RegionSize;
 use hd_prune::{Kept, Owned, Pruned};
 use std::alloc::Global;

@@ -6,8 +6,8 @@ ghost use Rattle.hd_map.specs.Region.{AreRegions};
 ghost use Rattle.hd_survey.specs.PitGraph.{low_of};
 ghost use Rattle.hd_survey.specs.Regions.{names, pit_ranks, rank_at};
 
-use hd_base::{List, Memory};
 use hd_graph::Low;
+use hd_list::{List, Memory};
 use hd_map::{Heights, Rank, Side, position_of, rank_of};
 use std::alloc::Global;
 

@@ -5,7 +5,7 @@ ghost use Rattle.hd_survey.specs.Regions.{AreRegionSizes};
 
 use crate::grid_view::GridView;
 use crate::view::SideView;
-use hd_base::{List, Memory};
+use hd_list::{List, Memory};
 use hd_map::{Heights, RegionSize, Side};
 use std::alloc::Global;
 

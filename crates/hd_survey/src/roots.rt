@@ -7,11 +7,11 @@ ghost use Rattle.hd_map.specs.Region.{AreRegions, IsRoot};
 ghost use Rattle.hd_survey.specs.PitGraph.{IsPitGraph};
 
 use crate::pits::lows_of;
-use hd_base::{List, Memory};
 use hd_graph::{
     Graph, flood_line_tells_the_saddles, merges_tell_the_saddles, passes_of_basins_are_a_graph,
     regions_are_basins,
 };
+use hd_list::{List, Memory};
 use hd_map::{Heights, Pos, Rank, Side, index_of, position_of};
 use hd_steep::crossings;
 use std::alloc::Global;

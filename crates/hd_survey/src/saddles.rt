@@ -6,8 +6,8 @@ ghost use Rattle.hd_map.specs.Saddle.{SaddleIs};
 ghost use Rattle.hd_survey.specs.Saddles.{IsPlaceOf};
 
 use crate::graph::flood_line;
-use hd_base::Memory;
 use hd_graph::Stop;
+use hd_list::Memory;
 use hd_map::{Heights, Rank, Side};
 use std::alloc::Global;
 

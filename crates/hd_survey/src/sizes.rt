@@ -2,7 +2,7 @@
 ghost use Rattle.std.specs.Prelude.{◌≡◌, ◌<◌, ◌^◌, ℕ, length, map, Some, None, All, IfOk, slice_index_or};
 ghost use Rattle.hd_survey.specs.Regions.{CountsPoints, region_size};
 
-use hd_base::{List, Memory};
+use hd_list::{List, Memory};
 use hd_map::{Rank, RegionSize};
 use std::alloc::Global;
 

@@ -8,7 +8,7 @@ ghost use Rattle.hd_survey.specs.Tallies.{AddsPoint, AreNumbered, AreNumbers, Ar
 
 use crate::edges::edge_height;
 use crate::tally::{NO_TALLY, Tally, count_point};
-use hd_base::{List, Memory};
+use hd_list::{List, Memory};
 use hd_map::{Heights, Pos, Rank, Side, position_after};
 use std::alloc::Global;
 

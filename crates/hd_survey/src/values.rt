@@ -9,11 +9,11 @@ ghost use Rattle.hd_survey.specs.Values.{AreServing, IsNotationValue, IsParamete
 
 use crate::features::{features, heights_alone};
 use crate::grid_view::GridView;
-use hd_base::{List, Memory};
 use hd_feature::{
     Kind, Notation, Parameter, Region, evaluate, heights_alone_serve, heights_serve,
     mean_height_is_small,
 };
+use hd_list::{List, Memory};
 use hd_map::{Down, HeightRange, Heights, Presence, Side, Up, presence_of};
 use hd_num::Frac;
 use std::alloc::Global;

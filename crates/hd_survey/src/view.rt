@@ -1,7 +1,7 @@
 // A side of a map, by what reports ask of it.
 use crate::tally::Tally;
-use hd_base::{List, Memory};
 use hd_graph::Graph;
+use hd_list::{List, Memory};
 use hd_map::{Pos, RegionSize, Side};
 
 /// A side of a map, by what reports ask of it. Contracts see it as the map.

@@ -10,7 +10,7 @@ use crate::command_lines::{CommandLine, parse};
 use crate::demo::Demo;
 use crate::limits::USUAL_TILE;
 use clap::ArgMatches;
-use hd_base::Memory;
+use hd_list::Memory;
 use std::alloc::Global;
 
 /// What the words ask for.

@@ -11,7 +11,8 @@ mod tests;
 mod texts;
 mod top;
 
-use hd_base::{FileSink, FileSource, Memory, StdoutSink};
+use hd_base::{FileSink, FileSource, StdoutSink};
+use hd_list::Memory;
 pub use status::{Status, exit_of};
 use std::io::ErrorKind;
 use std::process::ExitCode;

@@ -1,6 +1,7 @@
 // Runs of the program over sources and sinks in memory.
 use crate::{Status, top};
-use hd_base::{List, MemSink, MemSource};
+use hd_base::{MemSink, MemSource};
+use hd_list::List;
 use std::alloc::Global;
 use std::process::Abort;
 use std::test::Fail;

@@ -62,6 +62,17 @@ impl<T> List<T> {
         List { items }
     }
 
+    /// A list of a slice's items. `Memory` comes where their memory is refused.
+    pub fn from_slice(alloc: Global, items: &[T]) -> Result<Self, Memory>
+    where
+        T: Copy,
+        ensures { IfOk result (λ list. list ≡ items.now) }
+    {
+        Ok(List {
+            items: Vec::from_slice(alloc, items)?,
+        })
+    }
+
     /// The vector of the items.
     pub fn into_vec(self) -> Vec<T>
         ensures { result.items ≡ self }

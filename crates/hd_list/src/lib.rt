@@ -1,0 +1,6 @@
+//! Lists, and the want of memory.
+#![tactic(auto)]
+
+mod list;
+
+pub use list::{List, Memory};
