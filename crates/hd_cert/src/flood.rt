@@ -9,7 +9,7 @@ use hd_map::{Heights, Pos, Size, contains, index_of};
 use std::alloc::Global;
 
 /// A point that is reached, and in how many steps.
-#[derive(Clone, Copy, Debug, PartialEq, Eq)]
+#[derive(Clone, Copy)]
 pub struct Reached {
     /// The point.
     pub at: Pos,

@@ -11,7 +11,7 @@ use hd_map::{Heights, Pos, Rank, SideName, Size, index_of, is_present, rank_of};
 
 // A place of the cut for each of the three profiles round a point. The cut rises, so the places only
 // go forward from one of its points to the next.
-#[derive(Clone, Copy, Debug)]
+#[derive(Clone, Copy)]
 struct Places {
     above: usize,
     beside: usize,

@@ -9,7 +9,7 @@ use hd_num::{Span, next_line, split_words};
 use std::alloc::Global;
 
 /// Where a line of a text begins, and its number, from 1.
-#[derive(Clone, Copy, Debug)]
+#[derive(Clone, Copy)]
 pub struct Place {
     /// The index of its first byte.
     pub from: usize,

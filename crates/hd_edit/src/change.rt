@@ -10,7 +10,7 @@ use hd_list::List;
 use hd_map::{Cell, DataType, Grid, Heights, Pos, index_of, least_of, over_least, position_of};
 
 /// What stood at a point before it was changed.
-#[derive(Clone, Copy, Debug)]
+#[derive(Clone, Copy)]
 pub enum Was {
     /// The cell was the height that is this much over the least one of the data type.
     Height(u32),
@@ -21,7 +21,7 @@ pub enum Was {
 }
 
 /// A change of one cell or mask, by what it was. It takes 12 bytes.
-#[derive(Clone, Copy, Debug)]
+#[derive(Clone, Copy)]
 pub struct Change {
     /// The index of the point.
     pub index: u32,

@@ -6,7 +6,7 @@ ghost use Rattle.hd_edit.specs.Stroke.{Touches, SetsTo, cell_after};
 use hd_map::{Cell, DataType, is_cell_of};
 
 /// What an edit makes of each point of its rectangle.
-#[derive(Clone, Copy, Debug)]
+#[derive(Clone, Copy)]
 pub enum Stroke {
     /// The cell becomes this one.
     Put(Cell),
@@ -17,7 +17,7 @@ pub enum Stroke {
 }
 
 /// What is to be done at a point.
-#[derive(Clone, Copy, Debug)]
+#[derive(Clone, Copy)]
 pub enum Touch {
     /// The point stays.
     Nothing,

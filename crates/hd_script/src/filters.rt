@@ -13,7 +13,7 @@ use hd_num::Span;
 use std::alloc::Global;
 
 /// The filters.
-#[derive(Clone, Copy, Debug)]
+#[derive(Clone, Copy)]
 pub enum Filter {
     /// The dilation.
     Dilate,

@@ -6,7 +6,7 @@ use hd_map::DataType;
 use hd_num::{Whole, is_decimal, read_whole};
 
 /// The form that the value of a known key has.
-#[derive(Clone, Copy, Debug, PartialEq, Eq)]
+#[derive(Clone, Copy)]
 pub enum Form {
     /// Any text.
     AnyText,
@@ -21,7 +21,7 @@ pub enum Form {
 }
 
 /// What a value is for its form.
-#[derive(Clone, Copy, Debug, PartialEq, Eq)]
+#[derive(Clone, Copy)]
 pub enum Verdict {
     /// It has the form.
     Right,

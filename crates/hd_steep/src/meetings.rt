@@ -9,7 +9,7 @@ use std::alloc::Global;
 
 /// Two regions with neighbouring members, by the indexes of their pits, the lesser first; and the
 /// higher of two such neighbours.
-#[derive(Clone, Copy, Debug)]
+#[derive(Clone, Copy)]
 pub struct Meeting {
     pub a: u32,
     pub b: u32,
