@@ -1,5 +1,5 @@
 -- Some first bytes of a text that are written.
-use Rattle.std.proofs.Common.{◌≡◌, ◌∙◌, ◌<◌, ◌++◌, ℕ, List, length, drop, Option, sym, ap, subst, arith, append_assoc, length-append}
+use Rattle.std.proofs.Common.{◌∙◌, ◌++◌, ℕ, List, length, drop, Option, sym, ap, subst, arith, append_assoc, length-append}
 use Rattle.std.specs.Io.{StartsWith}
 use Rattle.std.specs.Io.KnownBytes.{Appends, Keeps}
 use Rattle.std.proofs.KnownBytes.{Appends-kept, Appends-trans, starts_with_rest}

@@ -1,5 +1,5 @@
 -- The lowest lows on the two sides of the rises of a line, which name the classes that a saddle joins.
-use Rattle.std.specs.Prelude.{◌≡◌, ◌⊎◌, ◌↔◌, ◌<◌, ◌-◌, ℕ, Bool, true, false, if◌then◌else◌, List, [], ◌∷◌, length, map, reverse, take, slice_get, Option, Some, None, Contains, AllPairs}
+use Rattle.std.specs.Prelude.{◌≡◌, ◌⊎◌, ◌↔◌, ◌<◌, ◌-◌, ℕ, Bool, true, false, if◌then◌else◌, List, [], ◌∷◌, length, reverse, take, slice_get, Option, Some, None, Contains, AllPairs}
 use Rattle.hd_map.specs.declared.types.Rank.{Rank}
 use Rattle.hd_map.specs.ChangeTree.{Joining}
 use Rattle.hd_graph.specs.declared.line.Stop.{Stop}

@@ -42,3 +42,15 @@ returns-clause-thinned g c = kept-all (below_by g.S.Side.NAME) g.met.S.Side.orde
 
 pub returns-clause-few : goal.returns-clause-few
 returns-clause-few g c = omega (arith, lost-few c.loop-link.classes.parents.items (length c.loop-link.kept.items) c.loop-link.invariant.lost, c.loop-link.invariant.long)
+
+pub join-requires-clause-first : goal.join-requires-clause-first
+join-requires-clause-first g c =
+    let none : Link = record { a = 0; b = 0; at = record { height = pos 0; index = 0 } } in
+    let less = (c.requires.within c.loop-link.link-index none c.loop-link-test.true).0 in
+    omega (arith, less, c.loop-link.invariant.long)
+
+pub join-requires-clause-second : goal.join-requires-clause-second
+join-requires-clause-second g c =
+    let none : Link = record { a = 0; b = 0; at = record { height = pos 0; index = 0 } } in
+    let less = (c.requires.within c.loop-link.link-index none c.loop-link-test.true).1 in
+    omega (arith, less, c.loop-link.invariant.long)
