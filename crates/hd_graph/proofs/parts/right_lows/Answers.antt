@@ -7,6 +7,7 @@ use Rattle.hd_graph.specs.declared.line.Stop.{Stop}
 use Rattle.hd_graph.specs.Parts.{first_rise, turned_round}
 use Rattle.hd_graph.proofs.LeftParts.{LowsSoFar, lows-more, lows-all}
 use Rattle.hd_graph.proofs.Round.{first_rise-drop, length-round, round-at}
+use Rattle.std.proofs.lemmas.Grind.{common_steps}
 use Rattle.hd_graph.proofs.parts.right_lows.Goals as goal
 
 pub loop-i-preserved : goal.loop-i-preserved
@@ -36,3 +37,9 @@ loop-i-preserved g c =
 pub returns-clause-each : goal.returns-clause-each
 returns-clause-each g c = lows-all (below_by g.S.Side.NAME) g.met.S.Side.order (turned_round c.args.line.now) (length c.args.line.now - c.loop-i.i) c.loop-i.stack.items c.loop-i.lows.items
     (let over = c.loop-i-test.false in let long = length-round c.args.line.now in omega arith) c.loop-i.invariant.so
+
+pub returns-clause-long : goal.returns-clause-long
+returns-clause-long g c = grind (arith, common_steps)
+
+pub loop-i-init : goal.loop-i-init
+loop-i-init g c = grind (arith, common_steps)
