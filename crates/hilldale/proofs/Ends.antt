@@ -7,7 +7,6 @@ use Rattle.hd_base.specs.Told.{AppendsStart}
 use Rattle.hd_base.proofs.Told.{AppendsPart-kept}
 use Rattle.hd_words.specs.declared.demo.Demo.{Demo}
 use Rattle.hd_words.specs.Words.{Request, Demonstrate, form_of, save_name, second_name, surface_name}
-use Rattle.hd_demo.specs.DemoText.{IsTheDemoText}
 use Rattle.hd_run.specs.declared.stop.Refusal.{Refusal}
 use Rattle.hd_run.specs.declared.stop.Refusal.TheVariants.{SurfaceTooLong, Surface, SecondTooLong, Unreadable, RuleFails}
 use Rattle.hd_run.specs.declared.stop.Stop.{Stop}
@@ -21,12 +20,19 @@ use Rattle.hd_run.specs.RunResult.{HasRunStop}
 use Rattle.hd_run.specs.Saving.{Saving, IsSavedAs, SavesLast}
 use Rattle.hilldale.specs.declared.status.Status.{Status}
 use Rattle.hilldale.specs.declared.status.Status.TheVariants.{Done, LineRefused, Usage, ReadFault, WriteFault, Memory}
-use Rattle.hilldale.specs.Ending.{AnswersFew, Completes, IsTheOutcome, EndsAs, EndsDemo, EndsRun, Finishes, IsCutAs, StopsAt}
-use Rattle.hilldale.specs.Outcome.{Outcome, IsOutcome, IsOutcomeOfRequest, outcome_of, tells}
+use Rattle.hilldale.specs.Ending.{AnswersFew, Completes, IsTheOutcome, EndsAs, EndsDemo, EndsRun, Finishes, IsCutAs}
+use Rattle.hilldale.specs.Outcome.{Outcome, IsOutcomeOfRequest, outcome_of, tells}
 use Rattle.hilldale.specs.Status.{HasStatusCause, refusal_status, status_of}
 use Rattle.hilldale.specs.Texts.{usage_text, read_fault_text}
 use Rattle.hilldale.specs.WorkOrder.{ReadsInOrder, ReadsWithin, SavesInTurn, second_limit}
 use Rattle.hilldale.proofs.Works.{IsWork}
+
+-- words that have a form
+pub has_a_form : {A : Type 0} (form : Option A) (x : A) → form ≡ Some x → form ≢ None
+has_a_form form x is none = cc
+
+one_form : {A : Type 0} (form : Option A) (x y : A) → form ≡ Some x → form ≡ Some y → x ≡ y
+one_form form x y is also = cc
 
 -- nothing before, and then a text, or some first bytes of it
 kept_text : (old mid new : Option (List ℕ)) (text : List ℕ) → Keeps old mid → Appends mid new text → Appends old new text
@@ -298,6 +304,15 @@ unnamed_saves form status stays surface script out s none kept count = record {
   flushed_all = λ request name is asked done. let wrong : None ≡ Some name = sym (none request is) ∙ asked in absurd (cc);
 }
 
+-- nor do words that have no form, and those of a request that names none
+pub unformed_saves : (form : Option Request) (status : Status) (stays : Type 0) (surface script out : Count) (s : Saving) → form ≡ None → stays → Stays s.faults → SavesInTurn form status stays surface script out s
+unformed_saves form status stays surface script out s none kept count = unnamed_saves form status stays surface script out s (λ request is. absurd (has_a_form form request is none)) kept count
+
+pub request_saves : (form : Option Request) (request : Request) (status : Status) (stays : Type 0) (surface script out : Count) (s : Saving) → form ≡ Some request → save_name request ≡ None → stays → Stays s.faults
+    → SavesInTurn form status stays surface script out s
+request_saves form request status stays surface script out s named none kept count =
+    unnamed_saves form status stays surface script out s (λ other is. subst (λ (r : Request). save_name r ≡ None) (one_form form request other named is) none) kept count
+
 -- no run ends with the usage text
 pub run_has_form : (result : Result Bool Stop) (status : Status) (old new : Option (List ℕ)) (flushed : Bool) (faults : Count) → EndsRun result status old new flushed faults → status ≢ Usage
 run_has_form (Ok true) status old new flushed faults end is = let e = (finished [] (status_of true) status old new flushed faults end (λ w. cc)).0 in cc
@@ -360,7 +375,7 @@ module _ (demo : Demo) (status : Status) (old new : Option (List ℕ)) (flushed 
   demo_ended (inr (text, the, inl whole)) = inl whole.status_is
   demo_ended (inr (text, the, inr cut)) = inr (inl cut.status_is)
 
-  pub demo_is_other : (other : Status) → EndsDemo demo status old new flushed faults → other ≢ Done → other ≢ WriteFault → other ≢ Memory → status ≢ other
+  demo_is_other : (other : Status) → EndsDemo demo status old new flushed faults → other ≢ Done → other ≢ WriteFault → other ≢ Memory → status ≢ other
   demo_is_other other end a b d is = elim (demo_ended end) [ inl e ↦ a (sym is ∙ e) | inr rest ↦ elim rest [ inl e ↦ b (sym is ∙ e) | inr e ↦ d (sym is ∙ e) ] ]
 
   pub demo_flushed : EndsDemo demo status old new flushed faults → status ≢ WriteFault → status ≢ Memory → IsTrue flushed
@@ -373,3 +388,29 @@ module _ (demo : Demo) (status : Status) (old new : Option (List ℕ)) (flushed 
       record { read = λ e. absurd (cc); write = λ e. absurd (cc); other = λ _ _. (a, b, stop.count, d) }
   demo_cause surface script saved a b d (inr (text, the, finish)) =
       finish_cause surface script saved faults.before faults.before faults.now status old new flushed text Done (λ e. cc) (λ e. cc) (a, b, refl, d) finish
+
+  -- and with neither of these
+  pub demo_no_usage : EndsDemo demo status old new flushed faults → status ≢ Usage
+  demo_no_usage end = demo_is_other Usage end (λ e. cc) (λ e. cc) (λ e. cc)
+
+  pub demo_no_read_fault : EndsDemo demo status old new flushed faults → status ≢ ReadFault
+  demo_no_read_fault end = demo_is_other ReadFault end (λ e. cc) (λ e. cc) (λ e. cc)
+
+-- the usage text is written, or the sink failed
+module _ (bytes : List ℕ) (status : Status) (old new : Option (List ℕ)) (flushed : Bool) (faults : Count) (end : Finishes bytes Usage status old new flushed faults) where
+  pub usage_status : (status ≡ Usage) ⊎ (status ≡ WriteFault)
+  usage_status = elim end [ inl w ↦ inl w.status_is | inr cut ↦ inr cut.status_is ]
+
+  pub usage_no_read_fault : status ≢ ReadFault
+  usage_no_read_fault is = elim usage_status [ inl e ↦ absurd (cc) | inr e ↦ absurd (cc) ]
+
+  pub usage_flushed : status ≢ WriteFault → IsTrue flushed
+  usage_flushed fine = (finished bytes Usage status old new flushed faults end fine).2
+
+  pub usage_cause : (surface script saved : Count) → Stays surface → Stays script → Stays saved → HasStatusCause status surface script faults saved
+  usage_cause surface script saved a b d =
+      finish_cause surface script saved faults.before faults.before faults.now status old new flushed bytes Usage (λ e. cc) (λ e. cc) (a, b, refl, d) end
+
+-- how far the second input is read, by either of its names
+pub second_within_as : {U : Type 0} (limit : ℕ) (r : Reading) (name other : List ℕ) → Some name ≡ Some other → U ⊎ StopsWithin limit name r → U ⊎ StopsWithin limit other r
+second_within_as {U} limit r name other is h = let same : name ≡ other = cc in subst (λ (n : List ℕ). U ⊎ StopsWithin limit n r) same h

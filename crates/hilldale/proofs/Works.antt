@@ -1,5 +1,5 @@
 -- What runs and checks come to alike.
-use Rattle.std.proofs.Common.{◌≡◌, ◌⊎◌, ℕ, Bool, List, Option, Some, Result, Ok, Err, inl, inr, refl, sym}
+use Rattle.std.proofs.Common.{◌≡◌, ◌⊎◌, ℕ, Bool, List, Option, Result, Ok, Err, inl, inr, sym}
 use Rattle.std.specs.Io.KnownBytes.{Appends, Keeps}
 use Rattle.hd_base.specs.Told.{AppendsPart}
 use Rattle.hd_base.proofs.Told.{AppendsPart-start}

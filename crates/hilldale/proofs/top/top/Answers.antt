@@ -1,22 +1,21 @@
-use Rattle.std.proofs.Common.{◌≡◌, ◌⊎◌, ◌∙◌, ap, subst, map, string_bytes, List, Option, None, Some, refl, ℕ}
+use Rattle.std.proofs.Common.{◌≡◌, ◌∙◌, ap, subst, map, string_bytes, Option, None, Some, refl}
 use Rattle.std.specs.Option.{option_map}
 use Rattle.hd_words.specs.declared.jobs.Job.{Job}
-use Rattle.hd_words.specs.Words.{Request, Run, Check, Demonstrate, IsWithinLimits, check_request_of, command_for, form_of, request_of, run_request_of, save_name}
+use Rattle.hd_words.specs.Words.{Request, Run, Check, Demonstrate, IsWithinLimits, check_request_of, command_for, form_of, request_of, run_request_of}
 use Rattle.hd_run.specs.FaultCounts.{over}
 use Rattle.hd_run.specs.Limits.{certificate_limit}
 use Rattle.hd_run.specs.Outcome.{IsOutcomeOfCheck, IsOutcomeOfRun}
-use Rattle.hd_run.specs.ReadOrder.{StopsWithin, reading}
+use Rattle.hd_run.specs.ReadOrder.{reading}
 use Rattle.hd_run.specs.RunResult.{IsBegun}
-use Rattle.hilldale.specs.declared.status.Status.TheVariants.{ReadFault, Usage}
 use Rattle.hilldale.specs.Texts.{usage_text}
-use Rattle.hilldale.proofs.Ends.{demo_cause, demo_ends, demo_flushed, demo_is_other, run_cause, run_ends, run_flushed, run_has_form, run_in_order, run_read_fault, run_saves, run_within, unformed_in_order, unnamed_in_order, unnamed_saves, unread_within, usage_ends}
+use Rattle.hilldale.proofs.Ends.{demo_cause, demo_ends, demo_flushed, demo_no_read_fault, demo_no_usage, has_a_form, request_saves, run_cause, run_ends, run_flushed, run_has_form, run_in_order, run_read_fault, run_saves, run_within, second_within_as, unformed_in_order, unformed_saves, unnamed_in_order, unread_within, usage_cause, usage_ends, usage_flushed, usage_no_read_fault, usage_status}
 use Rattle.hilldale.proofs.Works.{NoAnswers, check_is_work, run_is_work}
 use Rattle.hilldale.proofs.top.top.Goals as goal
 
 -- words that no command has
 unformed : {A B : Type 0} (f : A → B) (form : Option A) (found : Option B) → found ≡ option_map f form → found ≡ None → form ≡ None
 unformed f None found is none = refl
-unformed f (Some x) found is none = absurd (cc)
+unformed f (Some x) found is none = absurd (has_a_form found (f x) is none)
 
 pub returns-in_default-clause-outcome : goal.returns-in_default-clause-outcome
 unfolding usage_text
@@ -31,8 +30,22 @@ returns-in_default-clause-within g c = unread_within _ _ _ _ _ refl refl
 
 pub returns-in_default-clause-saved : goal.returns-in_default-clause-saved
 returns-in_default-clause-saved g c =
-    let none = unformed command_for (form_of (map string_bytes c.args.words.now)) c.command_of.result c.command_of.ensures c.in_default.is in
-    unnamed_saves _ _ _ _ _ _ _ (λ request is. absurd (cc)) refl refl
+    unformed_saves _ _ _ _ _ _ _ (unformed command_for (form_of (map string_bytes c.args.words.now)) c.command_of.result c.command_of.ensures c.in_default.is) refl refl
+
+pub returns-in_default-clause-usage : goal.returns-in_default-clause-usage
+returns-in_default-clause-usage g c = λ is. unformed command_for (form_of (map string_bytes c.args.words.now)) c.command_of.result c.command_of.ensures c.in_default.is
+
+pub returns-in_default-clause-unformed : goal.returns-in_default-clause-unformed
+returns-in_default-clause-unformed g c = λ none. usage_status _ _ _ _ _ _ c.finish.ensures
+
+pub returns-in_default-clause-cause : goal.returns-in_default-clause-cause
+returns-in_default-clause-cause g c = usage_cause _ _ _ _ _ _ c.finish.ensures _ _ _ refl refl refl
+
+pub returns-in_default-clause-read_fault : goal.returns-in_default-clause-read_fault
+returns-in_default-clause-read_fault g c = λ is. absurd (usage_no_read_fault _ _ _ _ _ _ c.finish.ensures is)
+
+pub returns-in_default-clause-flushed : goal.returns-in_default-clause-flushed
+returns-in_default-clause-flushed g c = λ fine kept. usage_flushed _ _ _ _ _ _ c.finish.ensures fine
 
 pub run-ran-requires-clause-tile : goal.run-ran-requires-clause-tile
 run-ran-requires-clause-tile g c = subst (λ (job : Job). IsWithinLimits (request_of job)) c.in-Run.is c.in-Ok.ensures.limits
@@ -84,7 +97,7 @@ pub returns-in-Run-clause-unformed : goal.returns-in-Run-clause-unformed
 returns-in-Run-clause-unformed g c = λ none.
     let request : Request = Run (run_request_of c.in-Run.job) in
     let named : form_of (map string_bytes c.args.words.now) ≡ Some request = c.in-Ok.ensures.form ∙ ap (λ j. Some (request_of j)) c.in-Run.is in
-    absurd (cc)
+    absurd (has_a_form _ request named none)
 
 pub returns-in-Run-clause-order : goal.returns-in-Run-clause-order
 returns-in-Run-clause-order g c =
@@ -131,7 +144,7 @@ pub returns-in-Check-clause-unformed : goal.returns-in-Check-clause-unformed
 returns-in-Check-clause-unformed g c = λ none.
     let request : Request = Check (check_request_of c.in-Check.job) in
     let named : form_of (map string_bytes c.args.words.now) ≡ Some request = c.in-Ok.ensures.form ∙ ap (λ j. Some (request_of j)) c.in-Check.is in
-    absurd (cc)
+    absurd (has_a_form _ request named none)
 
 pub returns-in-Check-clause-order : goal.returns-in-Check-clause-order
 returns-in-Check-clause-order g c =
@@ -147,7 +160,7 @@ returns-in-Check-clause-within g c =
     let second = reading (g.R.Source.files c.args.script.now) (g.R.Source.left c.args.script.now) (g.R.Source.left c.check_certificate-checked.new.script)
     (over (g.R.Source.faults c.args.script.now) (g.R.Source.faults c.check_certificate-checked.new.script)) in
     run_within _ request c.in-Check.job.surface.now _ _ _ _ named refl c.check_certificate-checked.ensures.surface_left
-    (λ name is. let same : c.in-Check.job.certificate.now ≡ name = cc in subst (λ (n : List ℕ). unread ⊎ StopsWithin certificate_limit n second) same c.check_certificate-checked.ensures.certificate_left)
+    (λ name is. second_within_as {U = unread} certificate_limit second c.in-Check.job.certificate.now name is c.check_certificate-checked.ensures.certificate_left)
 
 pub returns-in-Check-clause-cause : goal.returns-in-Check-clause-cause
 returns-in-Check-clause-cause g c = run_cause _ _ _ _ _ _ c.end_run-in-Check.result _ _ _ c.check_certificate-checked.result (c.check_certificate-checked.ensures.cause (over (g.V.Sink.faults c.args.saved.now) (g.V.Sink.faults c.args.saved.now)) refl) c.end_run-in-Check.ensures
@@ -164,7 +177,7 @@ pub returns-in-Check-clause-saved : goal.returns-in-Check-clause-saved
 returns-in-Check-clause-saved g c =
     let request : Request = Check (check_request_of c.in-Check.job) in
     let named : form_of (map string_bytes c.args.words.now) ≡ Some request = c.in-Ok.ensures.form ∙ ap (λ j. Some (request_of j)) c.in-Check.is in
-    unnamed_saves _ _ _ _ _ _ _ (λ other is. let same : request ≡ other = cc in subst (λ (r : Request). save_name r ≡ None) same refl) refl refl
+    request_saves _ request _ _ _ _ _ _ named refl refl refl
 
 pub show_demo-requires-clause-demo : goal.show_demo-requires-clause-demo
 show_demo-requires-clause-demo g c = subst (λ (job : Job). IsWithinLimits (request_of job)) c.in-Demo.is c.in-Ok.ensures.limits
@@ -175,13 +188,13 @@ returns-in-Demo-clause-outcome g c = λ bytes second told.
     demo_ends (map string_bytes c.args.words.now) bytes second _ _ _ c.in-Demo.demo c.show_demo.result (g.W.Sink.written c.args.out.now) (g.W.Sink.written c.show_demo.new.out) (g.W.Sink.flushed c.show_demo.new.out) _ named refl c.show_demo.ensures
 
 pub returns-in-Demo-clause-usage : goal.returns-in-Demo-clause-usage
-returns-in-Demo-clause-usage g c = λ is. absurd (demo_is_other c.in-Demo.demo c.show_demo.result _ _ _ _ Usage c.show_demo.ensures (λ e. cc) (λ e. cc) (λ e. cc) is)
+returns-in-Demo-clause-usage g c = λ is. absurd (demo_no_usage c.in-Demo.demo c.show_demo.result _ _ _ _ c.show_demo.ensures is)
 
 pub returns-in-Demo-clause-unformed : goal.returns-in-Demo-clause-unformed
 returns-in-Demo-clause-unformed g c = λ none.
     let request : Request = Demonstrate c.in-Demo.demo in
     let named : form_of (map string_bytes c.args.words.now) ≡ Some request = c.in-Ok.ensures.form ∙ ap (λ j. Some (request_of j)) c.in-Demo.is in
-    absurd (cc)
+    absurd (has_a_form _ request named none)
 
 pub returns-in-Demo-clause-order : goal.returns-in-Demo-clause-order
 returns-in-Demo-clause-order g c =
@@ -196,7 +209,7 @@ pub returns-in-Demo-clause-cause : goal.returns-in-Demo-clause-cause
 returns-in-Demo-clause-cause g c = demo_cause c.in-Demo.demo c.show_demo.result _ _ _ _ _ _ _ refl refl refl c.show_demo.ensures
 
 pub returns-in-Demo-clause-read_fault : goal.returns-in-Demo-clause-read_fault
-returns-in-Demo-clause-read_fault g c = λ is. absurd (demo_is_other c.in-Demo.demo c.show_demo.result _ _ _ _ ReadFault c.show_demo.ensures (λ e. cc) (λ e. cc) (λ e. cc) is)
+returns-in-Demo-clause-read_fault g c = λ is. absurd (demo_no_read_fault c.in-Demo.demo c.show_demo.result _ _ _ _ c.show_demo.ensures is)
 
 pub returns-in-Demo-clause-flushed : goal.returns-in-Demo-clause-flushed
 returns-in-Demo-clause-flushed g c = λ fine kept. demo_flushed c.in-Demo.demo c.show_demo.result _ _ _ _ c.show_demo.ensures fine kept
@@ -205,4 +218,4 @@ pub returns-in-Demo-clause-saved : goal.returns-in-Demo-clause-saved
 returns-in-Demo-clause-saved g c =
     let request : Request = Demonstrate c.in-Demo.demo in
     let named : form_of (map string_bytes c.args.words.now) ≡ Some request = c.in-Ok.ensures.form ∙ ap (λ j. Some (request_of j)) c.in-Demo.is in
-    unnamed_saves _ _ _ _ _ _ _ (λ other is. let same : request ≡ other = cc in subst (λ (r : Request). save_name r ≡ None) same refl) refl refl
+    request_saves _ request _ _ _ _ _ _ named refl refl refl
