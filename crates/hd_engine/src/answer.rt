@@ -47,6 +47,7 @@ impl Answer {
             text,
         })
     }
+
     /// The answer that refuses a position outside the map.
     pub(crate) fn outside(alloc: Global, number: u64, at: Pos) -> Result<Answer, Memory>
         ensures { IfOk result (λ answer. reply_of answer ≡ refused_for number (outside_text at)) }
