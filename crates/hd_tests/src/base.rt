@@ -1,0 +1,106 @@
+// Lists, and sources and sinks in memory, on their happy paths, and how a fault shows.
+ghost use Rattle.std.specs.Prelude.{◌<◌, IsTrue};
+
+use crate::shared::{expect_bytes, list};
+use hd_base::{List, MemSink, MemSource, ReadError, Sink, Source, WriteFault, read_all, write_all};
+use std::process::Abort;
+
+#[test]
+fn a_list_keeps_its_items_in_order(rt: HostRuntime) {
+    let mut items = List::with_capacity(rt.alloc(), 2).expect(&rt, "memory");
+    items.push(b'a').expect(&rt, "memory");
+    items.extend_from_slice(b"bc").expect(&rt, "memory");
+    expect_bytes(&rt, items.as_slice(), b"abc");
+}
+
+// Two files of one name, of which the first has five bytes.
+fn five_bytes(rt: &(impl Abort + AllocGlobal), fails: &[u64], piece: usize) -> MemSource
+    requires { 0 < piece }
+{
+    let mut files = List::new(rt.alloc());
+    for bytes in [b"abcde".as_slice(), b"second".as_slice()] {
+        let file = (list(rt, b"name"), list(rt, bytes));
+        files.push(file).expect(rt, "memory");
+    }
+    MemSource::new(files, list(rt, fails), piece)
+}
+
+// Reads the file of this name with a limit.
+pub(crate) fn expect_read<S: Source>(
+    rt: &(impl Abort + AllocGlobal),
+    source: &mut S,
+    name: &str,
+    limit: usize,
+    wanted: &[u8],
+)
+    requires allowed { IsTrue (S.allows source.old name.now) }
+    requires limit { limit < 1000000 }
+{
+    let bytes = read_all(rt.alloc(), source, name, limit).expect(rt, "a file");
+    expect_bytes(rt, bytes.as_slice(), wanted);
+}
+
+// Reads the file of this name with a limit, and is refused.
+pub(crate) fn expect_refused<S: Source>(
+    rt: &(impl Abort + AllocGlobal),
+    source: &mut S,
+    name: &str,
+    limit: usize,
+    wanted: ReadError,
+)
+    requires allowed { IsTrue (S.allows source.old name.now) }
+    requires limit { limit < 1000000 }
+{
+    let error = read_all(rt.alloc(), source, name, limit).err();
+    assert_eq!(rt; error, Some(wanted));
+}
+
+#[test]
+fn a_file_is_read_whole_in_pieces_of_any_size(rt: HostRuntime) {
+    for piece in [1, 2, 3, 7] {
+        let mut source = five_bytes(&rt, &[], piece);
+        expect_read(&rt, &mut source, "name", 5, b"abcde");
+    }
+}
+
+#[test]
+fn a_limit_one_byte_short_is_too_long(rt: HostRuntime) {
+    let mut source = five_bytes(&rt, &[], 2);
+    expect_refused(&rt, &mut source, "name", 4, ReadError::TooLong(4));
+}
+
+#[test]
+fn a_fault_of_one_call_leaves_the_next_ones(rt: HostRuntime) {
+    let mut source = five_bytes(&rt, &[1], 2);
+    expect_refused(&rt, &mut source, "name", 5, ReadError::ReadFault);
+    expect_refused(&rt, &mut source, "other", 5, ReadError::ReadFault);
+    expect_read(&rt, &mut source, "name", 5, b"abcde");
+}
+
+// Opens a sink, and writes and flushes bytes.
+pub(crate) fn write_anew<W: Sink>(rt: &impl Abort, sink: &mut W, name: &str, bytes: &[u8])
+    requires { IsTrue (W.allows sink.old name.now) }
+{
+    sink.open(name).expect(rt, "an open sink");
+    write_all(sink, bytes).expect(rt, "room");
+    sink.flush().expect(rt, "a flush");
+}
+
+#[test]
+fn all_bytes_are_written_four_at_a_time(rt: HostRuntime) {
+    let mut sink = MemSink::new(rt.alloc(), List::new(rt.alloc()), 4);
+    sink.reserve(10).expect(&rt, "memory");
+    for bytes in [b"0123456789".as_slice(), b"abc".as_slice()] {
+        write_anew(&rt, &mut sink, "name", bytes);
+        expect_bytes(&rt, sink.bytes(), bytes);
+    }
+}
+
+#[test]
+fn a_prefix_is_written_where_room_ends(rt: HostRuntime) {
+    let mut sink = MemSink::new(rt.alloc(), List::new(rt.alloc()), 4);
+    sink.reserve(6).expect(&rt, "memory");
+    let answer = write_all(&mut sink, b"0123456789");
+    assert_eq!(rt; answer, Err(WriteFault));
+    expect_bytes(&rt, sink.bytes(), b"012345");
+}

@@ -1,0 +1,42 @@
+//! Tests of the libraries through their public calls, and what they are made from.
+#![tactic(auto)]
+
+#[cfg(test)]
+mod adapters;
+#[cfg(test)]
+mod base;
+#[cfg(test)]
+mod check;
+#[cfg(test)]
+mod corridor;
+#[cfg(test)]
+mod dot;
+#[cfg(test)]
+mod edit;
+#[cfg(test)]
+mod engine;
+#[cfg(test)]
+mod feature;
+#[cfg(test)]
+mod graph;
+#[cfg(test)]
+mod map;
+#[cfg(test)]
+mod morph;
+#[cfg(test)]
+mod narrow;
+#[cfg(test)]
+mod num;
+#[cfg(test)]
+mod prune;
+#[cfg(test)]
+mod script;
+#[cfg(test)]
+mod sdf;
+#[cfg(test)]
+mod shared;
+#[cfg(test)]
+mod steep;
+mod surfaces;
+
+pub use surfaces::surface_of;

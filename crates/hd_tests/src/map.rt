@@ -1,0 +1,36 @@
+// Small surfaces, point by point.
+use crate::shared::{expect_heights, surface};
+use hd_map::{DataType, Grid, Heights, Pos, Surface, contains, neighbours};
+use std::process::Abort;
+
+const SMALL: &str = "1 2 3\n4 BAD 6";
+
+// Compares the neighbours of a point.
+fn expect_neighbours(rt: &(impl Abort + AllocGlobal), surface: &Surface, at: Pos, wanted: &[Pos]) {
+    assert!(rt; contains(surface.size(), at));
+    let near = neighbours(rt.alloc(), surface, at);
+    assert_eq!(rt; near.as_slice(), wanted);
+}
+
+#[test]
+fn neighbours_are_the_present_points_round_a_point_in_position_order(rt: HostRuntime) {
+    let mut surface = surface(&rt, DataType::U8, SMALL);
+    let corner = Pos { x: 0, y: 0 };
+    let other = Pos { x: 1, y: 0 };
+    expect_neighbours(&rt, &surface, corner, &[other, Pos { x: 0, y: 1 }]);
+    surface.set_mask(corner, true).expect(&rt, "a point");
+    expect_neighbours(&rt, &surface, corner, &[]);
+    let round = [Pos { x: 2, y: 0 }, Pos { x: 0, y: 1 }, Pos { x: 2, y: 1 }];
+    expect_neighbours(&rt, &surface, other, &round);
+}
+
+#[test]
+fn a_copy_without_masks_shows_each_measured_cell(rt: HostRuntime) {
+    let mut surface = surface(&rt, DataType::U8, SMALL);
+    for (x, y) in [(0, 0), (1, 1), (2, 1)] {
+        surface.set_mask(Pos { x, y }, true).expect(&rt, "a point");
+    }
+    let copy = surface.without_masks(rt.alloc()).expect(&rt, "memory");
+    expect_heights(&rt, &surface, "BAD 2 3 4 BAD BAD");
+    expect_heights(&rt, &copy, "1 2 3 4 BAD 6");
+}

@@ -1,0 +1,386 @@
+// What no clause says: the outcomes that the rules give for words and texts from outside.
+ghost use Rattle.std.specs.Prelude.{◌<◌};
+
+use crate::shared::{Outcome, expect_bytes, expect_rows, lines_of, shown, text_of};
+use hd_base::List;
+use hd_num::{
+    Frac, Percent, Whole, first_word, leading_digits, next_line, percent_less, push_frac,
+    push_percent, push_text, push_unsigned, push_whole, read_count, read_decimal, read_percent,
+    read_whole, reduced_fraction_is_no_greater, split_words, trim,
+};
+use std::process::Abort;
+
+// The whole number of a word.
+struct WholeNumber;
+
+impl Outcome for WholeNumber {
+    fn of<R: Abort + AllocGlobal>(rt: &R, input: &str) -> String {
+        shown(rt, &read_whole(input.as_bytes()))
+    }
+}
+
+const WHOLE_NUMBERS: &str = "0 => Is(0)
++5 => Is(5)
+-5 => Is(-5)
+-0 => Is(0)
++0 => Is(0)
+007 => Is(7)
+-007 => Is(-7)
+-32768 => Is(-32768)
+9223372036854775807 => Is(9223372036854775807)
+-9223372036854775807 => Is(-9223372036854775807)
+-9223372036854775808 => Is(-9223372036854775808)
+00000000000000000000000000000000000000007 => Is(7)
+-0000000000000000000000000000005 => Is(-5)
+9223372036854775808 => Outside
++9223372036854775808 => Outside
+-9223372036854775809 => Outside
+18446744073709551615 => Outside
+18446744073709551616 => Outside
+18446744073709551621 => Outside
+-18446744073709551617 => Outside
+123456789012345678901234567890 => Outside
+-123456789012345678901234567890 => Outside
+ => Not
++ => Not
+- => Not
+--1 => Not
++-5 => Not
+-+5 => Not
+1  => Not
+ 1 => Not
+1- => Not
+1.0 => Not
+0x1 => Not
+1e3 => Not
+1\x00 => Not
+99999999999999999999999999a => Not
+\u{B2}\u{B3} => Not";
+
+#[test]
+fn words_are_whole_numbers(rt: HostRuntime) {
+    expect_rows::<WholeNumber>(&rt, WHOLE_NUMBERS);
+}
+
+// Compares the whole number of a word.
+fn expect_whole(rt: &impl Abort, word: &[u8], wanted: Whole) {
+    assert!(rt; read_whole(word) == wanted);
+}
+
+#[test]
+fn long_words_are_read_whole(rt: HostRuntime) {
+    let mut word = vec![in rt.alloc(); b'9'; 4000].expect(&rt, "memory");
+    expect_whole(&rt, &word, Whole::Outside);
+    word.push(b'x').expect(&rt, "memory");
+    expect_whole(&rt, &word, Whole::Not);
+    let mut zeros = vec![in rt.alloc(); b'0'; 4000].expect(&rt, "memory");
+    zeros.push(b'5').expect(&rt, "memory");
+    expect_whole(&rt, &zeros, Whole::Is(5));
+    assert!(rt; read_count(&zeros) == Some(5));
+}
+
+// The count of a word.
+struct Count;
+
+impl Outcome for Count {
+    fn of<R: Abort + AllocGlobal>(rt: &R, input: &str) -> String {
+        shown(rt, &read_count(input.as_bytes()))
+    }
+}
+
+const COUNTS: &str = "0 => Some(0)
+007 => Some(7)
+4294967295 => Some(4294967295)
+4294967296 => None
+18446744073709551617 => None
+ => None
++1 => None
+-0 => None
+1,0 => None";
+
+#[test]
+fn words_are_counts(rt: HostRuntime) {
+    expect_rows::<Count>(&rt, COUNTS);
+}
+
+// Adds a piece, and `|` after it.
+fn push_barred(rt: &impl Abort, out: &mut List<u8>, piece: &[u8]) {
+    push_text(out, piece).expect(rt, "memory");
+    push_text(out, b"|").expect(rt, "memory");
+}
+
+// The lines of a text, each with `|` after it.
+fn barred_lines(rt: &(impl Abort + AllocGlobal), text: &[u8]) -> List<u8> {
+    let mut out = List::new(rt.alloc());
+    let mut from = 0;
+    'lines: while let Some((span, next)) = next_line(text, from) {
+        push_barred(rt, &mut out, &text[span.start..span.end]);
+        from = next;
+    }
+    out
+}
+
+// The lines of a text, each with `|` after it.
+struct BarredLines;
+
+impl Outcome for BarredLines {
+    fn of<R: Abort + AllocGlobal>(rt: &R, input: &str) -> String {
+        let text = lines_of(rt, input);
+        text_of(rt, barred_lines(rt, text.as_bytes()))
+    }
+}
+
+const LINES: &str = " =>\x20
+/ => |
+// => ||
+a => a|
+a/ => a|
+a/bc => a|bc|
+/a//b/ => |a||b|
+a\r/b\r => a\r|b\r|";
+
+#[test]
+fn texts_have_lines(rt: HostRuntime) {
+    expect_rows::<BarredLines>(&rt, LINES);
+}
+
+// The words of a line, each with `|` after it.
+fn barred_words(rt: &(impl Abort + AllocGlobal), line: &[u8]) -> List<u8> {
+    let mut out = List::new(rt.alloc());
+    for span in split_words(rt.alloc(), line)
+        .expect(rt, "memory")
+        .as_slice()
+    {
+        let word = line
+            .get(span.start..span.end)
+            .expect(rt, "a word of the line");
+        push_barred(rt, &mut out, word);
+    }
+    out
+}
+
+// The words of a line, each taken from what the one before it leaves, with `|` after it.
+fn barred_first_words(rt: &(impl Abort + AllocGlobal), line: &[u8]) -> List<u8> {
+    let mut out = List::new(rt.alloc());
+    let mut rest = line;
+    for _ in 0..=line.len() {
+        let Some((word, left)) = first_word(rest) else {
+            break;
+        };
+        push_barred(rt, &mut out, word);
+        rest = left;
+    }
+    out
+}
+
+// The words of a line, found in both ways.
+struct BarredWords;
+
+impl Outcome for BarredWords {
+    fn of<R: Abort + AllocGlobal>(rt: &R, input: &str) -> String {
+        let words = barred_words(rt, input.as_bytes());
+        let first_words = barred_first_words(rt, input.as_bytes());
+        expect_bytes(rt, first_words.as_slice(), words.as_slice());
+        text_of(rt, words)
+    }
+}
+
+const WORDS: &str = " =>\x20
+ \t\r =>\x20
+a => a|
+set 1 2 => set|1|2|
+  a\t\tbc \r => a|bc|
+a\rb => a|b|
+a\x0Bb\x00c d => a\x0Bb\x00c|d|
+\u{A0} \u{FF} => \u{A0}|\u{FF}|";
+
+#[test]
+fn lines_have_words(rt: HostRuntime) {
+    expect_rows::<BarredWords>(&rt, WORDS);
+}
+
+#[test]
+fn numbers_are_printed(rt: HostRuntime) {
+    let mut out = List::new(rt.alloc());
+    for n in [0, 7, -7, i64::MAX, i64::MIN] {
+        push_whole(&mut out, n).expect(&rt, "memory");
+        push_text(&mut out, b" ").expect(&rt, "memory");
+    }
+    push_unsigned(&mut out, u64::MAX).expect(&rt, "memory");
+    expect_bytes(
+        &rt,
+        out.as_slice(),
+        b"0 7 -7 9223372036854775807 -9223372036854775808 18446744073709551615",
+    );
+}
+
+// The sign, the digits and the exponent of a word as a decimal.
+fn decimal_of(rt: &(impl Abort + AllocGlobal), word: &str) -> Option<(bool, u128, i32)> {
+    let read = read_decimal(rt.alloc(), word.as_bytes()).expect(rt, "memory")?;
+    expect_bytes(rt, read.literal.as_slice(), word.as_bytes());
+    Some((read.negative, read.digits, read.exponent))
+}
+
+struct DecimalNumber;
+
+impl Outcome for DecimalNumber {
+    fn of<R: Abort + AllocGlobal>(rt: &R, input: &str) -> String {
+        shown(rt, &decimal_of(rt, input))
+    }
+}
+
+const DECIMALS: &str = "1e-6 => Some((false, 1, -6))
+1.0E-006 => Some((false, 10, -7))
+-1 => Some((true, 1, 0))
++.5 => Some((false, 5, -1))
+5. => Some((false, 5, 0))
+-0.0 => Some((true, 0, -1))
+00012.50e+3 => Some((false, 1250, 1))
+7e999 => Some((false, 7, 999))
+1.2e-999 => Some((false, 12, -1000))
+99999999999999999999999999999999999999 => Some((false, 99999999999999999999999999999999999999, 0))
+000000000000000000000000000000000000000 => None
+0.00000000000000000000000000000000000000 => None
+ => None
+- => None
+. => None
+e5 => None
+1e => None
+1e+ => None
+1e1000 => None
+1e0001 => None
+1e-+1 => None
+1.2.3 => None
+1,5 => None
+--1 => None";
+
+#[test]
+fn words_are_decimals(rt: HostRuntime) {
+    expect_rows::<DecimalNumber>(&rt, DECIMALS);
+}
+
+// A text without the blanks round it.
+struct Trimmed;
+
+impl Outcome for Trimmed {
+    fn of<R: Abort + AllocGlobal>(rt: &R, input: &str) -> String {
+        let mut inner = List::new(rt.alloc());
+        push_text(&mut inner, trim(input.as_bytes())).expect(rt, "memory");
+        text_of(rt, inner)
+    }
+}
+
+const TEXTS: &str = " =>\x20
+ \t\r =>\x20
+a b => a b
+\t a \r => a
+\x0Ba\x00 => \x0Ba\x00";
+
+#[test]
+fn texts_are_trimmed(rt: HostRuntime) {
+    expect_rows::<Trimmed>(&rt, TEXTS);
+}
+
+// The digits at the front of a text: their number, and their value.
+struct LeadingDigits;
+
+impl Outcome for LeadingDigits {
+    fn of<R: Abort + AllocGlobal>(rt: &R, input: &str) -> String {
+        shown(rt, &leading_digits(input.as_bytes()))
+    }
+}
+
+const DIGITS: &str = "0120 7 => (4, 120)
+x1 => (0, 0)
+1234567890123456789 => (18, 123456789012345678)";
+
+#[test]
+fn digits_stand_at_the_front(rt: HostRuntime) {
+    expect_rows::<LeadingDigits>(&rt, DIGITS);
+}
+
+// Compares the text of a fraction.
+fn expect_fraction(rt: &(impl Abort + AllocGlobal), n: i128, d: u128, wanted: &str)
+    requires { 0 < d }
+{
+    let mut out = List::new(rt.alloc());
+    push_frac(&mut out, Frac::new(n, d)).expect(rt, "memory");
+    expect_bytes(rt, out.as_slice(), wanted.as_bytes());
+}
+
+#[test]
+fn fractions_are_reduced(rt: HostRuntime) {
+    expect_fraction(&rt, 0, 12, "0/1");
+    expect_fraction(&rt, 6, 4, "3/2");
+    expect_fraction(&rt, -6, 4, "-3/2");
+    expect_fraction(&rt, 12, 4, "3/1");
+    expect_fraction(&rt, 1, 7, "1/7");
+    expect_fraction(&rt, i128::MIN, 1 << 127, "-1/1");
+    expect_fraction(
+        &rt,
+        i128::MAX,
+        u128::MAX,
+        "170141183460469231731687303715884105727/340282366920938463463374607431768211455",
+    );
+}
+
+#[test]
+fn fractions_are_added(rt: HostRuntime) {
+    reduced_fraction_is_no_greater();
+    let sum = Frac::new(1, 6).add(Frac::new(-1, 10));
+    assert!(rt; (sum.num(), sum.den()) == (1, 15));
+}
+
+// The plain text of a percent.
+struct PlainPercent;
+
+impl Outcome for PlainPercent {
+    fn of<R: Abort + AllocGlobal>(rt: &R, input: &str) -> String {
+        let mut text = List::new(rt.alloc());
+        match read_percent(input.as_bytes()) {
+            Some(percent) => push_percent(&mut text, percent).expect(rt, "memory"),
+            None => push_text(&mut text, b"none").expect(rt, "memory"),
+        }
+        text_of(rt, text)
+    }
+}
+
+const PERCENTS: &str = "5% => 5%
+5.50% => 5.5%
+005.5% => 5.5%
+0.05% => 0.05%
+0.001% => 0.001%
+0% => 0%
+100.000% => 100%
+100.001% => none
+101% => none
+0005% => none
+5.% => none
+.5% => none
+5.1234% => none
++5% => none
+5 => none";
+
+#[test]
+fn words_are_percents(rt: HostRuntime) {
+    assert!(rt; read_percent(b"5.5%") == Some(Percent { thousandths: 5_500 }));
+    expect_rows::<PlainPercent>(&rt, PERCENTS);
+}
+
+#[test]
+fn a_local_height_is_below_a_percent_strictly(rt: HostRuntime) {
+    let cases = [
+        (4, 90_000, 5, true),
+        (4, 80_000, 5, false),
+        (0, 0, 5, false),
+        (0, 1, 1, true),
+        (i64::MAX, 100_000, i64::MAX, false),
+        (i64::MAX - 1, 100_000, i64::MAX, true),
+    ];
+    for (local, thousandths, sz, less) in cases {
+        assert!(rt;
+            percent_less(local, Percent { thousandths }, sz) == less,
+            "{local} of {sz}"
+        );
+    }
+}

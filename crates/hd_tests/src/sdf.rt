@@ -1,0 +1,261 @@
+// What no clause says: the outcomes that the format gives for texts from outside, at its borders.
+use crate::shared::{Outcome, expect_bytes, expect_heights, expect_rows, file_of, lines_of, shown};
+use hd_base::List;
+use hd_map::{Heights, Size};
+use hd_num::{Decimal, push_text, push_unsigned};
+use hd_sdf_read::{SdfError, SdfFile, Version, read_sdf};
+use hd_sdf_write::write_sdf;
+use std::process::Abort;
+
+const NAMES: &[u8] = b"aBCR-1.0
+ManufacID = demo
+CreateDate = 010120260000
+ModDate = 010120260000
+";
+
+const SIZE: &[u8] = b"NumPoints = 3
+NumProfiles = 1
+";
+
+// The header from the scales on, without the line that ends it.
+const REST: &[u8] = b"Xscale = 1e-6
+Yscale = 1e-6
+Zscale = 1e-9
+Zresolution = -1
+Compression = 0
+DataType = 5
+CheckType = 0
+";
+
+const DATA: &[u8] = b"*
+0 5 1
+*
+";
+
+// The parts of a text behind one another.
+fn joined(rt: &(impl Abort + AllocGlobal), parts: &[&[u8]]) -> List<u8> {
+    let mut text = List::new(rt.alloc());
+    for part in parts {
+        push_text(&mut text, part).expect(rt, "memory");
+    }
+    text
+}
+
+// Compares why the text of these parts is refused, or that it is not.
+fn expect_refusal(rt: &(impl Abort + AllocGlobal), parts: &[&[u8]], wanted: Option<SdfError>) {
+    let text = joined(rt, parts);
+    let refusal = read_sdf(rt.alloc(), text.as_slice()).err();
+    assert_eq!(rt; refusal, wanted);
+}
+
+// Compares the sign, the digits and the exponent of a decimal.
+fn expect_decimal(rt: &impl Abort, found: &Decimal, wanted: (bool, u128, i32)) {
+    assert!(rt; (found.negative, found.digits, found.exponent) == wanted);
+}
+
+const ANY_ORDER: &[u8] = b"\taISO-1.0 \r
+xSCALE=.5\r
+; a comment
+datatype = 2
+ZScale = +5.E3
+My Key = = 1
+
+numprofiles = +2
+YSCALE = 1
+NUMPOINTS =  2
+ *
+1\tBAD
+3 4294967295";
+
+// Compares the extra keys of a file with a single one.
+fn expect_extra(rt: &impl Abort, file: &SdfFile, key: &[u8], value: &[u8]) {
+    assert!(rt; file.extra.as_slice().len() == 1);
+    for extra in file.extra.as_slice() {
+        expect_bytes(rt, extra.key.as_slice(), key);
+        expect_bytes(rt, extra.value.as_slice(), value);
+    }
+}
+
+#[test]
+fn keys_stand_in_any_order_and_case(rt: HostRuntime) {
+    let file = file_of(&rt, ANY_ORDER);
+    assert!(rt; file.version == Version::Iso);
+    expect_bytes(&rt, file.create_date.as_slice(), b"");
+    expect_bytes(&rt, file.trailer.as_slice(), b"");
+    expect_decimal(&rt, &file.x_scale, (false, 5, -1));
+    expect_decimal(&rt, &file.z_resolution, (true, 1, 0));
+    expect_extra(&rt, &file, b"My Key", b"= 1");
+    let size = Size {
+        points: 2,
+        profiles: 2,
+    };
+    assert!(rt; file.surface.size() == size);
+    expect_heights(&rt, &file.surface, "1 BAD 3 4294967295");
+}
+
+// Why a header that goes on with these lines is refused.
+struct Header;
+
+impl Outcome for Header {
+    fn of<R: Abort + AllocGlobal>(rt: &R, input: &str) -> String {
+        refusal_text(rt, &[NAMES, lines_of(rt, input).as_bytes()])
+    }
+}
+
+// Why the text of these parts is refused.
+fn refusal_text(rt: &(impl Abort + AllocGlobal), parts: &[&[u8]]) -> String {
+    let text = joined(rt, parts);
+    shown(rt, &read_sdf(rt.alloc(), text.as_slice()).err())
+}
+
+const HEADERS: &str = "noise/ => Some(BadHeaderLine(5))
+NumPoints = 3/numpoints = 3/ => Some(KeyTwice(6))
+NumPoints = 0/ => Some(BadValue(5))
+Compression = 1/ => Some(Unsupported(5))
+DataType = 7/ => Some(Unsupported(5))
+NumPoints = 3/NumProfiles = 1/*/ => Some(MissingKey(3))
+ => Some(HeaderEnds)";
+
+#[test]
+fn headers_are_refused(rt: HostRuntime) {
+    expect_rows::<Header>(&rt, HEADERS);
+    expect_refusal(&rt, &[], Some(SdfError::BadVersion));
+    let large = b"NumPoints = 65535\nNumProfiles = 65\n";
+    expect_refusal(&rt, &[NAMES, large, REST, DATA], Some(SdfError::TooLarge));
+}
+
+// Why a file with these data is refused.
+struct DataLines;
+
+impl Outcome for DataLines {
+    fn of<R: Abort + AllocGlobal>(rt: &R, input: &str) -> String {
+        refusal_text(
+            rt,
+            &[NAMES, SIZE, REST, b"*\n", lines_of(rt, input).as_bytes()],
+        )
+    }
+}
+
+const ANY_DATA: &str = "0 5 => Some(TooFewData(2))
+0 5 * 1 => Some(TooFewData(2))
+0 5 1 9/*/ => Some(TooManyData(4))
+0 12.5 1/*/ => Some(BadDatum(2))
+0 40000 1/*/ => Some(DatumRange(2))
+0 123456789012345678901234567890 1/*/ => Some(DatumRange(2))
+0 5 1 => None
+-32768 BAD/+32767 => None
+0\r/\t+5/BAD *no end => Some(TooManyData(4))
+0\r/\t+5/BAD * the end => None";
+
+#[test]
+fn data_are_refused(rt: HostRuntime) {
+    expect_rows::<DataLines>(&rt, ANY_DATA);
+}
+
+// Compares the refusal of a text with so many bytes `x` between two parts.
+fn expect_at_length(
+    rt: &(impl Abort + AllocGlobal),
+    front: &[u8],
+    count: usize,
+    end: &[u8],
+    wanted: Option<SdfError>,
+) {
+    let run = vec![in rt.alloc(); b'x'; count].expect(rt, "memory");
+    let parts = [NAMES, front, run.as_slice(), end, SIZE, REST, DATA];
+    expect_refusal(rt, &parts, wanted);
+}
+
+#[test]
+fn lines_keys_and_values_are_refused_past_their_limits(rt: HostRuntime) {
+    let long = Some(SdfError::BadHeaderLine(5));
+    expect_at_length(&rt, b";", 1023, b"\n", None);
+    expect_at_length(&rt, b";", 1024, b"\n", long);
+    expect_at_length(&rt, b"", 64, b"=\n", None);
+    expect_at_length(&rt, b"", 65, b"=\n", long);
+    expect_at_length(&rt, b"k=", 896, b"\n", None);
+    expect_at_length(&rt, b"k=", 897, b"\n", long);
+}
+
+#[test]
+fn trailers_are_refused_past_their_limit(rt: HostRuntime) {
+    for (count, wanted) in [(65_536, None), (65_537, Some(SdfError::TrailerTooLong))] {
+        let trailer = vec![in rt.alloc(); b'x'; count].expect(&rt, "memory");
+        expect_refusal(&rt, &[NAMES, SIZE, REST, DATA, &trailer, b"\n"], wanted);
+    }
+}
+
+// So many lines with different extra keys.
+fn extra_lines(rt: &(impl Abort + AllocGlobal), count: u64) -> List<u8> {
+    let mut lines = List::new(rt.alloc());
+    for number in 0..count {
+        push_unsigned(&mut lines, number).expect(rt, "memory");
+        push_text(&mut lines, b" = some\n").expect(rt, "memory");
+    }
+    lines
+}
+
+#[test]
+fn the_241st_extra_key_is_refused(rt: HostRuntime) {
+    for (count, wanted) in [(240, None), (241, Some(SdfError::TooManyKeys(245)))] {
+        let lines = extra_lines(&rt, count);
+        let parts = [NAMES, lines.as_slice(), SIZE, REST, DATA];
+        expect_refusal(&rt, &parts, wanted);
+    }
+}
+
+const MEASURED: &[u8] = b"aBCR-1.0\r
+ManufacID   = Lab 7\r
+CreateDate  = 010120261230\r
+ModDate     = 010120261230\r
+NumPoints   = 4\r
+NumProfiles = 2\r
+Xscale      = 1.0E-006\r
+Yscale      = 1.0E-006\r
+Zscale      = 1.0E-009\r
+Zresolution = -1\r
+Compression = 0\r
+DataType    = 6\r
+CheckType   = 0\r
+; exported\r
+Objective = 50x\r
+*\r
+12 13\r
+BAD 15 16 17 18\r
+19\r
+*\r
+Operator: A. N.\r
+";
+
+const CANONICAL: &[u8] = b"aBCR-1.0
+ManufacID = Lab 7
+CreateDate = 010120261230
+ModDate = 010120261230
+NumPoints = 4
+NumProfiles = 2
+Xscale = 1.0E-006
+Yscale = 1.0E-006
+Zscale = 1.0E-009
+Zresolution = -1
+Compression = 0
+DataType = 6
+CheckType = 0
+Objective = 50x
+*
+12 13 BAD 15
+16 17 18 19
+*
+Operator: A. N.
+";
+
+// Compares the text of a file.
+fn expect_written(rt: &(impl Abort + AllocGlobal), file: &SdfFile, wanted: &[u8]) {
+    let text = write_sdf(rt.alloc(), file).expect(rt, "memory");
+    expect_bytes(rt, text.as_slice(), wanted);
+}
+
+#[test]
+fn a_measured_file_and_its_canonical_text_are_written_alike(rt: HostRuntime) {
+    for text in [MEASURED, CANONICAL] {
+        expect_written(&rt, &file_of(&rt, text), CANONICAL);
+    }
+}
