@@ -6,6 +6,7 @@ mod faults;
 mod reports;
 mod runs;
 mod saves;
+mod scripts;
 mod surfaces;
 mod trials;
 mod words;

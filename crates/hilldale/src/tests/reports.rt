@@ -6,17 +6,17 @@ use std::test::Fail;
 
 // A surface of data, a script, and what its run prints.
 #[derive(Drop)]
-struct Case {
-    points: u32,
-    profiles: u32,
-    data: &'static str,
-    script: &'static str,
-    status: Status,
-    printed: &'static str,
+pub(crate) struct Case {
+    pub(crate) points: u32,
+    pub(crate) profiles: u32,
+    pub(crate) data: &'static str,
+    pub(crate) script: &'static str,
+    pub(crate) status: Status,
+    pub(crate) printed: &'static str,
 }
 
 // Each run ends and prints as its case says.
-fn expect_all(rt: &(impl Abort + AllocGlobal), cases: &[Case]) -> Result<(), Fail> {
+pub(crate) fn expect_all(rt: &(impl Abort + AllocGlobal), cases: &[Case]) -> Result<(), Fail> {
     for case in cases {
         let surface = file(rt.alloc(), case.points, case.profiles, 5, case.data)?;
         let feed = whole(surface.as_str(), case.script);
@@ -37,22 +37,6 @@ fn prunings_tell_their_steps_and_what_is_kept(rt: HostRuntime) -> Result<(), Fai
             printed: "prune D 90% 1 1\nstep 2 0 local 4 saddle 1 0 into 0 0\ndale 0 0 0 3\nprune D 80% 0 2\ndale 0 0 0 2\ndale 2 0 1 1\n",
         },
         Case {
-            points: 5,
-            profiles: 2,
-            data: "7 BAD 7 BAD 7\n7 7 7 7 7",
-            script: "prune D 5%\n",
-            status: Status::Done,
-            printed: "prune D 5% 0 3\ndale 0 0 7 3\ndale 2 0 7 3\ndale 4 0 7 2\n",
-        },
-        Case {
-            points: 3,
-            profiles: 3,
-            data: "0 9 1\n9 5 9\n2 9 9",
-            script: "prune D 40%\nprune D 50%\n",
-            status: Status::Done,
-            printed: "prune D 40% 1 2\nstep 0 2 local 3 saddle 1 1 into 0 0\ndale 0 0 0 7\ndale 2 0 1 2\nprune D 50% 2 1\nstep 0 2 local 3 saddle 1 1 into 0 0\nstep 2 0 local 4 saddle 1 1 into 0 0\ndale 0 0 0 9\n",
-        },
-        Case {
             points: 4,
             profiles: 1,
             data: "0 1 0 9",
@@ -64,9 +48,9 @@ fn prunings_tell_their_steps_and_what_is_kept(rt: HostRuntime) -> Result<(), Fai
             points: 4,
             profiles: 1,
             data: "9 8 9 0",
-            script: "prune H 50%\n",
+            script: "tree H\nprune H 50%\n",
             status: Status::Done,
-            printed: "prune H 50% 1 1\nstep 0 0 local 1 saddle 1 0 into 2 0\nhill 2 0 9 4\n",
+            printed: "tree H 1\nsaddle 1 0 8 2 2 0 0 0\nprune H 50% 1 1\nstep 0 0 local 1 saddle 1 0 into 2 0\nhill 2 0 9 4\n",
         },
     ];
     expect_all(&rt, &cases)
@@ -84,36 +68,12 @@ fn saddles_come_with_certificates(rt: HostRuntime) -> Result<(), Fail> {
             printed: "hills 1\nhill 1 0 5 3\ncertificate D 8\nfrom 0 0\nto 2 0\nsaddle 1 0 5\npath 3\n0 0\n1 0\n2 0\ncut 1\n0 0\nend\n",
         },
         Case {
-            points: 3,
-            profiles: 1,
-            data: "0 5 1",
-            script: "mask 1 0 1 0\nsaddle D 0 0 2 0\n",
-            status: Status::Done,
-            printed: "line 1 ok\ncertificate D 8\nfrom 0 0\nto 2 0\nsaddle none\ncut 1\n0 0\nend\n",
-        },
-        Case {
-            points: 3,
-            profiles: 3,
-            data: "0 9 1\n4 9 5\n6 2 6",
-            script: "tree D\nsaddle D 0 0 2 0\n",
-            status: Status::Done,
-            printed: "tree D 2\nsaddle 0 1 4 2 0 0 1 2\nsaddle 2 1 5 2 0 0 2 0\ncertificate D 8\nfrom 0 0\nto 2 0\nsaddle 2 1 5\npath 5\n0 0\n0 1\n1 2\n2 1\n2 0\ncut 3\n0 0\n0 1\n1 2\nend\n",
-        },
-        Case {
             points: 4,
             profiles: 1,
             data: "9 8 9 0",
             script: "saddle H 2 0 0 0\n",
             status: Status::Done,
             printed: "certificate H 8\nfrom 2 0\nto 0 0\nsaddle 1 0 8\npath 3\n2 0\n1 0\n0 0\ncut 1\n2 0\nend\n",
-        },
-        Case {
-            points: 3,
-            profiles: 1,
-            data: "0 5 1",
-            script: "saddle D 0 0 1 0\nbad 1 0\nlabel H 1 0\n",
-            status: Status::LineRefused,
-            printed: "line 1 refused: both points are in one region\nline 2 ok\nline 3 refused: 1 0 is not present\n",
         },
     ];
     expect_all(&rt, &cases)
@@ -142,22 +102,6 @@ fn parameters_are_fractions_in_lowest_terms(rt: HostRuntime) -> Result<(), Fail>
             script: "param S5p\nparam S5v\nparam S10z\nparam Spd\nparam Sda 3\nparam Sda -1\nparam Sha 6\nparam Sha 5\n",
             status: Status::Done,
             printed: "param S5p 5/1\nparam S5v 9/2\nparam S10z 19/2\nparam Spd 1/3\nparam Sda 3 none\nparam Sda -1 3/2\nparam Sha 6 3/1\nparam Sha 5 none\n",
-        },
-        Case {
-            points: 1,
-            profiles: 1,
-            data: "4",
-            script: "param S10z\nparam Spd\n",
-            status: Status::Done,
-            printed: "param S10z 0/1\nparam Spd 1/1\n",
-        },
-        Case {
-            points: 2,
-            profiles: 1,
-            data: "BAD BAD",
-            script: "param Spd\ninfo\n",
-            status: Status::Done,
-            printed: "param Spd none\ninfo\nsize 2 1\ntype 5\npresent 0\nrange none\nscales 1e-6 1e-6 1e-9\n",
         },
         Case {
             points: 3,
