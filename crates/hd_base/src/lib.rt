@@ -9,14 +9,10 @@ mod file_sink;
 mod file_source;
 mod mem_sink;
 mod mem_source;
-#[cfg(test)]
-mod narrow;
 mod schedule;
 mod sink;
 mod source;
 mod stdout_sink;
-#[cfg(test)]
-mod tests;
 
 pub use file_sink::FileSink;
 pub use file_source::FileSource;

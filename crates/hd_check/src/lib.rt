@@ -11,8 +11,6 @@ mod order;
 mod path;
 mod points;
 mod reading;
-#[cfg(test)]
-mod tests;
 mod types;
 mod words;
 mod writing;

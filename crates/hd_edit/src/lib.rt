@@ -10,8 +10,6 @@ mod laws;
 mod make;
 mod paint;
 mod stroke;
-#[cfg(test)]
-mod tests;
 
 pub use board::Board;
 pub use edit::{Edit, EditError, LogEnds};

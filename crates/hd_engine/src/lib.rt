@@ -8,8 +8,6 @@ mod parts;
 mod reports;
 mod saddles;
 mod session;
-#[cfg(test)]
-mod tests;
 mod texts;
 
 pub use answer::Answer;

@@ -11,8 +11,6 @@ mod reading;
 mod region;
 mod significance;
 mod statistic;
-#[cfg(test)]
-mod tests;
 mod value;
 
 pub use laws::{heights_alone_serve, mean_height_is_small};

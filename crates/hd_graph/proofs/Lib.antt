@@ -1,4 +1,4 @@
--- hd_prune cites Places, Lows, Rises, Going and Literals
+-- hd_prune cites Places, Lows, Rises and Going
 pub mod Places
 pub mod Steps
 pub mod Unions
@@ -33,4 +33,3 @@ pub mod MapTrees
 pub mod Basins
 pub mod Regional
 pub mod Merged
-pub mod Literals

@@ -11,4 +11,3 @@ pub mod Candidates
 pub mod Ends
 pub mod Flood
 pub mod Parts
-pub mod Literal

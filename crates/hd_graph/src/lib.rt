@@ -11,8 +11,6 @@ mod line;
 mod links;
 mod merges;
 mod parts;
-#[cfg(test)]
-mod tests;
 mod thinning;
 mod trees;
 mod ways;

@@ -12,8 +12,6 @@ mod pruning_law;
 mod range;
 mod side;
 mod surface;
-#[cfg(test)]
-mod tests;
 mod types;
 
 pub use cells::Cells;

@@ -16,8 +16,6 @@ mod laws;
 mod offsets;
 mod plain;
 mod round;
-#[cfg(test)]
-mod tests;
 mod window;
 
 pub use cells::{close, dilate, erode, open};

@@ -9,8 +9,6 @@ mod lines;
 mod percent;
 mod print;
 mod span;
-#[cfg(test)]
-mod tests;
 mod whole;
 mod words;
 

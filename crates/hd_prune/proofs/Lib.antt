@@ -46,4 +46,3 @@ pub mod KeptMerges
 pub mod Noting
 pub mod KeptLows
 pub mod Staying
-pub mod Literals

@@ -8,4 +8,3 @@ pub mod Kept
 pub mod Answer
 pub mod Staying
 pub mod Notes
-pub mod Literal

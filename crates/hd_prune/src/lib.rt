@@ -12,8 +12,6 @@ mod order;
 mod pruning;
 mod step;
 mod taking;
-#[cfg(test)]
-mod tests;
 
 pub use around::Around;
 pub use keeping::keep;

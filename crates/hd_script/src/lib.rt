@@ -7,8 +7,6 @@ mod filters;
 mod line;
 mod parameters;
 mod rows;
-#[cfg(test)]
-mod tests;
 mod words;
 
 pub use command::{Command, LineError};

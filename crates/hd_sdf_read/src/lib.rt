@@ -8,8 +8,6 @@ mod file;
 mod header_lines;
 mod keys;
 mod sdf;
-#[cfg(test)]
-mod tests;
 mod token;
 
 pub use error::SdfError;

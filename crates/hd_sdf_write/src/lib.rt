@@ -4,8 +4,6 @@
 mod cells;
 mod laws;
 mod lines;
-#[cfg(test)]
-mod tests;
 mod write;
 
 pub use laws::{canonical_text_reads_back, canonical_text_stays};

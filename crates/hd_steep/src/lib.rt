@@ -13,8 +13,6 @@ mod places;
 mod profile;
 mod rolling;
 mod steep;
-#[cfg(test)]
-mod tests;
 
 pub use borders::passes;
 pub use crossing::crossings;

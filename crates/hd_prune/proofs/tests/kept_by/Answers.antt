@@ -1,6 +1,0 @@
-use Rattle.std.proofs.Common.{length}
-use Rattle.hd_prune.proofs.Literals.{within-from}
-use Rattle.hd_prune.proofs.tests.kept_by.Goals as goal
-
-pub keep-requires : goal.keep-requires
-keep-requires g c = within-from (length c.args.lows.now) c.args.merges.now c.requires
