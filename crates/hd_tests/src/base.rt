@@ -2,7 +2,8 @@
 ghost use Rattle.std.specs.Prelude.{◌<◌, IsTrue};
 
 use crate::shared::{expect_bytes, list};
-use hd_base::{List, MemSink, MemSource, ReadError, Sink, Source, WriteFault, read_all, write_all};
+use hd_base::{MemSink, MemSource, ReadError, Sink, Source, WriteFault, read_all, write_all};
+use hd_list::List;
 use std::process::Abort;
 
 #[test]

@@ -1,7 +1,7 @@
 // Certificates on small surfaces, and their texts.
 use crate::shared::{Outcome, expect_bytes, expect_rows, lines_of, shown, surface};
-use hd_base::List;
 use hd_check::{check, read_certificate, write_certificate};
+use hd_list::List;
 use hd_map::{DataType, Pos};
 use std::process::Abort;
 

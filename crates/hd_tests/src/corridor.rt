@@ -3,8 +3,8 @@ ghost use Rattle.std.specs.Prelude.{◌<◌};
 
 use crate::engine::answers;
 use crate::surface_of;
-use hd_base::List;
 use hd_check::{Certificate, Verdict, check, read_certificate, write_certificate};
+use hd_list::List;
 use hd_map::{Cell, DataType, Size};
 use hd_num::{push_text, push_whole};
 use std::process::Abort;

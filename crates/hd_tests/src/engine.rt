@@ -1,7 +1,7 @@
 // Sessions on surfaces, line by line.
 use crate::shared::{expect_bytes, expect_heights, file_of};
-use hd_base::List;
 use hd_engine::Session;
+use hd_list::List;
 use hd_num::{next_line, push_text};
 use std::process::Abort;
 

@@ -3,8 +3,8 @@ ghost use Rattle.std.specs.Prelude.{◌≤◌, All};
 ghost use Rattle.hd_feature.specs.declared.region.Region.{Region};
 
 use crate::shared::{Outcome, expect_bytes, expect_rows, list, shown, text_of};
-use hd_base::List;
 use hd_feature::{NotationError, Parameter, Region, evaluate, named, read_notation};
+use hd_list::List;
 use hd_map::Rank;
 use hd_num::{push_frac, push_text};
 use std::process::Abort;

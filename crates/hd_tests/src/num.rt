@@ -2,7 +2,7 @@
 ghost use Rattle.std.specs.Prelude.{◌<◌};
 
 use crate::shared::{Outcome, expect_bytes, expect_rows, lines_of, shown, text_of};
-use hd_base::List;
+use hd_list::List;
 use hd_num::{
     Frac, Percent, Whole, first_word, leading_digits, next_line, percent_less, push_frac,
     push_percent, push_text, push_unsigned, push_whole, read_count, read_decimal, read_percent,

@@ -1,6 +1,6 @@
 // What no clause says: the outcomes that the format gives for texts from outside, at its borders.
 use crate::shared::{Outcome, expect_bytes, expect_heights, expect_rows, file_of, lines_of, shown};
-use hd_base::List;
+use hd_list::List;
 use hd_map::{Heights, Size};
 use hd_num::{Decimal, push_text, push_unsigned};
 use hd_sdf_read::{SdfError, SdfFile, Version, read_sdf};

@@ -3,7 +3,7 @@ ghost use Rattle.std.specs.Prelude.{◌≡◌};
 ghost use Rattle.hd_script.specs.Whole.{IsWhole};
 
 use crate::surface_of;
-use hd_base::List;
+use hd_list::List;
 use hd_map::{Cell, DataType, Heights, Size, Surface, position_of};
 use hd_num::{Whole, read_whole};
 use hd_script::{Command, read_line};

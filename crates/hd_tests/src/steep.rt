@@ -1,6 +1,6 @@
 // Small surfaces whose roots are known.
 use crate::shared::{Outcome, expect_bytes, expect_rows, lines_of, surface, text_of};
-use hd_base::List;
+use hd_list::List;
 use hd_map::{
     DataType, Down, Heights, Pass, Pos, Side, Surface, Up, contains, index_of, is_present,
     position_of,
