@@ -1,6 +1,6 @@
 // What demos print.
 use crate::Status;
-use crate::tests::trials::{Feed, expect, run, whole, words_of};
+use crate::tests::trials::{Feed, expect, run, whole};
 use hd_words::command_of;
 use std::alloc::Global;
 use std::test::Fail;
@@ -21,38 +21,42 @@ Spd 2/3
 S10z 3847/1
 ";
 
-// Whether these are the words of a demo.
-fn is_demo(alloc: Global, words: [&str; 4]) -> Result<bool, Fail> {
-    let [points, profiles, number, edits] = words;
-    let given = words_of(alloc, &["demo", points, profiles, number, edits])?;
-    Ok(command_of(given.as_slice()).is_some())
+const REFUSED: [&str; 11] = [
+    "demo 0 1 7 1",
+    "demo 1 0 7 1",
+    "demo 65536 1 7 1",
+    "demo 1 65536 7 1",
+    "demo 2048 2049 7 1",
+    "demo 3 1 4294967296 1",
+    "demo 3 1 7 100001",
+    "demo 3 1 -7 1",
+    "demo +3 1 7 1",
+    "demo 3  7 1",
+    "demo 3 1 7 1x",
+];
+
+const TAKEN: [&str; 3] = [
+    "demo 65535 64 0 0",
+    "demo 64 65535 4294967295 100000",
+    "demo 2048 2048 7 1",
+];
+
+// Whether these are the words of a demo, with one space between each two.
+fn is_demo(alloc: Global, line: &str) -> Result<bool, Fail> {
+    let mut words = Vec::new(alloc);
+    for word in line.split(' ') {
+        words.push(String::from_str(alloc, word)?)?;
+    }
+    Ok(command_of(words.as_slice()).is_some())
 }
 
 #[test]
 fn numbers_outside_their_limits_make_no_demo(rt: HostRuntime) -> Result<(), Fail> {
-    let refused = [
-        ["0", "1", "7", "1"],
-        ["1", "0", "7", "1"],
-        ["65536", "1", "7", "1"],
-        ["1", "65536", "7", "1"],
-        ["2048", "2049", "7", "1"],
-        ["3", "1", "4294967296", "1"],
-        ["3", "1", "7", "100001"],
-        ["3", "1", "-7", "1"],
-        ["+3", "1", "7", "1"],
-        ["3", "", "7", "1"],
-        ["3", "1", "7", "1x"],
-    ];
-    for words in refused {
-        assert!(rt; !is_demo(rt.alloc(), words)?, "{words:?}");
+    for line in REFUSED {
+        assert!(rt; !is_demo(rt.alloc(), line)?, "{line}");
     }
-    let taken = [
-        ["65535", "64", "0", "0"],
-        ["64", "65535", "4294967295", "100000"],
-        ["2048", "2048", "7", "1"],
-    ];
-    for words in taken {
-        assert!(rt; is_demo(rt.alloc(), words)?, "{words:?}");
+    for line in TAKEN {
+        assert!(rt; is_demo(rt.alloc(), line)?, "{line}");
     }
     Ok(())
 }
