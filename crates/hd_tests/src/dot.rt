@@ -6,19 +6,20 @@ ghost use Rattle.hd_map.specs.declared.types.DataType.TheVariants.{I8};
 ghost use Rattle.hd_map.specs.Map.{IsCellOf};
 
 use hd_edit::{Board, Edit, EditError};
-use hd_map::{Cell, DataType, Grid, Heights, MapError, Pos, Size, contains, is_cell_of};
+use hd_map::{Adjacency, Cell, DataType, Grid, Heights, MapError, Pos, Size, contains, is_cell_of};
 
 // A grid of one point, which counts its changes.
 #[derive(Drop)]
 struct Dot {
     cell: Cell,
     masked: bool,
+    adjacency: Adjacency,
     changes: u64,
     ghost in_range: { IsCellOf I8 cell },
 }
 
 impl Heights for Dot {
-    ghost map = { λ dot. record { size = record { points = 1; profiles = 1 }; data_type = I8; cells = dot.cell ∷ []; masks = dot.masked ∷ [] } };
+    ghost map = { λ dot. record { size = record { points = 1; profiles = 1 }; data_type = I8; cells = dot.cell ∷ []; masks = dot.masked ∷ []; adjacency = dot.adjacency } };
 
     ghost whole = { λ dot. Prim.search (rules, common_steps) };
 
@@ -27,6 +28,10 @@ impl Heights for Dot {
             points: 1,
             profiles: 1,
         }
+    }
+
+    fn adjacency(&self) -> Adjacency {
+        self.adjacency
     }
 
     fn height(&self, _at: Pos) -> Option<i64> {
@@ -82,6 +87,13 @@ impl Grid for Dot {
         self.masked = masked;
         Ok(())
     }
+
+    fn set_adjacency(&mut self, adjacency: Adjacency) {
+        if adjacency != self.adjacency {
+            self.changes += 1;
+        }
+        self.adjacency = adjacency;
+    }
 }
 
 // How often a grid was changed, and its height.
@@ -94,6 +106,7 @@ fn a_grid_counts_its_changes(rt: HostRuntime) {
     let dot = Dot {
         cell: Cell::Bad,
         masked: true,
+        adjacency: Adjacency::Eight,
         changes: 0,
     };
     let mut board = Board::new(rt.alloc(), dot).expect(&rt, "memory");
@@ -108,4 +121,9 @@ fn a_grid_counts_its_changes(rt: HostRuntime) {
     assert!(rt; seen(board.grid()) == (2, Some(-128)));
     board.undo(2).expect(&rt, "two edits");
     assert!(rt; seen(board.grid()) == (4, None));
+    board.set_adjacency(Adjacency::Eight);
+    assert!(rt; seen(board.grid()) == (4, None));
+    board.set_adjacency(Adjacency::Four);
+    assert!(rt; seen(board.grid()) == (5, None));
+    assert!(rt; board.grid().adjacency() == Adjacency::Four);
 }

@@ -1,6 +1,8 @@
 // Small surfaces, point by point.
 use crate::shared::{expect_heights, surface};
-use hd_map::{DataType, Grid, Heights, Pos, Surface, contains, neighbours};
+use hd_map::{
+    Adjacency, DataType, Grid, Heights, Pos, Surface, contains, neighbours, neighbours_by,
+};
 use std::process::Abort;
 
 const SMALL: &str = "1 2 3\n4 BAD 6";
@@ -22,6 +24,22 @@ fn neighbours_are_the_present_points_round_a_point_in_position_order(rt: HostRun
     expect_neighbours(&rt, &surface, corner, &[]);
     let round = [Pos { x: 2, y: 0 }, Pos { x: 0, y: 1 }, Pos { x: 2, y: 1 }];
     expect_neighbours(&rt, &surface, other, &round);
+}
+
+#[test]
+fn neighbours_are_those_of_the_setting_of_the_surface_or_of_the_one_given(rt: HostRuntime) {
+    let mut surface = surface(&rt, DataType::U8, "1 2 3\n4 5 6\n7 8 9");
+    let middle = Pos { x: 1, y: 1 };
+    let four = [(1, 0), (0, 1), (2, 1), (1, 2)].map(|(x, y)| Pos { x, y });
+    let six = [(0, 0), (1, 0), (0, 1), (2, 1), (1, 2), (2, 2)].map(|(x, y)| Pos { x, y });
+    surface.set_adjacency(Adjacency::Four);
+    assert_eq!(&rt; surface.adjacency(), Adjacency::Four);
+    expect_neighbours(&rt, &surface, middle, &four);
+    assert!(&rt; contains(surface.size(), middle));
+    let near = neighbours_by(rt.alloc(), &surface, Adjacency::Six, middle);
+    assert_eq!(&rt; near.as_slice(), six.as_slice());
+    surface.set_adjacency(Adjacency::Six);
+    expect_neighbours(&rt, &surface, middle, &six);
 }
 
 #[test]

@@ -2,6 +2,7 @@
 ghost use Rattle.std.specs.Prelude.{◌≡◌, IfSome, replicate, false};
 ghost use Rattle.hd_map.specs.Map.{IsSize, cell_count};
 ghost use Rattle.hd_map.specs.Surface.{map_of};
+ghost use Rattle.hd_map.specs.declared.types.Adjacency.TheVariants.{Eight};
 
 use hd_map::{Cell, Cells, DataType, Size, Surface, is_cell_of};
 use std::alloc::Global;
@@ -12,7 +13,7 @@ use std::alloc::Global;
 /// the size says, where a height is not of the data type, and for want of memory.
 pub fn surface_of(alloc: Global, size: Size, data_type: DataType, cells: &[Cell]) -> Option<Surface>
     requires { IsSize size }
-    ensures { IfSome result (λ surface. map_of surface ≡ record { size = size; data_type = data_type; cells = cells.now; masks = replicate (cell_count size) false }) }
+    ensures { IfSome result (λ surface. map_of surface ≡ record { size = size; data_type = data_type; cells = cells.now; masks = replicate (cell_count size) false; adjacency = Eight }) }
 {
     let mut taken = Cells::with_capacity(alloc, data_type, cells.len()).ok()?;
     'cells: for &cell in cells {

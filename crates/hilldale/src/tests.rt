@@ -3,6 +3,7 @@ mod calls;
 mod certificates;
 mod demos;
 mod faults;
+mod neighbours;
 mod reports;
 mod runs;
 mod saves;
