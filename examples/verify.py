@@ -46,8 +46,8 @@ class Lines:
         return [self.point() for _ in range(self.number(self.words(1, key)[0]))]
 
     def certificate(self):
-        side, around = self.words(2, b"certificate")
-        self.need(side in (b"D", b"H") and around == b"8")
+        side, setting = self.words(2, b"certificate")
+        self.need(side in (b"D", b"H") and setting in (b"4", b"6", b"8"))
         ends, saddle, path = (self.point(b"from"), self.point(b"to")), None, []
         found = self.words(None, b"saddle")
         if found != [b"none"]:
@@ -58,10 +58,15 @@ class Lines:
         self.words(0, b"end")
         while self.at < len(self.lines):
             self.words(0)
-        return (side == b"D", *ends, saddle, path, cut)
+        return (side == b"D", int(setting), *ends, saddle, path, cut)
 
 
-def faults(heights, dales, start, goal, saddle, path, cut):
+def beside(setting, y, x):
+    """Whether a point is beside another under the setting, so many profiles and columns away."""
+    return (y, x) != (0, 0) and (setting == 8 or x * y == 0 or setting == 6 and x == y)
+
+
+def faults(heights, dales, setting, start, goal, saddle, path, cut):
     """Each rule that fails and where, in order."""
     top, members = saddle and saddle[0], set(cut)
 
@@ -69,8 +74,8 @@ def faults(heights, dales, start, goal, saddle, path, cut):
         return (heights[p], p) < (heights[q], q) if dales else (heights[q], q) < (heights[p], p)
 
     def near(p):
-        around = [(p[0] + y, p[1] + x) for y in (-1, 0, 1) for x in (-1, 0, 1)]
-        return [q for q in around if q != p and q in heights]
+        around = [(y, x) for y in (-1, 0, 1) for x in (-1, 0, 1) if beside(setting, y, x)]
+        return [(p[0] + y, p[1] + x) for y, x in around if (p[0] + y, p[1] + x) in heights]
 
     yield from ((1, p) for p in [start, goal, *([top] if saddle else []), *path, *cut] if p not in heights)
     yield from ((2, p) for p in (start, goal) if any(below(q, p) for q in near(p)))

@@ -5,15 +5,16 @@ use Rattle.std.proofs.lemmas.List.{get_or-set_same, get_or-set_other, get_or_app
 use Rattle.std.proofs.lemmas.List.Sums.{sum_by-set}
 use Rattle.std.proofs.lemmas.List.Folds.{sum_by-replicate}
 use Rattle.std.proofs.lemmas.Bool.{cases_lt, cases_eq, false≢true}
+use Rattle.hd_map.specs.declared.types.Adjacency.{Adjacency}
 use Rattle.hd_map.specs.declared.types.Pos.{Pos}
 use Rattle.hd_map.specs.declared.types.Size.{Size}
 use Rattle.hd_map.specs.Map.{Map, InGrid, Present, place_of, cell_count}
 use Rattle.hd_map.specs.Neighbour.{Neighbour}
 use Rattle.hd_map.specs.Path.{Leads}
 use Rattle.hd_map.proofs.Gather.{same_pos}
-use Rattle.hd_map.proofs.Points.{same_place, place_inside}
+use Rattle.hd_map.proofs.Points.{neighbour-sym, same_place, place_inside}
 use Rattle.hd_cert.specs.declared.flood.Reached.{Reached}
-use Rattle.hd_cert.specs.Steps.{IsOpen, IsWanted, OpenArePresent, OpenStep, steps_at, AreSteps, Reaches, IsAtStep, LooksAt}
+use Rattle.hd_cert.specs.Steps.{IsOpen, IsWanted, OpenArePresent, OpenStep, steps_at, AreSteps, Reaches, IsAtStep, IsLookedAt, LooksAt}
 use Rattle.hd_cert.specs.Flood.{entry_of, is_free, IsWithin, IsEntry, IsFlood}
 
 -- an option that is something is something
@@ -23,13 +24,7 @@ some_of None h = absurd (false≢true h)
 
 -- a step from a neighbour
 pub turned : (m : Map) (marks : List Bool) (p q : Pos) → OpenStep m marks p q → OpenStep m marks q p
-turned m marks p q s =
-    let n = s.neighbour in
-    record {
-      neighbour = record { from = n.to; to = n.from; columns = (n.columns.1, n.columns.0); rows = (n.rows.1, n.rows.0); different = λ e. n.different (sym e) };
-      from = s.to;
-      to = s.from;
-    }
+turned m marks p q s = record { neighbour = neighbour-sym m p q s.neighbour; from = s.to; to = s.from }
 
 -- reaching a position leaves the length of the list
 pub reaches_whole : (s : Size) (marks : List Bool) (at : Pos) (n : ℕ) (steps : List (Option ℕ)) (queue : List Reached) (steps' : List (Option ℕ)) (queue' : List Reached)
@@ -39,11 +34,11 @@ reaches_whole s marks at n steps queue steps' queue' reaches = elim reaches [
   | inr noted ↦ ap length noted.2 ∙ length-set steps (place_of s at) (Some n)
 ]
 
-pub looks_whole : (s : Size) (marks : List Bool) (at : Pos) (step n : ℕ) (steps : List (Option ℕ)) (queue : List Reached) (steps' : List (Option ℕ)) (queue' : List Reached)
-    → LooksAt s marks at step n steps queue steps' queue' → length steps' ≡ length steps
-looks_whole s marks at step n steps queue steps' queue' looks = elim looks [
+pub looks_whole : (s : Size) (adjacency : Adjacency) (marks : List Bool) (at : Pos) (step n : ℕ) (steps : List (Option ℕ)) (queue : List Reached) (steps' : List (Option ℕ)) (queue' : List Reached)
+    → LooksAt s adjacency marks at step n steps queue steps' queue' → length steps' ≡ length steps
+looks_whole s adjacency marks at step n steps queue steps' queue' looks = elim looks [
   | inl none ↦ ap length none.1
-  | inr one ↦ reaches_whole s marks one.0 n steps queue steps' queue' one.3
+  | inr one ↦ reaches_whole s marks one.0 n steps queue steps' queue' one.2
 ]
 
 module _ (m : Map) (marks : List Bool) (start : Pos) where
@@ -202,22 +197,23 @@ module _ (m : Map) (marks : List Bool) (start : Pos) where
 
   -- an open position round the head that is not noted is its neighbour
   beside_head : OpenArePresent m marks → (steps : List (Option ℕ)) (queue : List Reached) (head : ℕ) (q : Pos) (step : ℕ) → step < 9 → IsFlood m marks start steps queue head → head < length queue
-      → IsAtStep (entry_of queue head).at step q → InGrid m.size q → IsOpen m marks q → steps_at m.size steps q ≡ None → Neighbour m (entry_of queue head).at q
-  beside_head open_present steps queue head q step below f begun at there is_open free =
+      → IsLookedAt m.size m.adjacency (entry_of queue head).at step q → IsOpen m marks q → steps_at m.size steps q ≡ None → Neighbour m (entry_of queue head).at q
+  beside_head open_present steps queue head q step below f begun looked is_open free =
       let e = f.entries head begun in
       let noted = e.noted in
-      let x = at.0 in
-      let y = at.1 in
+      let x = looked.at_step.0 in
+      let y = looked.at_step.1 in
       record {
         from = e.present;
-        to = open_present q there is_open;
+        to = open_present q looked.in_grid is_open;
         columns = (omega (arith, x, below), omega (arith, x, below));
         rows = (omega (arith, y, below), omega (arith, y, below));
         different = λ same. (let both : Some (entry_of queue head).steps ≡ None = sym noted ∙ ap (steps_at m.size steps) same ∙ free in cc);
+        beside = looked.beside;
       }
 
   pub round_more : OpenArePresent m marks → (here : Reached) (steps : List (Option ℕ)) (queue : List Reached) (head step : ℕ) (steps' : List (Option ℕ)) (queue' : List Reached)
-      → step < 9 → LooksAt m.size marks here.at step (here.steps + 1) steps queue steps' queue' → IsRound here steps queue head step → IsRound here steps' queue' head (step + 1)
+      → step < 9 → LooksAt m.size m.adjacency marks here.at step (here.steps + 1) steps queue steps' queue' → IsRound here steps queue head step → IsRound here steps' queue' head (step + 1)
   round_more open_present here steps queue head step steps' queue' below looks r = elim looks [
     | inl none ↦ rw (none.1, none.2) (record {
       flood = r.flood;
@@ -225,16 +221,17 @@ module _ (m : Map) (marks : List Bool) (start : Pos) where
       here_is = r.here_is;
       found = λ q n before is_open. elim (cases_lt (3 * q.y + q.x + 4) (3 * here.at.y + here.at.x + step)) [
         | inl less ↦ r.found q n less is_open
-        | inr more ↦ absurd (none.0 q (at_step here.at q step below n before (λ less. omega (arith, less, more))) n.to.in_grid)
+        | inr more ↦ absurd (none.0 q (record { at_step = at_step here.at q step below n before (λ less. omega (arith, less, more)); in_grid = n.to.in_grid; beside = n.beside }))
       ];
     })
     | inr one ↦
         let p : Pos = one.0 in
-        let at : IsAtStep here.at step p = one.1 in
-        let there : InGrid m.size p = one.2 in
-        let at' : IsAtStep (entry_of queue head).at step p = subst (λ (e : Reached). IsAtStep e.at step p) (sym r.here_is) at in
+        let looked : IsLookedAt m.size m.adjacency here.at step p = one.1 in
+        let at : IsAtStep here.at step p = looked.at_step in
+        let there : InGrid m.size p = looked.in_grid in
+        let from_head = subst (λ (e : Reached). IsLookedAt m.size m.adjacency e.at step p) (sym r.here_is) looked in
         let g = goes_on steps queue head p (here.steps + 1) steps' queue' r.flood r.begun there
-        (λ is_open free. beside_head open_present steps queue head p step below r.flood r.begun at' there is_open free) (ap (λ (e : Reached). e.steps + 1) r.here_is) one.3 in
+        (λ is_open free. beside_head open_present steps queue head p step below r.flood r.begun from_head is_open free) (ap (λ (e : Reached). e.steps + 1) r.here_is) one.2 in
         record {
           flood = g.flood;
           begun = g.begun;

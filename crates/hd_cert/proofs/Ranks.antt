@@ -214,6 +214,7 @@ pub made_shown : (m : Map) (side : SideName) (a b : Pos) (saddle : Option Rank) 
     → IsMade m side a b saddle c → IsShownCertificate m side a b saddle c
 made_shown m side a b saddle c pits is made = record {
   side_is = made.side_is;
+  setting_is = made.setting_is;
   from_is = made.from_is;
   to_is = made.to_is;
   saddle_is = made.saddle_is;

@@ -3,6 +3,7 @@ use Rattle.std.proofs.Common.{◌≡◌, ◌<◌, ◌+◌, true, List, [], ◌�
 use Rattle.std.specs.Prelude.{All, Contains, AllPairs, MatchOption}
 use Rattle.std.proofs.lemmas.List.{length-map}
 use Rattle.std.proofs.lemmas.List.Elements.{All-get_or}
+use Rattle.hd_map.specs.declared.types.Adjacency.{Adjacency}
 use Rattle.hd_map.specs.declared.types.Pos.{Pos}
 use Rattle.hd_map.specs.declared.types.Rank.{Rank}
 use Rattle.hd_map.specs.declared.types.SideName.{SideName}
@@ -82,8 +83,10 @@ shown_right m side a b saddle c pits shown =
     let low = pit_within m side a b saddle pits.here pits.there pits.pit pits.apart is in
     let path = path_or_none m side a b saddle c.path pits.here pits.there shown.path in
     let cut = cut_of m side a b saddle c.cut pits.here low shown.cut in
-    let at : IsRight m (record { side = side; from = a; to = b; saddle = c.saddle; path = c.path; cut = c.cut }) =
+    let at : IsRight m (record { side = side; adjacency = m.adjacency; from = a; to = b; saddle = c.saddle; path = c.path; cut = c.cut }) =
     right_of m side a b saddle c.saddle c.path c.cut pits.here pits.there pits.pit pits.other pits.apart is shown.saddle_is path cut in
-    subst (λ (d : SideName). IsRight m (record { side = d; from = c.from; to = c.to; saddle = c.saddle; path = c.path; cut = c.cut })) (sym shown.side_is)
-    (subst (λ (p : Pos). IsRight m (record { side = side; from = p; to = c.to; saddle = c.saddle; path = c.path; cut = c.cut })) (sym shown.from_is)
-    (subst (λ (p : Pos). IsRight m (record { side = side; from = a; to = p; saddle = c.saddle; path = c.path; cut = c.cut })) (sym shown.to_is) at))
+    let with : SideName → Adjacency → Pos → Pos → Certificate = λ d y p q. record { side = d; adjacency = y; from = p; to = q; saddle = c.saddle; path = c.path; cut = c.cut } in
+    subst (λ (d : SideName). IsRight m (with d c.adjacency c.from c.to)) (sym shown.side_is)
+    (subst (λ (y : Adjacency). IsRight m (with side y c.from c.to)) (sym shown.setting_is)
+    (subst (λ (p : Pos). IsRight m (with side m.adjacency p c.to)) (sym shown.from_is)
+    (subst (λ (q : Pos). IsRight m (with side m.adjacency a q)) (sym shown.to_is) at)))

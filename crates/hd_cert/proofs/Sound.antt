@@ -113,7 +113,7 @@ route_present m side a b s path here over (suc j) inside =
 -- where a path goes over the saddle, and a cut is the points reached below it, all rules hold
 pub right_of : (m : Map) (side : SideName) (a b : Pos) (saddle : Option Rank) (written : Option (Pos × ℤ)) (path cut : List Pos) → Present m a → Present m b → IsPit m side (rank m a) → IsPit m side (rank m b) → (a ≡ b → ⊥)
     → SaddleIs m side (rank m a) (rank m b) saddle → IsWritten m saddle written → MatchOption saddle (path ≡ []) (λ s. IsRouteOver m side a b s path) → IsRouteCut m side saddle a cut
-    → IsRight m (record { side = side; from = a; to = b; saddle = written; path = path; cut = cut })
+    → IsRight m (record { side = side; adjacency = m.adjacency; from = a; to = b; saddle = written; path = path; cut = cut })
 right_of m side a b None None path cut here there pit pit' apart is w none shown =
     let empty : length path ≡ 0 = ap length none in (
       (here, (there, (tt, ((λ k inside. absurd (omega (arith, inside, empty))), cut_present m side a b None None cut here w shown)))),

@@ -43,6 +43,7 @@ pub record IsRouteCut (m : Map) (side : SideName) (saddle : Option Rank) (a : Po
 -- the certificate shown for a and b, whose saddle this is
 pub record IsMade (m : Map) (side : SideName) (a b : Pos) (saddle : Option Rank) (c : Certificate) : Type 0 where
   pub side_is : c.side ≡ side
+  pub setting_is : c.adjacency ≡ m.adjacency
   pub from_is : c.from ≡ a
   pub to_is : c.to ≡ b
   pub saddle_is : IsWritten m saddle c.saddle

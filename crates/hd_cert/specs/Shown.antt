@@ -37,9 +37,10 @@ pub record IsCutAt (m : Map) (side : SideName) (a b : Pos) (saddle : Option Rank
   pub stand : StandAt m points cut
 
 -- the certificate of the pits a and b and their saddle: the shown path, and none where there is no
--- saddle, the shown cut, and the saddle with its height
+-- saddle, the shown cut, the saddle with its height, and the setting of the map
 pub record IsShownCertificate (m : Map) (side : SideName) (a b : Pos) (saddle : Option Rank) (c : Certificate) : Type 0 where
   pub side_is : c.side ≡ side
+  pub setting_is : c.adjacency ≡ m.adjacency
   pub from_is : c.from ≡ a
   pub to_is : c.to ≡ b
   pub saddle_is : IsWritten m saddle c.saddle

@@ -1,9 +1,10 @@
 -- In how many steps points are reached by way of open points.
 use Rattle.std.specs.Prelude.{◌≡◌, ◌≤◌, ◌+◌, ◌/◌, ◌%◌, ◌⊎◌, ◌++◌, ℕ, Bool, true, false, List, [], ◌∷◌, length, slice_index_or, slice_set, Option, Some, None, IsSome, MatchOption}
+use Rattle.hd_map.specs.declared.types.Adjacency.{Adjacency}
 use Rattle.hd_map.specs.declared.types.Pos.{Pos}
 use Rattle.hd_map.specs.declared.types.Size.{Size}
 use Rattle.hd_map.specs.Map.{Map, InGrid, Present, place_of, cell_count}
-use Rattle.hd_map.specs.Neighbour.{Neighbour}
+use Rattle.hd_map.specs.Neighbour.{Neighbour, AreBesideUnder}
 use Rattle.hd_map.specs.Path.{Leads}
 use Rattle.hd_cert.specs.declared.flood.Reached.{Reached}
 
@@ -46,8 +47,14 @@ Reaches s marks at n steps queue steps' queue' =
 abbrev pub IsAtStep : Pos → ℕ → Pos → Type 0
 IsAtStep at step q = (q.x + 1 ≡ at.x + step % 3) × (q.y + 1 ≡ at.y + step / 3)
 
--- the position of the step is reached, if it lies in the grid
-abbrev pub LooksAt : Size → List Bool → Pos → ℕ → ℕ → List (Option ℕ) → List Reached → List (Option ℕ) → List Reached → Type 0
-LooksAt s marks at step n steps queue steps' queue' =
-    (((q : Pos) → IsAtStep at step q → InGrid s q → ⊥) × (steps' ≡ steps) × (queue' ≡ queue))
-    ⊎ ((q : Pos) × IsAtStep at step q × InGrid s q × Reaches s marks q n steps queue steps' queue')
+-- q is the position of this step, lies in the grid, and is beside the other under the setting
+pub record IsLookedAt (s : Size) (adjacency : Adjacency) (at : Pos) (step : ℕ) (q : Pos) : Type 0 where
+  pub at_step : IsAtStep at step q
+  pub in_grid : InGrid s q
+  pub beside : AreBesideUnder adjacency at q
+
+-- such a position is reached
+abbrev pub LooksAt : Size → Adjacency → List Bool → Pos → ℕ → ℕ → List (Option ℕ) → List Reached → List (Option ℕ) → List Reached → Type 0
+LooksAt s adjacency marks at step n steps queue steps' queue' =
+    (((q : Pos) → IsLookedAt s adjacency at step q → ⊥) × (steps' ≡ steps) × (queue' ≡ queue))
+    ⊎ ((q : Pos) × IsLookedAt s adjacency at step q × Reaches s marks q n steps queue steps' queue')

@@ -5,7 +5,7 @@ ghost use Rattle.hd_cert.specs.Steps.{IsOpen, OpenArePresent, AreSteps, LooksAt,
 ghost use Rattle.hd_cert.specs.Flood.{FloodsRound};
 
 use hd_list::Memory;
-use hd_map::{Heights, Pos, Size, contains, index_of};
+use hd_map::{Adjacency, Heights, Pos, Size, are_beside, contains, index_of};
 use std::alloc::Global;
 
 /// A point that is reached, and in how many steps.
@@ -71,15 +71,18 @@ fn reach_round<G: Heights>(
     ensures { OnOk result (FloodsRound (G.map grid.now) marks.now here steps.old.items queue.old.items steps.new.items queue.new.items) }
 {
     let size = grid.size();
+    let adjacency = grid.adjacency();
     for step in 0..9u32 {
-        reach_beside(size, marks, here, step, steps, queue)?;
+        reach_beside(size, adjacency, marks, here, step, steps, queue)?;
     }
     Ok(())
 }
 
-// Reaches the position of a step of the nine round a point, if it lies in the grid.
+// Reaches the position of a step of the nine round a point, if it lies in the grid and is beside the
+// point under the setting.
 fn reach_beside(
     size: Size,
+    adjacency: Adjacency,
     marks: &[bool],
     here: Reached,
     step: u32,
@@ -92,11 +95,14 @@ fn reach_beside(
     requires here { InGrid size here.at }
     requires few { here.steps < 4194304 }
     requires step { step < 9 }
-    ensures { OnOk result (LooksAt size marks.now here.at step (here.steps + 1) steps.old.items queue.old.items steps.new.items queue.new.items) }
+    ensures { OnOk result (LooksAt size adjacency marks.now here.at step (here.steps + 1) steps.old.items queue.old.items steps.new.items queue.new.items) }
 {
     let Some(at) = position_beside(size, here.at, step % 3, step / 3) else {
         return Ok(());
     };
+    if !are_beside(adjacency, here.at, at) {
+        return Ok(());
+    }
     reach(size, marks, at, here.steps + 1, steps, queue)?;
     Ok(())
 }

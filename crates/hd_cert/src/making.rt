@@ -1,6 +1,6 @@
 // The certificate for two pits.
 ghost use Rattle.std.specs.Prelude.{◌≡◌, ◌<◌, IfOk, Some, true};
-ghost use Rattle.hd_map.specs.Map.{IsSize, Present, cell_count, place_of};
+ghost use Rattle.hd_map.specs.Map.{Present};
 ghost use Rattle.hd_map.specs.Rank.{rank, IsPoint};
 ghost use Rattle.hd_check.specs.Rules.{IsRight};
 ghost use Rattle.hd_cert.specs.Marks.{within};
@@ -54,6 +54,7 @@ fn make<S: Side, G: Heights>(
     match saddle {
         None => Ok(Certificate {
             side: S::NAME,
+            adjacency: grid.adjacency(),
             from,
             to,
             saddle: None,
@@ -64,6 +65,7 @@ fn make<S: Side, G: Heights>(
             let path = shown_path::<S, G>(alloc, grid, from, to, top)?;
             Ok(Certificate {
                 side: S::NAME,
+                adjacency: grid.adjacency(),
                 from,
                 to,
                 saddle: Some(written(grid, top)),

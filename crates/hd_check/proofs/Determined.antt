@@ -6,6 +6,7 @@ use Rattle.hd_map.specs.declared.types.Pos.{Pos}
 use Rattle.hd_map.specs.declared.types.SideName.{SideName}
 use Rattle.hd_map.specs.Map.{Map}
 use Rattle.hd_map.proofs.Points.{same_place}
+use Rattle.hd_map.specs.Sets.{under}
 use Rattle.hd_check.specs.declared.types.Certificate.{Certificate}
 use Rattle.hd_check.specs.declared.types.Verdict.{Verdict}
 use Rattle.hd_check.specs.declared.types.Verdict.TheVariants.{Yes, No}
@@ -88,7 +89,7 @@ tried_one n (R ∷ Rs) d (No r p) (No r' q) h k = elim h [
 ]
 
 pub verdict_one : (m : Map) (c : Certificate) (v w : Verdict) → IsVerdict m c v → IsVerdict m c w → v ≡ w
-verdict_one m c v w h k = tried_one 1 (all_rules m c) (
+verdict_one m c v w h k = tried_one 1 (all_rules (under c.adjacency m) c) (
   then_one _ _ (asks_one _ _) (then_one _ _ (asks_one _ _) (then_one _ _ (saddle_one c.saddle _ (λ s h. asks_one _ _)) (then_one _ _ (each_one _ _ _) (each_one _ _ _)))),
   (
     then_one _ _ (asks_one _ _) (then_one _ _ (asks_one _ _) (asks_one _ _)),
@@ -102,7 +103,7 @@ verdict_one m c v w h k = tried_one 1 (all_rules m c) (
             saddle_one c.saddle _ (λ s h. asks_one _ _),
             (
               saddle_one c.saddle _ (λ s h. each_one _ _ _),
-              (each_one _ _ _, (then_one _ _ (asks_one _ _) (asks_one _ _), (each_one _ _ _, (closed_one m c.side _ c.cut, tt)))),
+              (each_one _ _ _, (then_one _ _ (asks_one _ _) (asks_one _ _), (each_one _ _ _, (closed_one (under c.adjacency m) c.side _ c.cut, tt)))),
             ),
           ),
         ),

@@ -3,6 +3,7 @@ use Rattle.std.proofs.Common.{◌≡◌, ◌∙◌, ◌<◌, ◌≤◌, ◌+◌,
 use Rattle.std.specs.List.{Contains}
 use Rattle.std.proofs.Math.Nat.{mul-le-mul_right}
 use Rattle.std.proofs.lemmas.Bool.{cases_lt, false≢true}
+use Rattle.hd_map.specs.Neighbour.{AreBesideUnder}
 use Rattle.hd_map.specs.declared.types.Pos.{Pos}
 use Rattle.hd_map.specs.declared.types.SideName.{SideName}
 use Rattle.hd_map.specs.declared.types.Size.{Size}
@@ -139,11 +140,11 @@ module _ (m : Map) (side : SideName) (level : Option Pos) (cut : List Pos) (at :
   ])
 
   -- a position that is open and not in the cut is a leak
-  pub is_leak : (q : Pos) → Contains cut at → Present m at → Present m q × IsBelowLevel m side level q → at.x ≤ q.x + 1 → q.x ≤ at.x + 1 → at.y ≤ q.y + 1 → q.y ≤ at.y + 1
+  pub is_leak : (q : Pos) → Contains cut at → Present m at → AreBesideUnder m.adjacency at q × Present m q × IsBelowLevel m side level q → at.x ≤ q.x + 1 → q.x ≤ at.x + 1 → at.y ≤ q.y + 1 → q.y ≤ at.y + 1
       → (Contains cut q → ⊥) → IsLeak m side level cut at q
   is_leak q inside here there c c' r r' out = record {
-    neighbour = record { from = here; to = there.0; columns = (c, c'); rows = (r, r'); different = λ e. out (subst (Contains cut) e inside) };
-    below = there.1;
+    neighbour = record { from = here; to = there.1; columns = (c, c'); rows = (r, r'); different = λ e. out (subst (Contains cut) e inside); beside = there.0 };
+    below = there.2;
     outside = out;
   }
 

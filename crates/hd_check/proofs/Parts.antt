@@ -7,7 +7,7 @@ use Rattle.std.proofs.lemmas.List.Concat.{flat_map-append}
 use Rattle.hd_map.specs.declared.types.Pos.{Pos}
 use Rattle.hd_num.specs.Text.{AppendsPrefix}
 use Rattle.hd_check.specs.declared.types.Certificate.{Certificate}
-use Rattle.hd_check.specs.Text.{certificate_text, line_text, point_line, point_words, saddle_lines, side_word}
+use Rattle.hd_check.specs.Text.{adjacency_word, certificate_text, line_text, point_line, point_words, saddle_lines, side_word}
 use Rattle.hd_check.proofs.Adding.{adds_part, part_after, adds_last}
 
 -- the lines of points, by their words
@@ -28,15 +28,15 @@ last_parts : (points : List Pos) → flat_map line_text (cut_lines points ++ (co
 last_parts points = flat_map-append line_text (cut_lines points) ((codes "end" ∷ []) ∷ [])
     ∙ ap (λ (t : List ℕ). t ++ (codes "end" ++ 10 ∷ [])) (counted (codes "cut") (decimal (length points)) points)
 
-pub text_parts : (c : Certificate) → certificate_text c ≡ line_text (codes "certificate" ∷ side_word c.side ∷ codes "8" ∷ [])
+pub text_parts : (c : Certificate) → certificate_text c ≡ line_text (codes "certificate" ∷ side_word c.side ∷ adjacency_word c.adjacency ∷ [])
     ++ (line_text (codes "from" ∷ point_words c.from) ++ (line_text (codes "to" ∷ point_words c.to) ++ (flat_map line_text (saddle_lines c.saddle c.path)
     ++ ((codes "cut " ++ (decimal (length c.cut) ++ 10 ∷ flat_map point_line c.cut)) ++ (codes "end" ++ 10 ∷ [])))))
-text_parts c = ap (λ (t : List ℕ). line_text (codes "certificate" ∷ side_word c.side ∷ codes "8" ∷ []) ++ (line_text (codes "from" ∷ point_words c.from) ++ (line_text (codes "to" ∷ point_words c.to) ++ t)))
+text_parts c = ap (λ (t : List ℕ). line_text (codes "certificate" ∷ side_word c.side ∷ adjacency_word c.adjacency ∷ []) ++ (line_text (codes "from" ∷ point_words c.from) ++ (line_text (codes "to" ∷ point_words c.to) ++ t)))
     (flat_map-append line_text (saddle_lines c.saddle c.path) (cut_lines c.cut ++ (codes "end" ∷ []) ∷ [])
     ∙ ap (λ (t : List ℕ). flat_map line_text (saddle_lines c.saddle c.path) ++ t) (last_parts c.cut))
 
 -- the same with a path and a cut that are its own
-pub text_parts_at : (c : Certificate) (path cut : List Pos) → path ≡ c.path → cut ≡ c.cut → certificate_text c ≡ line_text (codes "certificate" ∷ side_word c.side ∷ codes "8" ∷ [])
+pub text_parts_at : (c : Certificate) (path cut : List Pos) → path ≡ c.path → cut ≡ c.cut → certificate_text c ≡ line_text (codes "certificate" ∷ side_word c.side ∷ adjacency_word c.adjacency ∷ [])
     ++ (line_text (codes "from" ∷ point_words c.from) ++ (line_text (codes "to" ∷ point_words c.to) ++ (flat_map line_text (saddle_lines c.saddle path)
     ++ ((codes "cut " ++ (decimal (length cut) ++ 10 ∷ flat_map point_line cut)) ++ (codes "end" ++ 10 ∷ [])))))
 text_parts_at c path cut e f = rw (e, f) (text_parts c)

@@ -12,14 +12,17 @@ use Rattle.std.proofs.lemmas.List.Elements.{All-head, All-tail}
 use Rattle.std.specs.Str.{bytes_eq}
 use Rattle.std.proofs.lemmas.Fmt.{decimal_nonempty, digits_decimal}
 use Rattle.std.proofs.lemmas.List.Splits.{slice_split-cons_yes, slice_split-cons_no}
+use Rattle.hd_map.specs.declared.types.Adjacency.{Adjacency}
+use Rattle.hd_map.specs.declared.types.Adjacency.TheVariants.{Four, Six, Eight}
 use Rattle.hd_map.specs.declared.types.Pos.{Pos}
 use Rattle.hd_map.specs.declared.types.SideName.{SideName}
 use Rattle.hd_map.specs.declared.types.SideName.TheVariants.{Dales, Hills}
 use Rattle.hd_num.specs.Lines.{is_blank, is_filled, is_line_feed, lines_of, without_empty_last, words_of}
 use Rattle.hd_num.proofs.ReadsBack.{count_of-decimal, digits, whole_of-signed_decimal}
 use Rattle.hd_check.specs.declared.types.Certificate.{Certificate}
-use Rattle.hd_check.specs.Reading.{Lines, Read, after_cut, after_from, after_path, after_saddle, after_side, after_to, and_then, certificate_of, counted_in, fitting, head_form, line_as, line_gives, point_form, point_of_counts, points_in, saddle_form, saddle_of_parts, value_of}
-use Rattle.hd_check.specs.Text.{certificate_lines, certificate_text, line_text, point_words, saddle_lines, side_word}
+use Rattle.hd_check.specs.declared.words.Head.{Head}
+use Rattle.hd_check.specs.Reading.{Lines, Read, after_cut, after_from, after_path, after_head, after_saddle, after_to, and_then, certificate_of, counted_in, fitting, head_form, line_as, line_gives, point_form, point_of_counts, points_in, saddle_form, saddle_of_parts, value_of}
+use Rattle.hd_check.specs.Text.{adjacency_word, certificate_lines, certificate_text, line_text, point_words, saddle_lines, side_word}
 use Rattle.hd_check.specs.Writable.{IsWritable, IsWritablePoint, IsWritableSaddle, AreWritable}
 
 -- neither a blank nor a line feed
@@ -158,9 +161,6 @@ number_clear key n is small = (is, (decimal_word n (omega arith), tt))
 word_certificate : IsWord (codes "certificate")
 word_certificate = record { some = refl; clear = refl }
 
-word_eight : IsWord (codes "8")
-word_eight = record { some = refl; clear = refl }
-
 word_from : IsWord (codes "from")
 word_from = record { some = refl; clear = refl }
 
@@ -186,6 +186,11 @@ side_clear : (side : SideName) → IsWord (side_word side)
 side_clear Dales = record { some = refl; clear = refl }
 side_clear Hills = record { some = refl; clear = refl }
 
+adjacency_clear : (adjacency : Adjacency) → IsWord (adjacency_word adjacency)
+adjacency_clear Four = record { some = refl; clear = refl }
+adjacency_clear Six = record { some = refl; clear = refl }
+adjacency_clear Eight = record { some = refl; clear = refl }
+
 -- the lines from that of the cut on
 abbrev cut_part : List Pos → List (List (List ℕ))
 cut_part cut = (codes "cut" ∷ decimal (length cut) ∷ []) ∷ (map point_words cut ++ (codes "end" ∷ []) ∷ [])
@@ -204,7 +209,7 @@ saddle_clear None path is are rest more = ((word_saddle, (word_none, tt)), more)
 
 all_clear : (c : Certificate) → IsWritable c → AreLines (certificate_lines c)
 all_clear c is = (
-  (word_certificate, (side_clear c.side, (word_eight, tt))),
+  (word_certificate, (side_clear c.side, (adjacency_clear c.adjacency, tt))),
   ((word_from, point_clear c.from is.from), ((word_to, point_clear c.to is.to), saddle_clear c.saddle c.path is.saddle is.path (cut_part c.cut) (cut_clear c.cut is.cut))),
 )
 
@@ -238,37 +243,42 @@ saddle_back : (s : Pos × ℤ) → IsWritablePoint s.0 → FitsSigned w64 s.1 �
 saddle_back s point fits = ap₂ (λ (p : Option Pos) (h : Option ℤ). saddle_of_parts p h) (point_back s.0 point) (ap fitting (whole_of-signed_decimal s.1 fits))
 
 -- the lines of a saddle and a path, and what follows them
-path_back : (side : SideName) (from to : Pos) (saddle : Option (Pos × ℤ)) (path : List Pos) (number : ℕ) (rest : List (List (List ℕ))) → IsWritableSaddle saddle path → AreWritable path
-    → (n : ℕ) × (after_to side from to (from_line number (saddle_lines saddle path ++ rest)) ≡ after_path side from to saddle path (from_line n rest))
-path_back side from to (Some s) path number rest is are =
+path_back : (head : Head) (from to : Pos) (saddle : Option (Pos × ℤ)) (path : List Pos) (number : ℕ) (rest : List (List (List ℕ))) → IsWritableSaddle saddle path → AreWritable path
+    → (n : ℕ) × (after_to head from to (from_line number (saddle_lines saddle path ++ rest)) ≡ after_path head from to saddle path (from_line n rest))
+path_back head from to (Some s) path number rest is are =
     let more = counted_back (codes "path") refl path (number + 1) rest are in (
       more.0,
-      ap (λ (o : Option (Option (Pos × ℤ))). and_then (line_gives number ((codes "path" ∷ decimal (length path) ∷ []) ∷ (map point_words path ++ rest)) o) (after_saddle side from to)) (saddle_back s is.0 is.1)
-          ∙ ap (λ (r : Read (List Pos)). and_then r (after_path side from to (Some s))) more.1,
+      ap (λ (o : Option (Option (Pos × ℤ))). and_then (line_gives number ((codes "path" ∷ decimal (length path) ∷ []) ∷ (map point_words path ++ rest)) o) (after_saddle head from to)) (saddle_back s is.0 is.1)
+          ∙ ap (λ (r : Read (List Pos)). and_then r (after_path head from to (Some s))) more.1,
     )
-path_back side from to None path number rest is are = (number + 1, ap (λ (ps : List Pos). after_path side from to None ps (from_line (number + 1) rest)) (sym is))
+path_back head from to None path number rest is are = (number + 1, ap (λ (ps : List Pos). after_path head from to None ps (from_line (number + 1) rest)) (sym is))
 
 -- the lines of a cut, and the end
-cut_back : (side : SideName) (from to : Pos) (saddle : Option (Pos × ℤ)) (path cut : List Pos) (number : ℕ) → AreWritable cut
-    → value_of (after_path side from to saddle path (from_line number (cut_part cut))) ≡ Ok (record { side = side; from = from; to = to; saddle = saddle; path = path; cut = cut })
-cut_back side from to saddle path cut number are =
+cut_back : (head : Head) (from to : Pos) (saddle : Option (Pos × ℤ)) (path cut : List Pos) (number : ℕ) → AreWritable cut
+    → value_of (after_path head from to saddle path (from_line number (cut_part cut))) ≡ Ok (record { side = head.side; adjacency = head.adjacency; from = from; to = to; saddle = saddle; path = path; cut = cut })
+cut_back head from to saddle path cut number are =
     let more = counted_back (codes "cut") refl cut number ((codes "end" ∷ []) ∷ []) are in
-    ap (λ (r : Read (List Pos)). value_of (and_then r (after_cut side from to saddle path))) more.1
+    ap (λ (r : Read (List Pos)). value_of (and_then r (after_cut head from to saddle path))) more.1
 
-head_back : (side : SideName) → head_form (codes "certificate" ∷ side_word side ∷ codes "8" ∷ []) ≡ Some side
-head_back Dales = refl
-head_back Hills = refl
+head_back : (side : SideName) (adjacency : Adjacency) → head_form (codes "certificate" ∷ side_word side ∷ adjacency_word adjacency ∷ []) ≡ Some (record { side = side; adjacency = adjacency })
+head_back Dales Four = refl
+head_back Dales Six = refl
+head_back Dales Eight = refl
+head_back Hills Four = refl
+head_back Hills Six = refl
+head_back Hills Eight = refl
 
 -- the text of a certificate is read as this certificate
 pub text_back : (c : Certificate) → IsWritable c → certificate_of (certificate_text c) ≡ Ok c
 text_back c is =
+    let head : Head = record { side = c.side; adjacency = c.adjacency } in
     let tail : List (List (List ℕ)) = saddle_lines c.saddle c.path ++ cut_part c.cut in
     let third : List (List (List ℕ)) = (codes "to" ∷ point_words c.to) ∷ tail in
     let second : List (List (List ℕ)) = (codes "from" ∷ point_words c.from) ∷ third in
-    let path = path_back c.side c.from c.to c.saddle c.path 4 (cut_part c.cut) is.saddle is.path in
-    ap (λ (lines : List (List (List ℕ))). value_of (and_then (line_as head_form (from_line 1 lines)) after_side)) (lines_back (certificate_lines c) (all_clear c is))
-    ∙ ap (λ (o : Option SideName). value_of (and_then (line_gives 1 second o) after_side)) (head_back c.side)
-    ∙ ap (λ (o : Option Pos). value_of (and_then (line_gives 2 third o) (after_from c.side))) (point_back c.from is.from)
-    ∙ ap (λ (o : Option Pos). value_of (and_then (line_gives 3 tail o) (after_to c.side c.from))) (point_back c.to is.to)
+    let path = path_back head c.from c.to c.saddle c.path 4 (cut_part c.cut) is.saddle is.path in
+    ap (λ (lines : List (List (List ℕ))). value_of (and_then (line_as head_form (from_line 1 lines)) after_head)) (lines_back (certificate_lines c) (all_clear c is))
+    ∙ ap (λ (o : Option Head). value_of (and_then (line_gives 1 second o) after_head)) (head_back c.side c.adjacency)
+    ∙ ap (λ (o : Option Pos). value_of (and_then (line_gives 2 third o) (after_from head))) (point_back c.from is.from)
+    ∙ ap (λ (o : Option Pos). value_of (and_then (line_gives 3 tail o) (after_to head c.from))) (point_back c.to is.to)
     ∙ ap value_of path.1
-    ∙ cut_back c.side c.from c.to c.saddle c.path c.cut path.0 is.cut
+    ∙ cut_back head c.from c.to c.saddle c.path c.cut path.0 is.cut

@@ -2,6 +2,8 @@
 use Rattle.std.proofs.Common.{◌≡◌, ◌-◌, true, List, [], ◌∷◌, length, map, Option, Some, None, ap, ◌∙◌, refl, sym, subst, arith}
 use Rattle.std.specs.Prelude.{ℤ}
 use Rattle.std.specs.List.{Contains}
+use Rattle.hd_map.specs.declared.types.Adjacency.{Adjacency}
+use Rattle.hd_map.specs.Sets.{under}
 use Rattle.hd_map.specs.declared.types.Pos.{Pos}
 use Rattle.hd_map.specs.declared.types.Rank.{Rank}
 use Rattle.hd_map.specs.declared.types.SideName.{SideName}
@@ -14,7 +16,9 @@ use Rattle.hd_map.proofs.Sides.{not_above-trans}
 use Rattle.hd_map.proofs.Items.{map-Contains}
 use Rattle.hd_map.specs.SideLaws.{below_by-order}
 use Rattle.hd_check.specs.declared.types.Certificate.{Certificate}
-use Rattle.hd_check.specs.Rules.{point_of, IsBelowLevel, IsCutClosed, IsRight}
+use Rattle.hd_check.specs.declared.types.Verdict.TheVariants.{Yes}
+use Rattle.hd_check.specs.Judged.{TriedFrom}
+use Rattle.hd_check.specs.Rules.{point_of, IsBelowLevel, IsCutClosed, IsRight, all_rules}
 use Rattle.hd_map.specs.Saddle.{IsSaddle, SaddleIs}
 use Rattle.hd_check.specs.Certified.{saddle_of, written_rank}
 use Rattle.hd_check.proofs.Across.{stays_in, no_lower}
@@ -51,13 +55,14 @@ in_cut m cut p here c = record { at = p; present = here; listed = λ out. out c;
 out_of_cut : (m : Map) (cut : List Pos) (p : Pos) → Present m p → (Contains cut p → ⊥) → IsInCut m cut (rank m p) → ⊥
 out_of_cut m cut p here out h = h.listed (λ c. out (subst (Contains cut) (same_point m h.at p h.present here (sym h.rank_is)) c))
 
-right_at : (m : Map) (side : SideName) (from to : Pos) (saddle : Option (Pos × ℤ)) (path cut : List Pos)
-    → IsRight m (record { side = side; from = from; to = to; saddle = saddle; path = path; cut = cut }) → SaddleIs m side (rank m from) (rank m to) (written_rank m saddle)
-right_at m side from to None path cut (present, (pits, (height, (ends, (steps, (on, (low, (rises, (parts, (cut_low, (closed, _))))))))))) = λ xs p.
+-- where all rules hold on a map, the saddle is that of its two pits
+right_at : (m : Map) (side : SideName) (adjacency : Adjacency) (from to : Pos) (saddle : Option (Pos × ℤ)) (path cut : List Pos)
+    → TriedFrom 1 (all_rules m (record { side = side; adjacency = adjacency; from = from; to = to; saddle = saddle; path = path; cut = cut })) Yes → SaddleIs m side (rank m from) (rank m to) (written_rank m saddle)
+right_at m side adjacency from to None path cut (present, (pits, (height, (ends, (steps, (on, (low, (rises, (parts, (cut_low, (closed, _))))))))))) = λ xs p.
     out_of_cut m cut to present.1.0 parts.1 (stays_in (Near m) (IsInCut m cut) (λ x y h n. cut_step m side None cut closed x y h n (λ q e. tt)) (rank m from) (rank m to) xs p.leads
     (in_cut m cut from present.0 parts.0))
-right_at m side from to (Some (s, h)) [] cut (present, (pits, (height, (ends, _)))) = absurd (omega (arith, ends.0))
-right_at m side from to (Some (s, h)) (p ∷ ps) cut (present, (pits, (height, (ends, (steps, (on, (low, (rises, (parts, (cut_low, (closed, _))))))))))) =
+right_at m side adjacency from to (Some (s, h)) [] cut (present, (pits, (height, (ends, _)))) = absurd (omega (arith, ends.0))
+right_at m side adjacency from to (Some (s, h)) (p ∷ ps) cut (present, (pits, (height, (ends, (steps, (on, (low, (rises, (parts, (cut_low, (closed, _))))))))))) =
     let written : rank m s ≡ record { height = h; index = place_of m.size s } = ap (λ (z : ℤ). record { height = z; index = place_of m.size s }) (sym height) in
     let begins : rank m p ≡ rank m from = ap (rank m) ends.1.0 in
     let stops : rank m (point_of (p ∷ ps) (length (p ∷ ps) - 1)) ≡ rank m to = ap (rank m) ends.1.1 in
@@ -75,5 +80,5 @@ right_at m side from to (Some (s, h)) (p ∷ ps) cut (present, (pits, (height, (
           (rank m from) (rank m to) (in_cut m cut from present.0 parts.0) (out_of_cut m cut to present.1.0 parts.1) xs t path.leads u;
     })
 
-pub right_saddle : (m : Map) (c : Certificate) → IsRight m c → SaddleIs m c.side (rank m c.from) (rank m c.to) (saddle_of m c)
-right_saddle m c h = right_at m c.side c.from c.to c.saddle c.path c.cut h
+pub right_saddle : (m : Map) (c : Certificate) → IsRight m c → SaddleIs (under c.adjacency m) c.side (rank m c.from) (rank m c.to) (saddle_of m c)
+right_saddle m c h = right_at (under c.adjacency m) c.side c.adjacency c.from c.to c.saddle c.path c.cut h

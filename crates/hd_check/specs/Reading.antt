@@ -1,6 +1,8 @@
 -- The certificate that a text holds, or the first line that has not its form in its place.
-use Rattle.std.specs.Prelude.{◌+◌, ◌&&◌, ℕ, ℤ, zero, suc, List, [], ◌∷◌, map, codes, Option, Some, None, Result, Ok, Err, if◌then◌else◌}
+use Rattle.std.specs.Prelude.{◌+◌, ℕ, ℤ, zero, suc, List, [], ◌∷◌, map, codes, Option, Some, None, Result, Ok, Err, if◌then◌else◌}
 use Rattle.std.specs.Str.{bytes_eq}
+use Rattle.hd_map.specs.declared.types.Adjacency.{Adjacency}
+use Rattle.hd_map.specs.declared.types.Adjacency.TheVariants.{Four, Six, Eight}
 use Rattle.hd_map.specs.declared.types.Pos.{Pos}
 use Rattle.hd_map.specs.declared.types.SideName.{SideName}
 use Rattle.hd_map.specs.declared.types.SideName.TheVariants.{Dales, Hills}
@@ -9,6 +11,7 @@ use Rattle.hd_num.specs.declared.whole.Whole.TheVariants as whole
 use Rattle.hd_num.specs.Lines.{lines_of, words_of}
 use Rattle.hd_num.specs.Whole.{count_of, whole_of}
 use Rattle.hd_check.specs.declared.types.Certificate.{Certificate}
+use Rattle.hd_check.specs.declared.words.Head.{Head}
 use Rattle.hd_check.specs.declared.types.CertificateError.{CertificateError}
 use Rattle.hd_check.specs.declared.types.CertificateError.TheVariants.{BadLine}
 
@@ -43,16 +46,26 @@ line_as form rest = line_among form rest.number rest.lines
 abbrev pub side_of : List ℕ → Option SideName
 side_of word = if bytes_eq word (codes "D") then Some Dales else if bytes_eq word (codes "H") then Some Hills else None
 
--- `certificate`, a side and `8`
-abbrev pub head_of : List ℕ → List ℕ → List ℕ → Option SideName
-head_of name side around = if bytes_eq name (codes "certificate") && bytes_eq around (codes "8") then side_of side else None
+-- `4`, `6` or `8`
+abbrev pub adjacency_of : List ℕ → Option Adjacency
+adjacency_of word = if bytes_eq word (codes "4") then Some Four else if bytes_eq word (codes "6") then Some Six else if bytes_eq word (codes "8") then Some Eight else None
 
--- `certificate S 8`
-abbrev pub head_form : List (List ℕ) → Option SideName
+-- a side and a setting, where both have their form
+abbrev pub head_of_parts : Option SideName → Option Adjacency → Option Head
+head_of_parts (Some side) (Some adjacency) = Some (record { side = side; adjacency = adjacency })
+head_of_parts (Some side) None = None
+head_of_parts None adjacency = None
+
+-- `certificate`, a side and a setting
+abbrev pub head_of : List ℕ → List ℕ → List ℕ → Option Head
+head_of name side adjacency = if bytes_eq name (codes "certificate") then head_of_parts (side_of side) (adjacency_of adjacency) else None
+
+-- `certificate S N`
+abbrev pub head_form : List (List ℕ) → Option Head
 head_form [] = None
 head_form (a ∷ []) = None
 head_form (a ∷ b ∷ []) = None
-head_form (name ∷ side ∷ around ∷ []) = head_of name side around
+head_form (name ∷ side ∷ adjacency ∷ []) = head_of name side adjacency
 head_form (a ∷ b ∷ c ∷ d ∷ more) = None
 
 -- a point, where both numbers are counts
@@ -150,33 +163,33 @@ abbrev pub end_in : Lines → Read (Unit {0})
 end_in rest = and_then (line_as end_form rest) (λ _ rest. blank_among rest.number rest.lines)
 
 -- the last lines of a certificate, after the others
-abbrev pub after_cut : SideName → Pos → Pos → Option (Pos × ℤ) → List Pos → List Pos → Lines → Read Certificate
-after_cut side from to saddle path cut rest = and_then (end_in rest) (λ _ rest.
-    Ok (record { side = side; from = from; to = to; saddle = saddle; path = path; cut = cut }, rest))
+abbrev pub after_cut : Head → Pos → Pos → Option (Pos × ℤ) → List Pos → List Pos → Lines → Read Certificate
+after_cut head from to saddle path cut rest = and_then (end_in rest) (λ _ rest.
+    Ok (record { side = head.side; adjacency = head.adjacency; from = from; to = to; saddle = saddle; path = path; cut = cut }, rest))
 
 -- its cut and what follows
-abbrev pub after_path : SideName → Pos → Pos → Option (Pos × ℤ) → List Pos → Lines → Read Certificate
-after_path side from to saddle path rest = and_then (counted_in (codes "cut") rest) (after_cut side from to saddle path)
+abbrev pub after_path : Head → Pos → Pos → Option (Pos × ℤ) → List Pos → Lines → Read Certificate
+after_path head from to saddle path rest = and_then (counted_in (codes "cut") rest) (after_cut head from to saddle path)
 
 -- its path and what follows
-abbrev pub after_saddle : SideName → Pos → Pos → Option (Pos × ℤ) → Lines → Read Certificate
-after_saddle side from to saddle rest = and_then (path_in saddle rest) (after_path side from to saddle)
+abbrev pub after_saddle : Head → Pos → Pos → Option (Pos × ℤ) → Lines → Read Certificate
+after_saddle head from to saddle rest = and_then (path_in saddle rest) (after_path head from to saddle)
 
 -- its saddle and what follows
-abbrev pub after_to : SideName → Pos → Pos → Lines → Read Certificate
-after_to side from to rest = and_then (line_as saddle_form rest) (after_saddle side from to)
+abbrev pub after_to : Head → Pos → Pos → Lines → Read Certificate
+after_to head from to rest = and_then (line_as saddle_form rest) (after_saddle head from to)
 
 -- its second pit and what follows
-abbrev pub after_from : SideName → Pos → Lines → Read Certificate
-after_from side from rest = and_then (line_as (end_point_form (codes "to")) rest) (after_to side from)
+abbrev pub after_from : Head → Pos → Lines → Read Certificate
+after_from head from rest = and_then (line_as (end_point_form (codes "to")) rest) (after_to head from)
 
 -- its first pit and what follows
-abbrev pub after_side : SideName → Lines → Read Certificate
-after_side side rest = and_then (line_as (end_point_form (codes "from")) rest) (after_from side)
+abbrev pub after_head : Head → Lines → Read Certificate
+after_head head rest = and_then (line_as (end_point_form (codes "from")) rest) (after_from head)
 
 -- the lines of a certificate, in their order
 abbrev pub certificate_in : Lines → Read Certificate
-certificate_in rest = and_then (line_as head_form rest) after_side
+certificate_in rest = and_then (line_as head_form rest) after_head
 
 -- what was read, without the lines that are left
 abbrev pub value_of : {A : Type 0} → Read A → Result A CertificateError

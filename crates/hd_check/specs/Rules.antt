@@ -8,6 +8,7 @@ use Rattle.hd_map.specs.Neighbour.{Neighbour}
 use Rattle.hd_map.specs.Order.{IsNotAbove}
 use Rattle.hd_map.specs.Rank.{rank, below_by}
 use Rattle.hd_map.specs.Region.{IsPit}
+use Rattle.hd_map.specs.Sets.{under}
 use Rattle.hd_check.specs.declared.types.Certificate.{Certificate}
 use Rattle.hd_check.specs.declared.types.Verdict.{Verdict}
 use Rattle.hd_check.specs.declared.types.Verdict.TheVariants.{Yes}
@@ -108,9 +109,10 @@ cut_rules m c = CutRises m c ∷ CutParts m c ∷ CutLow m c ∷ CutClosed m c �
 abbrev pub all_rules : Map → Certificate → List (Option Pos → Type 0)
 all_rules m c = AllPresent m c ∷ TwoPits m c ∷ TrueHeight m c ∷ PathEnds m c ∷ PathSteps m c ∷ SaddleOnPath m c ∷ PathLow m c ∷ cut_rules m c
 
--- yes exactly where all eleven rules hold, else the first that fails and the position where it fails
+-- yes exactly where all eleven rules hold on the map under the setting that the certificate names, else the first
+-- that fails and the position where it fails
 abbrev pub IsVerdict : Map → Certificate → Verdict → Type 0
-IsVerdict m c v = TriedFrom 1 (all_rules m c) v
+IsVerdict m c v = TriedFrom 1 (all_rules (under c.adjacency m) c) v
 
 -- all eleven rules hold
 abbrev pub IsRight : Map → Certificate → Type 0

@@ -3,6 +3,8 @@ use Rattle.std.specs.Prelude.{◌≡◌, ◌++◌, ℕ, ℤ, List, [], ◌∷◌
 use Rattle.std.specs.Fmt.{signed_decimal}
 use Rattle.std.specs.List.{flat_map}
 use Rattle.hd_list.specs.declared.list.Memory.{Memory}
+use Rattle.hd_map.specs.declared.types.Adjacency.{Adjacency}
+use Rattle.hd_map.specs.declared.types.Adjacency.TheVariants.{Four, Six, Eight}
 use Rattle.hd_map.specs.declared.types.Pos.{Pos}
 use Rattle.hd_map.specs.declared.types.SideName.{SideName}
 use Rattle.hd_map.specs.declared.types.SideName.TheVariants.{Dales, Hills}
@@ -20,6 +22,12 @@ abbrev pub side_word : SideName → List ℕ
 side_word Dales = codes "D"
 side_word Hills = codes "H"
 
+-- `4`, `6` or `8`
+abbrev pub adjacency_word : Adjacency → List ℕ
+adjacency_word Four = codes "4"
+adjacency_word Six = codes "6"
+adjacency_word Eight = codes "8"
+
 -- the words of a point: its column and its profile
 abbrev pub point_words : Pos → List (List ℕ)
 point_words p = decimal p.x ∷ decimal p.y ∷ []
@@ -35,7 +43,7 @@ saddle_lines None path = (codes "saddle" ∷ codes "none" ∷ []) ∷ []
 
 -- the words of each line of a certificate
 abbrev pub certificate_lines : Certificate → List (List (List ℕ))
-certificate_lines c = (codes "certificate" ∷ side_word c.side ∷ codes "8" ∷ [])
+certificate_lines c = (codes "certificate" ∷ side_word c.side ∷ adjacency_word c.adjacency ∷ [])
     ∷ (codes "from" ∷ point_words c.from)
     ∷ (codes "to" ∷ point_words c.to)
     ∷ (saddle_lines c.saddle c.path ++ ((codes "cut" ∷ decimal (length c.cut) ∷ []) ∷ (map point_words c.cut ++ (codes "end" ∷ []) ∷ [])))

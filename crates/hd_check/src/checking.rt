@@ -2,7 +2,7 @@
 ghost use Rattle.std.specs.Prelude.{◌≡◌, None};
 ghost use Rattle.hd_check.specs.Certified.{level_of};
 ghost use Rattle.hd_check.specs.Judged.{TriedFrom};
-ghost use Rattle.hd_check.specs.Rules.{AllPresent, IsVerdict, cut_rules};
+ghost use Rattle.hd_check.specs.Rules.{AllPresent, IsVerdict, all_rules, cut_rules};
 
 use crate::closed::first_leak;
 use crate::cut::{first_not_below, first_not_rising, wrong_part};
@@ -10,13 +10,23 @@ use crate::path::{
     first_absent, first_high, off_path, wrong_end, wrong_height, wrong_pit, wrong_step,
 };
 use crate::{Certificate, Verdict};
-use hd_map::{Heights, Pos};
+use hd_map::{Heights, Pos, Under};
 use std::alloc::Global;
 
-/// Whether a certificate is right on a map: yes exactly where all eleven rules hold, else the first
-/// that fails and where. It takes no memory.
+/// Whether a certificate is right on a map: yes exactly where all eleven rules hold under the setting
+/// that it names, whatever that of the map is, else the first that fails and where. It takes no
+/// memory.
 pub fn check<G: Heights>(alloc: Global, surface: &G, certificate: &Certificate) -> Verdict
     ensures { IsVerdict (G.map surface.now) certificate.now result }
+{
+    let adjacency = certificate.adjacency;
+    let grid = surface;
+    try_rules(alloc, &Under { grid, adjacency }, certificate)
+}
+
+// The rules in order, under the setting of the map.
+fn try_rules<G: Heights>(alloc: Global, surface: &G, certificate: &Certificate) -> Verdict
+    ensures { TriedFrom 1 (all_rules (G.map surface.now) certificate.now) result }
 {
     if let Some(at) = first_absent(surface, certificate) {
         return Verdict::No { rule: 1, at };

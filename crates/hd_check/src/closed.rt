@@ -2,12 +2,13 @@
 ghost use Rattle.std.specs.Prelude.{◌≡◌, ◌<◌, ◌≤◌, ◌+◌, ◌↔◌, ℕ, IsTrue, true, length, None, MatchOption};
 ghost use Rattle.std.specs.List.{Contains};
 ghost use Rattle.hd_map.specs.Map.{IsSize, InGrid, Present, place_of};
+ghost use Rattle.hd_map.specs.Neighbour.{AreBesideUnder};
 ghost use Rattle.hd_map.specs.Rank.{below_by};
 ghost use Rattle.hd_check.specs.Profiles.{ArePlaces, FirstLeakIn, IsBehind, IsFirstFrom, IsPlaceOf, rank_of_level};
 ghost use Rattle.hd_check.specs.Rules.{AsksPairs, FirstLeak, IsBelowLevel, IsCutClosed, point_of};
 
 use crate::order::is_below;
-use hd_map::{Heights, Pos, Rank, SideName, Size, index_of, is_present, rank_of};
+use hd_map::{Heights, Pos, Rank, SideName, Size, are_beside, index_of, is_present, rank_of};
 
 // A place of the cut for each of the three profiles round a point. The cut rises, so the places only
 // go forward from one of its points to the next.
@@ -120,7 +121,7 @@ fn leak_in<G: Heights>(
         let q = Pos { x, y: row };
         if stands_at(cut, next, q) {
             next += 1;
-        } else if is_open(surface, side, level, top, q) {
+        } else if is_open(surface, side, level, top, at, q) {
             return Some(q);
         }
     }
@@ -149,20 +150,24 @@ fn stands_at(cut: &[Pos], place: usize, at: Pos) -> bool
     place < cut.len() && cut[place] == at
 }
 
-// Whether a position is present and below the saddle, if there is one. The rank of the saddle is known.
+// Whether a position near another one is beside it under the setting, present, and below the saddle,
+// if there is one. The rank of the saddle is known.
 #[inline]
 fn is_open<G: Heights>(
     surface: &G,
     side: SideName,
     _level: Option<Pos>,
     top: Option<Rank>,
+    from: Pos,
     at: Pos,
 ) -> bool
     requires at { InGrid (G.map surface.now).size at }
     requires top { top ≡ rank_of_level (G.map surface.now) _level }
-    ensures { IsTrue result ↔ (Present (G.map surface.now) at × IsBelowLevel (G.map surface.now) side _level at) }
+    ensures { IsTrue result ↔ (AreBesideUnder (G.map surface.now).adjacency from at × Present (G.map surface.now) at × IsBelowLevel (G.map surface.now) side _level at) }
 {
-    is_present(surface, at) && is_under(side, top, rank_of(surface, at))
+    are_beside(surface.adjacency(), from, at)
+        && is_present(surface, at)
+        && is_under(side, top, rank_of(surface, at))
 }
 
 // Whether a rank is below another, if there is one.

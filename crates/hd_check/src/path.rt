@@ -1,17 +1,16 @@
 // The rules 1 to 7: the points, the pits and the path.
-ghost use Rattle.std.specs.Prelude.{◌≡◌, ◌<◌, ◌↔◌, ℕ, IsTrue, length, None, MatchOption};
+ghost use Rattle.std.specs.Prelude.{◌<◌, ◌↔◌, ℕ, IsTrue, length, None};
 ghost use Rattle.std.specs.List.{Contains};
 ghost use Rattle.hd_map.specs.Map.{Present};
 ghost use Rattle.hd_map.specs.Neighbour.{Neighbour};
 ghost use Rattle.hd_map.specs.Order.{IsNotAbove};
 ghost use Rattle.hd_map.specs.Rank.{rank, below_by};
 ghost use Rattle.hd_map.specs.Region.{IsPit};
-ghost use Rattle.hd_check.specs.Judged.{Asks};
 ghost use Rattle.hd_check.specs.Rules.{AsksPoints, AsksPairs, AllPresent, TwoPits, TrueHeight, PathEnds, PathSteps, SaddleOnPath, PathLow, point_of};
 
 use crate::Certificate;
 use crate::order::is_lower;
-use hd_map::{Heights, Pos, SideName, contains, is_present, neighbours, rank_of};
+use hd_map::{Heights, Pos, SideName, are_beside, contains, is_present, neighbours, rank_of};
 use std::alloc::Global;
 
 /// Rule 1: the first of the points that is not present.
@@ -149,7 +148,8 @@ fn are_neighbours<G: Heights>(surface: &G, a: Pos, b: Pos) -> bool
     requires b { Present (G.map surface.now) b }
     ensures { IsTrue result ↔ Neighbour (G.map surface.now) a b }
 {
-    a.x.abs_diff(b.x) <= 1 && a.y.abs_diff(b.y) <= 1 && a != b
+    let is_near = a.x.abs_diff(b.x) <= 1 && a.y.abs_diff(b.y) <= 1;
+    is_near && a != b && are_beside(surface.adjacency(), a, b)
 }
 
 /// Rule 6: the saddle, where it is not on the path.

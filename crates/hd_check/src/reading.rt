@@ -1,17 +1,17 @@
 // Reading a certificate, line by line.
-ghost use Rattle.std.specs.Prelude.{◌≡◌, ◌⊎◌, Err, codes};
+ghost use Rattle.std.specs.Prelude.{◌≡◌, ◌⊎◌, Err};
 ghost use Rattle.hd_check.specs.Places.{Gives, IsPlace, lines_at};
-ghost use Rattle.hd_check.specs.Reading.{blank_among, certificate_of, count_form, counted_in, end_form, end_in, end_point_form, head_form, line_as, path_in, point_form, points_in, saddle_form};
+ghost use Rattle.hd_check.specs.Reading.{blank_among, certificate_of, count_form, counted_in, end_in, end_point_form, head_form, line_as, path_in, point_form, points_in, saddle_form};
 
 use crate::lines::{Place, line_at, part, take_line};
 use crate::points::point_in;
-use crate::words::{count_words, end_point_words, end_words, head_words, saddle_words};
+use crate::words::{Head, count_words, end_point_words, end_words, head_words, saddle_words};
 use crate::{Certificate, CertificateError};
 use hd_list::List;
-use hd_map::{Pos, SideName};
+use hd_map::Pos;
 use std::alloc::Global;
 
-/// The certificate that a text holds: `certificate S 8`, `from X Y`, `to X Y`, then
+/// The certificate that a text holds: `certificate S N`, `from X Y`, `to X Y`, then
 /// `saddle X Y HEIGHT`, `path N` and N lines `X Y`, or `saddle none`, then `cut M` and M lines
 /// `X Y`, then `end`; after it only lines without words.
 ///
@@ -22,7 +22,7 @@ pub fn read_certificate(alloc: Global, bytes: &[u8]) -> Result<Certificate, Cert
     ensures { (result ≡ Err CertificateError.Memory) ⊎ (result ≡ certificate_of bytes.now) }
 {
     let start = Place { from: 0, number: 1 };
-    let (side, place) = side_line(alloc, bytes, start)?;
+    let (head, place) = head_line(alloc, bytes, start)?;
     let (from, place) = end_point_line(alloc, bytes, b"from", place)?;
     let (to, place) = end_point_line(alloc, bytes, b"to", place)?;
     let (saddle, place) = saddle_line(alloc, bytes, place)?;
@@ -30,7 +30,8 @@ pub fn read_certificate(alloc: Global, bytes: &[u8]) -> Result<Certificate, Cert
     let (cut, place) = counted_lines(alloc, bytes, b"cut", place)?;
     last_lines(alloc, bytes, place)?;
     Ok(Certificate {
-        side,
+        side: head.side,
+        adjacency: head.adjacency,
         from,
         to,
         saddle,
@@ -39,18 +40,14 @@ pub fn read_certificate(alloc: Global, bytes: &[u8]) -> Result<Certificate, Cert
     })
 }
 
-// Reads `certificate S 8`.
-fn side_line(
-    alloc: Global,
-    bytes: &[u8],
-    place: Place,
-) -> Result<(SideName, Place), CertificateError>
+// Reads `certificate S N`.
+fn head_line(alloc: Global, bytes: &[u8], place: Place) -> Result<(Head, Place), CertificateError>
     requires { IsPlace bytes.now place }
     ensures { Gives bytes.now result (line_as head_form (lines_at bytes.now place)) }
 {
     let line = take_line(alloc, bytes, place)?;
     match head_words(part(bytes, line.span), line.words.as_slice()) {
-        Some(side) => Ok((side, line.next)),
+        Some(head) => Ok((head, line.next)),
         None => Err(CertificateError::BadLine(place.number)),
     }
 }

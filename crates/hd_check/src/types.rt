@@ -3,7 +3,7 @@ ghost use Rattle.std.specs.Prelude.{◌≡◌};
 ghost use Rattle.hd_check.specs.declared.types.CertificateError.TheVariants.{Memory as out_of_memory};
 
 use hd_list::{List, Memory};
-use hd_map::{Pos, SideName};
+use hd_map::{Adjacency, Pos, SideName};
 use thiserror::Error;
 
 /// What is said to show that a point is the saddle of two pits, or that no path joins them.
@@ -11,6 +11,8 @@ use thiserror::Error;
 pub struct Certificate {
     /// The side whose order is meant.
     pub side: SideName,
+    /// The setting of the neighbours that is meant.
+    pub adjacency: Adjacency,
     /// The first pit.
     pub from: Pos,
     /// The second pit.

@@ -1,32 +1,52 @@
 // What the words of a line give, where they have their form.
 ghost use Rattle.std.specs.Prelude.{◌≡◌, All, map};
 ghost use Rattle.hd_num.specs.Span.{IsPart, text_at};
-ghost use Rattle.hd_check.specs.Reading.{count_form, end_form, end_point_form, fitting, head_form, head_of, none_form, none_of, point_form, saddle_form, saddle_of_words, saddle_words, side_of};
+ghost use Rattle.hd_check.specs.Reading.{adjacency_of, count_form, end_form, end_point_form, fitting, head_form, head_of, none_form, none_of, point_form, saddle_form, saddle_of_words, saddle_words, side_of};
 ghost use Rattle.hd_num.specs.Whole.{whole_of};
 
 use crate::lines::part;
-use hd_map::{Pos, SideName};
+use hd_map::{Adjacency, Pos, SideName};
 use hd_num::{Span, Whole, read_count, read_whole};
 
-/// The side of `certificate S 8`.
-pub fn head_words(line: &[u8], words: &[Span]) -> Option<SideName>
+/// What the first line of a certificate names.
+#[derive(Clone, Copy, Debug)]
+pub struct Head {
+    pub side: SideName,
+    pub adjacency: Adjacency,
+}
+
+/// The side and the setting of `certificate S N`.
+pub fn head_words(line: &[u8], words: &[Span]) -> Option<Head>
     requires { All (IsPart line.now) words.now }
     ensures { result ≡ head_form (map (text_at line.now) words.now) }
 {
-    let [name, side, around] = words else {
+    let [name, side, adjacency] = words else {
         return None;
     };
-    head(part(line, *name), part(line, *side), part(line, *around))
+    head_of(part(line, *name), part(line, *side), part(line, *adjacency))
 }
 
-// The side of these three words.
-fn head(name: &[u8], side: &[u8], around: &[u8]) -> Option<SideName>
-    ensures { result ≡ head_of name.now side.now around.now }
+// The side and the setting of these three words.
+fn head_of(name: &[u8], side: &[u8], adjacency: &[u8]) -> Option<Head>
+    ensures { result ≡ head_of name.now side.now adjacency.now }
 {
-    if name == b"certificate".as_slice() && around == b"8".as_slice() {
-        side_of(side)
-    } else {
-        None
+    if name != b"certificate".as_slice() {
+        return None;
+    }
+    let side = side_of(side)?;
+    let adjacency = adjacency_of(adjacency)?;
+    Some(Head { side, adjacency })
+}
+
+// The setting that a word names.
+fn adjacency_of(word: &[u8]) -> Option<Adjacency>
+    ensures { result ≡ adjacency_of word.now }
+{
+    match word {
+        b"4" => Some(Adjacency::Four),
+        b"6" => Some(Adjacency::Six),
+        b"8" => Some(Adjacency::Eight),
+        _ => None,
     }
 }
 

@@ -1,12 +1,12 @@
 // The text of a certificate.
-ghost use Rattle.std.specs.Prelude.{◌++◌, ◌∷◌, [], codes, decimal, length, map};
+ghost use Rattle.std.specs.Prelude.{◌++◌, ◌∷◌, [], codes, decimal, length};
 ghost use Rattle.std.specs.Fmt.{signed_decimal};
 ghost use Rattle.std.specs.List.{flat_map};
-ghost use Rattle.hd_check.specs.Text.{Adds, certificate_text, line_text, point_line, point_words, saddle_lines, side_word};
+ghost use Rattle.hd_check.specs.Text.{Adds, adjacency_word, certificate_text, line_text, point_line, saddle_lines, side_word};
 
 use crate::Certificate;
 use hd_list::{List, Memory};
-use hd_map::{Pos, SideName};
+use hd_map::{Adjacency, Pos, SideName};
 use hd_num::{push_text, push_unsigned, push_whole};
 
 /// Adds the text of a certificate, in the form that `read_certificate` reads. Where memory is
@@ -14,7 +14,7 @@ use hd_num::{push_text, push_unsigned, push_whole};
 pub fn write_certificate(out: &mut List<u8>, certificate: &Certificate) -> Result<(), Memory>
     ensures { Adds out.old out.new result (certificate_text certificate.now) }
 {
-    push_head(out, certificate.side)?;
+    push_head(out, certificate.side, certificate.adjacency)?;
     push_end_point(out, b"from ", certificate.from)?;
     push_end_point(out, b"to ", certificate.to)?;
     push_saddle(out, certificate.saddle, certificate.path.as_slice())?;
@@ -23,13 +23,17 @@ pub fn write_certificate(out: &mut List<u8>, certificate: &Certificate) -> Resul
     Ok(())
 }
 
-// Adds `certificate S 8`.
-fn push_head(out: &mut List<u8>, side: SideName) -> Result<(), Memory>
-    ensures { Adds out.old out.new result (line_text (codes "certificate" ∷ side_word side ∷ codes "8" ∷ [])) }
+// Adds `certificate S N`.
+fn push_head(out: &mut List<u8>, side: SideName, adjacency: Adjacency) -> Result<(), Memory>
+    ensures { Adds out.old out.new result (line_text (codes "certificate" ∷ side_word side ∷ adjacency_word adjacency ∷ [])) }
 {
-    match side {
-        SideName::Dales => push_text(out, b"certificate D 8\n"),
-        SideName::Hills => push_text(out, b"certificate H 8\n"),
+    match (side, adjacency) {
+        (SideName::Dales, Adjacency::Four) => push_text(out, b"certificate D 4\n"),
+        (SideName::Dales, Adjacency::Six) => push_text(out, b"certificate D 6\n"),
+        (SideName::Dales, Adjacency::Eight) => push_text(out, b"certificate D 8\n"),
+        (SideName::Hills, Adjacency::Four) => push_text(out, b"certificate H 4\n"),
+        (SideName::Hills, Adjacency::Six) => push_text(out, b"certificate H 6\n"),
+        (SideName::Hills, Adjacency::Eight) => push_text(out, b"certificate H 8\n"),
     }
 }
 

@@ -1,6 +1,7 @@
 -- The numbers that a demo draws, and the surface and the edits that it makes of them.
 use Rattle.std.specs.Prelude.{◌+◌, ◌*◌, ◌/◌, ◌%◌, ◌^◌, ◌++◌, ℕ, zero, suc, pos, List, [], ◌∷◌, map, replicate, false, codes, decimal}
 use Rattle.std.specs.List.{range_with_len}
+use Rattle.hd_map.specs.declared.types.Adjacency.TheVariants.{Eight}
 use Rattle.hd_map.specs.declared.types.Cell.{Cell}
 use Rattle.hd_map.specs.declared.types.Cell.TheVariants.{Height}
 use Rattle.hd_map.specs.declared.types.DataType.TheVariants.{U16}
@@ -37,13 +38,14 @@ cell_in s = Height (pos (height_in s))
 abbrev pub drawn_cells : ℕ → ℕ → List Cell
 drawn_cells number n = map (λ k. cell_in (drawn number (k + 1))) (range_with_len 0 n)
 
--- the surface of a size, on which no point is masked
+-- the surface of a size, on which no point is masked, with eight neighbours
 abbrev pub drawn_map : Size → ℕ → Map
 drawn_map size number = record {
   size = size;
   data_type = U16;
   cells = drawn_cells number (cell_count size);
   masks = replicate (cell_count size) false;
+  adjacency = Eight;
 }
 
 -- one metre

@@ -1,6 +1,7 @@
 -- The map before changes.
 use Rattle.std.proofs.Common.{◌≡◌, ◌≤◌, ℕ, Bool, false, List, [], ◌∷◌, ◌++◌, length, set, All, refl, sym, ap, subst, ◌∙◌}
 use Rattle.std.proofs.lemmas.List.{set-set, set-get_or}
+use Rattle.hd_map.specs.declared.types.Adjacency.{Adjacency}
 use Rattle.hd_map.specs.declared.types.Pos.{Pos}
 use Rattle.hd_map.specs.declared.types.Size.{Size}
 use Rattle.hd_map.specs.declared.types.Cell.{Cell}
@@ -8,7 +9,7 @@ use Rattle.hd_map.specs.declared.types.Cell.TheVariants.{Bad}
 use Rattle.hd_map.specs.declared.types.DataType.{DataType}
 use Rattle.hd_map.specs.Map.{Map, IsMap, InGrid, IsCellOf, cell_at, mask_at, place_of}
 use Rattle.hd_map.proofs.Points.{place_inside}
-use Rattle.hd_map.specs.Sets.{with_cell, with_mask}
+use Rattle.hd_map.specs.Sets.{with_cell, with_mask, under}
 use Rattle.hd_edit.specs.declared.change.Change.{Change}
 use Rattle.hd_edit.specs.declared.change.Was.{Was}
 use Rattle.hd_edit.specs.declared.change.Was.TheVariants as was
@@ -52,6 +53,16 @@ pub before-mask : (m m' : Map) (notes notes' : List Change) (at : Pos) (index : 
 before-mask m m' notes notes' at index masked new pushed place here set =
     ap (λ ns. before_changes ns m') pushed ∙ before-push notes (record { index = index; was = was.Mask masked }) m'
     ∙ ap (before_changes notes) (ap (λ i. with_was (was.Mask masked) i m') place ∙ ap (λ v. with_was (was.Mask v) (place_of m.size at) m') here ∙ ap (with_was (was.Mask (mask_at m at)) (place_of m.size at)) set ∙ mask_back m at new)
+
+-- a change is undone alike under each setting
+under_was : (adjacency : Adjacency) (w : Was) (k : ℕ) (m : Map) → with_was w k (under adjacency m) ≡ under adjacency (with_was w k m)
+under_was adjacency (was.Height over) k m = refl
+under_was adjacency was.Bad k m = refl
+under_was adjacency (was.Mask masked) k m = refl
+
+pub under_before : (adjacency : Adjacency) (cs : List Change) (m : Map) → before_changes cs (under adjacency m) ≡ under adjacency (before_changes cs m)
+under_before adjacency [] m = refl
+under_before adjacency (c ∷ cs) m = ap (with_was c.was c.index) (under_before adjacency cs m) ∙ under_was adjacency c.was c.index (before_changes cs m)
 
 -- what was a cell of the data type is one
 pub was-of : (t : DataType) (w : Was) (cell : Cell) → IsCellThatWas t w cell → IsCellOf t cell → IsWasOf t w

@@ -1,16 +1,18 @@
 -- The maps that a log stands for.
-use Rattle.std.proofs.Common.{◌≡◌, ◌+◌, ◌-◌, ℕ, zero, suc, List, [], ◌∷◌, ◌++◌, length, take, drop, get_or, All, Option, Some, None, refl, sym, ap, subst, ◌∙◌, length-drop, arith}
+use Rattle.std.proofs.Common.{◌≡◌, ◌+◌, ◌-◌, ℕ, zero, suc, List, [], ◌∷◌, ◌++◌, length, map, take, drop, get_or, All, Option, Some, None, refl, sym, ap, subst, ◌∙◌, length-drop, arith}
 use Rattle.std.proofs.Math.ListN.{length-take}
 use Rattle.std.proofs.lemmas.List.Elements.{All-take, All-drop, All-push}
 use Rattle.std.proofs.lemmas.List.{take_more, take-take, take-append-le, take_at, take_all, get_or-take, get_or_at, length_push}
 use Rattle.std.proofs.lemmas.Option.{get_or_from_slice_get, slice_get-get_or, slice_get_within}
 use Rattle.circular_buffer.specs.Buffer.{Buffer, buffer, keep_last, last_item}
+use Rattle.hd_map.specs.declared.types.Adjacency.{Adjacency}
 use Rattle.hd_map.specs.Map.{Map}
+use Rattle.hd_map.specs.Sets.{under}
 use Rattle.hd_edit.specs.declared.change.Change.{Change}
 use Rattle.hd_edit.specs.Change.{before_changes, AreChanges}
 use Rattle.hd_edit.specs.Board.{log_places, kept_after}
 use Rattle.hd_edit.specs.Log.{first_map, earlier_maps, IsLog, IsLogIn}
-use Rattle.hd_edit.proofs.Changes.{kind_stays}
+use Rattle.hd_edit.proofs.Changes.{kind_stays, under_before}
 
 -- one map for each entry
 pub length-earlier : (es : List (List Change)) (m : Map) → length (earlier_maps es m) ≡ length es
@@ -26,6 +28,15 @@ first_push (y ∷ xs) x m = refl
 pub earlier-push : (es : List (List Change)) (e : List Change) (m : Map) → earlier_maps (es ++ e ∷ []) m ≡ earlier_maps es (before_changes e m) ++ before_changes e m ∷ []
 earlier-push [] e m = refl
 earlier-push (x ∷ es) e m = rw (earlier-push es e m, first_push (earlier_maps es (before_changes e m)) (before_changes e m) m)
+
+-- a setting of the present map is one of all
+first_under : (adjacency : Adjacency) (xs : List Map) (m : Map) → first_map (map (under adjacency) xs) (under adjacency m) ≡ under adjacency (first_map xs m)
+first_under adjacency [] m = refl
+first_under adjacency (x ∷ xs) m = refl
+
+pub earlier-under : (adjacency : Adjacency) (es : List (List Change)) (m : Map) → earlier_maps es (under adjacency m) ≡ map (under adjacency) (earlier_maps es m)
+earlier-under adjacency [] m = refl
+earlier-under adjacency (e ∷ es) m = rw (earlier-under adjacency es m, first_under adjacency (earlier_maps es m) m, under_before adjacency e (first_map (earlier_maps es m) m)) refl
 
 -- without the first entries the first maps are gone
 earlier-drop : (k : ℕ) (es : List (List Change)) (m : Map) → earlier_maps (drop k es) m ≡ drop k (earlier_maps es m)

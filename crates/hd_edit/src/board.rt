@@ -1,6 +1,6 @@
 // A board: a grid that edits work on.
 ghost use Rattle.std.specs.Prelude.{◌≡◌, ◌≢◌, ◌<◌, ◌≤◌, ◌+◌, ◌-◌, ◌^◌, ◌∷◌, ◌++◌, [], IfOk, OnOk, OnErr, length, map, is_ok, if◌then◌else◌};
-ghost use Rattle.hd_map.specs.Map.{cell_count};
+ghost use Rattle.hd_map.specs.Sets.{under};
 ghost use Rattle.hd_edit.specs.Elements.{elements_with, line_of};
 ghost use Rattle.hd_edit.specs.Board.{BoardState, IsEdited, Applies, kept_after, Undoes, RisesUpTo};
 
@@ -10,7 +10,7 @@ use crate::make::make;
 use crate::{Edit, EditError, ElementLine, LogEnds};
 use circular_buffer::HeapCircularBuffer;
 use hd_list::{List, Memory};
-use hd_map::Grid;
+use hd_map::{Adjacency, Grid};
 use hd_morph::Element;
 use std::alloc::Global;
 use std::marker::Model;
@@ -144,6 +144,19 @@ impl<G: Grid> Board<G> {
             self.undo_last();
         }
         Ok(())
+    }
+
+    /// Sets which points are neighbours, on the present map and on each earlier one, and nothing else.
+    /// It is no edit: nothing more is kept, and an undo leaves the setting. It takes no memory.
+    pub fn set_adjacency(&mut self, adjacency: Adjacency)
+        requires { G.changes self.old.grid < 2 ^ 62 }
+        ensures map { G.map self.new.grid ≡ under adjacency (G.map self.old.grid) }
+        ensures earlier { self.new.earlier ≡ map (under adjacency) self.old.earlier }
+        ensures elements { self.new.elements ≡ self.old.elements }
+        ensures origin { G.comes_from self.old.grid self.new.grid }
+        ensures count { RisesUpTo 1 (G.changes self.old.grid) (G.changes self.new.grid) }
+    {
+        self.grid.set_adjacency(adjacency);
     }
 
     // Goes back over the last kept edit.

@@ -159,6 +159,7 @@ module _ (one : Determine) (s : State) (number : ℕ) (a b : Reply) (s' s'' : St
   command-one (command.Undo n) x y = undo-one n x y
   command-one (command.Element name width height table) x y = element-one _ x y
   command-one command.Elements x y = reports-one s s' s'' _ a b x y
+  command-one (command.Neighbours adjacency) x y = becomes-one number _ s' s'' a b x y
   command-one command.Info x y = reports-one s s' s'' _ a b x y
   command-one command.Dales x y = regions-one _ x y
   command-one command.Hills x y = regions-one _ x y

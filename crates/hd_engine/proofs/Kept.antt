@@ -1,7 +1,10 @@
 -- A line leaves maps: the present one, and each earlier one.
 use Rattle.std.proofs.Common.{ℕ, List, Option, Some, None, Result, Ok, Err, inl, inr, sym, subst}
 use Rattle.std.specs.Prelude.{All, ℤ}
+use Rattle.std.proofs.lemmas.List.Elements.{All-map, All-weaker}
 use Rattle.hd_map.specs.Map.{Map, IsMap}
+use Rattle.hd_map.specs.SettingLaws.{under-whole}
+use Rattle.hd_map.specs.Sets.{under}
 use Rattle.hd_edit.specs.declared.edit.Edit.{Edit}
 use Rattle.hd_edit.specs.declared.edit.EditError.{EditError}
 use Rattle.hd_morph.specs.declared.errors.ElementError.{ElementError}
@@ -68,6 +71,8 @@ module _ (keeps : KeepsMaps) (s : State) (number : ℕ) (reply : Reply) (after :
   command-keeps (command.Undo n) is = undo-keeps n is
   command-keeps (command.Element name width height table) is = made-keeps is.made is.answer
   command-keeps command.Elements is = stays s after _ reply whole is
+  command-keeps (command.Neighbours adjacency) is =
+      subst IsState (sym is.state) (record { map = under-whole adjacency s.map whole.map; earlier = All-map IsMap (under adjacency) s.earlier (All-weaker IsMap (λ m. IsMap (under adjacency m)) (under-whole adjacency) s.earlier whole.earlier) })
   command-keeps command.Info is = stays s after _ reply whole is
   command-keeps command.Dales is = stays s after _ reply whole is.answer
   command-keeps command.Hills is = stays s after _ reply whole is.answer

@@ -9,6 +9,7 @@ use Rattle.hd_engine.specs.Edits.{IsEditAnswer, IsUndoAnswer}
 use Rattle.hd_engine.specs.Elements.{IsElementAnswer, IsElementsAnswer}
 use Rattle.hd_report.specs.Forms.{form_text}
 use Rattle.hd_engine.specs.Info.{IsInfoAnswer}
+use Rattle.hd_engine.specs.Neighbours.{IsNeighboursAnswer}
 use Rattle.hd_engine.specs.Prunings.{IsPruneAnswer}
 use Rattle.hd_engine.specs.Regions.{IsRegionsAnswer, IsLabelAnswer}
 use Rattle.hd_engine.specs.Reply.{Reply, Reports, Refuses, accepted_with}
@@ -24,6 +25,7 @@ IsCommandAnswer s number (command.Undo n) reply after = IsUndoAnswer s number n 
 IsCommandAnswer s number (command.Element name width height table) reply after =
     IsElementAnswer s number (record { name = name; width = width; height = height; table = table }) reply after
 IsCommandAnswer s number command.Elements reply after = IsElementsAnswer s reply after
+IsCommandAnswer s number (command.Neighbours adjacency) reply after = IsNeighboursAnswer s number adjacency reply after
 IsCommandAnswer s number command.Info reply after = IsInfoAnswer s reply after
 IsCommandAnswer s number command.Dales reply after = IsRegionsAnswer s side.Dales reply after
 IsCommandAnswer s number command.Hills reply after = IsRegionsAnswer s side.Hills reply after

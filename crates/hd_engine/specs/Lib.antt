@@ -3,6 +3,7 @@ pub mod Texts
 pub mod Reply
 pub mod Edits
 pub mod Elements
+pub mod Neighbours
 pub mod Regions
 pub mod Trees
 pub mod Saddles

@@ -51,8 +51,8 @@ file_with texts m = record {
   trailer = texts.trailer;
 }
 
--- the texts of the file that was read, the present map, the earlier maps with the newest last, and the elements by
--- first naming
+-- the texts of the file that was read, the present map under the setting of the neighbours, the earlier maps under
+-- the same, with the newest last, and the elements by first naming
 pub record State : Type 0 where
   pub read : FileTexts
   pub map : Map
@@ -63,7 +63,7 @@ pub record State : Type 0 where
 abbrev pub first_state : File → State
 first_state file = record { read = texts_of file; map = file.map; earlier = []; elements = [] }
 
--- the file of a state: the texts as they were read, and the present map without its masks
+-- the file of a state: the texts as they were read, and the present map as a file gives it
 abbrev pub saved_file : State → File
 saved_file s = file_with s.read (unmasked s.map)
 

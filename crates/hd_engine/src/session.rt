@@ -8,6 +8,7 @@ ghost use Rattle.hd_report.specs.Elements.{element_text};
 ghost use Rattle.hd_report.specs.Forms.{form_text};
 ghost use Rattle.hd_engine.specs.Answers.{IsAnswer, IsCommandAnswer};
 ghost use Rattle.hd_engine.specs.Edits.{IsEditAnswer, IsUndoAnswer};
+ghost use Rattle.hd_engine.specs.Neighbours.{IsNeighboursAnswer};
 ghost use Rattle.hd_engine.specs.Elements.{IsElementAnswer, IsElementsAnswer};
 ghost use Rattle.hd_engine.specs.Info.{IsInfoAnswer};
 ghost use Rattle.hd_engine.specs.Prunings.{IsPruneAnswer};
@@ -29,7 +30,7 @@ use crate::texts::Texts;
 use hd_edit::{Board, Edit, EditError, LogEnds};
 use hd_feature::{named, read_notation};
 use hd_list::{List, Memory};
-use hd_map::{Down, Heights, Pos, Side, SideName, Surface, Up, contains, is_present};
+use hd_map::{Adjacency, Down, Heights, Pos, Side, SideName, Surface, Up, contains, is_present};
 use hd_morph::{Element, ElementError};
 use hd_num::Percent;
 use hd_report::{edit_cause, element_cause, form_cause, kept_cause, list_elements, notation_cause};
@@ -102,8 +103,8 @@ impl Session {
     /// The answer to a line without its LF, which counts as asked whatever comes of it. The number
     /// is the one that the line has in its answer. At most 16,777,216 lines may be asked.
     ///
-    /// `Memory` comes where the line, the edit or the answer is refused its memory; the surface,
-    /// the earlier maps and the elements are then as before.
+    /// `Memory` comes where the line, the edit or the answer is refused its memory; the surface, the
+    /// earlier maps, the elements and the setting of the neighbours are then as before.
     pub fn answer(&mut self, number: u64, line: &[u8]) -> Result<Answer, Memory>
         requires { self.old.asked < 16777216 }
         ensures ok { IfOk result (λ a. IsAnswer self.old.state number line.now (reply_of a) self.new.state) }
@@ -144,6 +145,7 @@ impl Session {
                 table,
             } => self.define(number, name, width, height, table),
             Command::Elements => self.elements(),
+            Command::Neighbours(adjacency) => self.set_adjacency(number, adjacency),
             Command::Info => self.info(),
             Command::Dales => self.list::<Down>(),
             Command::Hills => self.list::<Up>(),
@@ -234,6 +236,17 @@ impl Session {
     {
         let cause = element_cause(self.alloc, error)?;
         Answer::refused(self.alloc, number, cause.as_slice())
+    }
+
+    // Sets which points are neighbours, once the memory for its answer is there.
+    fn set_adjacency(&mut self, number: u64, adjacency: Adjacency) -> Result<Answer, Memory>
+        ensures ok { IfOk result (λ a. IsNeighboursAnswer self.old.state number adjacency (reply_of a) self.new.state) }
+        ensures memory { OnErr result (self.new.state ≡ self.old.state) }
+        ensures asked { self.new.asked ≡ self.old.asked }
+    {
+        let ok = Answer::ok(self.alloc, number)?;
+        self.board.set_adjacency(adjacency);
+        Ok(ok)
     }
 
     // The answer that lists the elements.

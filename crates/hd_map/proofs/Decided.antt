@@ -1,12 +1,14 @@
 -- Whether two positions are neighbours, and whether two ranks are near, is decided.
-use Rattle.std.proofs.Common.{◌≡◌, ℕ, ◌≤◌, ◌+◌, ◌⊎◌, inl, inr, ap, ◌∙◌, sym, subst, arith}
+use Rattle.std.proofs.Common.{◌≡◌, ℕ, ◌<◌, ◌≤◌, ◌+◌, ◌⊎◌, inl, inr, ap, ◌∙◌, sym, subst, arith}
 use Rattle.std.proofs.lemmas.Bool.{cases_lt, cases_eq}
+use Rattle.hd_map.specs.declared.types.Adjacency.{Adjacency}
+use Rattle.hd_map.specs.declared.types.Adjacency.TheVariants.{Four, Six, Eight}
 use Rattle.hd_map.specs.declared.types.Pos.{Pos}
 use Rattle.hd_map.specs.declared.types.Size.{Size}
 use Rattle.hd_map.specs.declared.types.Rank.{Rank}
 use Rattle.hd_map.specs.declared.types.SideName.TheVariants.{Dales}
 use Rattle.hd_map.specs.Map.{Map, InGrid, Present, position_at}
-use Rattle.hd_map.specs.Neighbour.{IsNear, Neighbour}
+use Rattle.hd_map.specs.Neighbour.{IsNear, AreRising, AreBesideUnder, Neighbour}
 use Rattle.hd_map.specs.Rank.{Near, below_by, rank}
 use Rattle.hd_map.specs.SideLaws.{below_by-order}
 use Rattle.hd_map.proofs.Gather.{same_pos}
@@ -55,13 +57,34 @@ different_or_not p q = elim (cases_eq p.x q.x) [
   | inr apart ↦ inl (λ e. apart (ap (λ (r : Pos). r.x) e))
 ]
 
+either_or_not : (P Q : Type 0) → IsDecided P → IsDecided Q → IsDecided (P ⊎ Q)
+either_or_not P Q (inl p) q = inl (inl p)
+either_or_not P Q (inr neither) (inl q) = inl (inr q)
+either_or_not P Q (inr neither) (inr not) = inr (λ h. elim h [ inl p ↦ neither p | inr q ↦ not q ])
+
+lower_or_not : (a b : ℕ) → IsDecided (a < b)
+lower_or_not a b = elim (cases_lt a b) [ inl less ↦ inl less | inr more ↦ inr (λ h. omega (arith, h, more)) ]
+
+same_line_or_not : (p q : Pos) → IsDecided ((p.x ≡ q.x) ⊎ (p.y ≡ q.y))
+same_line_or_not p q = either_or_not (p.x ≡ q.x) (p.y ≡ q.y) (cases_eq p.x q.x) (cases_eq p.y q.y)
+
+-- two positions are beside each other under a setting, or not
+pub beside_or_not : (adjacency : Adjacency) (p q : Pos) → IsDecided (AreBesideUnder adjacency p q)
+beside_or_not Four p q = same_line_or_not p q
+beside_or_not Six p q = either_or_not ((p.x ≡ q.x) ⊎ (p.y ≡ q.y)) (AreRising p q) (same_line_or_not p q)
+    (either_or_not ((p.x < q.x) × (p.y < q.y)) ((q.x < p.x) × (q.y < p.y))
+    (both_or_not (p.x < q.x) (p.y < q.y) (lower_or_not p.x q.x) (lower_or_not p.y q.y))
+    (both_or_not (q.x < p.x) (q.y < p.y) (lower_or_not q.x p.x) (lower_or_not q.y p.y)))
+beside_or_not Eight p q = inl tt
+
 neighbour_or_not : (m : Map) (p q : Pos) → IsDecided (Neighbour m p q)
-neighbour_or_not m p q = elim (both_or_not (Present m p × Present m q) ((IsNear p.x q.x × IsNear p.y q.y) × (p ≡ q → ⊥))
-    (both_or_not (Present m p) (Present m q) (present_at_or_not m p) (present_at_or_not m q))
+neighbour_or_not m p q = elim (both_or_not ((Present m p × Present m q) × AreBesideUnder m.adjacency p q) ((IsNear p.x q.x × IsNear p.y q.y) × (p ≡ q → ⊥))
+    (both_or_not (Present m p × Present m q) (AreBesideUnder m.adjacency p q)
+    (both_or_not (Present m p) (Present m q) (present_at_or_not m p) (present_at_or_not m q)) (beside_or_not m.adjacency p q))
     (both_or_not (IsNear p.x q.x × IsNear p.y q.y) (p ≡ q → ⊥)
     (both_or_not (IsNear p.x q.x) (IsNear p.y q.y) (near_numbers_or_not p.x q.x) (near_numbers_or_not p.y q.y)) (different_or_not p q))) [
-      | inl h ↦ inl (record { from = h.0.0; to = h.0.1; columns = h.1.0.0; rows = h.1.0.1; different = h.1.1 })
-      | inr not ↦ inr (λ n. not ((n.from, n.to), ((n.columns, n.rows), n.different)))
+      | inl h ↦ inl (record { from = h.0.0.0; to = h.0.0.1; columns = h.1.0.0; rows = h.1.0.1; different = h.1.1; beside = h.0.1 })
+      | inr not ↦ inr (λ n. not (((n.from, n.to), n.beside), ((n.columns, n.rows), n.different)))
     ]
 
 same_rank_or_not : (a b : Rank) → IsDecided (a ≡ b)

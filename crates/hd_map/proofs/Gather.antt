@@ -8,7 +8,7 @@ use Rattle.std.proofs.lemmas.List.Elements.{Contains-push, Contains-push_cases, 
 use Rattle.std.proofs.lemmas.List.Quantifiers.{all_pairs_push}
 use Rattle.hd_map.specs.declared.types.Pos.{Pos}
 use Rattle.hd_map.specs.Map.{Map, Present, place_of}
-use Rattle.hd_map.specs.Neighbour.{Neighbour}
+use Rattle.hd_map.specs.Neighbour.{Neighbour, AreBesideUnder}
 
 -- found are the neighbours of at before this step, in position order
 pub record Gathered (m : Map) (at : Pos) (step : ℕ) (found : List Pos) : Type 0 where
@@ -33,11 +33,11 @@ only_one : (at q : Pos) (step : ℕ) → step < 9 → q.x ≤ at.x + 1 → at.x 
 only_one at q step below x x' y y' e = (omega arith, omega arith)
 
 pub gathered_push : (m : Map) (at q : Pos) (step : ℕ) (found : List Pos) → Present m at → (step ≡ 4 → ⊥) → step < 9
-    → q.x + 1 ≡ at.x + step % 3 → q.y + 1 ≡ at.y + step / 3 → Present m q → Gathered m at step found → Gathered m at (step + 1) (found ++ q ∷ [])
-gathered_push m at q step found here not_centre below ex ey there g =
+    → q.x + 1 ≡ at.x + step % 3 → q.y + 1 ≡ at.y + step / 3 → Present m q → AreBesideUnder m.adjacency at q → Gathered m at step found → Gathered m at (step + 1) (found ++ q ∷ [])
+gathered_push m at q step found here not_centre below ex ey there beside g =
     let number : 3 * q.y + q.x + 4 ≡ 3 * at.y + at.x + step = omega arith in
     let apart : at ≡ q → ⊥ = λ e. let e' : at.x ≡ q.x = ap (λ (p : Pos). p.x) e in let e'' : at.y ≡ q.y = ap (λ (p : Pos). p.y) e in not_centre (omega arith) in
-    let one : Neighbour m at q = record { from = here; to = there; columns = (omega arith, omega arith); rows = (omega arith, omega arith); different = apart } in
+    let one : Neighbour m at q = record { from = here; to = there; columns = (omega arith, omega arith); rows = (omega arith, omega arith); different = apart; beside = beside } in
     record {
       room = rw length_push (omega (arith, g.room));
       room_after = λ h. rw length_push (omega (arith, g.room, g.room_after));
@@ -77,6 +77,13 @@ pub gathered_none : (m : Map) (at : Pos) (step : ℕ) (found : List Pos) → ste
 gathered_none m at step found below none = gathered_same m at step found (λ q n e.
     let at_step = only_one at q step below (omega (arith, n.columns)) (omega (arith, n.columns)) (omega (arith, n.rows)) (omega (arith, n.rows)) e in
     none q at_step.0 at_step.1 n.to)
+
+-- what is not beside the point under the setting is none of its neighbours
+pub gathered_apart : (m : Map) (at q : Pos) (step : ℕ) (found : List Pos) → step < 9 → q.x + 1 ≡ at.x + step % 3 → q.y + 1 ≡ at.y + step / 3
+    → (AreBesideUnder m.adjacency at q → ⊥) → Gathered m at step found → Gathered m at (step + 1) found
+gathered_apart m at q step found below ex ey apart = gathered_same m at step found (λ r n e.
+    let at_step = only_one at r step below (omega (arith, n.columns)) (omega (arith, n.columns)) (omega (arith, n.rows)) (omega (arith, n.rows)) e in
+    apart (subst (λ (p : Pos). AreBesideUnder m.adjacency at p) (same_pos r q (omega (arith, at_step, ex)) (omega (arith, at_step, ey))) n.beside))
 
 -- the point itself is none of its neighbours
 pub gathered_centre : (m : Map) (at : Pos) (step : ℕ) (found : List Pos) → step ≡ 4 → Gathered m at step found → Gathered m at (step + 1) found

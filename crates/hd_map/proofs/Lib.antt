@@ -12,6 +12,7 @@ pub mod Through
 pub mod Apart
 pub mod Decided
 pub mod Saddles
+pub mod Settings
 pub mod Trees
 pub mod Prunings
 pub mod Walks

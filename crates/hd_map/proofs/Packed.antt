@@ -7,6 +7,8 @@ use Rattle.std.proofs.lemmas.Bool.{cases_eq, cases_lt}
 use Rattle.std.proofs.lemmas.Grind.{get_or-set_at}
 use Rattle.std.proofs.lemmas.List.{length-replicate, length-map, map-append, map-set, get_or-map, get_or-set_other, get_or_append_left, get_or_push, replicate_more, take_more_set, take_all, length_push}
 use Rattle.std.proofs.lemmas.Simd.{get_or-zip2, length-zip2}
+use Rattle.hd_map.specs.declared.types.Adjacency.{Adjacency}
+use Rattle.hd_map.specs.declared.types.Adjacency.TheVariants.{Eight}
 use Rattle.hd_map.specs.declared.types.Pos.{Pos}
 use Rattle.hd_map.specs.declared.types.Size.{Size}
 use Rattle.hd_map.specs.declared.types.Cell.{Cell}
@@ -65,14 +67,14 @@ pub mask_kept : (m : Map) (p : Pos) (masked : Bool) → IsMap m → IsMap (with_
 mask_kept m p masked whole = record { size = whole.size; cells = whole.cells; masks = length-set m.masks (place_of m.size p) masked ∙ whole.masks; heights = whole.heights }
 
 -- a map of these cells and masks
-abbrev with_lists : Size → DataType → List Cell → List Bool → Map
-with_lists s t cells covers = record { size = s; data_type = t; cells = cells; masks = covers }
+abbrev with_lists : Size → DataType → Adjacency → List Cell → List Bool → Map
+with_lists s t adjacency cells covers = record { size = s; data_type = t; cells = cells; masks = covers; adjacency = adjacency }
 
 -- a kept map with the mark that was read at a position
-module _ (s : Size) (t : DataType) (heights : List ℕ) (marks : List Mark) (paired : length heights ≡ length marks) (whole : IsMap (packed_map s t heights marks))
+module _ (s : Size) (t : DataType) (heights : List ℕ) (marks : List Mark) (adjacency : Adjacency) (paired : length heights ≡ length marks) (whole : IsMap (packed_map s t heights marks adjacency))
     (at : Pos) (k : ℕ) (here : k ≡ place_of s at) (below : k < cell_count s) (mark : Mark) (is : mark ≡ get_or marks k mark) where
   abbrev kept : Map
-  kept = packed_map s t heights marks
+  kept = packed_map s t heights marks adjacency
 
   inside : k < length marks
   inside = rw (sym (length-map marks masks) ∙ whole.masks) below
@@ -92,16 +94,16 @@ module _ (s : Size) (t : DataType) (heights : List ℕ) (marks : List Mark) (pai
   none_read other = rw (cell_read, mask_read) (not_shown t (get_or heights k 0) mark other)
 
   -- setting a height and a mark sets the cell, where the mask stays
-  pub cell_set : (over : ℕ) (new : Mark) (cell : Cell) → cell_from t over new ≡ cell → masks new ≡ masks mark → packed_map s t (set heights k over) (set marks k new) ≡ with_cell kept at cell
+  pub cell_set : (over : ℕ) (new : Mark) (cell : Cell) → cell_from t over new ≡ cell → masks new ≡ masks mark → packed_map s t (set heights k over) (set marks k new) adjacency ≡ with_cell kept at cell
   cell_set over new cell packs stays =
-      ap (λ covers. with_lists s t (zip2 (cell_from t) (set heights k over) (set marks k new)) covers) (map-set_same masks marks k new mark (stays ∙ ap masks is))
-      ∙ ap (λ cells. with_lists s t cells kept.masks) (zip2-set (cell_from t) heights marks k over new ∙ ap (λ c. set kept.cells k c) packs ∙ ap (λ (i : ℕ). set kept.cells i cell) here)
+      ap (λ covers. with_lists s t adjacency (zip2 (cell_from t) (set heights k over) (set marks k new)) covers) (map-set_same masks marks k new mark (stays ∙ ap masks is))
+      ∙ ap (λ cells. with_lists s t adjacency cells kept.masks) (zip2-set (cell_from t) heights marks k over new ∙ ap (λ c. set kept.cells k c) packs ∙ ap (λ (i : ℕ). set kept.cells i cell) here)
 
   -- setting a mark sets the mask, where the mark measures as the one before
-  pub mask_set : (new : Mark) (masked : Bool) → measures new ≡ measures mark → masks new ≡ masked → packed_map s t heights (set marks k new) ≡ with_mask kept at masked
+  pub mask_set : (new : Mark) (masked : Bool) → measures new ≡ measures mark → masks new ≡ masked → packed_map s t heights (set marks k new) adjacency ≡ with_mask kept at masked
   mask_set new masked stays covers =
-      ap (λ cells. with_lists s t cells (map masks (set marks k new))) (zip2-set_same (cell_from t) heights marks k new mark (λ over. rw (stays ∙ ap measures is) refl))
-      ∙ ap (λ covers. with_lists s t kept.cells covers) (map-set masks marks k new ∙ ap (λ m. set kept.masks k m) covers ∙ ap (λ (i : ℕ). set kept.masks i masked) here)
+      ap (λ cells. with_lists s t adjacency cells (map masks (set marks k new))) (zip2-set_same (cell_from t) heights marks k new mark (λ over. rw (stays ∙ ap measures is) refl))
+      ∙ ap (λ covers. with_lists s t adjacency kept.cells covers) (map-set masks marks k new ∙ ap (λ m. set kept.masks k m) covers ∙ ap (λ (i : ℕ). set kept.masks i masked) here)
 
 -- the last number that was added is taken again
 pub popped : (xs zs : List ℕ) (x count : ℕ) → count ≡ length xs + 1 → zs ≡ take (count - 1) (xs ++ x ∷ []) → zs ≡ xs
@@ -137,16 +139,16 @@ unmasked_push marks mark before clear =
     ∙ replicate_more (length marks) false ∙ ap (λ n. replicate n false) (sym (length_push marks mark))
 
 -- as many cells of a data type as a size says, none of them masked
-module _ (s : Size) (t : DataType) (heights : List ℕ) (marks : List Mark) (paired : length heights ≡ length marks) (clear : map masks marks ≡ replicate (length marks) false)
+module _ (s : Size) (t : DataType) (heights : List ℕ) (marks : List Mark) (adjacency : Adjacency) (paired : length heights ≡ length marks) (clear : map masks marks ≡ replicate (length marks) false)
     (sized : length (packed_cells t heights marks) ≡ cell_count s) where
   -- no mask of the map is set
-  pub fresh_map : packed_map s t heights marks ≡ with_lists s t (packed_cells t heights marks) (replicate (cell_count s) false)
+  pub fresh_map : packed_map s t heights marks adjacency ≡ with_lists s t adjacency (packed_cells t heights marks) (replicate (cell_count s) false)
   fresh_map =
       let count : length marks ≡ cell_count s = sym paired ∙ sym (length-zip2 (cell_from t) heights marks paired) ∙ sized in
-      ap (λ covers. with_lists s t (packed_cells t heights marks) covers) (clear ∙ ap (λ n. replicate n false) count)
+      ap (λ covers. with_lists s t adjacency (packed_cells t heights marks) covers) (clear ∙ ap (λ n. replicate n false) count)
 
   -- they make a map
-  pub fresh_whole : IsSize s → AreCellsOf t (packed_cells t heights marks) → IsMap (packed_map s t heights marks)
+  pub fresh_whole : IsSize s → AreCellsOf t (packed_cells t heights marks) → IsMap (packed_map s t heights marks adjacency)
   fresh_whole limits of_type = rw fresh_map (record { size = limits; cells = sized; masks = length-replicate (cell_count s) false; heights = of_type })
 
 -- the first marks have no mask, and the cells are the kept ones
@@ -166,7 +168,7 @@ more_cleared t heights before count marks mark new cleared below is stays clear 
 }
 
 -- a kept map whose masks are all cleared
-module _ (s : Size) (t : DataType) (heights : List ℕ) (before : List Mark) (whole : IsMap (packed_map s t heights before)) (count : ℕ) (all : count ≡ length before)
+module _ (s : Size) (t : DataType) (heights : List ℕ) (before : List Mark) (adjacency : Adjacency) (whole : IsMap (packed_map s t heights before adjacency)) (count : ℕ) (all : count ≡ length before)
     (marks : List Mark) (cleared : AreCleared t heights before count marks) where
   no_masks : map masks marks ≡ replicate (cell_count s) false
   no_masks =
@@ -175,9 +177,9 @@ module _ (s : Size) (t : DataType) (heights : List ℕ) (before : List Mark) (wh
       sym (take_all count (map masks marks) (omega (arith, long))) ∙ cleared.no_masks ∙ ap (λ n. replicate n false) sized
 
   -- it is the map without its masks
-  pub unmasked_map : packed_map s t heights marks ≡ unmasked (packed_map s t heights before)
-  unmasked_map = ap (λ covers. with_lists s t (packed_cells t heights marks) covers) no_masks ∙ ap (λ cells. with_lists s t cells (replicate (cell_count s) false)) cleared.same_cells
+  pub unmasked_map : packed_map s t heights marks Eight ≡ unmasked (packed_map s t heights before adjacency)
+  unmasked_map = ap (λ covers. with_lists s t Eight (packed_cells t heights marks) covers) no_masks ∙ ap (λ cells. with_lists s t Eight cells (replicate (cell_count s) false)) cleared.same_cells
 
   -- it is a map
-  pub unmasked_whole : IsMap (packed_map s t heights marks)
+  pub unmasked_whole : IsMap (packed_map s t heights marks Eight)
   unmasked_whole = rw unmasked_map (record { size = whole.size; cells = whole.cells; masks = length-replicate (cell_count s) false; heights = whole.heights })

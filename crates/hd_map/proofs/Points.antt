@@ -15,6 +15,7 @@ use Rattle.hd_map.specs.Map.{Map, InGrid, IsMeasured, Present, cell_at, mask_at,
 use Rattle.hd_map.specs.Neighbour.{Neighbour}
 use Rattle.hd_map.specs.Rank.{IsPoint, Near, rank}
 use Rattle.hd_map.proofs.Gather.{same_pos}
+use Rattle.hd_map.proofs.Settings.{beside-sym}
 
 -- the index of a position is less than the number of cells
 pub place_inside : (s : Size) (p : Pos) → InGrid s p → place_of s p < cell_count s
@@ -99,6 +100,17 @@ present_or_not m p inside = elim (measured_or_not (cell_at m p)) [
 -- the rank of a present point is that of a point
 pub point_at : (m : Map) (p : Pos) → Present m p → IsPoint m (rank m p)
 point_at m p here = record { at = p; present = here; rank_is = refl }
+
+-- a neighbour is one both ways
+pub neighbour-sym : (m : Map) (p q : Pos) → Neighbour m p q → Neighbour m q p
+neighbour-sym m p q n = record {
+  from = n.to;
+  to = n.from;
+  columns = (n.columns.1, n.columns.0);
+  rows = (n.rows.1, n.rows.0);
+  different = λ e. n.different (sym e);
+  beside = beside-sym m.adjacency p q n.beside;
+}
 
 -- what has a near one is a point
 pub Near-from : (m : Map) (a b : Rank) → Near m a b → IsPoint m a

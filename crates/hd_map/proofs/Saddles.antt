@@ -5,7 +5,6 @@ use Rattle.std.proofs.lemmas.List.Elements.{All-head, All-tail}
 use Rattle.hd_map.specs.declared.types.Rank.{Rank}
 use Rattle.hd_map.specs.declared.types.SideName.{SideName}
 use Rattle.hd_map.specs.Map.{Map}
-use Rattle.hd_map.specs.Neighbour.{Neighbour}
 use Rattle.hd_map.specs.Order.{IsNotAbove}
 use Rattle.hd_map.specs.Path.{Leads, IsTop, IsPath}
 use Rattle.hd_map.specs.Rank.{IsPoint, Near, below_by}
@@ -14,22 +13,14 @@ use Rattle.hd_map.specs.Saddle.{IsSaddle}
 use Rattle.hd_map.proofs.Items.{Contains-cases, Contains-none}
 use Rattle.hd_map.proofs.Levels.{Reach, PointStep, NoneAbove, IsLevel, here, step, reach-from_path, path-from_reach, top_of, top-not_above, level-unique, level-sym, level-ultrametric}
 use Rattle.hd_map.proofs.Decided.{near_or_not}
-use Rattle.hd_map.proofs.Points.{Near-to, Near-apart, ranks_of, point-listed}
+use Rattle.hd_map.proofs.Points.{Near-to, Near-apart, neighbour-sym, ranks_of, point-listed}
 use Rattle.hd_map.specs.SideLaws.{below_by-order}
 use Rattle.hd_map.proofs.Sides.{not_above-trans, compare, below-along}
 use Rattle.hd_map.proofs.Through.{level_exists}
 
 -- near is near both ways
 pub near-sym : (m : Map) (a b : Rank) → Near m a b → Near m b a
-near-sym m a b n =
-    let one : Neighbour m n.from n.to = n.neighbour in
-    record {
-      from = n.to;
-      to = n.from;
-      neighbour = record { from = one.to; to = one.from; columns = (one.columns.1, one.columns.0); rows = (one.rows.1, one.rows.0); different = λ e. one.different (sym e) };
-      from_rank = n.to_rank;
-      to_rank = n.from_rank;
-    }
+near-sym m a b n = record { from = n.to; to = n.from; neighbour = neighbour-sym m n.from n.to n.neighbour; from_rank = n.to_rank; to_rank = n.from_rank }
 
 -- what is reached from a point is a point
 pub reach-point : (m : Map) (side : SideName) (t : Rank) {a b : Rank} → IsPoint m a → Reach (PointStep (Near m) (below_by side) t) a b → IsPoint m b

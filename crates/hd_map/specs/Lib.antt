@@ -3,6 +3,7 @@ pub mod Neighbour
 pub mod Order
 pub mod Rank
 pub mod SideLaws
+pub mod SettingLaws
 pub mod Path
 pub mod Region
 pub mod Saddle

@@ -4,15 +4,18 @@ use Rattle.hd_map.specs.declared.types.Pos.{Pos}
 use Rattle.hd_map.specs.declared.types.Size.{Size}
 use Rattle.hd_map.specs.declared.types.Cell.{Cell}
 use Rattle.hd_map.specs.declared.types.Cell.TheVariants.{Height, Bad}
+use Rattle.hd_map.specs.declared.types.Adjacency.{Adjacency}
 use Rattle.hd_map.specs.declared.types.DataType.{DataType}
 use Rattle.hd_map.specs.declared.types.DataType.TheVariants.{U8, U16, U32, I8, I16, I32}
 
--- a sampled surface: its size, the type of its heights, and its cells and masks by index
+-- a sampled surface and a setting: its size, the type of its heights, its cells and masks by index, and which
+-- points are neighbours
 pub record Map : Type 0 where
   pub size : Size
   pub data_type : DataType
   pub cells : List Cell
   pub masks : List Bool
+  pub adjacency : Adjacency
 
 -- how many cells a map of this size has
 abbrev pub cell_count : Size → ℕ

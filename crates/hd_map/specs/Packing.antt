@@ -1,6 +1,7 @@
 -- How a surface keeps its points: heights over the least one of the data type, and marks.
 use Rattle.std.specs.Prelude.{◌+ℤ◌, ℕ, pos, Bool, true, false, List, map, if◌then◌else◌}
 use Rattle.std.specs.Simd.Lanes.{zip2}
+use Rattle.hd_map.specs.declared.types.Adjacency.{Adjacency}
 use Rattle.hd_map.specs.declared.types.Size.{Size}
 use Rattle.hd_map.specs.declared.types.DataType.{DataType}
 use Rattle.hd_map.specs.declared.types.Cell.{Cell}
@@ -32,5 +33,5 @@ abbrev pub packed_cells : DataType → List ℕ → List Mark → List Cell
 packed_cells t heights marks = zip2 (cell_from t) heights marks
 
 -- the map that is kept as these heights and marks
-abbrev pub packed_map : Size → DataType → List ℕ → List Mark → Map
-packed_map s t heights marks = record { size = s; data_type = t; cells = packed_cells t heights marks; masks = map masks marks }
+abbrev pub packed_map : Size → DataType → List ℕ → List Mark → Adjacency → Map
+packed_map s t heights marks adjacency = record { size = s; data_type = t; cells = packed_cells t heights marks; masks = map masks marks; adjacency = adjacency }

@@ -1,5 +1,7 @@
--- A map with one cell or one mask set or with no masks, and why a set is refused.
+-- A map with one cell, one mask or its setting set, as a file gives it, and why a set is refused.
 use Rattle.std.specs.Prelude.{◌≡◌, ◌≤◌, ◌+◌, ℕ, Bool, false, Result, MatchResult, replicate, slice_set}
+use Rattle.hd_map.specs.declared.types.Adjacency.{Adjacency}
+use Rattle.hd_map.specs.declared.types.Adjacency.TheVariants.{Eight}
 use Rattle.hd_map.specs.declared.types.Pos.{Pos}
 use Rattle.hd_map.specs.declared.types.Cell.{Cell}
 use Rattle.hd_map.specs.declared.types.MapError.{MapError}
@@ -14,9 +16,13 @@ with_cell m p cell = record m { cells = slice_set m.cells (place_of m.size p) ce
 abbrev pub with_mask : Map → Pos → Bool → Map
 with_mask m p masked = record m { masks = slice_set m.masks (place_of m.size p) masked }
 
--- the map without its masks
+-- the map under this setting
+abbrev pub under : Adjacency → Map → Map
+under adjacency m = record m { adjacency = adjacency }
+
+-- the map as a file gives it: without its masks, and with eight neighbours
 abbrev pub unmasked : Map → Map
-unmasked m = record m { masks = replicate (cell_count m.size) false }
+unmasked m = record m { masks = replicate (cell_count m.size) false; adjacency = Eight }
 
 -- why this cell cannot stand at the position: it is not in the grid; else the height is not of the type
 abbrev pub IsCellRefusal : Map → Pos → Cell → MapError → Type 0

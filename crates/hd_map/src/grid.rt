@@ -2,18 +2,22 @@
 ghost use Rattle.std.specs.Prelude.{◌≡◌, ◌<◌, ◌^◌, ◌+◌, ℕ, ◌↔◌, IsTrue};
 ghost use Rattle.hd_map.specs.Map.{Map, IsMap, IsSize, InGrid, Present, place_of, position_at, cell_count, cell_at, mask_at, shown_height};
 ghost use Rattle.hd_map.specs.Rank.{rank};
-ghost use Rattle.hd_map.specs.Sets.{SetsCell, SetsMask, CountsChange};
+ghost use Rattle.hd_map.specs.Sets.{SetsCell, SetsMask, under, CountsChange};
 
-use crate::{Cell, DataType, MapError, Pos, Rank, Size};
+use crate::{Adjacency, Cell, DataType, MapError, Pos, Rank, Size};
 
-/// Heights on a rectangular grid, seen as a map (a sampled surface after ISO 25178-2).
+/// Heights on a rectangular grid, seen as a map and a setting (a sampled surface after ISO 25178-2).
 pub trait Heights {
-    /// The map that it is seen as.
+    /// The map and the setting that it is seen as.
     ghost map: { Self → Map };
 
     /// How many points and profiles it has.
     fn size(&self) -> Size
         ensures { result ≡ (map self.now).size };
+
+    /// Which of its points are neighbours.
+    fn adjacency(&self) -> Adjacency
+        ensures { result ≡ (map self.now).adjacency };
 
     /// The height of a present point in steps, and none where the point is not present.
     fn height(&self, at: Pos) -> Option<i64>
@@ -59,6 +63,13 @@ pub trait Grid: Heights {
     fn set_mask(&mut self, at: Pos, masked: bool) -> Result<(), MapError>
         requires { changes self.old < 2 ^ 63 }
         ensures sets { SetsMask (Self.map self.old) at masked result (Self.map self.new) }
+        ensures origin { comes_from self.old self.new }
+        ensures count { CountsChange (Self.map self.old) (Self.map self.new) (changes self.old) (changes self.new) };
+
+    /// Sets which of its points are neighbours, and nothing else.
+    fn set_adjacency(&mut self, adjacency: Adjacency)
+        requires { changes self.old < 2 ^ 63 }
+        ensures sets { Self.map self.new ≡ under adjacency (Self.map self.old) }
         ensures origin { comes_from self.old self.new }
         ensures count { CountsChange (Self.map self.old) (Self.map self.new) (changes self.old) (changes self.new) };
 

@@ -13,6 +13,7 @@ mod range;
 mod side;
 mod surface;
 mod types;
+mod under;
 
 pub use cells::Cells;
 pub use grid::{
@@ -23,10 +24,11 @@ pub use laws::{
     saddle_is_not_above_the_higher_of_two, saddle_is_the_same_both_ways,
     saddle_of_two_pits_is_above_both,
 };
-pub use near::neighbours;
+pub use near::{are_beside, neighbours, neighbours_by};
 pub use presence::{HeightRange, Presence, presence_of};
 pub use pruning_law::pruning_is_determined;
 pub use range::{greatest_of, is_cell_of, least_of, over_least};
 pub use side::{Down, Side, Up};
 pub use surface::Surface;
-pub use types::{Cell, DataType, MapError, Pass, Pos, Rank, RegionSize, SideName, Size};
+pub use types::{Adjacency, Cell, DataType, MapError, Pass, Pos, Rank, RegionSize, SideName, Size};
+pub use under::Under;

@@ -1,16 +1,30 @@
 // The neighbours of a point.
-ghost use Rattle.std.specs.Prelude.{◌≡◌, ◌<◌, ◌≤◌, ◌+◌, ◌↔◌, ℕ, MatchOption, map};
+ghost use Rattle.std.specs.Prelude.{◌≡◌, ◌<◌, ◌≤◌, ◌+◌, ◌↔◌, MatchOption, IsTrue, map};
 ghost use Rattle.std.specs.List.{Contains, AllPairs};
 ghost use Rattle.hd_map.specs.Map.{InGrid, Present, place_of};
-ghost use Rattle.hd_map.specs.Neighbour.{Neighbour};
+ghost use Rattle.hd_map.specs.Neighbour.{Neighbour, AreBesideUnder};
+ghost use Rattle.hd_map.specs.Sets.{under};
 
-use crate::{Heights, Pos, contains, is_present};
+use crate::{Adjacency, Heights, Pos, Under, contains, is_present};
 use smallvec::SmallVec;
 use std::alloc::Global;
 
-/// The neighbours of a point, in position order: the present points whose column and profile differ
-/// from its own by at most one. A point that is not present has none. The list lies inline and takes
-/// no memory.
+/// Whether two positions whose columns and profiles differ by at most one are side by side under a
+/// setting.
+#[inline]
+pub fn are_beside(adjacency: Adjacency, p: Pos, q: Pos) -> bool
+    ensures { IsTrue result ↔ AreBesideUnder adjacency p q }
+{
+    match adjacency {
+        Adjacency::Four => p.x == q.x || p.y == q.y,
+        Adjacency::Six => p.x == q.x || p.y == q.y || (p.x < q.x) == (p.y < q.y),
+        Adjacency::Eight => true,
+    }
+}
+
+/// The neighbours of a point under the setting of the grid, in position order: the present points
+/// whose column and profile differ from its own by at most one, and that are beside it under the
+/// setting. A point that is not present has none. The list lies inline and takes no memory.
 pub fn neighbours<G: Heights>(alloc: Global, grid: &G, at: Pos) -> SmallVec<Pos, 8>
     requires { InGrid (G.map grid.now).size at }
     ensures all { (q : _) → Contains result.items q ↔ Neighbour (G.map grid.now) at q }
@@ -24,6 +38,21 @@ pub fn neighbours<G: Heights>(alloc: Global, grid: &G, at: Pos) -> SmallVec<Pos,
     }
 }
 
+/// The neighbours of a point under a setting, as `neighbours` gives them under that of the grid.
+pub fn neighbours_by<G: Heights>(
+    alloc: Global,
+    grid: &G,
+    adjacency: Adjacency,
+    at: Pos,
+) -> SmallVec<Pos, 8>
+    requires { InGrid (G.map grid.now).size at }
+    ensures all { (q : _) → Contains result.items q ↔ Neighbour (under adjacency (G.map grid.now)) at q }
+    ensures ordered { AllPairs (λ a b. place_of (G.map grid.now).size a < place_of (G.map grid.now).size b) result.items }
+    ensures inline { result.capacity ≡ 8 }
+{
+    neighbours(alloc, &Under { grid, adjacency }, at)
+}
+
 // The neighbours of a present point.
 fn points_round<G: Heights>(alloc: Global, grid: &G, at: Pos) -> SmallVec<Pos, 8>
     requires { Present (G.map grid.now) at }
@@ -31,11 +60,14 @@ fn points_round<G: Heights>(alloc: Global, grid: &G, at: Pos) -> SmallVec<Pos, 8
     ensures ordered { AllPairs (λ a b. place_of (G.map grid.now).size a < place_of (G.map grid.now).size b) result.items }
     ensures inline { result.capacity ≡ 8 }
 {
+    let adjacency = grid.adjacency();
     let mut found = SmallVec::new(alloc);
     for step in 0..9u32 {
         if step != 4 {
             if let Some(q) = present_at(grid, at, step % 3, step / 3) {
-                found.push_reserved(q);
+                if are_beside(adjacency, at, q) {
+                    found.push_reserved(q);
+                }
             }
         }
     }

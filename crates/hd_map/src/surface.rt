@@ -5,7 +5,8 @@ ghost use Rattle.hd_map.specs.Packing.{packed_map};
 
 use crate::packing::{Mark, pack};
 use crate::{
-    Cell, Cells, DataType, Grid, Heights, MapError, Pos, Size, contains, index_of, is_cell_of,
+    Adjacency, Cell, Cells, DataType, Grid, Heights, MapError, Pos, Size, contains, index_of,
+    is_cell_of,
 };
 use hd_list::Memory;
 use std::alloc::Global;
@@ -19,24 +20,26 @@ pub struct Surface {
     least: i64,
     heights: Vec<u32>,
     marks: Vec<Mark>,
+    adjacency: Adjacency,
     ghost is_least: { least ≡ least_height data_type },
     ghost paired: { length heights.items ≡ length marks.items },
-    ghost whole: { IsMap (packed_map size data_type heights.items marks.items) },
+    ghost whole: { IsMap (packed_map size data_type heights.items marks.items adjacency) },
 }
 
 impl Surface {
     ghost use Rattle.hd_map.specs.Cells.{cells_in};
+    ghost use Rattle.hd_map.specs.declared.types.Adjacency.TheVariants.{Eight};
     ghost use Rattle.hd_map.specs.Sets.{unmasked};
     ghost use Rattle.hd_map.specs.Surface.{map_of};
 
-    /// A surface with these cells, none of them masked.
+    /// A surface with these cells, none of them masked, and with eight neighbours.
     ///
     /// Both sizes are from 1 to 65,535 with at most 4,194,304 cells, and there are as many cells as
     /// the size says.
     pub fn new(size: Size, cells: Cells) -> Surface
         requires limits { IsSize size }
         requires whole { length (cells_in cells) ≡ cell_count size }
-        ensures { map_of result ≡ record { size = size; data_type = cells.data_type; cells = cells_in cells; masks = replicate (cell_count size) false } }
+        ensures { map_of result ≡ record { size = size; data_type = cells.data_type; cells = cells_in cells; masks = replicate (cell_count size) false; adjacency = Eight } }
     {
         let Cells {
             data_type,
@@ -50,10 +53,11 @@ impl Surface {
             least,
             heights,
             marks,
+            adjacency: Adjacency::Eight,
         }
     }
 
-    /// A copy with the same cells, none of them masked. `Memory` comes where the copy is refused its
+    /// A copy with the same cells, none of them masked, and with eight neighbours. `Memory` comes where the copy is refused its
     /// memory.
     pub fn without_masks(&self, alloc: Global) -> Result<Surface, Memory>
         ensures { IfOk result (λ s. map_of s ≡ unmasked (map_of self.now)) }
@@ -69,6 +73,7 @@ impl Surface {
             least: self.least,
             heights,
             marks,
+            adjacency: Adjacency::Eight,
         })
     }
 }
@@ -82,6 +87,10 @@ impl Heights for Surface {
 
     fn size(&self) -> Size {
         self.size
+    }
+
+    fn adjacency(&self) -> Adjacency {
+        self.adjacency
     }
 
     fn height(&self, at: Pos) -> Option<i64> {
@@ -142,5 +151,9 @@ impl Grid for Surface {
         let index = index_of(self.size, at) as usize;
         self.marks[index] = Mark::of(self.marks[index].is_measured(), masked);
         Ok(())
+    }
+
+    fn set_adjacency(&mut self, adjacency: Adjacency) {
+        self.adjacency = adjacency;
     }
 }

@@ -65,6 +65,18 @@ impl DataType {
     }
 }
 
+/// Which of the points whose columns and profiles differ by at most one are neighbours.
+#[derive(Clone, Copy, Debug, PartialEq, Eq)]
+pub enum Adjacency {
+    /// Those of one column or one profile: at most four round a point.
+    Four,
+    /// Those of one column or one profile, and those of which the one of greater column has the
+    /// greater profile: at most six.
+    Six,
+    /// All: at most eight.
+    Eight,
+}
+
 /// A present point by what points are compared by: its height, and at one height its index.
 #[derive(Clone, Copy, Debug, PartialEq, Eq)]
 pub struct Rank {

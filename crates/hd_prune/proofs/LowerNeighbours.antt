@@ -10,7 +10,8 @@ use Rattle.hd_map.specs.Map.{Map, InGrid, Present}
 use Rattle.hd_map.specs.Neighbour.{Neighbour}
 use Rattle.hd_map.specs.Rank.{below_by, IsPoint, rank}
 use Rattle.hd_map.specs.Region.{LowerNeighbour}
-use Rattle.hd_map.proofs.Gather.{Gathered, same_pos, gathered_push, gathered_none, gathered_centre, gathered_all}
+use Rattle.hd_map.proofs.Decided.{beside_or_not}
+use Rattle.hd_map.proofs.Gather.{Gathered, same_pos, gathered_push, gathered_none, gathered_apart, gathered_centre, gathered_all}
 use Rattle.hd_map.proofs.Points.{present_or_not, same_point}
 use Rattle.hd_prune.proofs.Lists.{Contains-none, Contains-filter, filter-Contains, Contains-map, map-Contains}
 
@@ -58,7 +59,10 @@ module _ (m : Map) (at : Pos) (here : Present m at) where
       let more : (found : List Pos) × Gathered m at (step + 1) found = elim (cases_eq step 4) [
         | inl centre ↦ (before.0, gathered_centre m at step before.0 centre before.1)
         | inr other ↦ elim (shown_before m (at.x + step % 3) (at.y + step / 3)) [
-          | inl there ↦ (before.0 ++ there.0 ∷ [], gathered_push m at there.0 step before.0 here other below there.1 there.2 there.3 before.1)
+          | inl there ↦ elim (beside_or_not m.adjacency at there.0) [
+            | inl beside ↦ (before.0 ++ there.0 ∷ [], gathered_push m at there.0 step before.0 here other below there.1 there.2 there.3 beside before.1)
+            | inr apart ↦ (before.0, gathered_apart m at there.0 step before.0 below there.1 there.2 apart before.1)
+          ]
           | inr none ↦ (before.0, gathered_none m at step before.0 below none before.1)
         ]
       ] in

@@ -3,10 +3,10 @@ use Rattle.std.specs.Prelude.{◌*◌, ◌==◌, ℕ, List, [], ◌∷◌, lengt
 use Rattle.hd_edit.specs.declared.edit.Edit.{Edit}
 use Rattle.hd_edit.specs.declared.edit.Edit.TheVariants.{Set, Bad, Add, Mask, Unmask}
 use Rattle.hd_script.specs.declared.command.Command.{Command}
-use Rattle.hd_script.specs.declared.command.Command.TheVariants.{Do, Undo, Element, Label, Saddle, Tree, Prune, Param, Feature}
+use Rattle.hd_script.specs.declared.command.Command.TheVariants.{Do, Undo, Element, Neighbours, Label, Saddle, Tree, Prune, Param, Feature}
 use Rattle.hd_script.specs.declared.command.LineError.{LineError}
 use Rattle.hd_script.specs.declared.command.LineError.TheVariants.{WordCount}
-use Rattle.hd_script.specs.Words.{and_then, count_word, whole_word, side_word, name_word, percent_word, position_words, corner_words, entry_words}
+use Rattle.hd_script.specs.Words.{and_then, count_word, whole_word, side_word, adjacency_word, name_word, percent_word, position_words, corner_words, entry_words}
 
 -- what the words after a name give
 abbrev pub Reading : Type 0
@@ -58,6 +58,11 @@ element_words (name ∷ width ∷ height ∷ entries) =
     and_then (name_word 2 name) (λ named. and_then (count_word 3 width) (λ w. and_then (count_word 4 height) (λ h.
     if length entries == w * h then and_then (entry_words 5 entries) (λ table. Ok (Element named w h table)) else Err WordCount)))
 element_words words = Err WordCount
+
+-- `neighbours N`
+abbrev pub neighbours_words : Reading
+neighbours_words (n ∷ []) = and_then (adjacency_word 2 n) (λ adjacency. Ok (Neighbours adjacency))
+neighbours_words words = Err WordCount
 
 -- `label S X Y`
 abbrev pub label_words : Reading

@@ -4,7 +4,7 @@ use Rattle.std.specs.Str.{bytes_eq}
 use Rattle.hd_edit.specs.declared.edit.Edit.TheVariants.{Dilate, Erode, Open, Close}
 use Rattle.hd_script.specs.declared.command.Command.TheVariants.{Elements, Info, Dales, Hills}
 use Rattle.hd_script.specs.declared.command.LineError.TheVariants.{UnknownCommand}
-use Rattle.hd_script.specs.Rows.{Reading, no_words, set_words, bad_words, add_words, mask_words, unmask_words, filter_words, undo_words, element_words, label_words, saddle_words, tree_words, prune_words, param_words, feature_words}
+use Rattle.hd_script.specs.Rows.{Reading, no_words, set_words, bad_words, add_words, mask_words, unmask_words, filter_words, undo_words, element_words, neighbours_words, label_words, saddle_words, tree_words, prune_words, param_words, feature_words}
 
 -- a row of the table: the name of a command, and what the words after it give
 pub record Row : Type 0 where
@@ -27,7 +27,7 @@ report_commands = row (codes "info") (no_words Info)
     ∷ row (codes "feature") feature_words
     ∷ []
 
--- the filters, the undoing of edits and the elements, and then the reports
+-- the filters, the undoing of edits, the elements and the setting, and then the reports
 unfoldable pub later_commands : List Row
 later_commands = row (codes "dilate") (filter_words Dilate)
     ∷ row (codes "erode") (filter_words Erode)
@@ -36,6 +36,7 @@ later_commands = row (codes "dilate") (filter_words Dilate)
     ∷ row (codes "undo") undo_words
     ∷ row (codes "element") element_words
     ∷ row (codes "elements") (no_words Elements)
+    ∷ row (codes "neighbours") neighbours_words
     ∷ report_commands
 
 -- the commands: the edits of points, and then the later ones

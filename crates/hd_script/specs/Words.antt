@@ -3,6 +3,8 @@ use Rattle.std.specs.Prelude.{◌+◌, ◌==◌, ◌&&◌, ◌||◌, ℕ, ℤ, p
 use Rattle.std.specs.Char.{is_ascii_alphanumeric}
 use Rattle.std.specs.List.{list_all}
 use Rattle.std.specs.Str.{bytes_eq}
+use Rattle.hd_map.specs.declared.types.Adjacency.{Adjacency}
+use Rattle.hd_map.specs.declared.types.Adjacency.TheVariants.{Four, Six, Eight}
 use Rattle.hd_map.specs.declared.types.Pos.{Pos}
 use Rattle.hd_map.specs.declared.types.SideName.{SideName}
 use Rattle.hd_map.specs.declared.types.SideName.TheVariants.{Dales, Hills}
@@ -34,6 +36,10 @@ fitting whole.Outside = None
 abbrev pub side_of : List ℕ → Option SideName
 side_of word = if bytes_eq word (codes "D") then Some Dales else if bytes_eq word (codes "H") then Some Hills else None
 
+-- `4`, `6` or `8`
+abbrev pub adjacency_of : List ℕ → Option Adjacency
+adjacency_of word = if bytes_eq word (codes "4") then Some Four else if bytes_eq word (codes "6") then Some Six else if bytes_eq word (codes "8") then Some Eight else None
+
 -- a letter, a digit, `_` or `-`
 abbrev pub is_name_byte : ℕ → Bool
 is_name_byte byte = is_ascii_alphanumeric byte || byte == 95 || byte == 45
@@ -62,6 +68,9 @@ whole_word number word = read_or_bad number (fitting (whole_of word))
 
 abbrev pub side_word : ℕ → List ℕ → Result SideName LineError
 side_word number word = read_or_bad number (side_of word)
+
+abbrev pub adjacency_word : ℕ → List ℕ → Result Adjacency LineError
+adjacency_word number word = read_or_bad number (adjacency_of word)
 
 unfoldable pub percent_word : ℕ → List ℕ → Result Percent LineError
 percent_word number word = read_or_bad number (percent_of word)

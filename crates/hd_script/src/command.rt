@@ -4,7 +4,7 @@ ghost use Rattle.hd_script.specs.declared.command.LineError.TheVariants.{Memory 
 
 use hd_edit::Edit;
 use hd_list::{List, Memory};
-use hd_map::{Pos, SideName};
+use hd_map::{Adjacency, Pos, SideName};
 use hd_num::Percent;
 use thiserror::Error;
 
@@ -24,6 +24,8 @@ pub enum Command {
     },
     /// The list of the elements.
     Elements,
+    /// To set which points are neighbours.
+    Neighbours(Adjacency),
     /// The size, the type, the heights and the scales.
     Info,
     /// The list of the dales.

@@ -9,8 +9,8 @@ use crate::element::element_words;
 use crate::filters::{Filter, filter_words};
 use crate::parameters::{feature_words, param_words};
 use crate::rows::{
-    add_words, bad_words, label_words, mask_words, no_words, prune_words, saddle_words, set_words,
-    tree_words, undo_words,
+    add_words, bad_words, label_words, mask_words, neighbours_words, no_words, prune_words,
+    saddle_words, set_words, tree_words, undo_words,
 };
 use crate::words::text;
 use crate::{Command, LineError};
@@ -122,6 +122,8 @@ fn read_later_command(
         element_words(alloc, line, words)
     } else if name == b"elements".as_slice() {
         no_words(line, words, Command::Elements)
+    } else if name == b"neighbours".as_slice() {
+        neighbours_words(line, words)
     } else {
         read_report_command(alloc, name, line, words)
     }

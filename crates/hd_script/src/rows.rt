@@ -2,10 +2,11 @@
 ghost use Rattle.std.specs.Prelude.{◌≡◌, ◌∷◌, [], All, IfOk, map, if◌then◌else◌};
 ghost use Rattle.hd_script.specs.Whole.{IsWhole};
 ghost use Rattle.hd_num.specs.Span.{IsPart, text_at};
-ghost use Rattle.hd_script.specs.Rows.{add_words, bad_words, label_words, mask_words, no_words, prune_words, saddle_words, set_words, tree_words, undo_words, unmask_words};
+ghost use Rattle.hd_script.specs.Rows.{add_words, bad_words, label_words, mask_words, neighbours_words, no_words, prune_words, saddle_words, set_words, tree_words, undo_words, unmask_words};
 
 use crate::words::{
-    corner_words, count_word, percent_word, position_words, side_word, text, whole_word,
+    adjacency_word, corner_words, count_word, percent_word, position_words, side_word, text,
+    whole_word,
 };
 use crate::{Command, LineError};
 use hd_edit::Edit;
@@ -201,6 +202,19 @@ pub fn tree_words(line: &[u8], words: &[Span]) -> Result<Command, LineError>
     };
     let side = side_word(2, text(line, *side))?;
     Ok(Command::Tree { side })
+}
+
+/// `neighbours N`.
+pub fn neighbours_words(line: &[u8], words: &[Span]) -> Result<Command, LineError>
+    requires { All (IsPart line.now) words.now }
+    ensures value { result ≡ neighbours_words (map (text_at line.now) words.now) }
+    ensures whole { IfOk result IsWhole }
+{
+    let [adjacency] = words else {
+        return Err(LineError::WordCount);
+    };
+    let adjacency = adjacency_word(2, text(line, *adjacency))?;
+    Ok(Command::Neighbours(adjacency))
 }
 
 /// `prune S P`.

@@ -3,11 +3,11 @@ ghost use Rattle.std.specs.Prelude.{◌≡◌, ◌⊎◌, ◌<◌, ◌^◌, ◌&
 ghost use Rattle.hd_morph.specs.Element.{IsEntry};
 ghost use Rattle.hd_num.specs.Span.{IsPart, text_at};
 ghost use Rattle.std.specs.List.{list_all};
-ghost use Rattle.hd_script.specs.Words.{corner_words, count_word, entry_word, is_name_byte, name_word, percent_word, position_words, side_word, whole_word};
+ghost use Rattle.hd_script.specs.Words.{adjacency_word, corner_words, count_word, entry_word, is_name_byte, name_word, percent_word, position_words, side_word, whole_word};
 
 use crate::LineError;
 use hd_list::List;
-use hd_map::{Pos, SideName};
+use hd_map::{Adjacency, Pos, SideName};
 use hd_num::{Percent, Span, Whole, read_count, read_percent, read_whole};
 use std::alloc::Global;
 
@@ -49,6 +49,18 @@ pub fn side_word(number: u32, word: &[u8]) -> Result<SideName, LineError>
     match word {
         b"D" => Ok(SideName::Dales),
         b"H" => Ok(SideName::Hills),
+        _ => Err(LineError::BadWord(number)),
+    }
+}
+
+/// The setting of the neighbours that the word of a number names.
+pub fn adjacency_word(number: u32, word: &[u8]) -> Result<Adjacency, LineError>
+    ensures { result ≡ adjacency_word number word.now }
+{
+    match word {
+        b"4" => Ok(Adjacency::Four),
+        b"6" => Ok(Adjacency::Six),
+        b"8" => Ok(Adjacency::Eight),
         _ => Err(LineError::BadWord(number)),
     }
 }

@@ -1,6 +1,7 @@
 -- The grammar of SDF texts: each text has a file or the first offence.
 use Rattle.std.specs.Prelude.{◌==◌, ◌||◌, ◌&&◌, ◌+◌, ℕ, ℤ, zero, suc, pos, nat_lt, nat_le, int_le, Bool, true, false, List, [], ◌∷◌, length, drop, replicate, Option, Some, None, Result, Ok, Err, ok_or, option_and_then, unwrap_or, if◌then◌else◌, bytes_eq, codes}
 use Rattle.std.specs.List.{before_first}
+use Rattle.hd_map.specs.declared.types.Adjacency.TheVariants.{Eight}
 use Rattle.hd_map.specs.Map.{Map, cell_count, least_height, greatest_height}
 use Rattle.hd_map.specs.declared.types.Cell.{Cell}
 use Rattle.hd_map.specs.declared.types.Cell.TheVariants.{Height, Bad}
@@ -158,13 +159,14 @@ trailer_of count text =
     else if is_star (token_of text) then trailer_text (trimmed_by is_gap (after_token text))
     else Err (TooManyData (count + 1))
 
--- the map of a frame and its cells, with no mask
+-- the map of a frame and its cells, with no mask and with eight neighbours
 abbrev pub map_with : Frame → List Cell → Map
 map_with frame cells = record {
   size = frame.size;
   data_type = frame.data_type;
   cells = cells;
   masks = replicate (cell_count frame.size) false;
+  adjacency = Eight;
 }
 
 -- the file of these parts

@@ -1,13 +1,14 @@
 -- Meetings that are added pair by pair.
-use Rattle.std.proofs.Common.{◌≡◌, ◌+◌, ℕ, List, [], ◌∷◌, ◌++◌, ◌⊎◌, inl, inr, ap, ◌∙◌, sym, subst, arith}
+use Rattle.std.proofs.Common.{◌≡◌, ◌↔◌, Bool, true, false, IsTrue, ◌+◌, ℕ, List, [], ◌∷◌, ◌++◌, ◌⊎◌, inl, inr, ap, ◌∙◌, sym, subst, arith}
 use Rattle.std.specs.List.{Contains}
 use Rattle.std.proofs.lemmas.Bool.{cases_eq, cases_lt}
 use Rattle.std.proofs.lemmas.List.Elements.{Contains-push, Contains-push_cases, Contains-append_left}
+use Rattle.hd_map.specs.declared.types.Adjacency.{Adjacency}
 use Rattle.hd_map.specs.declared.types.Pos.{Pos}
 use Rattle.hd_map.specs.declared.types.Rank.{Rank}
 use Rattle.hd_map.specs.declared.types.SideName.{SideName}
 use Rattle.hd_map.specs.Map.{Map}
-use Rattle.hd_map.specs.Neighbour.{Neighbour}
+use Rattle.hd_map.specs.Neighbour.{Neighbour, AreBesideUnder}
 use Rattle.hd_map.specs.Order.{IsNotAbove}
 use Rattle.hd_map.specs.Passes.{higher_by}
 use Rattle.hd_map.specs.Rank.{rank, below_by}
@@ -19,6 +20,13 @@ use Rattle.hd_steep.specs.declared.meetings.Meeting.{Meeting}
 use Rattle.hd_steep.specs.Meetings.{LiesIn, IsOfTwo, IsMeetingOf, DoNotMeet, Covers, Keeps, Adds, InOrder}
 use Rattle.hd_steep.proofs.Lows.{place_above, place_before}
 use Rattle.hd_steep.proofs.Joining.{keeps_refl}
+
+-- what the test of two positions says of the setting of a map
+pub beside-of : (m : Map) (u v : Pos) (b : Bool) (adjacency : Adjacency) → adjacency ≡ m.adjacency → (IsTrue b ↔ AreBesideUnder adjacency u v) → b ≡ true → AreBesideUnder m.adjacency u v
+beside-of m u v b adjacency is test holds = subst (λ (a : Adjacency). AreBesideUnder a u v) is (test.0 holds)
+
+pub apart-of : (m : Map) (u v : Pos) (b : Bool) (adjacency : Adjacency) → adjacency ≡ m.adjacency → (IsTrue b ↔ AreBesideUnder adjacency u v) → b ≡ false → AreBesideUnder m.adjacency u v → ⊥
+apart-of m u v b adjacency is test fails beside = (let holds : b ≡ true = test.1 (subst (λ (a : Adjacency). AreBesideUnder a u v) (sym is) beside) in cc)
 
 -- what covers a meeting is of the same regions
 of_covers : (side : SideName) (a b : ℕ) (x y : Meeting) → IsOfTwo a b x → Covers side x y → IsOfTwo a b y

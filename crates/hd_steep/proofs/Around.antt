@@ -2,11 +2,13 @@
 use Rattle.std.proofs.Common.{◌≡◌, ◌<◌, ◌+◌, ◌++◌, ℕ, zero, suc, Bool, true, false, List, [], ◌∷◌, inl, inr, ap, ◌∙◌, sym, subst, refl, arith}
 use Rattle.std.proofs.lemmas.Bool.{cases_eq, and_parts}
 use Rattle.hd_map.specs.declared.types.Pass.{Pass}
+use Rattle.hd_map.specs.declared.types.Adjacency.{Adjacency}
+use Rattle.hd_map.specs.declared.types.Adjacency.TheVariants.{Four, Six, Eight}
 use Rattle.hd_map.specs.declared.types.Pos.{Pos}
 use Rattle.hd_map.specs.declared.types.Rank.{Rank}
 use Rattle.hd_map.specs.declared.types.SideName.{SideName}
 use Rattle.hd_map.specs.Map.{Map, IsMap, Present}
-use Rattle.hd_map.specs.Neighbour.{Neighbour, IsNear}
+use Rattle.hd_map.specs.Neighbour.{Neighbour, IsNear, AreBesideUnder}
 use Rattle.hd_map.specs.Path.{Leads}
 use Rattle.hd_map.specs.Rank.{rank, below_by, IsPoint}
 use Rattle.hd_map.specs.Region.{LowerNeighbour, IsRoot, IsNext}
@@ -16,13 +18,15 @@ use Rattle.hd_map.proofs.Points.{same_point}
 use Rattle.hd_map.proofs.Depth.{point_limits}
 use Rattle.hd_map.proofs.Nexts.{root-next}
 use Rattle.hd_map.proofs.Saddles.{near-sym}
+use Rattle.hd_map.proofs.Settings.{beside-eight}
 use Rattle.hd_map.proofs.Sides.{below-not_above}
 use Rattle.hd_steep.specs.Lowest.{missing, IsChosen, IsLow, IsAtPlace}
 use Rattle.hd_steep.specs.Rows.{rank_in, IsRowOf}
-use Rattle.hd_steep.specs.Ring.{ring_of, are_lower, is_marked, firsts_of, IsOneAtMost}
+use Rattle.hd_steep.specs.Ring.{ring_of, are_lower, is_marked, firsts_of, taken_of, marks_of, IsOneAtMost}
 use Rattle.hd_steep.specs.Crossed.{AreBeside, IsCrossed, IsServed}
 use Rattle.hd_steep.proofs.Lows.{low_missing, below_missing}
 use Rattle.hd_steep.proofs.Rows.{row_place}
+use Rattle.hd_steep.proofs.Taken.{StandsAt, taken_marked, taken_eight, taken_beside, beside_taken}
 use Rattle.hd_steep.proofs.Ring.{column_of, profile_of, are_close, AreClose, close_from_test, close_middle, leads_first}
 
 -- numbers that are near after a shift are near
@@ -32,8 +36,8 @@ near_shifted x a b u v e f near = (omega (arith, e, f, near.0), omega (arith, e,
 module _ (m : Map) (side : SideName) where
   -- two points at places that are beside each other are neighbours
   neighbours_at : (y x i j : ℕ) (u v : Pos) → AreClose i j → IsAtPlace (y + profile_of i) (x + column_of i) u → IsAtPlace (y + profile_of j) (x + column_of j) v
-      → Present m u → Present m v → Neighbour m u v
-  neighbours_at y x i j u v close one other here there = record {
+      → Present m u → Present m v → AreBesideUnder m.adjacency u v → Neighbour m u v
+  neighbours_at y x i j u v close one other here there beside = record {
     from = here;
     to = there;
     columns = near_shifted x (column_of i) (column_of j) u.x v.x one.place other.place close.columns;
@@ -42,6 +46,7 @@ module _ (m : Map) (side : SideName) where
         let ex : u.x ≡ v.x = ap (λ (p : Pos). p.x) e in
         let ey : u.y ≡ v.y = ap (λ (p : Pos). p.y) e in
         close.different (let a = one.place in let b = other.place in omega (arith, ex, a, b)) (let a = one.profile in let b = other.profile in omega (arith, ey, a, b));
+    beside = beside;
   }
 
   -- a way round x, and further
@@ -148,38 +153,47 @@ module _ (m : Map) (side : SideName) where
         own_point : IsPoint m own
         own_point = record { at = at; present = here; rank_is = own_is }
 
+        -- the marks that the setting takes
+        abbrev pub taken : List Bool
+        taken = taken_of m.adjacency marks
+
         -- the point at a marked place
         marked_at : (k : ℕ) → is_marked marks k ≡ true → IsChosen m (IsAtPlace (y + profile_of k) (x + column_of k)) (rank_in ring k)
         marked_at k h = let b = mark_inside k h in chosen_below (IsAtPlace (y + profile_of k) (x + column_of k)) (rank_in ring k) own own_point (ring_low k b) (sym (mark_of k b) ∙ h)
 
-        -- is a lower neighbour
-        pub marked_lower : (k : ℕ) → is_marked marks k ≡ true → LowerNeighbour m side own (rank_in ring k)
-        marked_lower k h =
+        -- a position at a place of the ring, from the point itself
+        stands_at : (k : ℕ) (q : Pos) → IsAtPlace (y + profile_of k) (x + column_of k) q → StandsAt at q k
+        stands_at k q s = record { profile = s.profile ∙ ap (λ (n : ℕ). n + profile_of k) (sym profile); place = s.place ∙ ap (λ (n : ℕ). n + column_of k) (sym column) }
+
+        -- is a lower neighbour, where the setting takes it
+        pub marked_lower : (k : ℕ) → is_marked taken k ≡ true → LowerNeighbour m side own (rank_in ring k)
+        marked_lower k is_taken =
+            let h = taken_marked m.adjacency marks k is_taken in
             let b = mark_inside k h in
             let one = marked_at k h in
             record {
               near = record {
                 from = at;
                 to = one.at;
-                neighbour = neighbours_at y x 8 k at one.at (close_from_test 8 k (close_middle k b)) at_middle one.chosen here one.present;
+                neighbour = neighbours_at y x 8 k at one.at (close_from_test 8 k (close_middle k b)) at_middle one.chosen here one.present (taken_beside at one.at m.adjacency marks k is_taken (stands_at k one.at one.chosen));
                 from_rank = own_is;
                 to_rank = one.low_is;
               };
               below = sym (mark_of k b) ∙ h;
             }
 
-        -- two of them at places beside each other are neighbours
-        marked_beside : (i j : ℕ) → are_close i j ≡ true → is_marked marks i ≡ true → is_marked marks j ≡ true → AreBeside m side own (rank_in ring i) (rank_in ring j)
-        marked_beside i j close h k =
-            let one = marked_at i h in
-            let other = marked_at j k in
+        -- under 8 two of them at places beside each other are neighbours
+        marked_beside : m.adjacency ≡ Eight → (i j : ℕ) → are_close i j ≡ true → is_marked taken i ≡ true → is_marked taken j ≡ true → AreBeside m side own (rank_in ring i) (rank_in ring j)
+        marked_beside eight i j close h k =
+            let one = marked_at i (taken_marked m.adjacency marks i h) in
+            let other = marked_at j (taken_marked m.adjacency marks j k) in
             record {
               from = marked_lower i h;
               to = marked_lower j k;
               near = record {
                 from = one.at;
                 to = other.at;
-                neighbour = neighbours_at y x i j one.at other.at (close_from_test i j close) one.chosen other.chosen one.present other.present;
+                neighbour = neighbours_at y x i j one.at other.at (close_from_test i j close) one.chosen other.chosen one.present other.present (beside-eight m.adjacency one.at other.at eight);
                 from_rank = one.low_is;
                 to_rank = other.low_is;
               };
@@ -221,8 +235,8 @@ module _ (m : Map) (side : SideName) where
               ]
             ]
 
-        -- each lower neighbour stands at a marked place
-        pub lower_marked : (z : Rank) → LowerNeighbour m side own z → (k : ℕ) × (is_marked marks k ≡ true) × (rank_in ring k ≡ z)
+        -- each lower neighbour stands at a marked place that is taken
+        pub lower_marked : (z : Rank) → LowerNeighbour m side own z → (k : ℕ) × (is_marked taken k ≡ true) × (rank_in ring k ≡ z)
         lower_marked z low =
             let n = low.near in
             let from : n.from ≡ at = same_point m n.from at n.neighbour.from here (sym n.from_rank ∙ own_is) in
@@ -230,7 +244,7 @@ module _ (m : Map) (side : SideName) where
             let found = place_round n.to beside in
             let k = found.0 in
             let is : rank_in ring k ≡ z = rank_at_place (y + profile_of k) (x + column_of k) (rank_in ring k) n.to (ring_low k found.1) found.2 n.neighbour.to ∙ sym n.to_rank in
-            (k, mark_of k found.1 ∙ ap (λ (r : Rank). below_by side r own) is ∙ low.below, is)
+            (k, beside_taken at n.to m.adjacency marks k found.1 (mark_of k found.1 ∙ ap (λ (r : Rank). below_by side r own) is ∙ low.below) (stands_at k n.to found.2) beside.beside, is)
 
         -- a way from place to place
         abbrev Way : ℕ → ℕ → Type 0
@@ -239,14 +253,26 @@ module _ (m : Map) (side : SideName) where
         way_on : (i j k : ℕ) → Way i j → Way j k → Way i k
         way_on i j k one other = (one.0 ++ other.0, leads_on own (rank_in ring i) (rank_in ring j) (rank_in ring k) one.0 other.0 one.1 other.1)
 
-        -- from each marked place to the first of its group
-        to_first : (k : ℕ) → is_marked marks k ≡ true → (j : ℕ) × (is_marked (firsts_of marks) j ≡ true) × Way k j
-        to_first k h =
+        -- the places at which passes are gathered
+        abbrev pub gathered : List Bool
+        gathered = marks_of m.adjacency marks
+
+        -- under 8 from each marked place to the first of its group
+        to_first_of_eight : m.adjacency ≡ Eight → (k : ℕ) → is_marked marks k ≡ true → (j : ℕ) × (is_marked (firsts_of marks) j ≡ true) × Way k j
+        to_first_of_eight eight k h =
             let found = leads_first Way (λ i. ([], refl)) way_on (is_marked marks 0) (is_marked marks 1) (is_marked marks 2) (is_marked marks 3) (is_marked marks 4) (is_marked marks 5) (is_marked marks 6) (is_marked marks 7)
-            (λ i j close one other. (let b = marked_beside i j close one other in (rank_in ring j ∷ [], (b, refl)))) k h in
+            (λ i j close one other. (let b = marked_beside eight i j close (taken_eight m.adjacency marks i eight one) (taken_eight m.adjacency marks j eight other) in (rank_in ring j ∷ [], (b, refl)))) k h in
             (found.last, found.is_first, found.along)
 
-        -- the first ones are lower
+        -- from each place that is taken to one at which passes are gathered
+        to_first : (k : ℕ) → is_marked taken k ≡ true → (j : ℕ) × (is_marked gathered j ≡ true) × Way k j
+        to_first k h = elim m.adjacency as (λ a. m.adjacency ≡ a → is_marked (taken_of a marks) k ≡ true → (j : ℕ) × (is_marked (marks_of a marks) j ≡ true) × Way k j) [
+          | Four ↦ λ e is. (k, is, ([], refl))
+          | Six ↦ λ e is. (k, is, ([], refl))
+          | Eight ↦ λ e is. to_first_of_eight e k is
+        ] refl h
+
+        -- the first ones of groups are lower
         first_marked : (k : ℕ) → is_marked (firsts_of marks) k ≡ true → is_marked marks k ≡ true
         first_marked zero h = h
         first_marked (suc zero) h = (and_parts _ _ h).0
@@ -258,11 +284,16 @@ module _ (m : Map) (side : SideName) where
         first_marked (suc (suc (suc (suc (suc (suc (suc zero))))))) h = (and_parts _ _ h).0
         first_marked (suc (suc (suc (suc (suc (suc (suc (suc k)))))))) h = absurd cc
 
-        pub first_lower : (k : ℕ) → is_marked (firsts_of marks) k ≡ true → LowerNeighbour m side own (rank_in ring k)
-        first_lower k h = marked_lower k (first_marked k h)
+        gathered_taken : (a : Adjacency) (k : ℕ) → is_marked (marks_of a marks) k ≡ true → is_marked (taken_of a marks) k ≡ true
+        gathered_taken Four k h = h
+        gathered_taken Six k h = h
+        gathered_taken Eight k h = first_marked k h
+
+        pub first_lower : (k : ℕ) → is_marked gathered k ≡ true → LowerNeighbour m side own (rank_in ring k)
+        first_lower k h = marked_lower k (gathered_taken m.adjacency k h)
 
         -- where the first ones are crossed, all lower neighbours are served
-        pub served_crossed : (passes : List Pass) → ((k : ℕ) → is_marked (firsts_of marks) k ≡ true → IsCrossed m side passes own (rank_in ring k))
+        pub served_crossed : (passes : List Pass) → ((k : ℕ) → is_marked gathered k ≡ true → IsCrossed m side passes own (rank_in ring k))
             → (z : Rank) → LowerNeighbour m side own z → IsServed m side passes own z
         served_crossed passes crossed z low =
             let at_z = lower_marked z low in
@@ -275,7 +306,7 @@ module _ (m : Map) (side : SideName) where
             }
 
         -- and where there is one at most, since the next is one of them
-        pub served_alone : (passes : List Pass) (next root : Rank) → IsNext m side own next → IsRoot m side own root → IsOneAtMost (firsts_of marks)
+        pub served_alone : (passes : List Pass) (next root : Rank) → IsNext m side own next → IsRoot m side own root → IsOneAtMost gathered
             → (z : Rank) → LowerNeighbour m side own z → IsServed m side passes own z
         served_alone passes next root is_next is_root alone z low =
             let at_z = lower_marked z low in

@@ -19,3 +19,5 @@ pub mod Heights
 pub mod Enough
 pub mod Crossed
 pub mod Served
+mod Windows
+mod Taken

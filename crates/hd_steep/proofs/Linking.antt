@@ -14,8 +14,8 @@ use Rattle.hd_map.specs.Map.{Map, IsMap, Present, place_of, cell_count}
 use Rattle.hd_map.specs.Rank.{rank}
 use Rattle.hd_map.proofs.Gather.{same_pos}
 use Rattle.hd_map.proofs.Points.{point_at}
-use Rattle.hd_steep.specs.Lowest.{missing, lower_of, IsLow, IsAtPlace, InSpan, IsRound}
-use Rattle.hd_steep.specs.Rows.{rank_in, link_of, IsRowOf, AreLowsOf, AreLinked}
+use Rattle.hd_steep.specs.Lowest.{missing, lower_of, IsLow, IsAtPlace, IsRound, IsRoundIn}
+use Rattle.hd_steep.specs.Rows.{rank_in, link_of, IsRowOf, AreLowsRound, AreLinked}
 use Rattle.hd_steep.specs.Links.{no_link, IsOnward, IsLinkOf, AreLinksFrom, AreLinks}
 use Rattle.hd_steep.proofs.Lows.{low_missing, low_same, low_join, point_apart, place_above}
 use Rattle.hd_steep.proofs.Round.{onward-low}
@@ -39,16 +39,17 @@ link_absent side own low e = ap (λ (r : Rank). link_of side r low) e ∙ (rw (s
 module _ (m : Map) (side : SideName) where
   module _ (whole : IsMap m) where
     -- the lowest round a position, from the lowest of three profiles
-    round_low : (x y : ℕ) (above level below : List Rank) → x < m.size.points → AreLowsOf m side y above → AreLowsOf m side (y + 1) level → AreLowsOf m side (y + 2) below
-        → IsLow m side (IsRound (record { x = x; y = y })) (lower_of side (lower_of side (rank_in above x) (rank_in level x)) (rank_in below x))
+    round_low : (x y : ℕ) (above level below : List Rank) → x < m.size.points → AreLowsRound m side y y above → AreLowsRound m side y (y + 1) level → AreLowsRound m side y (y + 2) below
+        → IsLow m side (IsRound m.adjacency (record { x = x; y = y })) (lower_of side (lower_of side (rank_in above x) (rank_in level x)) (rank_in below x))
     round_low x y above level below column before here after =
-        let A : Pos → Type 0 = λ q. InSpan y x q in
-        let L : Pos → Type 0 = λ q. InSpan (y + 1) x q in
-        let B : Pos → Type 0 = λ q. InSpan (y + 2) x q in
+        let at : Pos = record { x = x; y = y } in
+        let A : Pos → Type 0 = λ q. IsRoundIn m.adjacency at y q in
+        let L : Pos → Type 0 = λ q. IsRoundIn m.adjacency at (y + 1) q in
+        let B : Pos → Type 0 = λ q. IsRoundIn m.adjacency at (y + 2) q in
         let a = rank_in above x in
         let l = rank_in level x in
         let b = rank_in below x in
-        let upper : (i j : ℕ) (p q : Pos) → i < j → InSpan i x p → InSpan j x q → Present m p → place_of m.size p < place_of m.size q = λ i j p q less s t there.
+        let upper : (i j : ℕ) (p q : Pos) → i < j → IsRoundIn m.adjacency at i p → IsRoundIn m.adjacency at j q → Present m p → place_of m.size p < place_of m.size q = λ i j p q less s t there.
         place_above m.size p q there.in_grid.column (let e = s.profile in let f = t.profile in omega (arith, e, f, less)) in
         let two : IsLow m side (λ q. A q ⊎ L q) (lower_of side a l) = low_join m side whole A L a l (λ p q s t there. upper y (y + 1) p q (omega arith) s t there)
         (before.each x column) (here.each x column) in
@@ -56,25 +57,19 @@ module _ (m : Map) (side : SideName) where
           | inl u ↦ upper y (y + 2) p q (omega arith) u t there
           | inr u ↦ upper (y + 1) (y + 2) p q (omega arith) u t there
         ]) two (after.each x column) in
-        low_same m side (λ q. (A q ⊎ L q) ⊎ B q) (IsRound (record { x = x; y = y })) (lower_of side (lower_of side a l) b)
-        (λ q there s. elim s [
-          | inl u ↦ elim u [
-            | inl v ↦ record { column = v.column; profile = let e = v.profile in (omega (arith, e), omega (arith, e)) }
-            | inr v ↦ record { column = v.column; profile = let e = v.profile in (omega (arith, e), omega (arith, e)) }
-          ]
-          | inr v ↦ record { column = v.column; profile = let e = v.profile in (omega (arith, e), omega (arith, e)) }
-        ])
+        low_same m side (λ q. (A q ⊎ L q) ⊎ B q) (IsRound m.adjacency at) (lower_of side (lower_of side a l) b)
+        (λ q there s. elim s [ inl u ↦ elim u [ inl v ↦ v.round | inr v ↦ v.round ] | inr v ↦ v.round ])
         (λ q there round. elim (cases_eq (q.y + 1) y) [
-          | inl e ↦ inl (inl (record { profile = e; column = round.column }))
+          | inl e ↦ inl (inl (record { profile = e; round = round }))
           | inr other ↦ elim (cases_eq (q.y + 1) (y + 1)) [
-            | inl e ↦ inl (inr (record { profile = e; column = round.column }))
-            | inr other' ↦ inr (record { profile = (let a = round.profile.0 in let b = round.profile.1 in omega (arith, a, b, other, other')); column = round.column })
+            | inl e ↦ inl (inr (record { profile = e; round = round }))
+            | inr other' ↦ inr (record { profile = (let a = round.profile.0 in let b = round.profile.1 in omega (arith, a, b, other, other')); round = round })
           ]
         ])
         three
 
     -- the link at a column, from the rank there and the lowest round it
-    link_is : (x y : ℕ) (own low : Rank) → x < m.size.points → IsLow m side (IsAtPlace (y + 1) (x + 1)) own → IsLow m side (IsRound (record { x = x; y = y })) low
+    link_is : (x y : ℕ) (own low : Rank) → x < m.size.points → IsLow m side (IsAtPlace (y + 1) (x + 1)) own → IsLow m side (IsRound m.adjacency (record { x = x; y = y })) low
         → IsLinkOf m side (y * m.size.points + x) (link_of side own low)
     link_is x y own low column is_own is_low = record {
       point = λ p point e.
@@ -99,8 +94,8 @@ module _ (m : Map) (side : SideName) where
     }
 
     -- the links of a profile, from its rows
-    pub links_of_rows : (y : ℕ) (row above level below : List Rank) (links : List ℕ) → IsRowOf m side (y + 1) row → AreLowsOf m side y above → AreLowsOf m side (y + 1) level
-        → AreLowsOf m side (y + 2) below → length links ≡ m.size.points → AreLinked side row above level below links → AreLinksFrom m side (y * m.size.points) links
+    pub links_of_rows : (y : ℕ) (row above level below : List Rank) (links : List ℕ) → IsRowOf m side (y + 1) row → AreLowsRound m side y y above → AreLowsRound m side y (y + 1) level
+        → AreLowsRound m side y (y + 2) below → length links ≡ m.size.points → AreLinked side row above level below links → AreLinksFrom m side (y * m.size.points) links
     links_of_rows y row above level below links of before here after long linked = λ x within.
         let column : x < m.size.points = omega (arith, within, long) in
         rw (linked x within)

@@ -10,14 +10,13 @@ use Rattle.hd_map.specs.declared.types.Pos.{Pos}
 use Rattle.hd_map.specs.declared.types.Rank.{Rank}
 use Rattle.hd_map.specs.declared.types.SideName.{SideName}
 use Rattle.hd_map.specs.Map.{Map, IsMap, Present, place_of, position_at, cell_count}
-use Rattle.hd_map.specs.Neighbour.{Neighbour}
 use Rattle.hd_map.specs.Order.{IsNotAbove}
 use Rattle.hd_map.specs.Passes.{IsMeeting, IsPass, ArePasses, higher_by}
 use Rattle.hd_map.specs.Rank.{rank, below_by, IsPoint, Near}
 use Rattle.hd_map.specs.Region.{IsRoot}
 use Rattle.hd_map.specs.SideLaws.{below_by-order}
 use Rattle.hd_map.proofs.Nexts.{root-is_pit}
-use Rattle.hd_map.proofs.Points.{same_place, same_index, point_at, position_at-of, position_at-place, Near-at}
+use Rattle.hd_map.proofs.Points.{neighbour-sym, same_place, same_index, point_at, position_at-of, position_at-place, Near-at}
 use Rattle.hd_map.proofs.Sides.{below-not_above, below-apart}
 use Rattle.hd_steep.specs.declared.meetings.Meeting.{Meeting}
 use Rattle.hd_steep.specs.Borders.{ComesFirst}
@@ -79,16 +78,6 @@ module _ (m : Map) (side : SideName) where
   higher_swap p q =
       let laws = below_by-order side in
       swap_choice (below_by side p q) (below_by side q p) p q (below-not_above (below_by side) laws p q) (laws.total p q)
-
-  -- neighbours are such either way
-  swap_beside : (u v : Pos) → Neighbour m u v → Neighbour m v u
-  swap_beside u v n = record {
-    from = n.to;
-    to = n.from;
-    columns = (n.columns.1, n.columns.0);
-    rows = (n.rows.1, n.rows.0);
-    different = λ e. n.different (sym e);
-  }
 
   -- the pit of a region is a point
   pit_point : (u : Pos) (k : ℕ) (l : LiesIn m side u k) → IsPoint m l.root
@@ -201,7 +190,7 @@ module _ (m : Map) (side : SideName) where
           | inr past ↦ elim (cases_eq (place_of m.size u) (place_of m.size v)) [
             | inl same ↦ absurd (near.neighbour.different (same_place m.size u v near.neighbour.from.in_grid near.neighbour.to.in_grid same))
             | inr differ ↦
-                let y = are.all.added v u b.index a.index (omega (arith, past, differ)) (swap_beside u v near.neighbour) other one (λ e. apart (sym e)) in
+                let y = are.all.added v u b.index a.index (omega (arith, past, differ)) (neighbour-sym m u v near.neighbour) other one (λ e. apart (sym e)) in
                 (y.0, y.1, swap_two b.index a.index y.0 y.2, rw (near.from_rank, near.to_rank, higher_swap (rank m u) (rank m v)) y.3)
           ]
         ]
@@ -251,7 +240,7 @@ module _ (m : Map) (side : SideName) where
         meeting = record {
           from = rank m v;
           to = rank m u;
-          near = Near-at m v u (swap_beside u v meet.beside);
+          near = Near-at m v u (neighbour-sym m u v meet.beside);
           from_in = root_at v meet.b pass.a of.a_point a meet.to;
           to_in = root_at u meet.a pass.b of.b_point b meet.from;
           higher = of.at_is ∙ meet.at_is ∙ higher_swap (rank m u) (rank m v);

@@ -13,6 +13,7 @@ use Rattle.hd_map.specs.Region.{LowerNeighbour, IsNext, IsPit}
 use Rattle.hd_map.specs.SideLaws.{below_by-order}
 use Rattle.hd_map.proofs.Points.{place_inside, same_place, same_point, point_at, Near-at}
 use Rattle.hd_map.proofs.Nexts.{root-pit}
+use Rattle.hd_map.proofs.Settings.{beside-itself}
 use Rattle.hd_steep.specs.Lowest.{IsChosen, IsLow, IsRound}
 use Rattle.hd_steep.specs.Links.{IsOnward}
 use Rattle.hd_steep.proofs.Lows.{low_missing}
@@ -25,15 +26,15 @@ same_or_below below laws a b not = elim (below a b) as (λ v. below a b ≡ v �
   | false ↦ λ e. inl (laws.total a b e not)
 ] refl
 
-module _ (m : Map) (side : SideName) (whole : IsMap m) (at : Pos) (here : Present m at) (low : Rank) (of : IsLow m side (IsRound at) low) where
+module _ (m : Map) (side : SideName) (whole : IsMap m) (at : Pos) (here : Present m at) (low : Rank) (of : IsLow m side (IsRound m.adjacency at) low) where
   -- the point itself is one of those round it
-  itself : IsRound at at
-  itself = record { column = (omega arith, omega arith); profile = (omega arith, omega arith) }
+  itself : IsRound m.adjacency at at
+  itself = record { column = (omega arith, omega arith); profile = (omega arith, omega arith); beside = beside-itself m.adjacency at }
 
   -- so there is a lowest one
-  found : IsChosen m (IsRound at) low
+  found : IsChosen m (IsRound m.adjacency at) low
   found = elim of.origin [
-    | inl none ↦ absurd (low_missing m side whole (IsRound at) low of none at itself here)
+    | inl none ↦ absurd (low_missing m side whole (IsRound m.adjacency at) low of none at itself here)
     | inr one ↦ one
   ]
 
@@ -46,7 +47,7 @@ module _ (m : Map) (side : SideName) (whole : IsMap m) (at : Pos) (here : Presen
   none_lower r lower =
       let n = lower.near in
       let from : n.from ≡ at = same_point m n.from at n.neighbour.from here (sym n.from_rank) in
-      let round : IsRound at n.to = subst (λ (p : Pos). IsRound p n.to) from (record { column = n.neighbour.columns; profile = n.neighbour.rows }) in
+      let round : IsRound m.adjacency at n.to = subst (λ (p : Pos). IsRound m.adjacency p n.to) from (record { column = n.neighbour.columns; profile = n.neighbour.rows; beside = n.neighbour.beside }) in
       rw n.to_rank (of.least n.to round n.neighbour.to)
 
   -- it has the index of the point only if that is a pit
@@ -75,6 +76,7 @@ module _ (m : Map) (side : SideName) (whole : IsMap m) (at : Pos) (here : Presen
         columns = one.chosen.column;
         rows = one.chosen.profile;
         different = λ e. other (index ∙ ap (place_of m.size) (sym e));
+        beside = one.chosen.beside;
       } in
       let below : below_by side low (rank m at) ≡ true = elim (same_or_below (below_by side) (below_by-order side) low (rank m at) (of.least at itself here)) [
         | inl same ↦ absurd (other (ap (λ (r : Rank). r.index) same))

@@ -7,9 +7,9 @@ use Rattle.hd_map.specs.declared.types.Pos.{Pos}
 use Rattle.hd_map.specs.declared.types.Rank.{Rank}
 use Rattle.hd_map.specs.declared.types.SideName.{SideName}
 use Rattle.hd_map.specs.Map.{Map, IsMap, place_of}
-use Rattle.hd_steep.specs.Lowest.{missing, lower_of, IsLow, IsAtPlace, InSpan}
-use Rattle.hd_steep.specs.Rows.{past_end, rank_in, IsFilled, AreLowestOfThree, IsFramed, IsRowTo, IsRowOf, AreLowsOf}
-use Rattle.hd_steep.proofs.Lows.{low_empty, low_same, low_join, place_before}
+use Rattle.hd_steep.specs.Lowest.{missing, lower_of, IsLow, IsAtPlace}
+use Rattle.hd_steep.specs.Rows.{past_end, rank_in, IsFilled, IsFramed, IsRowTo, IsRowOf}
+use Rattle.hd_steep.proofs.Lows.{low_empty, low_join, place_before}
 
 module _ (side : SideName) (points : ℕ) where
   -- a row in which no point is present has an empty place on each side
@@ -43,13 +43,6 @@ module _ (m : Map) (side : SideName) where
         ];
       }
 
-  -- before the first profile no point is present
-  pub lows_before : (lows : List Rank) → length lows ≡ m.size.points → IsFilled (missing side) lows → AreLowsOf m side 0 lows
-  lows_before lows long empty = record {
-    whole = long;
-    each = λ x below. rw (empty x (omega (arith, below, long))) (low_empty m side (InSpan 0 x) (λ q span here. (let p = span.profile in omega (arith, p))));
-  }
-
   -- each place of a row, also on either side
   pub row_place : (y : ℕ) (row : List Rank) (k : ℕ) → IsRowOf m side y row → k < m.size.points + 2 → IsLow m side (IsAtPlace y k) (rank_in row k)
   row_place y row k of below = elim (cases_eq k 0) [
@@ -66,41 +59,21 @@ module _ (m : Map) (side : SideName) where
   ]
 
   module _ (whole : IsMap m) where
-    -- the lowest of three places side by side
-    three_low : (y : ℕ) (row : List Rank) (x : ℕ) → IsRowOf m side y row → x < m.size.points
-        → IsLow m side (InSpan y x) (lower_of side (lower_of side (rank_in row x) (rank_in row (x + 1))) (rank_in row (x + 2)))
-    three_low y row x of below =
-        let L : Pos → Type 0 = λ q. IsAtPlace y x q in
-        let H : Pos → Type 0 = λ q. IsAtPlace y (x + 1) q in
-        let R : Pos → Type 0 = λ q. IsAtPlace y (x + 2) q in
-        let l = rank_in row x in
-        let h = rank_in row (x + 1) in
-        let r = rank_in row (x + 2) in
-        let before : (i j : ℕ) (p q : Pos) → i < j → IsAtPlace y i p → IsAtPlace y j q → place_of m.size p < place_of m.size q = λ i j p q less s t.
-        place_before m.size p q (let a = s.profile in let b = t.profile in omega (arith, a, b)) (let a = s.place in let b = t.place in omega (arith, a, b, less)) in
-        let two : IsLow m side (λ q. L q ⊎ H q) (lower_of side l h) = low_join m side whole L H l h (λ p q s t here. before x (x + 1) p q (omega arith) s t)
-        (row_place y row x of (omega arith)) (row_place y row (x + 1) of (omega arith)) in
-        let three : IsLow m side (λ q. (L q ⊎ H q) ⊎ R q) (lower_of side (lower_of side l h) r) = low_join m side whole (λ q. L q ⊎ H q) R (lower_of side l h) r (λ p q s t here. elim s [
-          | inl u ↦ before x (x + 2) p q (omega arith) u t
-          | inr u ↦ before (x + 1) (x + 2) p q (omega arith) u t
-        ]) two (row_place y row (x + 2) of (omega arith)) in
-        low_same m side (λ q. (L q ⊎ H q) ⊎ R q) (InSpan y x) (lower_of side (lower_of side l h) r)
-        (λ q here s. elim s [
-          | inl u ↦ elim u [
-            | inl v ↦ record { profile = v.profile; column = let e = v.place in (omega (arith, e), omega (arith, e)) }
-            | inr v ↦ record { profile = v.profile; column = let e = v.place in (omega (arith, e), omega (arith, e)) }
-          ]
-          | inr v ↦ record { profile = v.profile; column = let e = v.place in (omega (arith, e), omega (arith, e)) }
-        ])
-        (λ q here span. elim (cases_eq (q.x + 1) x) [
-          | inl e ↦ inl (inl (record { profile = span.profile; place = e }))
-          | inr other ↦ elim (cases_eq (q.x + 1) (x + 1)) [
-            | inl e ↦ inl (inr (record { profile = span.profile; place = e }))
-            | inr other' ↦ inr (record { profile = span.profile; place = (let a = span.column.0 in let b = span.column.1 in omega (arith, a, b, other, other')) })
-          ]
-        ])
-        three
+    before : (i j y : ℕ) (p q : Pos) → i < j → IsAtPlace y i p → IsAtPlace y j q → place_of m.size p < place_of m.size q
+    before i j y p q less s t = place_before m.size p q (let a = s.profile in let b = t.profile in omega (arith, a, b)) (let a = s.place in let b = t.place in omega (arith, a, b, less))
 
-    -- the lows of a profile, from its row
-    pub lows_of_row : (y : ℕ) (row lows : List Rank) → IsRowOf m side y row → length lows ≡ m.size.points → AreLowestOfThree side row lows → AreLowsOf m side y lows
-    lows_of_row y row lows of long three = record { whole = long; each = λ x below. rw (three x (omega (arith, below, long))) (three_low y row x of below) }
+    -- the lower of two places side by side
+    pub two_low : (y : ℕ) (row : List Rank) (x : ℕ) → IsRowOf m side y row → x < m.size.points + 1
+        → IsLow m side (λ q. IsAtPlace y x q ⊎ IsAtPlace y (x + 1) q) (lower_of side (rank_in row x) (rank_in row (x + 1)))
+    two_low y row x of below = low_join m side whole (λ q. IsAtPlace y x q) (λ q. IsAtPlace y (x + 1) q) (rank_in row x) (rank_in row (x + 1))
+        (λ p q s t here. before x (x + 1) y p q (omega arith) s t) (row_place y row x of (omega arith)) (row_place y row (x + 1) of (omega arith))
+
+    -- the lowest of three
+    pub three_low : (y : ℕ) (row : List Rank) (x : ℕ) → IsRowOf m side y row → x < m.size.points
+        → IsLow m side (λ q. (IsAtPlace y x q ⊎ IsAtPlace y (x + 1) q) ⊎ IsAtPlace y (x + 2) q) (lower_of side (lower_of side (rank_in row x) (rank_in row (x + 1))) (rank_in row (x + 2)))
+    three_low y row x of below =
+        low_join m side whole (λ q. IsAtPlace y x q ⊎ IsAtPlace y (x + 1) q) (λ q. IsAtPlace y (x + 2) q) (lower_of side (rank_in row x) (rank_in row (x + 1))) (rank_in row (x + 2))
+        (λ p q s t here. elim s [
+          | inl u ↦ before x (x + 2) y p q (omega arith) u t
+          | inr u ↦ before (x + 1) (x + 2) y p q (omega arith) u t
+        ]) (two_low y row x of (omega arith)) (row_place y row (x + 2) of (omega arith))

@@ -15,7 +15,7 @@ use Rattle.hd_map.specs.Region.{LowerNeighbour, IsNext, IsRoot, AreRegions}
 use Rattle.hd_map.proofs.Gather.{same_pos}
 use Rattle.hd_steep.specs.Lowest.{missing}
 use Rattle.hd_steep.specs.Rows.{past_end, rank_in}
-use Rattle.hd_steep.specs.Ring.{ring_of, are_lower, are_lower_heights, is_marked, firsts_of, IsOneAtMost}
+use Rattle.hd_steep.specs.Ring.{ring_of, are_lower, are_lower_heights, is_marked, marks_of, IsOneAtMost}
 use Rattle.hd_steep.specs.Crossed.{AreRowsRound, Extends, IsCrossed, IsServed, Gathers}
 use Rattle.hd_steep.specs.declared.rolling.Rows.{Rows}
 use Rattle.hd_steep.proofs.Lows.{point_apart}
@@ -82,10 +82,10 @@ module _ (m : Map) (side : SideName) (whole : IsMap m) (rows : Rows) (at : Pos) 
       ]
 
   -- the first ones of what is read
-  pub firsts_at : (own : Rank) (lower first : List Bool) → Present m at → own ≡ middle → lower ≡ are_lower_heights side own around → first ≡ firsts_of lower → first ≡ firsts_of (are_lower side middle around)
+  pub firsts_at : (own : Rank) (lower first : List Bool) → Present m at → own ≡ middle → lower ≡ are_lower_heights side own around → first ≡ marks_of m.adjacency lower → first ≡ marks_of m.adjacency (are_lower side middle around)
   firsts_at own lower first here read lower_is first_is =
       let is : middle ≡ rank m at = own_is m side whole above level below at.x at.y inside.column round.above round.level round.below at here refl refl in
-      first_is ∙ ap firsts_of (lower_is ∙ ap (λ (r : Rank). are_lower_heights side r around) (read ∙ is) ∙ heights_tell m side whole at here above level below round.above round.level round.below
+      first_is ∙ ap (marks_of m.adjacency) (lower_is ∙ ap (λ (r : Rank). are_lower_heights side r around) (read ∙ is) ∙ heights_tell m side whole at here above level below round.above round.level round.below
       ∙ ap (λ (r : Rank). are_lower side r around) (sym is))
 
   -- what is read and told of a present point
@@ -93,7 +93,7 @@ module _ (m : Map) (side : SideName) (whole : IsMap m) (rows : Rows) (at : Pos) 
     pub here : Present m at
     pub own_is : own ≡ middle
     pub ring_is : ring ≡ around
-    pub first_is : first ≡ firsts_of (are_lower side middle around)
+    pub first_is : first ≡ marks_of m.adjacency (are_lower side middle around)
 
   module _ (own : Rank) (ring : List Rank) (first : List Bool) (looked : IsLooked own ring first) where
     -- its first ones are lower neighbours

@@ -1,12 +1,13 @@
 -- The lowest of the points at some positions of a map. Places and profiles are counted from 1, so that those with the
 -- number 0 are empty.
 use Rattle.std.specs.Prelude.{◌≡◌, ◌⊎◌, ◌+◌, ℕ, pos, negsuc, Bool, if◌then◌else◌}
+use Rattle.hd_map.specs.declared.types.Adjacency.{Adjacency}
 use Rattle.hd_map.specs.declared.types.Pos.{Pos}
 use Rattle.hd_map.specs.declared.types.Rank.{Rank}
 use Rattle.hd_map.specs.declared.types.SideName.{SideName}
 use Rattle.hd_map.specs.declared.types.SideName.TheVariants.{Dales, Hills}
 use Rattle.hd_map.specs.Map.{Map, Present}
-use Rattle.hd_map.specs.Neighbour.{IsNear}
+use Rattle.hd_map.specs.Neighbour.{IsNear, AreBesideUnder}
 use Rattle.hd_map.specs.Order.{IsNotAbove}
 use Rattle.hd_map.specs.Rank.{rank, below_by}
 
@@ -44,12 +45,23 @@ pub record IsAtPlace (y k : ℕ) (q : Pos) : Type 0 where
   pub profile : q.y + 1 ≡ y
   pub place : q.x + 1 ≡ k
 
+-- the position is another one near p, which is beside it under the setting
+pub record IsPlaceBeside (adjacency : Adjacency) (p near q : Pos) : Type 0 where
+  pub place : q ≡ near
+  pub beside : AreBesideUnder adjacency p q
+
 -- the position lies in this profile, and its column is near another one
 pub record InSpan (y x : ℕ) (q : Pos) : Type 0 where
   pub profile : q.y + 1 ≡ y
   pub column : IsNear x q.x
 
--- q is p, or one of the positions round it
-pub record IsRound (p q : Pos) : Type 0 where
+-- q is p, or one of the positions round it that are beside it under the setting
+pub record IsRound (adjacency : Adjacency) (p q : Pos) : Type 0 where
   pub column : IsNear p.x q.x
   pub profile : IsNear p.y q.y
+  pub beside : AreBesideUnder adjacency p q
+
+-- of these, those of a profile
+pub record IsRoundIn (adjacency : Adjacency) (p : Pos) (y : ℕ) (q : Pos) : Type 0 where
+  pub profile : q.y + 1 ≡ y
+  pub round : IsRound adjacency p q

@@ -1,5 +1,7 @@
 -- The eight places round one, clockwise from the one above it, and which of them come first in their group.
 use Rattle.std.specs.Prelude.{◌≡◌, ◌+◌, ◌&&◌, not, ℕ, Bool, true, false, List, [], ◌∷◌, slice_index_or}
+use Rattle.hd_map.specs.declared.types.Adjacency.{Adjacency}
+use Rattle.hd_map.specs.declared.types.Adjacency.TheVariants.{Four, Six, Eight}
 use Rattle.hd_map.specs.declared.types.Rank.{Rank}
 use Rattle.hd_map.specs.declared.types.SideName.{SideName}
 use Rattle.hd_map.specs.Rank.{below_by}
@@ -39,6 +41,18 @@ first_of n ne e se s sw w nw =
 abbrev pub firsts_of : List Bool → List Bool
 firsts_of lower =
     first_of (is_marked lower 0) (is_marked lower 1) (is_marked lower 2) (is_marked lower 3) (is_marked lower 4) (is_marked lower 5) (is_marked lower 6) (is_marked lower 7)
+
+-- the places of a ring of marks that a setting takes
+abbrev pub taken_of : Adjacency → List Bool → List Bool
+taken_of Four lower = is_marked lower 0 ∷ false ∷ is_marked lower 2 ∷ false ∷ is_marked lower 4 ∷ false ∷ is_marked lower 6 ∷ false ∷ []
+taken_of Six lower = is_marked lower 0 ∷ false ∷ is_marked lower 2 ∷ is_marked lower 3 ∷ is_marked lower 4 ∷ false ∷ is_marked lower 6 ∷ is_marked lower 7 ∷ []
+taken_of Eight lower = lower
+
+-- under 8 the first place of each group, under 4 and 6 each place that is taken
+abbrev pub marks_of : Adjacency → List Bool → List Bool
+marks_of Four lower = taken_of Four lower
+marks_of Six lower = taken_of Six lower
+marks_of Eight lower = firsts_of lower
 
 -- no two places are marked
 abbrev pub IsOneAtMost : List Bool → Type 0

@@ -4,7 +4,7 @@ use Rattle.std.specs.Ordering.{int_eq}
 use Rattle.hd_map.specs.declared.types.Rank.{Rank}
 use Rattle.hd_map.specs.declared.types.SideName.{SideName}
 use Rattle.hd_map.specs.Map.{Map}
-use Rattle.hd_steep.specs.Lowest.{missing, lower_of, IsLow, IsAtPlace, InSpan}
+use Rattle.hd_steep.specs.Lowest.{missing, lower_of, IsLow, IsAtPlace, IsRoundIn}
 use Rattle.hd_steep.specs.Links.{no_link}
 
 -- what is read past the end of a row
@@ -23,6 +23,11 @@ IsFilled r row = (k : ℕ) → k < length row → rank_in row k ≡ r
 abbrev pub AreLowestOfThree : SideName → List Rank → List Rank → Type 0
 AreLowestOfThree side row lows =
     (k : ℕ) → k < length lows → rank_in lows k ≡ lower_of side (lower_of side (rank_in row k) (rank_in row (k + 1))) (rank_in row (k + 2))
+
+-- of each two ranks side by side the lower
+abbrev pub AreLowerOfTwo : SideName → List Rank → List Rank → Type 0
+AreLowerOfTwo side row pairs =
+    (k : ℕ) → k < length pairs → rank_in pairs k ≡ lower_of side (rank_in row k) (rank_in row (k + 1))
 
 -- the index of the lowest, where the point itself is present
 abbrev pub link_of : SideName → Rank → Rank → ℕ
@@ -48,7 +53,7 @@ pub record IsRowTo (m : Map) (side : SideName) (y x : ℕ) (row : List Rank) : T
 abbrev pub IsRowOf : Map → SideName → ℕ → List Rank → Type 0
 IsRowOf m side y row = IsRowTo m side y m.size.points row
 
--- by column the lowest of the points of a profile whose columns are near
-pub record AreLowsOf (m : Map) (side : SideName) (y : ℕ) (lows : List Rank) : Type 0 where
+-- by column the lowest of the points of a row that are round the point of profile y in it
+pub record AreLowsRound (m : Map) (side : SideName) (y row : ℕ) (lows : List Rank) : Type 0 where
   pub whole : length lows ≡ m.size.points
-  pub each : (x : ℕ) → x < m.size.points → IsLow m side (InSpan y x) (rank_in lows x)
+  pub each : (x : ℕ) → x < m.size.points → IsLow m side (IsRoundIn m.adjacency (record { x = x; y = y }) row) (rank_in lows x)

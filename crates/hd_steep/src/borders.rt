@@ -5,13 +5,12 @@ ghost use Rattle.hd_map.specs.Neighbour.{IsNear};
 ghost use Rattle.std.specs.List.{AllPairs};
 ghost use Rattle.hd_map.specs.Passes.{ArePasses, ArePassesUnder};
 ghost use Rattle.hd_steep.specs.Borders.{ComesFirst};
-ghost use Rattle.hd_map.specs.Rank.{rank, below_by};
 ghost use Rattle.hd_map.specs.Region.{IsRoot, AreRegions};
 ghost use Rattle.hd_steep.specs.Meetings.{LiesIn, IsMeetingOf, IsPassOf, DoNotMeet, Adds, AreMeetings, InOrder};
 
 use crate::meetings::{Meeting, add_meeting, settle};
 use hd_list::{List, Memory};
-use hd_map::{Heights, Pass, Pos, Side, index_of, position_of, rank_of};
+use hd_map::{Heights, Pass, Pos, Side, are_beside, index_of, position_of, rank_of};
 use std::alloc::Global;
 
 // How many meetings are gathered before they are sorted and joined.
@@ -220,6 +219,9 @@ fn meeting_at<S: Side, G: Heights>(
     requires different { u ≡ v → ⊥ }
     ensures { MatchOption result (DoNotMeet (G.map grid.now) S.NAME u v) (λ x. IsMeetingOf (G.map grid.now) S.NAME u v x) }
 {
+    if !are_beside(grid.adjacency(), u, v) {
+        return None;
+    }
     let Some(a) = label_at::<S, G>(grid, labels, u) else {
         return None;
     };

@@ -9,7 +9,7 @@ ghost use Rattle.hd_steep.specs.Ring.{is_marked};
 ghost use Rattle.hd_steep.specs.Crossed.{AreRowsRound, AreWide, ring_round, IsPitOf, AreInOne, IsPassTo, Extends, IsCrossed, AreCrossedTo, Gathers};
 
 use crate::lowest::is_missing;
-use crate::places::{are_several, firsts, lower_at};
+use crate::places::{are_several, lower_at, marked};
 use crate::rolling::Rows;
 use hd_list::{List, Memory};
 use hd_map::{Heights, Pass, Pos, Rank, Side, position_of, rank_of};
@@ -94,8 +94,9 @@ fn gather_point<S: Side, G: Heights>(
         return Ok(());
     }
     let lower = lower_at::<S>(&rows.above, &rows.level, &rows.below, x, own);
-    if are_several(&firsts(&lower)) {
-        cross::<S, G>(grid, labels, own, rows, x, &firsts(&lower), passes)?;
+    let marks = marked(grid.adjacency(), &lower);
+    if are_several(&marks) {
+        cross::<S, G>(grid, labels, own, rows, x, &marks, passes)?;
     }
     Ok(())
 }

@@ -3,7 +3,7 @@
 ghost use Rattle.std.specs.Prelude.{◌≡◌, ◌<◌, ◌+◌, ◌*◌, IfOk, length};
 ghost use Rattle.hd_steep.specs.Profiles.{AreProfilesRound};
 ghost use Rattle.hd_steep.specs.Rows.{AreLinked};
-ghost use Rattle.hd_steep.specs.Links.{no_link, AreLinksFrom, AreLinks};
+ghost use Rattle.hd_steep.specs.Links.{AreLinksFrom, AreLinks};
 
 use crate::lowest::{lower, missing_rank};
 use crate::rolling::Profiles;
@@ -35,14 +35,16 @@ pub fn first_links<S: Side, G: Heights>(alloc: Global, grid: &G) -> Result<Vec<u
 }
 
 // The links of a profile, from the one before, itself and the one after.
-fn link_profile<S: Side, G: Heights>(_grid: &G, _y: u32, profiles: &Profiles, links: &mut [u32])
-    requires profile { _y < (G.map _grid.now).size.profiles }
-    requires round { AreProfilesRound (G.map _grid.now) S.NAME _y profiles.now }
-    requires links { length links.old ≡ (G.map _grid.now).size.points }
-    ensures { AreLinksFrom (G.map _grid.now) S.NAME (_y * (G.map _grid.now).size.points) links.new }
+fn link_profile<S: Side, G: Heights>(grid: &G, y: u32, profiles: &Profiles, links: &mut [u32])
+    requires profile { y < (G.map grid.now).size.profiles }
+    requires round { AreProfilesRound (G.map grid.now) S.NAME y profiles.now }
+    requires links { length links.old ≡ (G.map grid.now).size.points }
+    ensures { AreLinksFrom (G.map grid.now) S.NAME (y * (G.map grid.now).size.points) links.new }
 {
-    let (above, level, below) = (&profiles.above, &profiles.level, &profiles.below);
-    link_row::<S>(&level.ranks, &above.lows, &level.lows, &below.lows, links);
+    let level = &profiles.level;
+    let above = profiles.above.lows_above::<S, G>(grid, y);
+    let below = profiles.below.lows_below::<S, G>(grid, y);
+    link_row::<S>(&level.ranks, above, &level.lows, below, links);
 }
 
 // The link at each place of a row, to the lowest of three ranks one above the other. A place where

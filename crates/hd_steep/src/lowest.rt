@@ -2,9 +2,10 @@
 ghost use Rattle.std.specs.Prelude.{◌≡◌, ◌<◌, ◌+◌};
 ghost use Rattle.std.specs.Ordering.{int_eq};
 ghost use Rattle.hd_map.specs.Map.{InGrid, Present};
-ghost use Rattle.hd_steep.specs.Lowest.{missing, lower_of, IsLow, IsAtPlace, InSpan, IsRound};
+ghost use Rattle.hd_map.specs.Neighbour.{IsNear};
+ghost use Rattle.hd_steep.specs.Lowest.{missing, lower_of, IsLow, IsAtPlace, IsPlaceBeside, IsRound, IsRoundIn};
 
-use hd_map::{Heights, Pos, Rank, Side, SideName, index_of};
+use hd_map::{Heights, Pos, Rank, Side, SideName, are_beside, index_of};
 
 /// Stands where no point is present. Each point is below it.
 #[inline]
@@ -68,28 +69,42 @@ pub fn lower<S: Side>(first: Rank, second: Rank) -> Rank
 /// The lowest of a present point and its neighbours.
 pub fn lowest_round<S: Side, G: Heights>(grid: &G, at: Pos) -> Rank
     requires { Present (G.map grid.now) at }
-    ensures { IsLow (G.map grid.now) S.NAME (IsRound at) result }
+    ensures { IsLow (G.map grid.now) S.NAME (IsRound (G.map grid.now).adjacency at) result }
 {
     let above = at.y.saturating_sub(1);
     let below = grid.size().profiles.min(at.y + 2);
     let mut lowest = missing_rank::<S>();
     for y in above..below {
-        lowest = lower::<S>(lowest, lowest_beside::<S, G>(grid, at.x, y));
+        lowest = lower::<S>(lowest, lowest_beside::<S, G>(grid, at, y));
     }
     lowest
 }
 
-// The lowest of the points of a profile whose columns differ from one by at most one.
-fn lowest_beside<S: Side, G: Heights>(grid: &G, column: u32, y: u32) -> Rank
-    requires column { column < (G.map grid.now).size.points }
+// The lowest of these in a profile.
+fn lowest_beside<S: Side, G: Heights>(grid: &G, at: Pos, y: u32) -> Rank
+    requires at { InGrid (G.map grid.now).size at }
     requires profile { y < (G.map grid.now).size.profiles }
-    ensures { IsLow (G.map grid.now) S.NAME (InSpan (y + 1) column) result }
+    requires near { IsNear at.y y }
+    ensures { IsLow (G.map grid.now) S.NAME (IsRoundIn (G.map grid.now).adjacency at (y + 1)) result }
 {
-    let left = column.saturating_sub(1);
-    let right = grid.size().points.min(column + 2);
+    let left = at.x.saturating_sub(1);
+    let right = grid.size().points.min(at.x + 2);
     let mut lowest = missing_rank::<S>();
     for x in left..right {
-        lowest = lower::<S>(lowest, rank_at::<S, G>(grid, Pos { x, y }));
+        lowest = lower::<S>(lowest, rank_beside::<S, G>(grid, at, Pos { x, y }));
     }
     lowest
+}
+
+// The rank of the point at a position near another one, if it is beside that under the setting and
+// present.
+fn rank_beside<S: Side, G: Heights>(grid: &G, at: Pos, near: Pos) -> Rank
+    requires near { InGrid (G.map grid.now).size near }
+    ensures { IsLow (G.map grid.now) S.NAME (IsPlaceBeside (G.map grid.now).adjacency at near) result }
+{
+    if are_beside(grid.adjacency(), at, near) {
+        rank_at::<S, G>(grid, near)
+    } else {
+        missing_rank::<S>()
+    }
 }

@@ -3,9 +3,9 @@
 ghost use Rattle.std.specs.Prelude.{◌≡◌, ◌<◌, ◌+◌, length};
 ghost use Rattle.std.specs.Bool.{OnFalse};
 ghost use Rattle.hd_steep.specs.Lowest.{earlier_below, later_below};
-ghost use Rattle.hd_steep.specs.Ring.{ring_of, are_lower_heights, firsts_of, IsOneAtMost};
+ghost use Rattle.hd_steep.specs.Ring.{ring_of, are_lower_heights, firsts_of, marks_of, IsOneAtMost};
 
-use hd_map::{Rank, Side};
+use hd_map::{Adjacency, Rank, Side};
 
 /// Which of the ranks round a place of the middle one of three rows are below the one that stands
 /// there, by heights alone: those before it have lesser indexes, and those after it greater ones.
@@ -66,10 +66,27 @@ fn is_below_earlier<S: Side>(rank: Rank, earlier: Rank) -> bool
     S::below(here, there)
 }
 
-/// Of each group of lower places that are beside one another the first straight one, clockwise from
-/// the one above. A corner is first only where it is alone.
+/// Those of the lower places at which the passes of a point are gathered: under eight neighbours of
+/// each group that are beside one another the first, under fewer all that the setting takes.
 #[inline]
-pub fn firsts(lower: &[bool; 8]) -> [bool; 8]
+pub fn marked(adjacency: Adjacency, lower: &[bool; 8]) -> [bool; 8]
+    ensures { result ≡ marks_of adjacency lower.now }
+{
+    match adjacency {
+        Adjacency::Four => [
+            lower[0], false, lower[2], false, lower[4], false, lower[6], false,
+        ],
+        Adjacency::Six => [
+            lower[0], false, lower[2], lower[3], lower[4], false, lower[6], lower[7],
+        ],
+        Adjacency::Eight => firsts(lower),
+    }
+}
+
+// Of each group of lower places that are beside one another the first straight one, clockwise from
+// the one above. A corner is first only where it is alone.
+#[inline]
+fn firsts(lower: &[bool; 8]) -> [bool; 8]
     ensures { result ≡ firsts_of lower.now }
 {
     let north = lower[0];

@@ -17,10 +17,10 @@ loop-step-preserved g c =
     let m = g.G.Heights.map c.args.grid.now in
     let step = c.loop-step.step in
     let here = c.args.here in
-    let looks = subst (λ (s : Size). LooksAt s c.args.marks.now here.at step (here.steps + 1) c.loop-step.steps.items c.loop-step.queue.items c.reach_beside.new.steps.items c.reach_beside.new.queue.items) c.size-size.ensures
-    c.in_ok-reach_beside.ensures in
+    let looks = subst (λ (s : Size). LooksAt s m.adjacency c.args.marks.now here.at step (here.steps + 1) c.loop-step.steps.items c.loop-step.queue.items c.reach_beside.new.steps.items c.reach_beside.new.queue.items) c.size-size.ensures
+    (rw c.adjacency-adjacency.ensures at c.in_ok-reach_beside.ensures) in
     record {
-      whole = looks_whole m.size c.args.marks.now here.at step (here.steps + 1) c.loop-step.steps.items c.loop-step.queue.items c.reach_beside.new.steps.items c.reach_beside.new.queue.items looks ∙ c.loop-step.invariant.whole;
+      whole = looks_whole m.size m.adjacency c.args.marks.now here.at step (here.steps + 1) c.loop-step.steps.items c.loop-step.queue.items c.reach_beside.new.steps.items c.reach_beside.new.queue.items looks ∙ c.loop-step.invariant.whole;
       going = λ start head f begun e. round_more m c.args.marks.now start c.requires.present here c.loop-step.steps.items c.loop-step.queue.items head step c.reach_beside.new.steps.items c.reach_beside.new.queue.items
           c.loop-step-test.true looks (c.loop-step.invariant.going start head f begun e);
     }

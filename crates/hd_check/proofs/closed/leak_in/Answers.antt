@@ -61,7 +61,7 @@ loop-x-preserved g c =
           (let other : next < length cut → point_of cut next ≡ q → ⊥ = λ inside e. false≢true (sym w.if-stands_at.false ∙ c.stands_at.ensures.1 (inside, e)) in
           record {
             next = first_stays m.size cut index (row * m.size.points + (c.loop-x.x + 1)) next (omega arith) (λ inside. other_point m.size cut q next (c.requires.present next inside).in_grid there (other inside)) c.loop-x.invariant.next;
-            none = none_more m c.args.side c.args.level cut at row c.loop-x.x (λ leak. false≢true (sym w.if-is_open.false ∙ w.is_open.ensures.1 (leak.neighbour.to, leak.below))) c.loop-x.invariant.none;
+            none = none_more m c.args.side c.args.level cut at row c.loop-x.x (λ leak. false≢true (sym w.if-is_open.false ∙ w.is_open.ensures.1 (leak.neighbour.beside, leak.neighbour.to, leak.below))) c.loop-x.invariant.none;
           })
     ]
 

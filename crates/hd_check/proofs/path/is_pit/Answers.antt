@@ -1,9 +1,9 @@
-use Rattle.std.proofs.Common.{refl}
-use Rattle.std.specs.Prelude.{◌↔◌}
+use Rattle.std.proofs.Common.{◌≡◌, ◌↔◌, ℕ, inl, inr, refl, sym, subst, ◌∙◌, false, arith}
 use Rattle.std.specs.List.{Contains}
-use Rattle.std.proofs.lemmas.Bool.{false≢true}
+use Rattle.std.proofs.lemmas.Bool.{cases_lt, false≢true}
 use Rattle.hd_map.specs.declared.types.Pos.{Pos}
 use Rattle.hd_map.specs.Neighbour.{Neighbour}
+use Rattle.hd_map.specs.Rank.{rank, below_by}
 use Rattle.hd_check.specs.Rules.{point_of}
 use Rattle.hd_check.proofs.Pits.{near_at, no_pit, is_pit_found}
 use Rattle.hd_check.proofs.path.is_pit.Goals as goal
@@ -13,6 +13,17 @@ is_lower-requires-clause-a g c =
     let m = g.G.Heights.map c.args.surface.now in
     let all : (q : Pos) → Contains c.as_slice-round.result.now q ↔ Neighbour m c.args.at q = rw c.as_slice-round.ensures c.neighbours-near.ensures.all in
     (near_at m c.args.at c.as_slice-round.result.now all c.loop-k.k c.loop-k-test.true).to
+
+pub loop-k-preserved : goal.loop-k-preserved
+loop-k-preserved g c = λ i below.
+    let m = g.G.Heights.map c.args.surface.now in
+    let round = c.as_slice-round.result.now in
+    elim (cases_lt i c.loop-k.k) [
+      | inl before ↦ c.loop-k.invariant i before
+      | inr last ↦
+          let here : c.loop-k.k ≡ i = omega (arith, below, last) in
+          subst (λ (j : ℕ). below_by c.args.side (rank m (point_of round j)) (rank m c.args.at) ≡ false) here (sym c.is_lower.ensures ∙ c.if-is_lower.false)
+    ]
 
 pub returns-then-is_lower : goal.returns-then-is_lower
 returns-then-is_lower g c =

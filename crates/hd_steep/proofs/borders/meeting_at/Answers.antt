@@ -1,8 +1,11 @@
 use Rattle.std.proofs.Common.{◌≡◌, ◌∙◌, true, false, sym, inl, inr, refl, arith}
 use Rattle.hd_map.specs.Rank.{rank, below_by}
-use Rattle.hd_steep.proofs.Adding.{lies_once}
+use Rattle.hd_steep.proofs.Adding.{apart-of, beside-of, lies_once}
 use Rattle.hd_steep.proofs.borders.meeting_at.Goals as goal
 use Rattle.hd_steep.proofs.borders.meeting_at.Goals.{then-below, else-below}
+
+pub returns-then-not-are_beside : goal.returns-then-not-are_beside
+returns-then-not-are_beside g c = λ a b n from to. absurd (apart-of (g.G.Heights.map c.args.grid.now) c.args.u c.args.v c.are_beside.result c.adjacency.result c.adjacency.ensures c.are_beside.ensures c.if-not-are_beside.true n.beside)
 
 pub returns-then-a-b : goal.returns-then-a-b
 returns-then-a-b g c = λ a b beside from to.
@@ -16,7 +19,7 @@ returns-then-a-b-2 g c =
     let side = g.S.Side.NAME in
     let test : c.below.result ≡ below_by side (rank m c.args.u) (rank m c.args.v) = rw (c.rank_of-one.ensures, c.rank_of-other.ensures) at c.below.ensures in
     record {
-      beside = record { from = c.in-Some.ensures.0; to = c.in-Some-label_at.ensures.0; columns = c.requires.columns; rows = c.requires.profiles; different = c.requires.different };
+      beside = record { from = c.in-Some.ensures.0; to = c.in-Some-label_at.ensures.0; columns = c.requires.columns; rows = c.requires.profiles; different = c.requires.different; beside = beside-of m c.args.u c.args.v c.are_beside.result c.adjacency.result c.adjacency.ensures c.are_beside.ensures c.if-not-are_beside.false };
       a = c.in-Some.a;
       b = c.in-Some-label_at.b;
       from = c.in-Some.ensures.1;
@@ -37,7 +40,7 @@ returns-else-a-b-2 g c =
     let apart = c.if-a-b.false in
     let past = c.if-a-b-2.false in
     record {
-      beside = record { from = c.in-Some.ensures.0; to = c.in-Some-label_at.ensures.0; columns = c.requires.columns; rows = c.requires.profiles; different = c.requires.different };
+      beside = record { from = c.in-Some.ensures.0; to = c.in-Some-label_at.ensures.0; columns = c.requires.columns; rows = c.requires.profiles; different = c.requires.different; beside = beside-of m c.args.u c.args.v c.are_beside.result c.adjacency.result c.adjacency.ensures c.are_beside.ensures c.if-not-are_beside.false };
       a = c.in-Some.a;
       b = c.in-Some-label_at.b;
       from = c.in-Some.ensures.1;

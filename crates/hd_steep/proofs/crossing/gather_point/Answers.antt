@@ -1,14 +1,14 @@
 use Rattle.std.proofs.Common.{◌≡◌, ◌∙◌, List, Bool, sym, refl, arith}
 use Rattle.std.proofs.lemmas.Bool.{OnFalse_at}
 use Rattle.hd_steep.specs.Crossed.{ring_round}
-use Rattle.hd_steep.specs.Ring.{firsts_of}
+use Rattle.hd_steep.specs.Ring.{marks_of}
 use Rattle.hd_steep.proofs.Served.{IsLooked, read_middle, gathers_absent, present_in_middle, looked_lower, point_in_middle, gathers_crossed, gathers_alone, firsts_at}
 use Rattle.hd_steep.proofs.crossing.gather_point.Given.{Over}
 use Rattle.hd_steep.proofs.crossing.gather_point.Goals as goal
 use Rattle.hd_steep.proofs.crossing.gather_point.Goals.{After-lower_at-lower}
 
 -- what was looked at is the point with the ranks around it
-looked : (g : Over) (c : After-lower_at-lower g) (first : List Bool) → first ≡ firsts_of c.lower_at-lower.result
+looked : (g : Over) (c : After-lower_at-lower g) (first : List Bool) → first ≡ marks_of (g.G.Heights.map c.args.grid.now).adjacency c.lower_at-lower.result
     → IsLooked (g.G.Heights.map c.args.grid.now) g.S.Side.NAME (g.met.G.Heights.whole c.args.grid.now) c.args.rows.now c.args.at c.requires.inside c.requires.rows c.index-own.result.now (ring_round c.args.rows.now c.args.at.x) first
 looked g c first first_is =
     let m = g.G.Heights.map c.args.grid.now in
@@ -35,7 +35,7 @@ returns-then-is_missing g c =
 pub cross-requires-clause-point : goal.cross-requires-clause-point
 cross-requires-clause-point g c =
     let before = (goal.at.cross-requires-clause-point g c).After-lower_at-lower in
-    let seen = looked g before (firsts_of c.lower_at-lower.result) refl in
+    let seen = looked g before (marks_of (g.G.Heights.map c.args.grid.now).adjacency c.lower_at-lower.result) refl in
     point_in_middle _ _ (g.met.G.Heights.whole c.args.grid.now) c.args.rows.now c.args.at c.requires.inside c.requires.rows c.index-own.result.now seen.own_is seen.here
 
 pub cross-requires-clause-wide : goal.cross-requires-clause-wide
@@ -51,14 +51,14 @@ cross-requires-clause-wide g c =
 pub cross-requires-clause-lower : goal.cross-requires-clause-lower
 cross-requires-clause-lower g c =
     let before = (goal.at.cross-requires-clause-lower g c).After-lower_at-lower in
-    looked_lower _ _ _ _ _ _ _ _ _ _ (looked g before c.firsts-then-are_several.result c.firsts-then-are_several.ensures)
+    looked_lower _ _ _ _ _ _ _ _ _ _ (looked g before c.marked-marks.result (rw c.adjacency.ensures at c.marked-marks.ensures))
 
 pub returns-in_ok-cross : goal.returns-in_ok-cross
 returns-in_ok-cross g c =
     let before = (goal.at.returns-in_ok-cross g c).After-lower_at-lower in
-    gathers_crossed _ _ _ _ _ _ _ _ _ _ (looked g before c.firsts-then-are_several.result c.firsts-then-are_several.ensures) c.args.passes.now.items c.cross.new.passes.items c.in_ok-cross.ensures.extends c.in_ok-cross.ensures.crossed
+    gathers_crossed _ _ _ _ _ _ _ _ _ _ (looked g before c.marked-marks.result (rw c.adjacency.ensures at c.marked-marks.ensures)) c.args.passes.now.items c.cross.new.passes.items c.in_ok-cross.ensures.extends c.in_ok-cross.ensures.crossed
 
 pub returns-else-are_several : goal.returns-else-are_several
 returns-else-are_several g c =
     let before = (goal.at.returns-else-are_several g c).After-lower_at-lower in
-    gathers_alone _ _ _ _ _ _ _ _ _ _ (looked g before c.firsts.result c.firsts.ensures) c.args.labels.now c.requires.regions c.args.passes.now.items (OnFalse_at c.if-are_several.false c.are_several.ensures)
+    gathers_alone _ _ _ _ _ _ _ _ _ _ (looked g before c.marked-marks.result (rw c.adjacency.ensures at c.marked-marks.ensures)) c.args.labels.now c.requires.regions c.args.passes.now.items (OnFalse_at c.if-are_several.false c.are_several.ensures)

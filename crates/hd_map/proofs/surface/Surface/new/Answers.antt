@@ -1,12 +1,13 @@
+use Rattle.hd_map.specs.declared.types.Adjacency.TheVariants.{Eight}
 use Rattle.hd_map.proofs.Packed.{fresh_map, fresh_whole}
 use Rattle.hd_map.proofs.surface.Surface.new.Goals as goal
 
 pub invariant_of-result-clause-whole : goal.invariant_of-result-clause-whole
 invariant_of-result-clause-whole c =
     let cells = c.args.cells in
-    fresh_whole c.args.size cells.data_type cells.heights.items cells.marks.items cells.paired cells.unmasked c.requires.whole c.requires.limits cells.of_type
+    fresh_whole c.args.size cells.data_type cells.heights.items cells.marks.items Eight cells.paired cells.unmasked c.requires.whole c.requires.limits cells.of_type
 
 pub returns : goal.returns
 returns c =
     let cells = c.args.cells in
-    fresh_map c.args.size cells.data_type cells.heights.items cells.marks.items cells.paired cells.unmasked c.requires.whole
+    fresh_map c.args.size cells.data_type cells.heights.items cells.marks.items Eight cells.paired cells.unmasked c.requires.whole

@@ -1,4 +1,5 @@
 use Rattle.std.proofs.Common.{◌≡◌, ◌<◌, ℕ, List, length, ap, sym, subst, ◌∙◌, arith}
+use Rattle.hd_map.specs.declared.types.Adjacency.TheVariants.{Eight}
 use Rattle.hd_map.specs.declared.packing.Mark.{Mark}
 use Rattle.hd_map.specs.Map.{IsMap}
 use Rattle.hd_map.specs.Packing.{packed_map}
@@ -24,8 +25,8 @@ invariant_of-result-clause-whole c =
     let loop = c.loop-index in
     let all = c.len-index-end.ensures ∙ c.in_ok-marks.marks.ok.0 ∙ ap (λ (ms : List Mark). length ms) (c.in_ok-marks.ensures.items ∙ c.as_slice-2.ensures.value) in
     let done : loop.index ≡ length s.marks.items = omega (arith, all) in
-    subst (λ (hs : List ℕ). IsMap (packed_map s.size s.data_type hs loop.marks.items)) (sym (c.in_ok-heights.ensures.items ∙ c.as_slice.ensures.value))
-    (unmasked_whole s.size s.data_type s.heights.items s.marks.items s.whole loop.index done loop.marks.items loop.invariant)
+    subst (λ (hs : List ℕ). IsMap (packed_map s.size s.data_type hs loop.marks.items Eight)) (sym (c.in_ok-heights.ensures.items ∙ c.as_slice.ensures.value))
+    (unmasked_whole s.size s.data_type s.heights.items s.marks.items s.adjacency s.whole loop.index done loop.marks.items loop.invariant)
 
 pub returns : goal.returns
 returns c =
@@ -33,5 +34,5 @@ returns c =
     let loop = c.loop-index in
     let all = c.len-index-end.ensures ∙ c.in_ok-marks.marks.ok.0 ∙ ap (λ (ms : List Mark). length ms) (c.in_ok-marks.ensures.items ∙ c.as_slice-2.ensures.value) in
     let done : loop.index ≡ length s.marks.items = omega (arith, all) in
-    ap (λ (hs : List ℕ). packed_map s.size s.data_type hs loop.marks.items) (c.in_ok-heights.ensures.items ∙ c.as_slice.ensures.value)
-    ∙ unmasked_map s.size s.data_type s.heights.items s.marks.items s.whole loop.index done loop.marks.items loop.invariant
+    ap (λ (hs : List ℕ). packed_map s.size s.data_type hs loop.marks.items Eight) (c.in_ok-heights.ensures.items ∙ c.as_slice.ensures.value)
+    ∙ unmasked_map s.size s.data_type s.heights.items s.marks.items s.adjacency s.whole loop.index done loop.marks.items loop.invariant

@@ -6,4 +6,4 @@ pub returns-in_default : goal.returns-in_default
 returns-in_default c =
     let s = c.args.self.now in
     let index = c.index_of-index in
-    sym (none_read s.size s.data_type s.heights.items s.marks.items s.paired s.whole c.args.at index.result index.ensures.value index.ensures.in_map c.index.result.now c.index.ensures c.in_default.not-Shown)
+    sym (none_read s.size s.data_type s.heights.items s.marks.items s.adjacency s.paired s.whole c.args.at index.result index.ensures.value index.ensures.in_map c.index.result.now c.index.ensures c.in_default.not-Shown)

@@ -1,6 +1,6 @@
 use Rattle.std.proofs.Common.{inl, inr, refl}
 use Rattle.hd_check.proofs.Verdicts.{rules_before}
-use Rattle.hd_check.proofs.checking.check.Goals as goal
+use Rattle.hd_check.proofs.checking.try_rules.Goals as goal
 
 pub returns-in-Some-wrong_pit : goal.returns-in-Some-wrong_pit
 returns-in-Some-wrong_pit g c = let m = g.G.Heights.map c.args.surface.now in inr (c.in_default.ensures, inl (refl, c.in-Some-wrong_pit.ensures))
