@@ -2,6 +2,7 @@
 ghost use Rattle.std.specs.Prelude.{◌<◌};
 
 use crate::engine::answers;
+use crate::shared::file_of;
 use crate::surface_of;
 use hd_check::{Certificate, Verdict, check, read_certificate, write_certificate};
 use hd_list::List;
@@ -80,7 +81,7 @@ fn expect_accepted(rt: &(impl Abort + AllocGlobal), cells: &[Cell], certificate:
 fn a_certificate_of_a_long_corridor_is_printed_read_and_accepted(rt: HostRuntime) {
     let cells = corridor_cells(&rt);
     let file = corridor_file(&rt, &cells);
-    let printed = answers(&rt, file.as_slice(), b"saddle D 0 0 0 398");
+    let printed = answers(&rt, file_of(&rt, file.as_slice()), b"saddle D 0 0 0 398");
     let certificate = read_certificate(rt.alloc(), printed.as_slice()).expect(&rt, "a text");
     expect_text(&rt, &certificate, printed.as_slice());
     expect_accepted(&rt, &cells, &certificate);

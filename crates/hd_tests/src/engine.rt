@@ -3,12 +3,13 @@ use crate::shared::{expect_bytes, expect_heights, file_of};
 use hd_engine::Session;
 use hd_list::List;
 use hd_num::{next_line, push_text};
+use hd_sdf_read::SdfFile;
 use std::process::Abort;
 
 // The answers of a session on a file to the lines of a script, of which there are at most 64.
-pub(crate) fn answers(rt: &(impl Abort + AllocGlobal), file: &[u8], script: &[u8]) -> List<u8> {
+pub(crate) fn answers(rt: &(impl Abort + AllocGlobal), file: SdfFile, script: &[u8]) -> List<u8> {
     let mut text = List::new(rt.alloc());
-    let mut session = Session::new(rt.alloc(), file_of(rt, file), 64).expect(rt, "memory");
+    let mut session = Session::new(rt.alloc(), file, 64).expect(rt, "memory");
     let mut from = 0;
     'lines: for number in 1..=64u64 {
         let Some((span, next)) = next_line(script, from) else {
@@ -33,8 +34,8 @@ fn file_text(rt: &(impl Abort + AllocGlobal), profiles: &str) -> String {
 
 // Compares the answers to a script on a surface.
 fn expect_answers(rt: &(impl Abort + AllocGlobal), profiles: &str, script: &str, wanted: &str) {
-    let file = file_text(rt, profiles);
-    let found = answers(rt, file.as_bytes(), script.as_bytes());
+    let text = file_text(rt, profiles);
+    let found = answers(rt, file_of(rt, text.as_bytes()), script.as_bytes());
     expect_bytes(rt, found.as_slice(), wanted.as_bytes());
 }
 
@@ -135,5 +136,21 @@ fn edits_of_rectangles_are_refused_and_taken_back(rt: HostRuntime) {
         "0 5 1",
         "bad 1 0\nlabel H 1 0\nadd 2 0 0 0 1\nadd 0 0 2 0 10\ndales\nadd 0 0 3 0 1\nmask 0 0 2 0\nset 0 0 7\nunmask 0 0 0 0\ndales\nadd 0 0 2 0 32767\nundo 6\nhills\n",
         "line 1 ok\nline 2 refused: 1 0 is not present\nline 3 refused: empty rectangle\nline 4 ok\ndales 2\ndale 0 0 10 1\ndale 2 0 11 1\nline 6 refused: 3 0 is outside\nline 7 ok\nline 8 ok\nline 9 ok\ndales 1\ndale 0 0 7 1\nline 11 refused: height out of range at 0 0\nline 12 refused: only 5 edits kept\nhills 1\nhill 0 0 7 1\n",
+    );
+}
+
+#[test]
+fn border_lines_are_listed(rt: HostRuntime) {
+    expect_answers(
+        &rt,
+        "0 9 1\n4 9 5\n6 2 6",
+        "lines D 0%\n",
+        "lines D 0% 3\nridge 0 0 2 0 pairs 4 pass 1 0 9 around\nridge 0 0 1 2 pairs 5 pass 0 1 4 saddle\nridge 2 0 1 2 pairs 2 pass 2 1 5 saddle\n",
+    );
+    expect_answers(
+        &rt,
+        "0 5 1",
+        "lines H 5%\nlines D 5%\nlines D\nlines D 101%\n",
+        "lines H 5% 0\nlines D 5% 1\nridge 0 0 2 0 pairs 1 pass 1 0 5 saddle\nline 3 refused: wrong number of words\nline 4 refused: word 3 has not its form\n",
     );
 }

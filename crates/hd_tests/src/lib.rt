@@ -20,6 +20,10 @@ mod feature;
 #[cfg(test)]
 mod graph;
 #[cfg(test)]
+mod layouts;
+#[cfg(test)]
+mod lines;
+#[cfg(test)]
 mod map;
 #[cfg(test)]
 mod morph;

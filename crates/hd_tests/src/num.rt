@@ -1,12 +1,12 @@
 // What no clause says: the outcomes that the rules give for words and texts from outside.
-ghost use Rattle.std.specs.Prelude.{◌<◌};
+ghost use Rattle.std.specs.Prelude.{◌<◌, ◌≤◌};
 
 use crate::shared::{Outcome, expect_bytes, expect_rows, lines_of, shown, text_of};
 use hd_list::List;
 use hd_num::{
     Frac, Percent, Whole, first_word, leading_digits, next_line, percent_less, push_frac,
-    push_percent, push_text, push_unsigned, push_whole, read_count, read_decimal, read_percent,
-    read_whole, reduced_fraction_is_no_greater, split_words, trim,
+    push_percent, push_steps, push_text, push_unsigned, push_whole, read_count, read_decimal,
+    read_percent, read_whole, reduced_fraction_is_no_greater, split_words, trim,
 };
 use std::process::Abort;
 
@@ -212,6 +212,25 @@ fn numbers_are_printed(rt: HostRuntime) {
         out.as_slice(),
         b"0 7 -7 9223372036854775807 -9223372036854775808 18446744073709551615",
     );
+}
+
+// Compares the text of a height of decimals.
+fn expect_steps(rt: &(impl Abort + AllocGlobal), steps: i64, places: u8, wanted: &[u8])
+    requires { places ≤ 18 }
+{
+    let mut out = List::new(rt.alloc());
+    push_steps(&mut out, steps, places).expect(rt, "memory");
+    expect_bytes(rt, out.as_slice(), wanted);
+}
+
+#[test]
+fn heights_of_decimals_are_printed(rt: HostRuntime) {
+    expect_steps(&rt, 7, 0, b"7");
+    expect_steps(&rt, -5, 2, b"-0.05");
+    expect_steps(&rt, 50, 2, b"0.50");
+    expect_steps(&rt, -9_007_199_254_740_992, 18, b"-0.009007199254740992");
+    expect_steps(&rt, i64::MIN, 3, b"-9223372036854775.808");
+    expect_steps(&rt, 1_000_000_000_000_000_000, 18, b"1.000000000000000000");
 }
 
 // The sign, the digits and the exponent of a word as a decimal.
