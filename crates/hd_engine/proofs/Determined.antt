@@ -30,9 +30,12 @@ use Rattle.hd_script.specs.declared.command.Command.{Command}
 use Rattle.hd_script.specs.declared.command.Command.TheVariants as command
 use Rattle.hd_script.specs.declared.command.LineError.{LineError}
 use Rattle.hd_script.specs.Line.{script_line}
+use Rattle.hd_survey.specs.Lines.{ArePrunedLines}
 use Rattle.hd_survey.specs.Owned.{ArePrunedRegions}
 use Rattle.hd_survey.specs.Regions.{AreRegionSizes}
 use Rattle.hd_survey.specs.Values.{AreSameValues, IsNotationValue, IsParameterValue}
+use Rattle.hd_lines.specs.declared.line.BorderLine.{BorderLine}
+use Rattle.hd_report.specs.Borders.{borders_text}
 use Rattle.hd_report.specs.Prunings.{prune_text}
 use Rattle.hd_report.specs.Regions.{label_text, regions_text}
 use Rattle.hd_report.specs.Trees.{tree_text}
@@ -40,6 +43,7 @@ use Rattle.hd_report.specs.Values.{height_text, value_text}
 use Rattle.hd_engine.specs.Answers.{IsCommandAnswer, IsReadAnswer, IsAnswer, AreAnswers}
 use Rattle.hd_engine.specs.Edits.{IsOutcomeAnswer, IsEditAnswer, IsUndoAnswer}
 use Rattle.hd_engine.specs.Elements.{IsElementAnswer, IsMadeAnswer}
+use Rattle.hd_engine.specs.Borders.{IsBordersAnswer}
 use Rattle.hd_engine.specs.Prunings.{IsPruneAnswer}
 use Rattle.hd_engine.specs.Regions.{IsRegionsAnswer, IsLabelAnswer, TellsRoot}
 use Rattle.hd_engine.specs.Reply.{Reply, Reports, Becomes, accepted_with}
@@ -78,6 +82,7 @@ pub record Determine : Type 0 where
   pub trees : (m : Map) (side : SideName) (a b : List Joining) → IsChangeTree m side a → IsChangeTree m side b → a ≡ b
   pub prunings : (m : Map) (side : SideName) (thousandths : ℕ) (xs ys : List Leaving) (a b : List RegionSize) → IsMap m
       → ArePrunedRegions m side thousandths xs a → ArePrunedRegions m side thousandths ys b → (xs ≡ ys) × (a ≡ b)
+  pub borders : (m : Map) (side : SideName) (thousandths : ℕ) (xs ys : List BorderLine) → IsMap m → ArePrunedLines m side thousandths xs → ArePrunedLines m side thousandths ys → xs ≡ ys
   pub roots : (m : Map) (side : SideName) (p r s : Rank) → IsRoot m side p r → IsRoot m side p s → r ≡ s
   pub saddles : (m : Map) (side : SideName) (a b s t : Rank) → IsSaddle m side a b s → IsSaddle m side a b t → s ≡ t
   pub certificates : (m : Map) (side : SideName) (a b : Pos) (saddle : Option Rank) (c d : Certificate) → IsShownCertificate m side a b saddle c → IsShownCertificate m side a b saddle d → c ≡ d
@@ -142,6 +147,11 @@ module _ (one : Determine) (s : State) (number : ℕ) (a b : Reply) (s' s'' : St
       (ap (λ steps. accepted_with (prune_text side thousandths s.map.size steps x.kept)) same.0 ∙ ap (λ kept. accepted_with (prune_text side thousandths s.map.size y.steps kept)) same.1)
       x.answer y.answer
 
+  borders-one : (side : SideName) (thousandths : ℕ) → IsBordersAnswer s side thousandths a s' → IsBordersAnswer s side thousandths b s'' → Agrees a b s' s''
+  borders-one side thousandths x y =
+      let same : x.lines ≡ y.lines = one.borders s.map side thousandths x.lines y.lines whole.map x.are y.are in
+      reports-same s s' s'' _ _ a b (ap (λ lines. accepted_with (borders_text side thousandths s.map.size lines)) same) x.answer y.answer
+
   param-one : (name : List ℕ) (height : Option ℤ) (p : Result Parameter NotationError) → IsNamedAnswer s number name height p a s' → IsNamedAnswer s number name height p b s'' → Agrees a b s' s''
   param-one name height (Ok p) x y =
       let same = one.parameters s.map p x.value y.value whole.map x.is y.is in
@@ -167,6 +177,7 @@ module _ (one : Determine) (s : State) (number : ℕ) (a b : Reply) (s' s'' : St
   command-one (command.Saddle side p q) x y = saddle-one (record { roots = one.roots; saddles = one.saddles; certificates = one.certificates }) s s' s'' number side p q a b x y
   command-one (command.Tree side) x y = tree-one side x y
   command-one (command.Prune name percent) x y = prune-one name percent.thousandths x y
+  command-one (command.Lines name percent) x y = borders-one name percent.thousandths x y
   command-one (command.Param name height) x y = param-one name height (parameter_of name height) x y
   command-one (command.Feature word) x y = feature-one word (notation_of word) x y
 

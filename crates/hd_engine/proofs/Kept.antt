@@ -80,6 +80,7 @@ module _ (keeps : KeepsMaps) (s : State) (number : ℕ) (reply : Reply) (after :
   command-keeps (command.Saddle name a b) is = subst IsState (sym is.stays) whole
   command-keeps (command.Tree side) is = stays s after _ reply whole is.answer
   command-keeps (command.Prune name percent) is = stays s after _ reply whole is.answer
+  command-keeps (command.Lines name percent) is = stays s after _ reply whole is.answer
   command-keeps (command.Param name height) is = param-keeps name height (parameter_of name height) is
   command-keeps (command.Feature word) is = feature-keeps word (notation_of word) is
 

@@ -5,6 +5,7 @@ use Rattle.hd_script.specs.declared.command.Command.{Command}
 use Rattle.hd_script.specs.declared.command.Command.TheVariants as command
 use Rattle.hd_script.specs.declared.command.LineError.{LineError}
 use Rattle.hd_script.specs.Line.{script_line}
+use Rattle.hd_engine.specs.Borders.{IsBordersAnswer}
 use Rattle.hd_engine.specs.Edits.{IsEditAnswer, IsUndoAnswer}
 use Rattle.hd_engine.specs.Elements.{IsElementAnswer, IsElementsAnswer}
 use Rattle.hd_report.specs.Forms.{form_text}
@@ -33,6 +34,7 @@ IsCommandAnswer s number (command.Label name at) reply after = IsLabelAnswer s n
 IsCommandAnswer s number (command.Saddle name a b) reply after = IsSaddleAnswer s number name a b reply after
 IsCommandAnswer s number (command.Tree name) reply after = IsTreeAnswer s name reply after
 IsCommandAnswer s number (command.Prune name percent) reply after = IsPruneAnswer s name percent.thousandths reply after
+IsCommandAnswer s number (command.Lines name percent) reply after = IsBordersAnswer s name percent.thousandths reply after
 IsCommandAnswer s number (command.Param name height) reply after = IsParamAnswer s number name height reply after
 IsCommandAnswer s number (command.Feature word) reply after = IsFeatureAnswer s number word reply after
 

@@ -1,5 +1,7 @@
 pub mod State
 pub mod Texts
+pub mod Workpiece
+pub mod Layout
 pub mod Reply
 pub mod Edits
 pub mod Elements
@@ -8,6 +10,7 @@ pub mod Regions
 pub mod Trees
 pub mod Saddles
 pub mod Prunings
+pub mod Borders
 pub mod Info
 pub mod Values
 pub mod Answers

@@ -16,7 +16,8 @@ use hd_edit::{edit_is_determined, edits_keep_maps, logs_keep_maps, undos_keep_ma
 use hd_map::{change_tree_is_determined, saddle_is_determined};
 use hd_steep::root_is_determined;
 use hd_survey::{
-    pruned_regions_are_determined, region_sizes_are_determined, values_are_determined,
+    pruned_lines_are_determined, pruned_regions_are_determined, region_sizes_are_determined,
+    values_are_determined,
 };
 
 /// A line has one answer on a state, and one state after it.
@@ -30,6 +31,7 @@ pub fn answer_is_determined()
     saddle_is_determined();
     shown_certificate_is_determined();
     pruned_regions_are_determined();
+    pruned_lines_are_determined();
     values_are_determined();
 }
 

@@ -9,6 +9,7 @@ mod reports;
 mod saddles;
 mod session;
 mod texts;
+mod workpiece;
 
 pub use answer::Answer;
 pub use laws::{

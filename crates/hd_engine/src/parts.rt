@@ -1,6 +1,5 @@
 // A file as its texts and its surface, and the file of these.
 ghost use Rattle.std.specs.Prelude.{◌≡◌, IfOk};
-ghost use Rattle.hd_map.specs.Sets.{unmasked};
 ghost use Rattle.hd_map.specs.Surface.{map_of};
 ghost use Rattle.hd_sdf_read.specs.FileOf.{file_of};
 ghost use Rattle.hd_engine.specs.State.{file_with, texts_of};
@@ -47,12 +46,11 @@ pub(crate) fn parted(file: SdfFile) -> (Texts, Surface)
     (texts, surface)
 }
 
-/// The file of these texts and all cells of a surface, without its masks. `Memory` comes where a
-/// copy is refused its memory.
-pub(crate) fn joined(alloc: Global, texts: &Texts, surface: &Surface) -> Result<SdfFile, Memory>
-    ensures { IfOk result (λ file. file_of file ≡ file_with (texts_view texts.now) (unmasked (map_of surface.now))) }
+/// The file of a copy of these texts and a surface. `Memory` comes where the copy is refused its
+/// memory.
+pub(crate) fn joined(alloc: Global, texts: &Texts, surface: Surface) -> Result<SdfFile, Memory>
+    ensures { IfOk result (λ file. file_of file ≡ file_with (texts_view texts.now) (map_of surface)) }
 {
-    let surface = surface.without_masks(alloc)?;
     let texts = copied_texts(alloc, texts)?;
     Ok(whole(texts, surface))
 }

@@ -8,11 +8,13 @@ ghost use Rattle.hd_map.specs.Map.{Present};
 ghost use Rattle.hd_map.specs.Pruning.{Leaving};
 ghost use Rattle.hd_map.specs.Rank.{rank};
 ghost use Rattle.hd_map.specs.Region.{IsRoot};
-ghost use Rattle.hd_map.specs.Surface.{map_of};
+ghost use Rattle.hd_lines.specs.declared.line.BorderLine.{BorderLine};
+ghost use Rattle.hd_report.specs.Borders.{borders_text};
 ghost use Rattle.hd_report.specs.Prunings.{prune_text};
 ghost use Rattle.hd_report.specs.Regions.{label_text, regions_text};
 ghost use Rattle.hd_report.specs.Trees.{tree_text};
 ghost use Rattle.hd_report.specs.Values.{feature_line, param_line};
+ghost use Rattle.hd_survey.specs.Lines.{ArePrunedLines};
 ghost use Rattle.hd_survey.specs.Owned.{ArePrunedRegions};
 ghost use Rattle.hd_survey.specs.Regions.{AreRegionSizes};
 ghost use Rattle.hd_survey.specs.Sums.{IsSumOfMeans};
@@ -23,37 +25,33 @@ ghost use Rattle.hd_engine.specs.Texts.{texts_view};
 use crate::texts::Texts;
 use hd_feature::{Notation, Parameter};
 use hd_list::{List, Memory};
-use hd_map::{Grid, Heights, Pos, Side, Surface, presence_of};
+use hd_map::{Grid, Heights, Pos, Side, presence_of};
 use hd_num::Percent;
 use hd_report::{
-    Scales, list_pruning, list_regions, list_tree, tell_feature, tell_info, tell_label,
-    tell_parameter,
+    Scales, list_borders, list_pruning, list_regions, list_tree, tell_feature, tell_info,
+    tell_label, tell_parameter,
 };
 use hd_steep::root;
-use hd_survey::{change_tree, notation_value, parameter_value, pruned_regions, region_sizes};
+use hd_survey::{
+    change_tree, notation_value, parameter_value, pruned_lines, pruned_regions, region_sizes,
+};
 use std::alloc::Global;
 
 /// The size, the type, the present points and the range of their heights, and the scales.
-pub(crate) fn report_info(
+pub(crate) fn report_info<G: Grid>(
     alloc: Global,
     texts: &Texts,
-    surface: &Surface,
+    grid: &G,
 ) -> Result<List<u8>, Memory>
-    ensures { IfOk result (λ text. text ≡ info_on (texts_view texts.now) (map_of surface.now)) }
+    ensures { IfOk result (λ text. text ≡ info_on (texts_view texts.now) (G.map grid.now)) }
 {
     let scales = Scales {
         x: texts.x_scale.literal.as_slice(),
         y: texts.y_scale.literal.as_slice(),
         z: texts.z_scale.literal.as_slice(),
     };
-    let presence = presence_of(surface);
-    let text = tell_info(
-        alloc,
-        surface.size(),
-        surface.data_type(),
-        presence,
-        &scales,
-    )?;
+    let presence = presence_of(grid);
+    let text = tell_info(alloc, grid.size(), grid.data_type(), presence, &scales)?;
     Ok(text)
 }
 
@@ -113,6 +111,20 @@ pub(crate) fn report_pruning<S: Side, G: Heights>(
         pruned.steps.as_slice(),
         pruned.kept.as_slice(),
     )?;
+    Ok(text)
+}
+
+/// The border lines that the pruning of a side at a percent leaves.
+pub(crate) fn report_borders<S: Side, G: Heights>(
+    alloc: Global,
+    grid: &G,
+    percent: Percent,
+) -> Result<List<u8>, Memory>
+    ensures { IfOk result (λ text. (lines : Items BorderLine) × ArePrunedLines (G.map grid.now) S.NAME percent.thousandths lines
+        × (text ≡ borders_text S.NAME percent.thousandths (G.map grid.now).size lines)) }
+{
+    let lines = pruned_lines::<S, G>(alloc, grid, percent)?;
+    let text = list_borders(alloc, S::NAME, grid.size(), percent, lines.as_slice())?;
     Ok(text)
 }
 

@@ -37,18 +37,18 @@ module _ (side : SideName) where
   order = below_by-order side
 
   -- neither of two points is above the higher one
-  higher-bounds : (a b : Rank) → IsNotAbove (below_by side) a (higher_by side a b) × IsNotAbove (below_by side) b (higher_by side a b)
+  pub higher-bounds : (a b : Rank) → IsNotAbove (below_by side) a (higher_by side a b) × IsNotAbove (below_by side) b (higher_by side a b)
   higher-bounds a b = elim (below_by side a b) as (λ v. below_by side a b ≡ v → IsNotAbove (below_by side) a (cond v b a) × IsNotAbove (below_by side) b (cond v b a)) [
     | true ↦ λ e. (below-not_above (below_by side) order a b e, not_above-refl (below_by side) order b)
     | false ↦ λ e. (not_above-refl (below_by side) order a, e)
   ] refl
 
   -- and the higher one is not above what neither of them is above
-  higher-least : (a b t : Rank) → IsNotAbove (below_by side) a t → IsNotAbove (below_by side) b t → IsNotAbove (below_by side) (higher_by side a b) t
+  pub higher-least : (a b t : Rank) → IsNotAbove (below_by side) a t → IsNotAbove (below_by side) b t → IsNotAbove (below_by side) (higher_by side a b) t
   higher-least a b t one other = elim (below_by side a b) as (λ v. IsNotAbove (below_by side) (cond v b a) t) [ true ↦ other | false ↦ one ]
 
   -- it is the same both ways
-  higher-sym : (a b : Rank) → higher_by side a b ≡ higher_by side b a
+  pub higher-sym : (a b : Rank) → higher_by side a b ≡ higher_by side b a
   higher-sym a b =
       let x = higher-bounds a b in
       let y = higher-bounds b a in

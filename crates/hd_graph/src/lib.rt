@@ -15,6 +15,7 @@ mod thinning;
 mod trees;
 mod ways;
 
+pub use classes::Classes;
 pub use flooding::flood;
 pub use graph::{Graph, Low};
 pub use laws::{

@@ -10,3 +10,4 @@ pub mod Prunings
 pub mod Info
 pub mod Notations
 pub mod Values
+pub mod Borders

@@ -1,7 +1,7 @@
 // The lines that tell the size, the type and the heights of a map, and the scales of its file.
 ghost use Rattle.std.specs.Prelude.{◌≡◌, ◌++◌, IfOk, OnOk, Some};
 ghost use Rattle.std.specs.Fmt.{signed_decimal};
-ghost use Rattle.hd_report.specs.Info.{code_text, info_text, present_line, range_line, scales_line, size_line, type_line};
+ghost use Rattle.hd_report.specs.Info.{code_text, info_text, places_line, places_lines, present_line, range_line, scales_line, size_line, type_line};
 
 use hd_list::{List, Memory};
 use hd_map::{DataType, HeightRange, Presence, Size};
@@ -19,7 +19,7 @@ pub struct Scales<'a> {
     pub z: &'a [u8],
 }
 
-/// The lines of `info`: the size, the type's code, how many points are present, the range of their
+/// The lines of `info`: the size, the type's code, for a type of decimals its places, how many points are present, the range of their
 /// heights in steps, and the three scales. `Memory` comes where the text is refused its memory.
 pub fn tell_info(
     alloc: Global,
@@ -34,6 +34,7 @@ pub fn tell_info(
     push_text(&mut text, b"info\n".as_slice())?;
     push_size(&mut text, size)?;
     push_type(&mut text, data_type)?;
+    push_places(&mut text, data_type)?;
     push_present(&mut text, presence.count)?;
     push_range(&mut text, presence.range)?;
     push_scales(&mut text, scales)?;
@@ -73,7 +74,29 @@ fn code_text(data_type: DataType) -> &'static [u8]
         DataType::I8 => b"4",
         DataType::I16 => b"5",
         DataType::I32 => b"6",
+        DataType::Single { .. } => b"3",
+        DataType::Double { .. } => b"7",
     }
+}
+
+// Adds the line of the places of a type of decimals.
+fn push_places(text: &mut List<u8>, data_type: DataType) -> Result<(), Memory>
+    ensures { OnOk result (text.new ≡ text.old ++ places_lines data_type) }
+{
+    match data_type {
+        DataType::Single { places } | DataType::Double { places } => push_count(text, places),
+        _ => Ok(()),
+    }
+}
+
+// Adds the line of so many places.
+fn push_count(text: &mut List<u8>, places: u8) -> Result<(), Memory>
+    ensures { OnOk result (text.new ≡ text.old ++ places_line places) }
+{
+    push_text(text, b"places ".as_slice())?;
+    push_unsigned(text, u64::from(places))?;
+    push_text(text, b"\n".as_slice())?;
+    Ok(())
 }
 
 // Adds the line that tells how many points are present.

@@ -1,6 +1,7 @@
 //! The texts that the lines of a script print: reports, and the causes of refusals.
 #![tactic(auto)]
 
+mod borders;
 mod edits;
 mod elements;
 mod forms;
@@ -14,6 +15,7 @@ mod regions;
 mod trees;
 mod values;
 
+pub use borders::list_borders;
 pub use edits::{edit_cause, kept_cause};
 pub use elements::{element_cause, list_elements};
 pub use forms::form_cause;

@@ -3,7 +3,7 @@ use Rattle.std.specs.Prelude.{◌*◌, ◌==◌, ℕ, List, [], ◌∷◌, lengt
 use Rattle.hd_edit.specs.declared.edit.Edit.{Edit}
 use Rattle.hd_edit.specs.declared.edit.Edit.TheVariants.{Set, Bad, Add, Mask, Unmask}
 use Rattle.hd_script.specs.declared.command.Command.{Command}
-use Rattle.hd_script.specs.declared.command.Command.TheVariants.{Do, Undo, Element, Neighbours, Label, Saddle, Tree, Prune, Param, Feature}
+use Rattle.hd_script.specs.declared.command.Command.TheVariants.{Do, Undo, Element, Neighbours, Label, Saddle, Tree, Prune, Lines, Param, Feature}
 use Rattle.hd_script.specs.declared.command.LineError.{LineError}
 use Rattle.hd_script.specs.declared.command.LineError.TheVariants.{WordCount}
 use Rattle.hd_script.specs.Words.{and_then, count_word, whole_word, side_word, adjacency_word, name_word, percent_word, position_words, corner_words, entry_words}
@@ -83,6 +83,11 @@ tree_words words = Err WordCount
 abbrev pub prune_words : Reading
 prune_words (side ∷ p ∷ []) = and_then (side_word 2 side) (λ name. and_then (percent_word 3 p) (λ percent. Ok (Prune name percent)))
 prune_words words = Err WordCount
+
+-- `lines S P`
+abbrev pub lines_words : Reading
+lines_words (side ∷ p ∷ []) = and_then (side_word 2 side) (λ name. and_then (percent_word 3 p) (λ percent. Ok (Lines name percent)))
+lines_words words = Err WordCount
 
 -- `param NAME` or `param NAME C`
 abbrev pub param_words : Reading

@@ -4,7 +4,7 @@ use Rattle.std.specs.Str.{bytes_eq}
 use Rattle.hd_edit.specs.declared.edit.Edit.TheVariants.{Dilate, Erode, Open, Close}
 use Rattle.hd_script.specs.declared.command.Command.TheVariants.{Elements, Info, Dales, Hills}
 use Rattle.hd_script.specs.declared.command.LineError.TheVariants.{UnknownCommand}
-use Rattle.hd_script.specs.Rows.{Reading, no_words, set_words, bad_words, add_words, mask_words, unmask_words, filter_words, undo_words, element_words, neighbours_words, label_words, saddle_words, tree_words, prune_words, param_words, feature_words}
+use Rattle.hd_script.specs.Rows.{Reading, no_words, set_words, bad_words, add_words, mask_words, unmask_words, filter_words, undo_words, element_words, neighbours_words, label_words, saddle_words, tree_words, prune_words, lines_words, param_words, feature_words}
 
 -- a row of the table: the name of a command, and what the words after it give
 pub record Row : Type 0 where
@@ -23,6 +23,7 @@ report_commands = row (codes "info") (no_words Info)
     ∷ row (codes "saddle") saddle_words
     ∷ row (codes "tree") tree_words
     ∷ row (codes "prune") prune_words
+    ∷ row (codes "lines") lines_words
     ∷ row (codes "param") param_words
     ∷ row (codes "feature") feature_words
     ∷ []

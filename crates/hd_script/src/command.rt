@@ -52,6 +52,11 @@ pub enum Command {
         side: SideName,
         percent: Percent,
     },
+    /// The border lines that the pruning of a side at a percent leaves.
+    Lines {
+        side: SideName,
+        percent: Percent,
+    },
     /// The parameter of a name, at a height where one is given.
     Param {
         name: List<u8>,

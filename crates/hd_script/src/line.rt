@@ -9,8 +9,8 @@ use crate::element::element_words;
 use crate::filters::{Filter, filter_words};
 use crate::parameters::{feature_words, param_words};
 use crate::rows::{
-    add_words, bad_words, label_words, mask_words, neighbours_words, no_words, prune_words,
-    saddle_words, set_words, tree_words, undo_words,
+    add_words, bad_words, label_words, lines_words, mask_words, neighbours_words, no_words,
+    prune_words, saddle_words, set_words, tree_words, undo_words,
 };
 use crate::words::text;
 use crate::{Command, LineError};
@@ -155,6 +155,8 @@ fn read_report_command(
         tree_words(line, words)
     } else if name == b"prune".as_slice() {
         prune_words(line, words)
+    } else if name == b"lines".as_slice() {
+        lines_words(line, words)
     } else if name == b"param".as_slice() {
         param_words(alloc, line, words)
     } else if name == b"feature".as_slice() {

@@ -1,5 +1,5 @@
 -- The list of the regions after pruning, from the tallies of what the kept pits own.
-use Rattle.std.proofs.Common.{◌≡◌, ◌<◌, ◌≤◌, ◌^◌, ◌∙◌, ℕ, ℤ, List, length, map, get_or, Option, Some, None, refl, sym, ap, subst, arith}
+use Rattle.std.proofs.Common.{◌≡◌, ◌<◌, ◌≤◌, ◌∙◌, ℕ, ℤ, List, length, map, get_or, Option, Some, None, refl, sym, ap, subst, arith}
 use Rattle.std.specs.Prelude.{All, pos, ◌-ℤ◌, unsigned_abs}
 use Rattle.std.specs.Option.{ForSome}
 use Rattle.std.proofs.lemmas.Int.{ints}
@@ -15,17 +15,17 @@ use Rattle.hd_map.specs.Presence.{present_heights, range_of}
 use Rattle.hd_prune.specs.declared.step.Kept.{Kept}
 use Rattle.hd_survey.specs.declared.tally.Tally.{Tally}
 use Rattle.hd_survey.specs.Features.{AreFeaturesWith, feature_of, feature_with, lpvh}
-use Rattle.hd_survey.specs.Heights.{HasHeights, IsHeight, IsHeightRange}
+use Rattle.hd_survey.specs.Heights.{HasHeights, IsHeight, IsHeightRange, farthest_apart}
 use Rattle.hd_survey.specs.Owned.{owned_points}
 use Rattle.hd_survey.specs.Tallies.{no_tally, tally_of}
 use Rattle.hd_survey.proofs.Lists.{same_lists}
 
-difference_small : (a b : ℤ) → IsHeight a → IsHeight b → unsigned_abs (a -ℤ b) ≤ 2 ^ 33
+difference_small : (a b : ℤ) → IsHeight a → IsHeight b → unsigned_abs (a -ℤ b) ≤ farthest_apart
 difference_small a b x y = let al = x.least in let ag = x.greatest in let bl = y.least in let bg = y.greatest in omega (arith, ints)
 
 -- local heights are small
 lpvh_small : (side : SideName) (range : Option HeightRange) (p : Rank) (nearest : Option Rank) → IsHeight p.height → ForSome nearest (λ s. IsHeight s.height) → ForSome range IsHeightRange
-    → unsigned_abs (lpvh side range p nearest) ≤ 2 ^ 33
+    → unsigned_abs (lpvh side range p nearest) ≤ farthest_apart
 lpvh_small side range p (Some s) pit saddle ends = difference_small s.height p.height (saddle s refl) pit
 lpvh_small side None p None pit saddle ends = omega arith
 lpvh_small Dales (Some range) p None pit saddle ends = difference_small range.greatest p.height (ends range refl).greatest pit
@@ -36,11 +36,11 @@ no_kept = record { pit = record { height = pos 0; index = 0 }; nearest = None }
 
 -- the regions of kept pits have small local heights
 pub features_heights : (side : SideName) (range : Option HeightRange) (kept : List Kept) (tallies : List Tally) (list : List Region) → All HasHeights kept → ForSome range IsHeightRange
-    → AreFeaturesWith side range kept tallies (length kept) list → All (λ r. unsigned_abs r.lpvh ≤ 2 ^ 33) list
+    → AreFeaturesWith side range kept tallies (length kept) list → All (λ r. unsigned_abs r.lpvh ≤ farthest_apart) list
 features_heights side range kept tallies list heights ends are i d below =
     let inside : i < length kept = subst (λ n. i < n) are.whole below in
     let one : Kept = get_or kept i no_kept in
-    subst (λ (r : Region). unsigned_abs r.lpvh ≤ 2 ^ 33) (sym (are.each i d no_kept no_tally inside))
+    subst (λ (r : Region). unsigned_abs r.lpvh ≤ farthest_apart) (sym (are.each i d no_kept no_tally inside))
     (lpvh_small side range one.pit one.nearest (heights i no_kept inside).pit (heights i no_kept inside).nearest ends)
 
 -- and no more points than are tallied

@@ -1,5 +1,5 @@
 -- What is known of the list of the regions after pruning.
-use Rattle.std.proofs.Common.{◌≡◌, ◌⊎◌, ◌<◌, ◌≤◌, ◌^◌, ◌*◌, ◌∙◌, ℕ, true, inl, inr, List, length, map, replicate, get_or, Option, Some, refl, sym, ap, subst, arith}
+use Rattle.std.proofs.Common.{◌≡◌, ◌⊎◌, ◌<◌, ◌≤◌, ◌*◌, ◌∙◌, ℕ, true, inl, inr, List, length, map, replicate, get_or, Option, Some, refl, sym, ap, subst, le_trans, mul-le-mul_right, arith}
 use Rattle.std.specs.Prelude.{All, unsigned_abs}
 use Rattle.std.specs.Option.{ForSome}
 use Rattle.std.proofs.lemmas.List.{get_or-replicate, length-replicate}
@@ -23,29 +23,30 @@ use Rattle.hd_prune.specs.Pruned.{leavings_of}
 use Rattle.hd_prune.specs.Staying.{AreKeptAlone}
 use Rattle.hd_survey.specs.declared.tally.Tally.{Tally}
 use Rattle.hd_survey.specs.Features.{AreFeatures, AreFeaturesWith, AreHeightsAlone, AreHeightsWith, feature_of, feature_with}
-use Rattle.hd_survey.specs.Heights.{HasHeights}
+use Rattle.hd_survey.specs.Heights.{HasHeights, farthest_apart}
 use Rattle.hd_survey.specs.Owned.{AreOwnedTallies, owned_points}
 use Rattle.hd_survey.specs.Sums.{IsSmall}
 use Rattle.hd_survey.specs.Tallies.{AreRegionTallies, no_tally, tally_of}
 use Rattle.hd_survey.specs.Values.{AreServing, IsNotationValue}
 use Rattle.hd_survey.proofs.FeatureLists.{features_are, features_heights, features_points, heights_are, no_kept}
-use Rattle.hd_survey.proofs.FeaturePoints.{kept_heights, kept_inside, kept_ordered, range_heights}
+use Rattle.hd_survey.proofs.FeaturePoints.{kept_heights, kept_inside, kept_ordered}
 use Rattle.hd_survey.proofs.Lists.{rising_few}
 use Rattle.hd_survey.proofs.Owning.{owned_whole, pruned_inside}
 use Rattle.hd_survey.proofs.OwnedTallies.{owned_few}
+use Rattle.hd_survey.proofs.Spans.{range_heights}
 
 -- what is known of the list of regions
 pub record Outcome (m : Map) (side : SideName) (thousandths : ℕ) (list : List Region) : Type 0 where
   pub are : AreFeatures m side thousandths list
   pub points : All (λ r. r.points ≤ 4194304) list
-  pub heights : All (λ r. unsigned_abs r.lpvh ≤ 2 ^ 33) list
+  pub heights : All (λ r. unsigned_abs r.lpvh ≤ farthest_apart) list
   pub few : length list ≤ 4194304
 
 -- and of that of their local heights alone
 pub record HeightOutcome (m : Map) (side : SideName) (thousandths : ℕ) (list : List Region) : Type 0 where
   pub are : AreHeightsAlone m side thousandths list
   pub points : All (λ r. r.points ≤ 4194304) list
-  pub heights : All (λ r. unsigned_abs r.lpvh ≤ 2 ^ 33) list
+  pub heights : All (λ r. unsigned_abs r.lpvh ≤ farthest_apart) list
   pub few : length list ≤ 4194304
 
 module _ (m : Map) (side : SideName) (thousandths : ℕ) (whole : IsMap m) (steps : List Step) (kept : List Kept) (owners : List Owned) (pruned : IsPruned m side thousandths steps kept owners) where
@@ -131,12 +132,10 @@ module _ (m : Map) (side : SideName) (thousandths : ℕ) (whole : IsMap m) (root
 pub small_value : ((n : Notation) (regions : List Region) (area bound : ℕ) (f : Frac) → n.attribute ≡ Lpvh → n.statistic ≡ Mean
     → All (λ r. unsigned_abs r.lpvh ≤ bound) regions → IsValue n regions area (Some f) → (unsigned_abs f.num ≤ length regions * bound) × (f.den ≤ length regions))
     → (n : Notation) (regions : List Region) (area : ℕ) (value : Option Frac) → n.attribute ≡ Lpvh → n.statistic ≡ Mean
-    → All (λ r. unsigned_abs r.lpvh ≤ 2 ^ 33) regions → length regions ≤ 4194304 → IsValue n regions area value → ForSome value IsSmall
+    → All (λ r. unsigned_abs r.lpvh ≤ farthest_apart) regions → length regions ≤ 4194304 → IsValue n regions area value → ForSome value IsSmall
 small_value law n regions area value attribute statistic heights few is f same =
-    let b = law n regions area (2 ^ 33) f attribute statistic heights (subst (λ (v : Option Frac). IsValue n regions area v) same is) in
-    let num = b.0 in
-    let den = b.1 in
-    record { num = omega (arith, num, few); den = omega (arith, den, few) }
+    let b = law n regions area farthest_apart f attribute statistic heights (subst (λ (v : Option Frac). IsValue n regions area v) same is) in
+    record { num = le_trans b.0 (mul-le-mul_right farthest_apart few); den = le_trans b.1 few }
 
 -- a value over regions that serve a notation is its value
 pub served : ((n : Notation) (regions : List Region) (area : ℕ) (value : Option Frac) → heights_serve n ≡ true → IsValue n (map height_alone regions) area value → IsValue n regions area value)

@@ -1,15 +1,12 @@
 -- What pruning keeps are points of the map, in position order.
-use Rattle.std.proofs.Common.{◌≡◌, ◌<◌, ℕ, ℤ, List, get_or, Some, sym, subst, arith}
-use Rattle.std.specs.Prelude.{All, AllPairs, Contains, ◌≤ℤ◌}
+use Rattle.std.proofs.Common.{◌≡◌, ◌<◌, ℕ, ℤ, List, get_or, sym, subst}
+use Rattle.std.specs.Prelude.{All, AllPairs, Contains}
 use Rattle.std.proofs.lemmas.Bool.{cond_both}
-use Rattle.std.proofs.lemmas.Int.{ints}
 use Rattle.std.proofs.lemmas.List.Elements.{All-filter, Contains-get_or}
 use Rattle.std.proofs.lemmas.List.Kept.{AllPairs-filter}
-use Rattle.hd_map.specs.declared.types.DataType.{DataType}
-use Rattle.hd_map.specs.declared.types.DataType.TheVariants.{U8, U16, U32, I8, I16, I32}
 use Rattle.hd_map.specs.declared.types.Rank.{Rank}
 use Rattle.hd_map.specs.declared.types.SideName.{SideName}
-use Rattle.hd_map.specs.Map.{Map, IsMap, cell_count, greatest_height, least_height}
+use Rattle.hd_map.specs.Map.{Map, IsMap, cell_count}
 use Rattle.hd_map.specs.NearestSaddle.{IsNearestSaddle, NearestSaddleIs}
 use Rattle.hd_map.specs.Pruning.{Leaving, Prunes, IsPruning, differ, over, goes_on}
 use Rattle.hd_map.specs.Rank.{IsPoint, below_by}
@@ -19,32 +16,10 @@ use Rattle.hd_prune.specs.declared.step.Kept.{Kept}
 use Rattle.hd_prune.specs.declared.step.Owned.{Owned}
 use Rattle.hd_prune.specs.Kept.{AreKept}
 use Rattle.hd_prune.specs.Pruned.{owned_by}
-use Rattle.hd_map.specs.declared.presence.HeightRange.{HeightRange}
-use Rattle.hd_map.specs.Presence.{present_heights, range_of}
-use Rattle.hd_survey.specs.Heights.{HasHeights, IsHeight, IsHeightRange}
-use Rattle.hd_survey.proofs.Spans.{point_fits, point_of, range_is}
+use Rattle.hd_survey.specs.Heights.{HasHeights}
+use Rattle.hd_survey.proofs.Spans.{point_height}
 use Rattle.hd_survey.proofs.Inside.{path_point, point_inside}
 use Rattle.hd_survey.proofs.Lists.{All-map, All-unmap, AllPairs-unmap}
-
-type_height : (t : DataType) (h : ℤ) → least_height t ≤ℤ h → h ≤ℤ greatest_height t → IsHeight h
-type_height U8 h a b = record { least = omega (arith, ints); greatest = omega (arith, ints) }
-type_height U16 h a b = record { least = omega (arith, ints); greatest = omega (arith, ints) }
-type_height U32 h a b = record { least = omega (arith, ints); greatest = omega (arith, ints) }
-type_height I8 h a b = record { least = omega (arith, ints); greatest = omega (arith, ints) }
-type_height I16 h a b = record { least = omega (arith, ints); greatest = omega (arith, ints) }
-type_height I32 h a b = record { least = omega (arith, ints); greatest = omega (arith, ints) }
-
--- the height of a point is one of the map's type
-pub point_height : (m : Map) (r : Rank) → IsMap m → IsPoint m r → IsHeight r.height
-point_height m r whole point = let fits = point_fits m r whole point in type_height m.data_type r.height fits.0 fits.1
-
--- both ends of the range of a map's heights are heights
-pub range_heights : (m : Map) (range : HeightRange) → IsMap m → range_of (present_heights m) ≡ Some range → IsHeightRange range
-range_heights m range whole is =
-    let of = range_is (present_heights m) range is in
-    let low = point_of m (cell_count m.size) range.least whole (omega arith) of.least_in in
-    let high = point_of m (cell_count m.size) range.greatest whole (omega arith) of.greatest_in in
-    record { least = subst IsHeight low.2 (point_height m low.0 whole low.1); greatest = subst IsHeight high.2 (point_height m high.0 whole high.1) }
 
 module _ (m : Map) (side : SideName) where
   -- a nearest saddle is a point

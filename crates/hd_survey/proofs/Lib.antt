@@ -1,6 +1,7 @@
 mod Lists
 mod Inside
 mod Spans
+mod Sums
 mod RootedPoints
 mod Counts
 mod MapPits
@@ -19,3 +20,4 @@ mod Owning
 mod FeatureLists
 mod FeatureNeeds
 mod ValuesDetermined
+mod PrunedLines

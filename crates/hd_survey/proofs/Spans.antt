@@ -8,18 +8,18 @@ use Rattle.std.proofs.lemmas.Int.{ints, fold-int_min_bounds, fold-int_min_reache
 use Rattle.std.proofs.lemmas.List.Elements.{Contains-push, Contains-append_left, Contains-append_cases}
 use Rattle.hd_map.specs.declared.types.Cell.{Cell}
 use Rattle.hd_map.specs.declared.types.Cell.TheVariants.{Height, Bad}
-use Rattle.hd_map.specs.declared.types.DataType.{DataType}
-use Rattle.hd_map.specs.declared.types.DataType.TheVariants.{U8, U16, U32, I8, I16, I32}
 use Rattle.hd_map.specs.declared.types.Pos.{Pos}
 use Rattle.hd_map.specs.declared.types.Rank.{Rank}
-use Rattle.hd_map.specs.Map.{Map, IsMap, IsMeasured, IsCellOf, Present, cell_at, mask_at, cell_count, place_of, position_at, shown_height, height_or_zero, least_height, greatest_height, height_at}
+use Rattle.hd_map.specs.Map.{Map, IsMap, IsMeasured, Present, cell_at, mask_at, cell_count, place_of, position_at, shown_height, height_or_zero, height_at}
 use Rattle.hd_map.specs.Pruning.{SzIs}
 use Rattle.hd_map.specs.Rank.{IsPoint, rank}
+use Rattle.hd_map.proofs.Depth.{point_limits}
 use Rattle.hd_map.proofs.Levels.{Contains-cases, Contains-none, Contains-head, Contains-tail}
 use Rattle.hd_map.proofs.Points.{point_at, position_at-of, position_at-inside, place_inside}
 use Rattle.hd_map.specs.declared.presence.HeightRange.{HeightRange}
 use Rattle.hd_map.specs.Presence.{heights_below, present_heights, range_of}
 use Rattle.hd_map.proofs.Presences.{heights_more}
+use Rattle.hd_survey.specs.Heights.{IsHeight, IsHeightRange, farthest_apart}
 
 -- what is measured and shown is its height
 pub shown_of : (c : Cell) (masked : Bool) → IsMeasured c → masked ≡ false → shown_height c masked ≡ Some (height_or_zero c)
@@ -134,44 +134,27 @@ span_some m range sz whole is span =
 pub span_none : (m : Map) → range_of (present_heights m) ≡ None → SzIs m (pos 0)
 span_none m none = inr (λ r point. no_height (present_heights m) r.height none (height_in m (cell_count m.size) r point (index_inside m r point)), refl)
 
-height_fits : (m : Map) (c : Cell) → IsMeasured c → IsCellOf m.data_type c → (least_height m.data_type ≤ℤ height_or_zero c) × (height_or_zero c ≤ℤ greatest_height m.data_type)
-height_fits m (Height h) measured fits = fits h refl
-height_fits m Bad measured fits = absurd measured
-
--- a point's height is of the data type
-pub point_fits : (m : Map) (r : Rank) → IsMap m → IsPoint m r → (least_height m.data_type ≤ℤ r.height) × (r.height ≤ℤ greatest_height m.data_type)
-point_fits m r whole point =
-    let at : Pos = point.at in
-    let there : place_of m.size at < cell_count m.size = place_inside m.size at point.present.in_grid in
-    let fits : IsCellOf m.data_type (cell_at m at) = whole.heights (place_of m.size at) (rw whole.cells there) in
-    let height : r.height ≡ height_or_zero (cell_at m at) = ap (λ (x : Rank). x.height) point.rank_is in
-    subst (λ z. (least_height m.data_type ≤ℤ z) × (z ≤ℤ greatest_height m.data_type)) (sym height) (height_fits m (cell_at m at) point.present.measured fits)
+-- the height of a point is one of some type
+pub point_height : (m : Map) (r : Rank) → IsMap m → IsPoint m r → IsHeight r.height
+point_height m r whole point = let limits = point_limits m r whole point in record { least = limits.low; greatest = limits.high }
 
 -- and so are the least and the greatest
-pub range_fits : (m : Map) (range : HeightRange) → IsMap m → range_of (present_heights m) ≡ Some range
-    → (least_height m.data_type ≤ℤ range.least) × (range.greatest ≤ℤ greatest_height m.data_type)
-range_fits m range whole is =
+pub range_heights : (m : Map) (range : HeightRange) → IsMap m → range_of (present_heights m) ≡ Some range → IsHeightRange range
+range_heights m range whole is =
     let of = range_is (present_heights m) range is in
     let low = point_of m (cell_count m.size) range.least whole (omega arith) of.least_in in
-    let high = point_of m (cell_count m.size) range.greatest whole (omega arith) of.greatest_in in (
-      subst (λ z. least_height m.data_type ≤ℤ z) low.2 (point_fits m low.0 whole low.1).0,
-      subst (λ z. z ≤ℤ greatest_height m.data_type) high.2 (point_fits m high.0 whole high.1).1,
-    )
+    let high = point_of m (cell_count m.size) range.greatest whole (omega arith) of.greatest_in in
+    record { least = subst IsHeight low.2 (point_height m low.0 whole low.1); greatest = subst IsHeight high.2 (point_height m high.0 whole high.1) }
 
-type_span : (t : DataType) (a b : ℤ) → least_height t ≤ℤ a → a ≤ℤ b → b ≤ℤ greatest_height t → (pos 0 ≤ℤ (b -ℤ a)) × ((b -ℤ a) ≤ℤ pos 4294967296)
-type_span U8 a b low up high = (omega (arith, ints), omega (arith, ints))
-type_span U16 a b low up high = (omega (arith, ints), omega (arith, ints))
-type_span U32 a b low up high = (omega (arith, ints), omega (arith, ints))
-type_span I8 a b low up high = (omega (arith, ints), omega (arith, ints))
-type_span I16 a b low up high = (omega (arith, ints), omega (arith, ints))
-type_span I32 a b low up high = (omega (arith, ints), omega (arith, ints))
-
--- how far they span is within 2 ^ 32
-pub span_within : (m : Map) (range : HeightRange) → IsMap m → range_of (present_heights m) ≡ Some range → (pos 0 ≤ℤ (range.greatest -ℤ range.least)) × ((range.greatest -ℤ range.least) ≤ℤ pos 4294967296)
+-- how far they are apart
+pub span_within : (m : Map) (range : HeightRange) → IsMap m → range_of (present_heights m) ≡ Some range → (pos 0 ≤ℤ (range.greatest -ℤ range.least)) × ((range.greatest -ℤ range.least) ≤ℤ pos farthest_apart)
 span_within m range whole is =
-    let fits = range_fits m range whole is in
+    let ends = range_heights m range whole is in
     let of = range_is (present_heights m) range is in
-    type_span m.data_type range.least range.greatest fits.0 (of.bounds range.greatest of.greatest_in).0 fits.1
+    let least = ends.least.least in
+    let greatest = ends.greatest.greatest in
+    let up = (of.bounds range.greatest of.greatest_in).0 in
+    (omega (arith, ints, up), omega (arith, ints, least, greatest))
 
 pub span_fits : (m : Map) (range : HeightRange) → IsMap m → range_of (present_heights m) ≡ Some range → SFits w64 (range.greatest -ℤ range.least)
 span_fits m range whole is =

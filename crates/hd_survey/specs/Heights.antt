@@ -1,13 +1,17 @@
 -- Heights of some data type.
-use Rattle.std.specs.Prelude.{◌≤ℤ◌, ℤ, pos, negsuc}
+use Rattle.std.specs.Prelude.{◌≤ℤ◌, ◌^◌, ℕ, ℤ, pos, negsuc}
 use Rattle.std.specs.Option.{ForSome}
 use Rattle.hd_map.specs.declared.presence.HeightRange.{HeightRange}
 use Rattle.hd_prune.specs.declared.step.Kept.{Kept}
 
 -- a height of some data type
 pub record IsHeight (h : ℤ) : Type 0 where
-  pub least : negsuc 2147483647 ≤ℤ h
-  pub greatest : h ≤ℤ pos 4294967295
+  pub least : negsuc 9007199254740991 ≤ℤ h
+  pub greatest : h ≤ℤ pos 9007199254740992
+
+-- how far two heights are apart at most
+abbrev pub farthest_apart : ℕ
+farthest_apart = 2 ^ 54
 
 -- the heights of a kept pit and of its nearest saddle are heights
 pub record HasHeights (k : Kept) : Type 0 where

@@ -10,3 +10,4 @@ pub mod Features
 pub mod Sums
 pub mod Values
 pub mod Saddles
+pub mod Lines

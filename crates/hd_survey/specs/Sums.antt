@@ -1,16 +1,18 @@
 -- Values that are small enough for a sum.
-use Rattle.std.specs.Prelude.{◌≡◌, ◌<◌, ◌^◌, unsigned_abs}
+use Rattle.std.specs.Prelude.{◌≡◌, ◌≤◌, ◌*◌, unsigned_abs}
 use Rattle.hd_feature.specs.declared.notation.Attribute.TheVariants.{Lpvh}
 use Rattle.hd_feature.specs.declared.notation.Notation.{Notation}
 use Rattle.hd_feature.specs.declared.notation.Parameter.{Parameter}
 use Rattle.hd_feature.specs.declared.notation.Parameter.TheVariants.{One, Sum}
 use Rattle.hd_feature.specs.declared.notation.Statistic.TheVariants.{Mean}
+use Rattle.hd_map.specs.Map.{most_cells}
 use Rattle.hd_num.specs.declared.frac.Frac.{Frac}
+use Rattle.hd_survey.specs.Heights.{farthest_apart}
 
--- the numerator and the denominator of a fraction are below 2^62
+-- the numerator and the denominator of a fraction are no greater than those of a mean of local heights can be
 pub record IsSmall (f : Frac) : Type 0 where
-  pub num : unsigned_abs f.num < 2 ^ 62
-  pub den : f.den < 2 ^ 62
+  pub num : unsigned_abs f.num ≤ most_cells * farthest_apart
+  pub den : f.den ≤ most_cells
 
 -- the mean of local heights
 pub record IsMeanHeight (n : Notation) : Type 0 where

@@ -1,9 +1,9 @@
 // The regions of a side after pruning, by what feature parameters take of them.
-ghost use Rattle.std.specs.Prelude.{◌≡◌, ◌≤◌, ◌^◌, length, All, IfOk, unsigned_abs};
+ghost use Rattle.std.specs.Prelude.{◌≡◌, ◌≤◌, length, All, IfOk, unsigned_abs};
 ghost use Rattle.std.specs.Option.{ForSome};
 ghost use Rattle.hd_map.specs.Presence.{present_heights, range_of};
 ghost use Rattle.hd_survey.specs.Features.{AreFeatures, AreFeaturesWith, AreHeightsAlone, AreHeightsWith, feature_with};
-ghost use Rattle.hd_survey.specs.Heights.{HasHeights, IsHeightRange};
+ghost use Rattle.hd_survey.specs.Heights.{HasHeights, IsHeightRange, farthest_apart};
 
 use crate::lpvh::lpvh;
 use crate::owned::owned_tallies;
@@ -31,7 +31,7 @@ pub fn features<S: Side, G: Heights, V: SideView<S>>(
     requires range { range ≡ range_of (present_heights (G.map grid.now)) }
     ensures are { IfOk result (AreFeatures (G.map grid.now) S.NAME percent.thousandths) }
     ensures points { IfOk result (All (λ r. r.points ≤ 4194304)) }
-    ensures heights { IfOk result (All (λ r. unsigned_abs r.lpvh ≤ 2 ^ 33)) }
+    ensures heights { IfOk result (All (λ r. unsigned_abs r.lpvh ≤ farthest_apart)) }
     ensures few { IfOk result (λ list. length list ≤ 4194304) }
 {
     let pruned = pruned_pits::<S, G, V>(alloc, grid, view, percent, range)?;
@@ -57,7 +57,7 @@ pub fn heights_alone<S: Side, G: Heights>(
     requires { range ≡ range_of (present_heights (G.map grid.now)) }
     ensures are { IfOk result (AreHeightsAlone (G.map grid.now) S.NAME percent.thousandths) }
     ensures points { IfOk result (All (λ r. r.points ≤ 4194304)) }
-    ensures heights { IfOk result (All (λ r. unsigned_abs r.lpvh ≤ 2 ^ 33)) }
+    ensures heights { IfOk result (All (λ r. unsigned_abs r.lpvh ≤ farthest_apart)) }
     ensures few { IfOk result (λ list. length list ≤ 4194304) }
 {
     let kept = kept_pits::<S, G>(alloc, grid, percent, range)?;

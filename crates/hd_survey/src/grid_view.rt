@@ -1,5 +1,6 @@
 // A side of a grid, with the root of each point and the pits.
 ghost use Rattle.std.specs.Prelude.{◌≡◌, IfOk};
+ghost use Rattle.hd_map.specs.Region.{AreRegions};
 
 use crate::pits::list_pits;
 use crate::roots::{graph_of, root_at};
@@ -52,6 +53,13 @@ impl<'a, S: Side, G: Heights> GridView<'a, S, G> {
             pits,
             side: PhantomData,
         })
+    }
+
+    /// By index the index of the pit in whose region a point lies, and none for points that are not present.
+    pub fn roots(&self) -> &List<Option<u32>>
+        ensures { AreRegions (G.map self.now) S.NAME result.now }
+    {
+        &self.roots
     }
 }
 

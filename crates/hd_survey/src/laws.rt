@@ -2,15 +2,18 @@
 ghost use Rattle.std.specs.Prelude.{◌≡◌, ℕ, List, Option};
 ghost use Rattle.hd_feature.specs.declared.notation.Notation.{Notation};
 ghost use Rattle.hd_feature.specs.declared.notation.Parameter.{Parameter};
+ghost use Rattle.hd_lines.specs.declared.line.BorderLine.{BorderLine};
 ghost use Rattle.hd_map.specs.declared.types.RegionSize.{RegionSize};
 ghost use Rattle.hd_map.specs.declared.types.SideName.{SideName};
 ghost use Rattle.hd_map.specs.Map.{Map, IsMap};
 ghost use Rattle.hd_map.specs.Pruning.{Leaving};
 ghost use Rattle.hd_num.specs.declared.frac.Frac.{Frac};
+ghost use Rattle.hd_survey.specs.Lines.{ArePrunedLines};
 ghost use Rattle.hd_survey.specs.Owned.{ArePrunedRegions};
 ghost use Rattle.hd_survey.specs.Regions.{AreRegionSizes};
 ghost use Rattle.hd_survey.specs.Values.{AreSameValues, IsNotationValue, IsParameterValue};
 
+use hd_lines::border_lines_are_determined;
 use hd_map::pruning_is_determined;
 use hd_num::reduced_fraction_is_determined;
 use hd_steep::regions_are_determined;
@@ -29,6 +32,15 @@ pub fn pruned_regions_are_determined()
 {
     regions_are_determined();
     pruning_is_determined();
+}
+
+/// A map has one list of border lines on each side at each percent.
+pub fn pruned_lines_are_determined()
+    ensures { (m : Map) (side : SideName) (thousandths : ℕ) (xs ys : List BorderLine) → IsMap m
+        → ArePrunedLines m side thousandths xs → ArePrunedLines m side thousandths ys → xs ≡ ys }
+{
+    pruning_is_determined();
+    border_lines_are_determined();
 }
 
 /// A notation and a parameter have one value on a map.

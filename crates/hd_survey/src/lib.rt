@@ -8,6 +8,7 @@ mod features;
 mod graph;
 mod grid_view;
 mod laws;
+mod lines;
 mod lpvh;
 mod owned;
 mod pits;
@@ -22,7 +23,11 @@ mod values;
 mod view;
 
 pub use graph::change_tree;
-pub use laws::{pruned_regions_are_determined, region_sizes_are_determined, values_are_determined};
+pub use laws::{
+    pruned_lines_are_determined, pruned_regions_are_determined, region_sizes_are_determined,
+    values_are_determined,
+};
+pub use lines::pruned_lines;
 pub use pruned::{PrunedRegions, pruned_regions};
 pub use regions::region_sizes;
 pub use saddles::saddle_between;

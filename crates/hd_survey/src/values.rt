@@ -1,9 +1,10 @@
 // The values of feature parameters.
-ghost use Rattle.std.specs.Prelude.{◌≡◌, ◌≤◌, ◌^◌, length, All, IfOk, unsigned_abs};
+ghost use Rattle.std.specs.Prelude.{◌≡◌, ◌≤◌, length, All, IfOk, unsigned_abs};
 ghost use Rattle.std.specs.Option.{ForSome};
 ghost use Rattle.hd_feature.specs.declared.notation.Attribute.TheVariants.{Lpvh};
 ghost use Rattle.hd_feature.specs.declared.notation.Statistic.TheVariants.{Mean};
 ghost use Rattle.hd_map.specs.Presence.{IsPresence, present_heights, range_of};
+ghost use Rattle.hd_survey.specs.Heights.{farthest_apart};
 ghost use Rattle.hd_survey.specs.Sums.{IsSmall, IsSumOfMeans};
 ghost use Rattle.hd_survey.specs.Values.{AreServing, IsNotationValue, IsParameterValue, IsSum, side_of};
 
@@ -91,7 +92,7 @@ fn kind_features<G: Heights>(
     requires { range ≡ range_of (present_heights (G.map grid.now)) }
     ensures are { IfOk result (AreServing (G.map grid.now) notation.now) }
     ensures points { IfOk result (All (λ r. r.points ≤ 4194304)) }
-    ensures heights { IfOk result (All (λ r. unsigned_abs r.lpvh ≤ 2 ^ 33)) }
+    ensures heights { IfOk result (All (λ r. unsigned_abs r.lpvh ≤ farthest_apart)) }
     ensures few { IfOk result (λ list. length list ≤ 4194304) }
 {
     match notation.kind {
@@ -111,7 +112,7 @@ fn side_features<S: Side, G: Heights>(
     requires range { range ≡ range_of (present_heights (G.map grid.now)) }
     ensures are { IfOk result (AreServing (G.map grid.now) notation.now) }
     ensures points { IfOk result (All (λ r. r.points ≤ 4194304)) }
-    ensures heights { IfOk result (All (λ r. unsigned_abs r.lpvh ≤ 2 ^ 33)) }
+    ensures heights { IfOk result (All (λ r. unsigned_abs r.lpvh ≤ farthest_apart)) }
     ensures few { IfOk result (λ list. length list ≤ 4194304) }
 {
     if heights_serve(notation) {

@@ -8,6 +8,7 @@ returns c = λ s number line a b s' s'' whole x y.
       regions = c.region_sizes_are_determined.ensures;
       trees = c.change_tree_is_determined.ensures;
       prunings = c.pruned_regions_are_determined.ensures;
+      borders = c.pruned_lines_are_determined.ensures;
       notations = c.values_are_determined.ensures.notations;
       parameters = c.values_are_determined.ensures.parameters;
       roots = c.root_is_determined.ensures;

@@ -4,7 +4,7 @@ use Rattle.hd_prune.specs.declared.step.Kept.{Kept}
 use Rattle.hd_survey.specs.Heights.{HasHeights}
 use Rattle.std.proofs.lemmas.Result.{IfOk-weaker}
 use Rattle.hd_survey.proofs.FeatureNeeds.{HeightOutcome, height_outcome, heights_known}
-use Rattle.hd_survey.proofs.FeaturePoints.{range_heights}
+use Rattle.hd_survey.proofs.Spans.{range_heights}
 use Rattle.hd_survey.proofs.features.heights_alone.Given.{Over}
 use Rattle.hd_survey.proofs.features.heights_alone.Goals as goal
 use Rattle.hd_survey.proofs.features.heights_alone.Goals.{After-list_heights}

@@ -1,6 +1,0 @@
-use Rattle.std.proofs.Common.{sym, ◌∙◌}
-use Rattle.hd_engine.proofs.NamedSums.{parameter-fit}
-use Rattle.hd_engine.proofs.session.Session.param.Goals as goal
-
-pub report_parameter-requires : goal.report_parameter-requires
-report_parameter-requires c = parameter-fit c.args.name.now c.args.height c.in-Ok.parameter (sym c.named.ensures ∙ c.in-Ok.is)

@@ -1,0 +1,14 @@
+pub mod Written
+pub mod Counted
+pub mod Noting
+pub mod Seeing
+pub mod Bordering
+pub mod Crossed
+pub mod Owners
+pub mod Ways
+pub mod Placing
+pub mod Listing
+pub mod Lining
+pub mod Nearest
+pub mod Once
+pub mod Determined

@@ -1,0 +1,5 @@
+use Rattle.hd_lines.proofs.Nearest.{nearest-passes}
+use Rattle.hd_lines.proofs.laws.nearest_saddles_are_passes.Goals as goal
+
+pub returns : goal.returns
+returns c = nearest-passes

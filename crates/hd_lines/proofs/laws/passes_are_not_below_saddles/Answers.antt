@@ -1,0 +1,5 @@
+use Rattle.hd_lines.proofs.Nearest.{passes-above}
+use Rattle.hd_lines.proofs.laws.passes_are_not_below_saddles.Goals as goal
+
+pub returns : goal.returns
+returns c = passes-above

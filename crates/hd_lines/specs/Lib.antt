@@ -1,0 +1,5 @@
+pub mod Lines
+pub mod Places
+pub mod Notes
+pub mod Borders
+pub mod Listed

@@ -1,0 +1,16 @@
+//! Ridge and course lines of ISO 25178-2: the borders between the regions that a pruning leaves.
+#![tactic(auto)]
+
+mod border;
+mod laws;
+mod line;
+mod lines;
+mod notes;
+mod places;
+mod saddles;
+
+pub use laws::{
+    border_lines_are_determined, nearest_saddles_are_passes, passes_are_not_below_saddles,
+};
+pub use line::BorderLine;
+pub use lines::border_lines;

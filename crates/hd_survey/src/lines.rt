@@ -1,0 +1,29 @@
+// The border lines that a pruning leaves.
+ghost use Rattle.std.specs.Prelude.{All, IfOk};
+ghost use Rattle.hd_survey.specs.Inside.{IsLineOn};
+ghost use Rattle.hd_survey.specs.Lines.{ArePrunedLines};
+
+use crate::grid_view::GridView;
+use crate::pruned::pruned_pits;
+use hd_lines::{BorderLine, border_lines};
+use hd_list::{List, Memory};
+use hd_map::{Heights, Side, presence_of};
+use hd_num::Percent;
+use std::alloc::Global;
+
+/// The border lines of the pruning of a grid on a side at a percent: for dales the ridge lines, for hills
+/// the course lines of ISO 25178-2. `Memory` comes where the regions, the pruning or the lines are refused
+/// their memory.
+pub fn pruned_lines<S: Side, G: Heights>(
+    alloc: Global,
+    grid: &G,
+    percent: Percent,
+) -> Result<List<BorderLine>, Memory>
+    ensures are { IfOk result (ArePrunedLines (G.map grid.now) S.NAME percent.thousandths) }
+    ensures inside { IfOk result (All (IsLineOn (G.map grid.now).size)) }
+{
+    let view = GridView::<S, G>::new(alloc, grid)?;
+    let range = presence_of(grid).range;
+    let pruned = pruned_pits::<S, G, GridView<'_, S, G>>(alloc, grid, &view, percent, range)?;
+    border_lines::<S, G>(alloc, grid, view.roots(), &pruned)
+}
