@@ -72,6 +72,7 @@ cells_more number n last before after cell so_far last_is cell_is more =
 pub drawn_is_map : (size : Size) (number : ℕ) → IsSize size → IsMap (drawn_map size number)
 drawn_is_map size number within = record {
   size = within;
+  places = omega arith;
   cells = length-map-range_with_len (λ i. cell_in (drawn number (i + 1))) 0 (cell_count size);
   masks = length-replicate (cell_count size) false;
   heights = cells_fit number (cell_count size);

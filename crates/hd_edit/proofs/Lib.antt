@@ -1,3 +1,4 @@
+pub mod DataTypes
 pub mod Rectangles
 pub mod Strokes
 pub mod Changes

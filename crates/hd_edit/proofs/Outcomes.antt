@@ -226,6 +226,7 @@ module _ (m : Map) (whole : IsMap m) where
   stroked-whole : (from to : Pos) (s : Stroke) → AreCellsOf m.data_type (stroked m from to s).cells → IsMap (stroked m from to s)
   stroked-whole from to s are = record {
     size = whole.size;
+    places = whole.places;
     cells = length-map-range_with_len (λ k. new_cell m from to s (position_at m.size k)) 0 (cell_count m.size);
     masks = length-map-range_with_len (λ k. new_mask m from to s (position_at m.size k)) 0 (cell_count m.size);
     heights = are;

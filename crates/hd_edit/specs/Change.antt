@@ -8,10 +8,12 @@ use Rattle.hd_map.specs.Map.{Map, IsCellOf, cell_count, least_height}
 use Rattle.hd_edit.specs.declared.change.Change.{Change}
 use Rattle.hd_edit.specs.declared.change.Was.{Was}
 use Rattle.hd_edit.specs.declared.change.Was.TheVariants as was
+use Rattle.hd_edit.specs.declared.over.OverLeast.{OverLeast}
+use Rattle.hd_edit.specs.Over.{number_of}
 
 -- the height that is this much over the least one of a data type
-abbrev pub height_over : DataType → ℕ → ℤ
-height_over type over = least_height type +ℤ pos over
+abbrev pub height_over : DataType → OverLeast → ℤ
+height_over type over = least_height type +ℤ pos (number_of over)
 
 -- what stood there is this cell of the data type
 abbrev pub IsCellThatWas : DataType → Was → Cell → Type 0

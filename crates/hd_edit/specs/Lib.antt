@@ -3,6 +3,7 @@ pub mod Elements
 pub mod Filter
 pub mod Board
 pub mod Stroke
+pub mod Over
 pub mod Change
 pub mod Filtered
 pub mod Log

@@ -6,14 +6,15 @@ ghost use Rattle.hd_map.specs.Sets.{with_cell, with_mask};
 ghost use Rattle.hd_edit.specs.Board.{RisesUpTo};
 ghost use Rattle.hd_edit.specs.Change.{height_over, IsCellThatWas, IsChange, AreChanges, with_was, before_changes};
 
+use crate::over::OverLeast;
 use hd_list::List;
-use hd_map::{Cell, DataType, Grid, Heights, Pos, index_of, least_of, over_least, position_of};
+use hd_map::{Cell, DataType, Grid, Heights, Pos, index_of, least_of, position_of};
 
 /// What stood at a point before it was changed.
 #[derive(Clone, Copy)]
 pub enum Was {
     /// The cell was the height that is this much over the least one of the data type.
-    Height(u32),
+    Height(OverLeast),
     /// The cell was not measured.
     Bad,
     /// The mask was this one.
@@ -32,26 +33,30 @@ pub struct Change {
 const _: () = prove!(size_of::<Change>() <= 12);
 
 /// What a cell of the data type was.
-#[tactic(auto, using(hd_map::proofs::DataTypes::in_four_bytes))]
+#[inline]
 pub fn was_of(data_type: DataType, cell: Cell) -> Was
     requires { IsCellOf data_type cell }
     ensures { IsCellThatWas data_type result cell }
 {
     match cell {
-        Cell::Height(height) => Was::Height(over_least(least_of(data_type), height)),
+        Cell::Height(height) => {
+            let over = (height - least_of(data_type)) as u64;
+            Was::Height(OverLeast::new(over))
+        }
         Cell::Bad => Was::Bad,
     }
 }
 
 // The cell of the height that is this much over the least one.
 #[tactic(auto, using(hd_map::proofs::DataTypes::type_limits))]
-fn cell_over(data_type: DataType, over: u32) -> Cell
+fn cell_over(data_type: DataType, over: OverLeast) -> Cell
     ensures { result ≡ Height (height_over data_type over) }
 {
-    Cell::Height(least_of(data_type) + i64::from(over))
+    Cell::Height(least_of(data_type) + over.number() as i64)
 }
 
 // Sets a cell that the grid can have.
+#[inline]
 pub fn put_cell<G: Grid>(grid: &mut G, at: Pos, cell: Cell)
     requires in_grid { InGrid (G.map grid.old).size at }
     requires in_range { IsCellOf (G.map grid.old).data_type cell }

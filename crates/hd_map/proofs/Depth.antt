@@ -16,13 +16,13 @@ use Rattle.hd_map.proofs.Points.{place_inside}
 
 -- how far a height is above the least one
 abbrev pub raised : ℤ → ℕ
-raised (pos n) = n + 2147483648
-raised (negsuc n) = 2147483647 - n
+raised (pos n) = n + 9007199254740992
+raised (negsuc n) = 9007199254740991 - n
 
 -- how far a height is below the greatest one
 abbrev pub sunk : ℤ → ℕ
-sunk (pos n) = 4294967295 - n
-sunk (negsuc n) = 4294967296 + n
+sunk (pos n) = 9007199254740992 - n
+sunk (negsuc n) = 9007199254740993 + n
 
 -- a rank as one number, which is less for what is below
 abbrev pub depth_by : SideName → Rank → ℕ
@@ -31,19 +31,19 @@ depth_by Hills a = sunk a.height * 4194304 + (4194303 - a.index)
 
 -- a rank of a map of any size and data type
 pub record InLimits (a : Rank) : Type 0 where
-  pub low : negsuc 2147483647 ≤ℤ a.height
-  pub high : a.height ≤ℤ pos 4294967295
+  pub low : negsuc 9007199254740991 ≤ℤ a.height
+  pub high : a.height ≤ℤ pos 9007199254740992
   pub index : a.index < 4194304
 
 -- of two heights the greater is raised higher
-raised_less : (x y : ℤ) → negsuc 2147483647 ≤ℤ x → x <ℤ y → raised x < raised y
+raised_less : (x y : ℤ) → negsuc 9007199254740991 ≤ℤ x → x <ℤ y → raised x < raised y
 raised_less (pos a) (pos b) low h = omega (arith, ints)
 raised_less (pos a) (negsuc b) low h = omega (arith, ints)
 raised_less (negsuc a) (pos b) low h = omega (arith, ints)
 raised_less (negsuc a) (negsuc b) low h = omega (arith, ints)
 
 -- of two heights the less is sunk deeper
-sunk_less : (x y : ℤ) → y ≤ℤ pos 4294967295 → x <ℤ y → sunk y < sunk x
+sunk_less : (x y : ℤ) → y ≤ℤ pos 9007199254740992 → x <ℤ y → sunk y < sunk x
 sunk_less (pos a) (pos b) high h = omega (arith, ints)
 sunk_less (pos a) (negsuc b) high h = omega (arith, ints)
 sunk_less (negsuc a) (pos b) high h = omega (arith, ints)
@@ -67,7 +67,7 @@ before_depths a b of of' h = elim (before_cases a b h) [
 ]
 
 -- the height of a cell of a data type is within the widest limits
-cell_limits : (t : DataType) (c : Cell) → IsCellOf t c → (negsuc 2147483647 ≤ℤ height_or_zero c) × (height_or_zero c ≤ℤ pos 4294967295)
+cell_limits : (t : DataType) (c : Cell) → IsCellOf t c → (negsuc 9007199254740991 ≤ℤ height_or_zero c) × (height_or_zero c ≤ℤ pos 9007199254740992)
 cell_limits t (Height h) of = let limits = type_limits t in let within = of h refl in (omega (arith, ints, limits.0, within.0), omega (arith, ints, limits.2, within.1))
 cell_limits t Bad of = (omega (arith, ints), omega (arith, ints))
 

@@ -1,24 +1,25 @@
 -- What is packed is read again, and a point that is set or added keeps the others.
-use Rattle.std.proofs.Common.{◌≡◌, ◌≢◌, ◌<◌, ◌+◌, ◌-◌, ◌++◌, ℕ, zero, suc, Bool, false, List, [], ◌∷◌, length, get_or, set, take, map, replicate, None, inl, inr, ap, sym, refl, ◌∙◌, arith}
+use Rattle.std.proofs.Common.{◌≡◌, ◌≢◌, ◌<◌, ◌+◌, ◌-◌, ◌++◌, ◌≤◌, ℕ, ℤ, zero, suc, Bool, false, List, [], ◌∷◌, length, get_or, set, take, drop, map, replicate, None, inl, inr, ap, sym, refl, ◌∙◌, arith}
 use Rattle.std.specs.Simd.Lanes.{zip2}
 use Rattle.std.proofs.Math.ListN.{length-set}
 use Rattle.std.proofs.Math.Seq.{map-set_same, take-append_seam}
 use Rattle.std.proofs.lemmas.Bool.{cases_eq, cases_lt}
 use Rattle.std.proofs.lemmas.Grind.{get_or-set_at}
-use Rattle.std.proofs.lemmas.List.{length-replicate, length-map, map-append, map-set, get_or-map, get_or-set_other, get_or_append_left, get_or_push, replicate_more, take_more_set, take_all, length_push}
+use Rattle.std.proofs.lemmas.List.{get_or-replicate, length-replicate, length-map, map-append, map-set, get_or-map, get_or-set_other, get_or_append_left, get_or_push, replicate_more, take_more_set, take_all, length_push}
 use Rattle.std.proofs.lemmas.Simd.{get_or-zip2, length-zip2}
 use Rattle.hd_map.specs.declared.types.Adjacency.{Adjacency}
 use Rattle.hd_map.specs.declared.types.Adjacency.TheVariants.{Eight}
 use Rattle.hd_map.specs.declared.types.Pos.{Pos}
 use Rattle.hd_map.specs.declared.types.Size.{Size}
 use Rattle.hd_map.specs.declared.types.Cell.{Cell}
-use Rattle.hd_map.specs.declared.types.Cell.TheVariants.{Bad}
+use Rattle.hd_map.specs.declared.types.Cell.TheVariants.{Height, Bad}
 use Rattle.hd_map.specs.declared.types.DataType.{DataType}
-use Rattle.hd_map.specs.declared.packing.Mark.{Mark}
-use Rattle.hd_map.specs.declared.packing.Mark.TheVariants.{Shown, Masked, Unmeasured, MaskedUnmeasured}
-use Rattle.hd_map.specs.Map.{Map, IsMap, IsSize, IsCellOf, AreCellsOf, cell_count, place_of, cell_at, mask_at, shown_height}
-use Rattle.hd_map.specs.Sets.{with_cell, with_mask, unmasked}
-use Rattle.hd_map.specs.Packing.{measures, masks, cell_from, packed_cells, packed_map}
+use Rattle.hd_map.specs.declared.mark.Mark.{Mark}
+use Rattle.hd_map.specs.declared.mark.Mark.TheVariants.{Shown, Masked, Unmeasured, MaskedUnmeasured}
+use Rattle.hd_map.specs.Map.{Map, IsMap, IsSize, IsCellOf, most_places, places_of, AreCellsOf, cell_count, place_of, cell_at, mask_at, shown_height}
+use Rattle.hd_map.specs.Sets.{with_cell, with_mask, unmasked, unmeasured_map}
+use Rattle.hd_map.specs.Packing.{measures, masks, cell_from, kept_cells, kept_map}
+use Rattle.hd_map.specs.Unmasked.{AreUnmasked}
 
 module _ {X Y Z : Type 0} (f : X → Y → Z) where
   -- a pair that is set in two lists
@@ -44,16 +45,17 @@ module _ {X Y Z : Type 0} (f : X → Y → Z) where
   zip2-push (a ∷ xs) (b ∷ ys) x y e = ap (λ zs. f a b ∷ zs) (zip2-push xs ys x y (omega arith))
 
 -- what shows of a point that is not both measured and clear of masks
-pub not_shown : (t : DataType) (over : ℕ) (mark : Mark) → mark ≢ Shown → shown_height (cell_from t over mark) (masks mark) ≡ None
-not_shown t over Shown other = absurd (other refl)
-not_shown t over Masked other = refl
-not_shown t over Unmeasured other = refl
-not_shown t over MaskedUnmeasured other = refl
+pub not_shown : {H : Type 0} (height : H → ℤ) (number : H) (mark : Mark) → mark ≢ Shown → shown_height (cell_from height number mark) (masks mark) ≡ None
+not_shown height number Shown other = absurd (other refl)
+not_shown height number Masked other = refl
+not_shown height number Unmeasured other = refl
+not_shown height number MaskedUnmeasured other = refl
 
 -- a map with a cell of its type is a map
 pub cell_kept : (m : Map) (p : Pos) (cell : Cell) → IsMap m → IsCellOf m.data_type cell → IsMap (with_cell m p cell)
 cell_kept m p cell whole of_type = let k = place_of m.size p in record {
   size = whole.size;
+  places = whole.places;
   cells = length-set m.cells k cell ∙ whole.cells;
   masks = whole.masks;
   heights = λ j inside. elim (cases_eq j k) [
@@ -64,45 +66,45 @@ cell_kept m p cell whole of_type = let k = place_of m.size p in record {
 
 -- a map with a mask set is a map
 pub mask_kept : (m : Map) (p : Pos) (masked : Bool) → IsMap m → IsMap (with_mask m p masked)
-mask_kept m p masked whole = record { size = whole.size; cells = whole.cells; masks = length-set m.masks (place_of m.size p) masked ∙ whole.masks; heights = whole.heights }
+mask_kept m p masked whole = record { size = whole.size; places = whole.places; cells = whole.cells; masks = length-set m.masks (place_of m.size p) masked ∙ whole.masks; heights = whole.heights }
 
 -- a map of these cells and masks
 abbrev with_lists : Size → DataType → Adjacency → List Cell → List Bool → Map
 with_lists s t adjacency cells covers = record { size = s; data_type = t; cells = cells; masks = covers; adjacency = adjacency }
 
 -- a kept map with the mark that was read at a position
-module _ (s : Size) (t : DataType) (heights : List ℕ) (marks : List Mark) (adjacency : Adjacency) (paired : length heights ≡ length marks) (whole : IsMap (packed_map s t heights marks adjacency))
-    (at : Pos) (k : ℕ) (here : k ≡ place_of s at) (below : k < cell_count s) (mark : Mark) (is : mark ≡ get_or marks k mark) where
+module _ {H : Type 0} (height : H → ℤ) (s : Size) (t : DataType) (numbers : List H) (marks : List Mark) (adjacency : Adjacency) (paired : length numbers ≡ length marks)
+    (whole : IsMap (kept_map height s t numbers marks adjacency)) (at : Pos) (k : ℕ) (here : k ≡ place_of s at) (below : k < cell_count s) (mark : Mark) (is : mark ≡ get_or marks k mark) where
   abbrev kept : Map
-  kept = packed_map s t heights marks adjacency
+  kept = kept_map height s t numbers marks adjacency
 
   inside : k < length marks
   inside = rw (sym (length-map marks masks) ∙ whole.masks) below
 
-  cell_read : cell_at kept at ≡ cell_from t (get_or heights k 0) mark
-  cell_read = ap (λ (i : ℕ). get_or kept.cells i Bad) (sym here) ∙ get_or-zip2 (cell_from t) heights marks k 0 mark Bad (rw paired inside) inside ∙ ap (cell_from t (get_or heights k 0)) (sym is)
+  cell_read : (d : H) → cell_at kept at ≡ cell_from height (get_or numbers k d) mark
+  cell_read d = ap (λ (i : ℕ). get_or kept.cells i Bad) (sym here) ∙ get_or-zip2 (cell_from height) numbers marks k d mark Bad (rw paired inside) inside ∙ ap (cell_from height (get_or numbers k d)) (sym is)
 
   mask_read : mask_at kept at ≡ masks mark
   mask_read = ap (λ (i : ℕ). get_or kept.masks i false) (sym here) ∙ get_or-map masks marks k mark false inside ∙ ap masks (sym is)
 
   -- none is read where the mark does not measure
-  pub bad_read : measures mark ≡ false → cell_at kept at ≡ Bad
-  bad_read unmeasured = cell_read ∙ rw unmeasured refl
+  pub bad_read : H → measures mark ≡ false → cell_at kept at ≡ Bad
+  bad_read d unmeasured = cell_read d ∙ rw unmeasured refl
 
   -- nothing shows of a point that is not both measured and clear of masks
-  pub none_read : mark ≢ Shown → shown_height (cell_at kept at) (mask_at kept at) ≡ None
-  none_read other = rw (cell_read, mask_read) (not_shown t (get_or heights k 0) mark other)
+  pub none_read : H → mark ≢ Shown → shown_height (cell_at kept at) (mask_at kept at) ≡ None
+  none_read d other = rw (cell_read d, mask_read) (not_shown height (get_or numbers k d) mark other)
 
-  -- setting a height and a mark sets the cell, where the mask stays
-  pub cell_set : (over : ℕ) (new : Mark) (cell : Cell) → cell_from t over new ≡ cell → masks new ≡ masks mark → packed_map s t (set heights k over) (set marks k new) adjacency ≡ with_cell kept at cell
-  cell_set over new cell packs stays =
-      ap (λ covers. with_lists s t adjacency (zip2 (cell_from t) (set heights k over) (set marks k new)) covers) (map-set_same masks marks k new mark (stays ∙ ap masks is))
-      ∙ ap (λ cells. with_lists s t adjacency cells kept.masks) (zip2-set (cell_from t) heights marks k over new ∙ ap (λ c. set kept.cells k c) packs ∙ ap (λ (i : ℕ). set kept.cells i cell) here)
+  -- setting a number and a mark sets the cell, where the mask stays
+  pub cell_set : (number : H) (new : Mark) (cell : Cell) → cell_from height number new ≡ cell → masks new ≡ masks mark → kept_map height s t (set numbers k number) (set marks k new) adjacency ≡ with_cell kept at cell
+  cell_set number new cell packs stays =
+      ap (λ covers. with_lists s t adjacency (zip2 (cell_from height) (set numbers k number) (set marks k new)) covers) (map-set_same masks marks k new mark (stays ∙ ap masks is))
+      ∙ ap (λ cells. with_lists s t adjacency cells kept.masks) (zip2-set (cell_from height) numbers marks k number new ∙ ap (λ c. set kept.cells k c) packs ∙ ap (λ (i : ℕ). set kept.cells i cell) here)
 
   -- setting a mark sets the mask, where the mark measures as the one before
-  pub mask_set : (new : Mark) (masked : Bool) → measures new ≡ measures mark → masks new ≡ masked → packed_map s t heights (set marks k new) adjacency ≡ with_mask kept at masked
+  pub mask_set : (new : Mark) (masked : Bool) → measures new ≡ measures mark → masks new ≡ masked → kept_map height s t numbers (set marks k new) adjacency ≡ with_mask kept at masked
   mask_set new masked stays covers =
-      ap (λ cells. with_lists s t adjacency cells (map masks (set marks k new))) (zip2-set_same (cell_from t) heights marks k new mark (λ over. rw (stays ∙ ap measures is) refl))
+      ap (λ cells. with_lists s t adjacency cells (map masks (set marks k new))) (zip2-set_same (cell_from height) numbers marks k new mark (λ number. rw (stays ∙ ap measures is) refl))
       ∙ ap (λ covers. with_lists s t adjacency kept.cells covers) (map-set masks marks k new ∙ ap (λ m. set kept.masks k m) covers ∙ ap (λ (i : ℕ). set kept.masks i masked) here)
 
 -- the last number that was added is taken again
@@ -118,19 +120,19 @@ are_cells_push t cells cell before last = λ k inside.
       | inr not ↦ let at_end : length cells ≡ k = omega arith in rw (get_or_push cells cell Bad k at_end) last
     ]
 
--- a height and a mark that are added to the kept ones
-module _ (t : DataType) (heights : List ℕ) (marks : List Mark) (paired : length heights ≡ length marks) (over : ℕ) (mark : Mark) where
+-- a number and a mark that are added to the kept ones
+module _ {H : Type 0} (height : H → ℤ) (numbers : List H) (marks : List Mark) (paired : length numbers ≡ length marks) (number : H) (mark : Mark) where
   -- they are as many as before, each with one more
-  pub paired_push : length (heights ++ over ∷ []) ≡ length (marks ++ mark ∷ [])
-  paired_push = length_push heights over ∙ ap (λ n. n + 1) paired ∙ sym (length_push marks mark)
+  pub paired_push : length (numbers ++ number ∷ []) ≡ length (marks ++ mark ∷ [])
+  paired_push = length_push numbers number ∙ ap (λ n. n + 1) paired ∙ sym (length_push marks mark)
 
   -- their cell comes after the others
-  pub cells_push : packed_cells t (heights ++ over ∷ []) (marks ++ mark ∷ []) ≡ packed_cells t heights marks ++ cell_from t over mark ∷ []
-  cells_push = zip2-push (cell_from t) heights marks over mark paired
+  pub cells_push : kept_cells height (numbers ++ number ∷ []) (marks ++ mark ∷ []) ≡ kept_cells height numbers marks ++ cell_from height number mark ∷ []
+  cells_push = zip2-push (cell_from height) numbers marks number mark paired
 
   -- each cell is of the data type
-  pub of_type_push : AreCellsOf t (packed_cells t heights marks) → IsCellOf t (cell_from t over mark) → AreCellsOf t (packed_cells t (heights ++ over ∷ []) (marks ++ mark ∷ []))
-  of_type_push before last = rw cells_push (are_cells_push t (packed_cells t heights marks) (cell_from t over mark) before last)
+  pub of_type_push : (t : DataType) → AreCellsOf t (kept_cells height numbers marks) → IsCellOf t (cell_from height number mark) → AreCellsOf t (kept_cells height (numbers ++ number ∷ []) (marks ++ mark ∷ []))
+  of_type_push t before last = rw cells_push (are_cells_push t (kept_cells height numbers marks) (cell_from height number mark) before last)
 
 -- no mask is set, with one more
 pub unmasked_push : (marks : List Mark) (mark : Mark) → map masks marks ≡ replicate (length marks) false → masks mark ≡ false → map masks (marks ++ mark ∷ []) ≡ replicate (length (marks ++ mark ∷ [])) false
@@ -139,47 +141,98 @@ unmasked_push marks mark before clear =
     ∙ replicate_more (length marks) false ∙ ap (λ n. replicate n false) (sym (length_push marks mark))
 
 -- as many cells of a data type as a size says, none of them masked
-module _ (s : Size) (t : DataType) (heights : List ℕ) (marks : List Mark) (adjacency : Adjacency) (paired : length heights ≡ length marks) (clear : map masks marks ≡ replicate (length marks) false)
-    (sized : length (packed_cells t heights marks) ≡ cell_count s) where
+module _ {H : Type 0} (height : H → ℤ) (s : Size) (t : DataType) (numbers : List H) (marks : List Mark) (adjacency : Adjacency) (paired : length numbers ≡ length marks)
+    (clear : map masks marks ≡ replicate (length marks) false) (sized : length (kept_cells height numbers marks) ≡ cell_count s) where
   -- no mask of the map is set
-  pub fresh_map : packed_map s t heights marks adjacency ≡ with_lists s t adjacency (packed_cells t heights marks) (replicate (cell_count s) false)
+  pub fresh_map : kept_map height s t numbers marks adjacency ≡ with_lists s t adjacency (kept_cells height numbers marks) (replicate (cell_count s) false)
   fresh_map =
-      let count : length marks ≡ cell_count s = sym paired ∙ sym (length-zip2 (cell_from t) heights marks paired) ∙ sized in
-      ap (λ covers. with_lists s t adjacency (packed_cells t heights marks) covers) (clear ∙ ap (λ n. replicate n false) count)
+      let count : length marks ≡ cell_count s = sym paired ∙ sym (length-zip2 (cell_from height) numbers marks paired) ∙ sized in
+      ap (λ covers. with_lists s t adjacency (kept_cells height numbers marks) covers) (clear ∙ ap (λ n. replicate n false) count)
 
   -- they make a map
-  pub fresh_whole : IsSize s → AreCellsOf t (packed_cells t heights marks) → IsMap (packed_map s t heights marks adjacency)
-  fresh_whole limits of_type = rw fresh_map (record { size = limits; cells = sized; masks = length-replicate (cell_count s) false; heights = of_type })
+  pub fresh_whole : IsSize s → places_of t ≤ most_places → AreCellsOf t (kept_cells height numbers marks) → IsMap (kept_map height s t numbers marks adjacency)
+  fresh_whole limits places of_type = rw fresh_map (record { size = limits; places = places; cells = sized; masks = length-replicate (cell_count s) false; heights = of_type })
 
--- the first marks have no mask, and the cells are the kept ones
-pub record AreCleared (t : DataType) (heights : List ℕ) (before : List Mark) (count : ℕ) (marks : List Mark) : Type 0 where
-  pub same_count : length marks ≡ length before
-  pub same_cells : packed_cells t heights marks ≡ packed_cells t heights before
+-- one number and one mark, repeated, are cells that were not measured
+module _ {H : Type 0} (height : H → ℤ) (number : H) where
+  bad_cells : (n : ℕ) → kept_cells height (replicate n number) (replicate n Unmeasured) ≡ replicate n Bad
+  bad_cells zero = refl
+  bad_cells (suc n) = ap (λ cells. Bad ∷ cells) (bad_cells n)
+
+  no_covers : (n : ℕ) → map masks (replicate n Unmeasured) ≡ replicate n false
+  no_covers zero = refl
+  no_covers (suc n) = ap (λ covers. false ∷ covers) (no_covers n)
+
+  -- of as many as a size says the map is the one of which no point is measured
+  pub unmeasured_is : (s : Size) (t : DataType) (numbers : List H) (marks : List Mark) → numbers ≡ replicate (cell_count s) number → marks ≡ replicate (cell_count s) Unmeasured
+      → kept_map height s t numbers marks Eight ≡ unmeasured_map s t
+  unmeasured_is s t numbers marks numbers_are marks_are =
+      rw (numbers_are, marks_are) (ap (λ cells. with_lists s t Eight cells (map masks (replicate (cell_count s) Unmeasured))) (bad_cells (cell_count s)) ∙ ap (with_lists s t Eight (replicate (cell_count s) Bad)) (no_covers (cell_count s)))
+
+-- no point of it has a height, so it is a map
+pub unmeasured_whole : (s : Size) (t : DataType) → IsSize s → places_of t ≤ most_places → IsMap (unmeasured_map s t)
+unmeasured_whole s t limits places = record {
+  size = limits;
+  places = places;
+  cells = length-replicate (cell_count s) Bad;
+  masks = length-replicate (cell_count s) false;
+  heights = λ k inside h is. (let e : Bad ≡ Height h = sym (get_or-replicate (cell_count s) k Bad Bad (rw (length-replicate (cell_count s) Bad) at inside)) ∙ is in cc);
+}
+
+-- the first marks have no mask, and measure what they measured
+pub record AreCleared (before : List Mark) (count : ℕ) (marks : List Mark) : Type 0 where
+  pub measured : map measures marks ≡ map measures before
   pub no_masks : take count (map masks marks) ≡ replicate count false
 
 -- one more has no mask
-pub more_cleared : (t : DataType) (heights : List ℕ) (before : List Mark) (count : ℕ) (marks : List Mark) (mark new : Mark) → AreCleared t heights before count marks → count < length marks
-    → mark ≡ get_or marks count mark → measures new ≡ measures mark → masks new ≡ false → AreCleared t heights before (count + 1) (set marks count new)
-more_cleared t heights before count marks mark new cleared below is stays clear = record {
-  same_count = length-set marks count new ∙ cleared.same_count;
-  same_cells = zip2-set_same (cell_from t) heights marks count new mark (λ over. rw (stays ∙ ap measures is) refl) ∙ cleared.same_cells;
+pub more_cleared : (before : List Mark) (count : ℕ) (marks : List Mark) (mark new : Mark) → AreCleared before count marks → count < length marks
+    → mark ≡ get_or marks count mark → measures new ≡ measures mark → masks new ≡ false → AreCleared before (count + 1) (set marks count new)
+more_cleared before count marks mark new cleared below is stays clear = record {
+  measured = map-set_same measures marks count new mark (stays ∙ ap measures is) ∙ cleared.measured;
   no_masks = ap (λ ms. take (count + 1) ms) (map-set masks marks count new) ∙ take_more_set (map masks marks) count (masks new) (rw (length-map marks masks) below)
       ∙ ap (λ ms. ms ++ masks new ∷ []) cleared.no_masks ∙ ap (λ m. replicate count false ++ m ∷ []) clear ∙ replicate_more count false;
 }
 
+-- marks that measure alike are as many
+pub alike_length : (before marks : List Mark) → map measures marks ≡ map measures before → length marks ≡ length before
+alike_length before marks alike = sym (length-map marks measures) ∙ ap length alike ∙ length-map before measures
+
+-- all cleared, they are the marks without their masks
+pub cleared_all : (before marks : List Mark) → AreCleared before (length before) marks → AreUnmasked before marks
+cleared_all before marks cleared = record {
+  measured = cleared.measured;
+  no_masks = let long = alike_length before marks cleared.measured in
+      sym (take_all (length before) (map masks marks) (omega (arith, long, length-map marks masks))) ∙ cleared.no_masks;
+}
+
+-- marks that measure alike keep the same cells
+module _ {H : Type 0} (height : H → ℤ) where
+  pub same_cells : (numbers : List H) (before marks : List Mark) → map measures marks ≡ map measures before → kept_cells height numbers marks ≡ kept_cells height numbers before
+  same_cells [] before marks alike = refl
+  same_cells (number ∷ numbers) [] [] alike = refl
+  same_cells (number ∷ numbers) [] (b ∷ marks) alike = absurd (let e : suc (length marks) ≡ 0 = alike_length [] (b ∷ marks) alike in omega (arith, e))
+  same_cells (number ∷ numbers) (a ∷ before) [] alike = absurd (let e : 0 ≡ suc (length before) = alike_length (a ∷ before) [] alike in omega (arith, e))
+  same_cells (number ∷ numbers) (a ∷ before) (b ∷ marks) alike =
+      let first : measures b ≡ measures a = ap (λ ms. get_or ms 0 false) alike in
+      let rest : map measures marks ≡ map measures before = ap (drop 1) alike in
+      rw first (ap (λ cells. cell_from height number a ∷ cells) (same_cells numbers before marks rest))
+
 -- a kept map whose masks are all cleared
-module _ (s : Size) (t : DataType) (heights : List ℕ) (before : List Mark) (adjacency : Adjacency) (whole : IsMap (packed_map s t heights before adjacency)) (count : ℕ) (all : count ≡ length before)
-    (marks : List Mark) (cleared : AreCleared t heights before count marks) where
+module _ {H : Type 0} (height : H → ℤ) (s : Size) (t : DataType) (numbers copy : List H) (before : List Mark) (adjacency : Adjacency) (whole : IsMap (kept_map height s t numbers before adjacency))
+    (same : copy ≡ numbers) (marks : List Mark) (cleared : AreUnmasked before marks) where
   no_masks : map masks marks ≡ replicate (cell_count s) false
-  no_masks =
-      let sized : count ≡ cell_count s = all ∙ sym (length-map before masks) ∙ whole.masks in
-      let long : length (map masks marks) ≡ count = length-map marks masks ∙ cleared.same_count ∙ sym all in
-      sym (take_all count (map masks marks) (omega (arith, long))) ∙ cleared.no_masks ∙ ap (λ n. replicate n false) sized
+  no_masks = cleared.no_masks ∙ ap (λ n. replicate n false) (sym (length-map before masks) ∙ whole.masks)
+
+  -- the numbers are as many as the marks
+  pub unmasked_paired : length numbers ≡ length before → length copy ≡ length marks
+  unmasked_paired paired = ap length same ∙ paired ∙ sym (alike_length before marks cleared.measured)
 
   -- it is the map without its masks
-  pub unmasked_map : packed_map s t heights marks Eight ≡ unmasked (packed_map s t heights before adjacency)
-  unmasked_map = ap (λ covers. with_lists s t Eight (packed_cells t heights marks) covers) no_masks ∙ ap (λ cells. with_lists s t Eight cells (replicate (cell_count s) false)) cleared.same_cells
+  pub unmasked_map : kept_map height s t copy marks Eight ≡ unmasked (kept_map height s t numbers before adjacency)
+  unmasked_map =
+      ap (λ covers. with_lists s t Eight (kept_cells height copy marks) covers) no_masks
+      ∙ ap (λ cells. with_lists s t Eight cells (replicate (cell_count s) false)) (ap (λ ns. kept_cells height ns marks) same ∙ same_cells height numbers before marks cleared.measured)
 
   -- it is a map
-  pub unmasked_whole : IsMap (packed_map s t heights marks Eight)
-  unmasked_whole = rw unmasked_map (record { size = whole.size; cells = whole.cells; masks = length-replicate (cell_count s) false; heights = whole.heights })
+  pub unmasked_whole : IsMap (kept_map height s t copy marks Eight)
+  unmasked_whole = rw unmasked_map (record { size = whole.size; places = whole.places; cells = whole.cells; masks = length-replicate (cell_count s) false; heights = whole.heights })

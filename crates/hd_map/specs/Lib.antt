@@ -11,7 +11,10 @@ pub mod ChangeTree
 pub mod Passes
 pub mod Sets
 pub mod Packing
+pub mod Unmasked
+pub mod Layouts
 pub mod Surface
+pub mod SurfaceLaws
 pub mod Cells
 pub mod NearestSaddle
 pub mod Pruning

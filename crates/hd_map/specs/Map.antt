@@ -1,12 +1,12 @@
 -- The map that a grid is seen as, and its present points.
-use Rattle.std.specs.Prelude.{◌≡◌, ◌<◌, ◌≤◌, ◌≤ℤ◌, ◌+◌, ◌*◌, ◌/◌, ◌%◌, ◌&&◌, ℕ, ℤ, pos, negsuc, nat_lt, int_le, Bool, true, false, List, length, slice_index_or, Option, Some, None}
+use Rattle.std.specs.Prelude.{◌≡◌, ◌<◌, ◌≤◌, ◌≤ℤ◌, ◌<ℤ◌, ◌+ℤ◌, ◌+◌, ◌*◌, ◌/◌, ◌%◌, ◌&&◌, ℕ, ℤ, pos, negsuc, nat_lt, int_le, Bool, true, false, List, length, slice_index_or, Option, Some, None}
 use Rattle.hd_map.specs.declared.types.Pos.{Pos}
 use Rattle.hd_map.specs.declared.types.Size.{Size}
 use Rattle.hd_map.specs.declared.types.Cell.{Cell}
 use Rattle.hd_map.specs.declared.types.Cell.TheVariants.{Height, Bad}
 use Rattle.hd_map.specs.declared.types.Adjacency.{Adjacency}
 use Rattle.hd_map.specs.declared.types.DataType.{DataType}
-use Rattle.hd_map.specs.declared.types.DataType.TheVariants.{U8, U16, U32, I8, I16, I32}
+use Rattle.hd_map.specs.declared.types.DataType.TheVariants.{U8, U16, U32, I8, I16, I32, Single, Double}
 
 -- a sampled surface and a setting: its size, the type of its heights, its cells and masks by index, and which
 -- points are neighbours
@@ -46,6 +46,8 @@ least_height U32 = pos 0
 least_height I8 = negsuc 127
 least_height I16 = negsuc 32767
 least_height I32 = negsuc 2147483647
+least_height (Single places) = negsuc 9007199254740991
+least_height (Double places) = negsuc 9007199254740991
 
 -- the greatest height of a data type
 abbrev pub greatest_height : DataType → ℤ
@@ -55,6 +57,8 @@ greatest_height U32 = pos 4294967295
 greatest_height I8 = pos 127
 greatest_height I16 = pos 32767
 greatest_height I32 = pos 2147483647
+greatest_height (Single places) = pos 9007199254740992
+greatest_height (Double places) = pos 9007199254740992
 
 -- the code of a data type (DataType of ISO 25178-71)
 abbrev pub code_of : DataType → ℕ
@@ -64,6 +68,31 @@ code_of U32 = 2
 code_of I8 = 4
 code_of I16 = 5
 code_of I32 = 6
+code_of (Single places) = 3
+code_of (Double places) = 7
+
+-- how many decimal places the heights of a data type have
+abbrev pub places_of : DataType → ℕ
+places_of U8 = 0
+places_of U16 = 0
+places_of U32 = 0
+places_of I8 = 0
+places_of I16 = 0
+places_of I32 = 0
+places_of (Single places) = places
+places_of (Double places) = places
+
+-- the most decimal places of a map's heights
+abbrev pub most_places : ℕ
+most_places = 18
+
+-- how many heights four bytes can tell apart
+abbrev pub four_bytes : ℕ
+four_bytes = 4294967296
+
+-- four bytes hold how far each height of the data type is over the least one
+abbrev pub IsNarrow : DataType → Type 0
+IsNarrow t = greatest_height t <ℤ (least_height t +ℤ pos four_bytes)
 
 -- whether a height is of the data type
 abbrev pub in_range : DataType → ℤ → Bool
@@ -93,9 +122,10 @@ pub record IsSize (s : Size) : Type 0 where
 abbrev pub AreCellsOf : DataType → List Cell → Type 0
 AreCellsOf t cells = (k : ℕ) → k < length cells → IsCellOf t (slice_index_or cells k Bad)
 
--- the size is within the limits, the lists are of that size, and the heights are of the type
+-- the size and the places are within the limits, the lists are of that size, and the heights are of the type
 pub record IsMap (m : Map) : Type 0 where
   pub size : IsSize m.size
+  pub places : places_of m.data_type ≤ most_places
   pub cells : length m.cells ≡ cell_count m.size
   pub masks : length m.masks ≡ cell_count m.size
   pub heights : AreCellsOf m.data_type m.cells

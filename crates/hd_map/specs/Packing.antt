@@ -1,13 +1,13 @@
--- How a surface keeps its points: heights over the least one of the data type, and marks.
-use Rattle.std.specs.Prelude.{◌+ℤ◌, ℕ, pos, Bool, true, false, List, map, if◌then◌else◌}
+-- How a surface keeps its points: as heights, in one of two layouts, and marks.
+use Rattle.std.specs.Prelude.{◌+ℤ◌, ℕ, ℤ, pos, Bool, true, false, List, map, if◌then◌else◌}
 use Rattle.std.specs.Simd.Lanes.{zip2}
 use Rattle.hd_map.specs.declared.types.Adjacency.{Adjacency}
 use Rattle.hd_map.specs.declared.types.Size.{Size}
 use Rattle.hd_map.specs.declared.types.DataType.{DataType}
 use Rattle.hd_map.specs.declared.types.Cell.{Cell}
 use Rattle.hd_map.specs.declared.types.Cell.TheVariants.{Height, Bad}
-use Rattle.hd_map.specs.declared.packing.Mark.{Mark}
-use Rattle.hd_map.specs.declared.packing.Mark.TheVariants.{Shown, Masked, Unmeasured, MaskedUnmeasured}
+use Rattle.hd_map.specs.declared.mark.Mark.{Mark}
+use Rattle.hd_map.specs.declared.mark.Mark.TheVariants.{Shown, Masked, Unmeasured, MaskedUnmeasured}
 use Rattle.hd_map.specs.Map.{Map, least_height}
 
 -- whether a mark says that the point is measured
@@ -24,14 +24,22 @@ masks Masked = true
 masks Unmeasured = false
 masks MaskedUnmeasured = true
 
--- the cell of a data type that is kept as a height over the least one and a mark
-abbrev pub cell_from : DataType → ℕ → Mark → Cell
-cell_from t over mark = if measures mark then Height (least_height t +ℤ pos over) else Bad
+-- in four bytes, the height that is kept as how far it is over the least one of the data type
+abbrev pub over_least : DataType → ℕ → ℤ
+over_least t over = least_height t +ℤ pos over
 
--- the cells that are kept as these heights and marks
-abbrev pub packed_cells : DataType → List ℕ → List Mark → List Cell
-packed_cells t heights marks = zip2 (cell_from t) heights marks
+-- in eight bytes, the height that is kept as it is
+abbrev pub as_it_is : ℤ → ℤ
+as_it_is height = height
 
--- the map that is kept as these heights and marks
-abbrev pub packed_map : Size → DataType → List ℕ → List Mark → Adjacency → Map
-packed_map s t heights marks adjacency = record { size = s; data_type = t; cells = packed_cells t heights marks; masks = map masks marks; adjacency = adjacency }
+-- the cell that is kept as a number and a mark, where a layout says which height the number is
+abbrev pub cell_from : {H : Type 0} → (H → ℤ) → H → Mark → Cell
+cell_from height number mark = if measures mark then Height (height number) else Bad
+
+-- the cells that are kept as these numbers and marks
+abbrev pub kept_cells : {H : Type 0} → (H → ℤ) → List H → List Mark → List Cell
+kept_cells height numbers marks = zip2 (cell_from height) numbers marks
+
+-- the map that is kept as these numbers and marks
+abbrev pub kept_map : {H : Type 0} → (H → ℤ) → Size → DataType → List H → List Mark → Adjacency → Map
+kept_map height s t numbers marks adjacency = record { size = s; data_type = t; cells = kept_cells height numbers marks; masks = map masks marks; adjacency = adjacency }

@@ -1,9 +1,9 @@
 // The cells of a surface as they are read.
 ghost use Rattle.std.specs.Prelude.{◌≡◌, ◌∷◌, ◌++◌, [], length, map, replicate, false, IfOk, OnOk, OnErr};
-ghost use Rattle.hd_map.specs.Map.{AreCellsOf, IsCellOf, least_height};
-ghost use Rattle.hd_map.specs.Packing.{cell_from, masks, packed_cells};
+ghost use Rattle.hd_map.specs.Map.{AreCellsOf, IsCellOf, IsNarrow, least_height};
+ghost use Rattle.hd_map.specs.Packing.{cell_from, kept_cells, masks, over_least};
 
-use crate::packing::Mark;
+use crate::mark::Mark;
 use crate::{Cell, DataType, least_of, over_least};
 use hd_list::Memory;
 use std::alloc::Global;
@@ -19,18 +19,21 @@ pub struct Cells {
     ghost is_least: { least ≡ least_height data_type },
     ghost paired: { length heights.items ≡ length marks.items },
     ghost unmasked: { map masks marks.items ≡ replicate (length marks.items) false },
-    ghost of_type: { AreCellsOf data_type (packed_cells data_type heights.items marks.items) },
+    ghost narrow: { IsNarrow data_type },
+    ghost of_type: { AreCellsOf data_type (kept_cells (over_least data_type) heights.items marks.items) },
 }
 
 impl Cells {
     ghost use Rattle.hd_map.specs.Cells.{cells_in};
 
-    /// No cells, and the memory for this many. `Memory` comes where it is refused.
+    /// No cells, and the memory for this many. The data type is one whose heights four bytes tell
+    /// apart. `Memory` comes where the memory is refused.
     pub fn with_capacity(
         alloc: Global,
         data_type: DataType,
         capacity: usize,
     ) -> Result<Cells, Memory>
+        requires { IsNarrow data_type }
         ensures data_type { IfOk result (λ cells. cells.data_type ≡ data_type) }
         ensures none { IfOk result (λ cells. cells_in cells ≡ []) }
     {
@@ -74,10 +77,10 @@ impl Cells {
     // Adds the cell that is kept so.
     #[inline]
     fn push_packed(&mut self, over: u32, mark: Mark) -> Result<(), Memory>
-        requires of_type { IsCellOf self.old.data_type (cell_from self.old.data_type over mark) }
+        requires of_type { IsCellOf self.old.data_type (cell_from (over_least self.old.data_type) over mark) }
         requires unmasked { masks mark ≡ false }
         ensures data_type { self.new.data_type ≡ self.old.data_type }
-        ensures ok { OnOk result (cells_in self.new ≡ cells_in self.old ++ cell_from self.old.data_type over mark ∷ []) }
+        ensures ok { OnOk result (cells_in self.new ≡ cells_in self.old ++ cell_from (over_least self.old.data_type) over mark ∷ []) }
         ensures err { OnErr result (cells_in self.new ≡ cells_in self.old) }
     {
         self.heights.push(over)?;

@@ -5,6 +5,8 @@
 mod cells;
 mod grid;
 mod laws;
+mod mark;
+mod narrow;
 mod near;
 mod packing;
 mod presence;
@@ -14,6 +16,7 @@ mod side;
 mod surface;
 mod types;
 mod under;
+mod wide;
 
 pub use cells::Cells;
 pub use grid::{
@@ -24,11 +27,13 @@ pub use laws::{
     saddle_is_not_above_the_higher_of_two, saddle_is_the_same_both_ways,
     saddle_of_two_pits_is_above_both,
 };
+pub use narrow::Narrow;
 pub use near::{are_beside, neighbours, neighbours_by};
 pub use presence::{HeightRange, Presence, presence_of};
 pub use pruning_law::pruning_is_determined;
-pub use range::{greatest_of, is_cell_of, least_of, over_least};
+pub use range::{greatest_of, is_cell_of, is_narrow, least_of, over_least};
 pub use side::{Down, Side, Up};
 pub use surface::Surface;
 pub use types::{Adjacency, Cell, DataType, MapError, Pass, Pos, Rank, RegionSize, SideName, Size};
 pub use under::Under;
+pub use wide::Wide;

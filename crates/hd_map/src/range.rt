@@ -1,6 +1,6 @@
 // The ranges of the data types.
 ghost use Rattle.std.specs.Prelude.{◌≡◌, ◌↔◌, ◌≤ℤ◌, ◌<ℤ◌, ◌+ℤ◌, pos, IsTrue};
-ghost use Rattle.hd_map.specs.Map.{IsCellOf, least_height, greatest_height};
+ghost use Rattle.hd_map.specs.Map.{IsCellOf, IsNarrow, least_height, greatest_height};
 
 use crate::{Cell, DataType};
 
@@ -13,6 +13,7 @@ pub fn least_of(data_type: DataType) -> i64
         DataType::I8 => -128,
         DataType::I16 => -32_768,
         DataType::I32 => -2_147_483_648,
+        DataType::Single { .. } | DataType::Double { .. } => -9_007_199_254_740_992,
     }
 }
 
@@ -27,6 +28,7 @@ pub fn greatest_of(data_type: DataType) -> i64
         DataType::I8 => 127,
         DataType::I16 => 32_767,
         DataType::I32 => 2_147_483_647,
+        DataType::Single { .. } | DataType::Double { .. } => 9_007_199_254_740_992,
     }
 }
 
@@ -37,6 +39,16 @@ pub fn is_cell_of(data_type: DataType, cell: Cell) -> bool
     match cell {
         Cell::Height(height) => least_of(data_type) <= height && height <= greatest_of(data_type),
         Cell::Bad => true,
+    }
+}
+
+/// Whether four bytes hold how far each height of a data type is over the least one.
+pub fn is_narrow(data_type: DataType) -> bool
+    ensures { IsTrue result ↔ IsNarrow data_type }
+{
+    match data_type {
+        DataType::Single { .. } | DataType::Double { .. } => false,
+        _ => true,
     }
 }
 

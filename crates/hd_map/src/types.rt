@@ -44,6 +44,17 @@ pub enum DataType {
     I16,
     /// From -2,147,483,648 to 2,147,483,647.
     I32,
+    /// From -9,007,199,254,740,992 to 9,007,199,254,740,992, where a step is a unit of the last
+    /// decimal place (single precision).
+    Single {
+        /// How many decimal places a height has; those of a map are at most 18.
+        places: u8,
+    },
+    /// The same range and steps (double precision).
+    Double {
+        /// How many decimal places a height has; those of a map are at most 18.
+        places: u8,
+    },
 }
 
 impl DataType {
@@ -58,9 +69,11 @@ impl DataType {
             DataType::U8 => 0,
             DataType::U16 => 1,
             DataType::U32 => 2,
+            DataType::Single { .. } => 3,
             DataType::I8 => 4,
             DataType::I16 => 5,
             DataType::I32 => 6,
+            DataType::Double { .. } => 7,
         }
     }
 }

@@ -6,10 +6,10 @@ use Rattle.hd_map.specs.declared.types.Pos.{Pos}
 use Rattle.hd_map.specs.declared.types.Size.{Size}
 use Rattle.hd_map.specs.Map.{InGrid, place_of, position_at}
 use Rattle.hd_map.proofs.Points.{position_at-place, position_at-inside}
-use Rattle.hd_morph.specs.Element.{ElementTable, IsElement, number_at, centre}
+use Rattle.hd_morph.specs.Element.{ElementTable, IsElement, number_at, centre, most_entry}
 use Rattle.hd_morph.specs.Greatest.{IsGreatest}
 use Rattle.hd_morph.specs.Filter.{IsRaised}
-use Rattle.hd_morph.specs.Plain.{relief, ArePlain}
+use Rattle.hd_morph.specs.Plain.{relief, ArePlain, most_between, most_filtered}
 use Rattle.hd_morph.specs.Raised.{IsFlat, AreFlatlyDilated, AreTopped, AreSettled, plus}
 use Rattle.hd_morph.specs.Round.{IsRound, AreRoundGreatests}
 use Rattle.hd_morph.proofs.PlainLemmas.{entry_within, some_inside}
@@ -67,7 +67,7 @@ raised_greatest P Q n (Some x) up down was = record {
 }
 
 -- a position with a height has a height round it, and so a top
-pub round_topped : (s : Size) (across down : ℕ) (f tops : List ℤ) → 1 ≤ s.points → ArePlain s 8589934590 f → AreRoundGreatests s across down f tops → AreTopped 17179869184 f tops
+pub round_topped : (s : Size) (across down : ℕ) (f tops : List ℤ) → 1 ≤ s.points → ArePlain s most_between f → AreRoundGreatests s across down f tops → AreTopped most_filtered f tops
 round_topped s across down f tops some plain round = record {
   whole = round.whole;
   each = λ k z is.
@@ -83,7 +83,7 @@ round_topped s across down f tops some plain round = record {
 }
 
 -- tops that are the greatest heights of rectangles, settled, are the dilation
-pub flatly_dilated : (s : Size) (across down : ℕ) (n : ℤ) (f tops d : List ℤ) → 1 ≤ s.points → ArePlain s 8589934590 f → neg_ℤ (pos 4294967295) ≤ℤ n → n ≤ℤ pos 4294967295
+pub flatly_dilated : (s : Size) (across down : ℕ) (n : ℤ) (f tops d : List ℤ) → 1 ≤ s.points → ArePlain s most_between f → neg_ℤ (pos most_entry) ≤ℤ n → n ≤ℤ pos most_entry
     → AreRoundGreatests s across down f tops → AreSettled f tops n d → AreFlatlyDilated s across down n f d
 flatly_dilated s across down n f tops d some plain least greatest round settled = record {
   each = λ e flat. settled_filtered s e f tops d n some plain.whole (round_topped s across down f tops some plain round) least greatest settled
@@ -100,7 +100,7 @@ all_flat e n is each = record {
 }
 
 -- the number of a flat element is within the limits
-pub flat_within : (e : ElementTable) (across down : ℕ) (n : ℤ) → IsElement e → IsFlat e across down n → (neg_ℤ (pos 4294967295) ≤ℤ n) × (n ≤ℤ pos 4294967295)
+pub flat_within : (e : ElementTable) (across down : ℕ) (n : ℤ) → IsElement e → IsFlat e across down n → (neg_ℤ (pos most_entry) ≤ℤ n) × (n ≤ℤ pos most_entry)
 flat_within e across down n is flat =
     let number : number_at e (centre e) ≡ Some n = flat.each (centre e) (omega (arith, is.odd_width)) (omega (arith, is.odd_height)) in
     let within = entry_within e.table is.entries ((centre e).y * e.width + (centre e).x) in

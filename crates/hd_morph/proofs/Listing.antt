@@ -19,7 +19,7 @@ use Rattle.hd_morph.specs.declared.errors.MorphError.TheVariants.{Memory, Height
 use Rattle.hd_morph.specs.Element.{ElementTable}
 use Rattle.hd_morph.specs.Filter.{Filter, relief_of}
 use Rattle.hd_morph.specs.Answer.{AreCellsWith, IsFirstOutside}
-use Rattle.hd_morph.specs.Plain.{missing, floor, shown, plain_at, value_at, relief, IsPlainNumber}
+use Rattle.hd_morph.specs.Plain.{missing, floor, shown, plain_at, value_at, relief, IsPlainNumber, most_height}
 use Rattle.hd_morph.specs.Raised.{ArePlainlyFiltered}
 use Rattle.hd_morph.specs.Listed.{IsPlainHeight, AreHeightsOf, AreOfType, MakesHeights}
 use Rattle.hd_morph.specs.NewHeights.{cell_with, cell_after, cells_after, MakesNewHeights}
@@ -69,7 +69,7 @@ missing_plain n = record {
 
 -- and `missing` stands where there is none
 pub plain_none : (m : Map) (p : Pos) → relief_of m p ≡ None → IsPlainHeight m p missing
-plain_none m p none = record { is = missing_none ∙ sym none; plain = missing_plain 4294967295 }
+plain_none m p none = record { is = missing_none ∙ sym none; plain = missing_plain most_height }
 
 -- the position of an index that is in the lists is in the grid
 pub at_inside : (m : Map) (s : Size) (index : ℕ) (at : Pos) → s ≡ m.size → at.x < m.size.points → place_of m.size at ≡ index → index < cell_count s → InGrid m.size at
@@ -112,7 +112,7 @@ heights_all m index at heights some all was = record {
         | inl below ↦
             let place : place_of m.size (position_at m.size k) ≡ k = position_at-place m.size k some in
             rw place at ((was.each (position_at m.size k) (position_at-inside m.size k some below) (omega arith)).plain)
-        | inr past ↦ rw (get_or_past heights k missing (omega (arith, was.whole))) (missing_plain 4294967295)
+        | inr past ↦ rw (get_or_past heights k missing (omega (arith, was.whole))) (missing_plain most_height)
       ];
     };
   };

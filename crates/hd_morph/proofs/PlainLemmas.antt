@@ -7,10 +7,10 @@ use Rattle.std.proofs.lemmas.List.{places, get_or_past, get_or_default}
 use Rattle.std.proofs.lemmas.List.Elements.{All-get_or}
 use Rattle.std.proofs.Math.Seq.{take-append_seam}
 use borrow.Rule.Slice.PartMut.{put_mid}
-use Rattle.hd_morph.specs.Element.{IsEntry}
+use Rattle.hd_morph.specs.Element.{IsEntry, most_entry}
 use Rattle.hd_morph.specs.Raised.{IsNumberWithin, IsSettled, AreTopped, plus}
 use Rattle.hd_morph.specs.Turned.{IsNegated, AreNegated}
-use Rattle.hd_morph.specs.Plain.{missing, floor, shown, plain_at, value_at, IsPlainNumber, IsWithin}
+use Rattle.hd_morph.specs.Plain.{missing, floor, shown, plain_at, value_at, IsPlainNumber, IsWithin, most_between, most_filtered}
 
 -- a number above the floor is a height
 pub shown_above : (z : ℤ) → floor <ℤ z → shown z ≡ Some z
@@ -104,7 +104,7 @@ tested_none z found fits is missed =
     by_lt_z floor z (λ above. let some : is_some (shown z) ≡ true = rw (shown_above z above) in absurd (true≢false (sym some ∙ none))) (λ below. shown_below z below)
 
 -- the negative of a height
-pub negated_height : (z new : ℤ) → floor <ℤ z → IsWithin 17179869184 (shown z) → new ≡ neg_ℤ z → IsNegated z new
+pub negated_height : (z new : ℤ) → floor <ℤ z → IsWithin most_filtered (shown z) → new ≡ neg_ℤ z → IsNegated z new
 negated_height z new above within is =
     let some : shown z ≡ Some z = shown_above z above in
     let most = within.greatest z some in
@@ -179,13 +179,13 @@ topped_read n heights old now number place z inside topped was is =
     rw top (topped.each place z (sym height ∙ is))
 
 -- a plain number lies between `missing` and its bound
-pub plain_bounds : (z : ℤ) → IsPlainNumber 8589934590 z → (missing ≤ℤ z) × (z ≤ℤ pos 8589934590)
+pub plain_bounds : (z : ℤ) → IsPlainNumber most_between z → (missing ≤ℤ z) × (z ≤ℤ pos most_between)
 plain_bounds z plain = by_lt_z floor z
     (λ above. let most = plain.bounded.greatest z (shown_above z above) in (omega (arith, ints), most))
     (λ below. let is : z ≡ missing = plain.absent (shown_below z below) in (omega (arith, ints), omega (arith, ints)))
 
 -- a plain number plus a number of an element stands for the height plus that number
-pub raised_number : (z number new : ℤ) → IsPlainNumber 8589934590 z → neg_ℤ (pos 4294967295) ≤ℤ number → number ≤ℤ pos 4294967295 → new ≡ z +ℤ number → shown new ≡ plus number (shown z)
+pub raised_number : (z number new : ℤ) → IsPlainNumber most_between z → neg_ℤ (pos most_entry) ≤ℤ number → number ≤ℤ pos most_entry → new ≡ z +ℤ number → shown new ≡ plus number (shown z)
 raised_number z number new plain least greatest is = by_lt_z floor z
     (λ above.
     let low = plain.bounded.least z (shown_above z above) in
@@ -201,14 +201,14 @@ pub all_written : (n : ℕ) (ys zs : List ℤ) → n ≡ length ys → take n (y
 all_written n ys zs e = rw e (take-append_seam ys zs)
 
 -- an entry of a table is within the limits
-entry_of : (v : Option ℤ) → IsEntry v → IsWithin 4294967295 v
+entry_of : (v : Option ℤ) → IsEntry v → IsWithin most_entry v
 entry_of None entry = record { least = λ z is. let e : None ≡ Some z = is in cc; greatest = λ z is. let e : None ≡ Some z = is in cc }
 entry_of (Some y) entry = record {
   least = λ z is. let same : y ≡ z = cc in let low = entry.0 in omega (arith, ints);
   greatest = λ z is. let same : y ≡ z = cc in let high = entry.1 in omega (arith, ints);
 }
 
-pub entry_within : (table : List (Option ℤ)) → All IsEntry table → (k : ℕ) → IsWithin 4294967295 (slice_index_or table k None)
+pub entry_within : (table : List (Option ℤ)) → All IsEntry table → (k : ℕ) → IsWithin most_entry (slice_index_or table k None)
 entry_within table entries k = elim (cases_lt k (length table)) [
   | inl inside ↦ entry_of (slice_index_or table k None) (All-get_or IsEntry table k None inside entries)
   | inr past ↦ rw (get_or_past table k None past) (entry_of None tt)

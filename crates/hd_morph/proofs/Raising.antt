@@ -14,7 +14,7 @@ use Rattle.hd_map.proofs.Points.{position_at-place, position_at-inside}
 use Rattle.hd_morph.specs.Element.{ElementTable, IsElement, number_at}
 use Rattle.hd_morph.specs.Greatest.{IsGreatest, larger}
 use Rattle.hd_morph.specs.Filter.{Relief, Dilation, IsOffset, IsRaised}
-use Rattle.hd_morph.specs.Plain.{missing, shown, plain_at, value_at, relief, ArePlain}
+use Rattle.hd_morph.specs.Plain.{missing, shown, plain_at, value_at, relief, ArePlain, most_between, most_filtered}
 use Rattle.hd_morph.specs.Raised.{ArePlainlyFiltered, AreTopped, AreSettled, plus, AreRaisedTo, AreRaisedAcross, IsRaisedBy, IsRowRaisedOnce, AreBlank, IsBlankRow, IsRowRaised, AreRaised}
 use Rattle.hd_morph.proofs.GreatestLemmas.{greatest_of, greatest_join, greatest_none, larger_none}
 use Rattle.hd_morph.proofs.PlainLemmas.{entry_within, shown_below, some_or_none, none_past, some_inside, value_read, set_same, set_other, mid_inside, mid_before, mid_after, mid_length, part_at, part_length}
@@ -296,7 +296,7 @@ pub rows_all : (s : Size) (e : ElementTable) (f : Relief) (y : ℕ) (tops : List
 rows_all s e f y tops all was = record { whole = was.whole; each = λ p inside. was.done p inside (omega (arith, inside.profile)) }
 
 -- a present point is raised at least from itself
-pub raised_topped : (s : Size) (e : ElementTable) (heights tops : List ℤ) → 1 ≤ s.points → IsElement e → ArePlain s 8589934590 heights → AreRaised s e (relief s heights) tops → AreTopped 17179869184 heights tops
+pub raised_topped : (s : Size) (e : ElementTable) (heights tops : List ℤ) → 1 ≤ s.points → IsElement e → ArePlain s most_between heights → AreRaised s e (relief s heights) tops → AreTopped most_filtered heights tops
 raised_topped s e heights tops some is plain raised = record {
   whole = raised.whole ∙ sym plain.whole;
   each = λ k z there.
@@ -307,7 +307,7 @@ raised_topped s e heights tops some is plain raised = record {
       let height : relief s heights p ≡ Some z = rw place there in
       let top = (raised.each p inside).reached (z +ℤ o.number) (record { from = p; height = z; number = o.number; links = centre_links s e o p inside; is_height = height; sum = refl }) in
       let r = (raised.each p inside).attained top.0 top.1 in
-      let within = within_at s 8589934590 heights plain r.from r.links.from in
+      let within = within_at s most_between heights plain r.from r.links.from in
       let low = within.least r.height r.is_height in
       let high = within.greatest r.height r.is_height in
       let numbers = entry_within e.table is.entries (r.links.offset.y * e.width + r.links.offset.x) in
@@ -322,7 +322,7 @@ plus_zero (Some z) = ap Some (omega (arith, ints))
 plus_zero None = refl
 
 -- raised tops, settled, are the dilation
-pub raised_settled : (s : Size) (e : ElementTable) (heights tops new : List ℤ) → 1 ≤ s.points → IsElement e → ArePlain s 8589934590 heights → AreRaised s e (relief s heights) tops
+pub raised_settled : (s : Size) (e : ElementTable) (heights tops new : List ℤ) → 1 ≤ s.points → IsElement e → ArePlain s most_between heights → AreRaised s e (relief s heights) tops
     → AreSettled heights tops (pos 0) new → ArePlainlyFiltered Dilation s e heights new
 raised_settled s e heights tops new some is plain raised settled =
     settled_filtered s e heights tops new (pos 0) some plain.whole (raised_topped s e heights tops some is plain raised) (omega (arith, ints)) (omega (arith, ints)) settled

@@ -7,16 +7,16 @@ use Rattle.hd_map.specs.declared.types.Pos.{Pos}
 use Rattle.hd_map.specs.declared.types.Size.{Size}
 use Rattle.hd_map.specs.Map.{InGrid, place_of, position_at, cell_count}
 use Rattle.hd_map.proofs.Points.{place_inside, position_at-place, position_at-inside}
-use Rattle.hd_morph.specs.Element.{ElementTable, IsElement}
+use Rattle.hd_morph.specs.Element.{ElementTable, IsElement, most_entry}
 use Rattle.hd_morph.specs.Greatest.{IsGreatest}
 use Rattle.hd_morph.specs.Filter.{Relief, Filter, Dilation, Erosion, Opening, Closing, IsRaised, IsLowered, IsDilation, IsErosion}
-use Rattle.hd_morph.specs.Plain.{missing, floor, shown, plain_at, value_at, relief, ArePlain, IsWithin}
+use Rattle.hd_morph.specs.Plain.{missing, floor, shown, plain_at, value_at, relief, ArePlain, IsWithin, most_filtered}
 use Rattle.hd_morph.specs.Raised.{ArePlainlyFiltered, IsNumberWithin, AreTopped, IsSettled, AreSettled, plus}
 use Rattle.hd_morph.proofs.PlainLemmas.{entry_within, shown_above, shown_below, shown_is, some_or_none, none_past}
 
 -- a settled number stands for the top, raised, where a height stands
-pub settled_present : (height : Option ℤ) (top number new z : ℤ) → IsSettled height top number new → height ≡ Some z → IsNumberWithin 17179869184 (shown top)
-    → neg_ℤ (pos 4294967295) ≤ℤ number → number ≤ℤ pos 4294967295 → shown new ≡ plus number (shown top)
+pub settled_present : (height : Option ℤ) (top number new z : ℤ) → IsSettled height top number new → height ≡ Some z → IsNumberWithin most_filtered (shown top)
+    → neg_ℤ (pos most_entry) ≤ℤ number → number ≤ℤ pos most_entry → shown new ≡ plus number (shown top)
 settled_present height top number new z is some within least greatest =
     let top_is = shown_is top within.number within.is_number in
     let same : top ≡ within.number = top_is.0 in
@@ -30,8 +30,8 @@ pub settled_absent : (height : Option ℤ) (top number new : ℤ) → IsSettled 
 settled_absent height top number new is none = rw (is.absent none) (shown_below missing (omega (arith, ints)))
 
 -- what settled tops are, in one step with what they were made for
-pub settled_filtered : (s : Size) (e : ElementTable) (heights tops new : List ℤ) (number : ℤ) → 1 ≤ s.points → length heights ≡ cell_count s → AreTopped 17179869184 heights tops
-    → neg_ℤ (pos 4294967295) ≤ℤ number → number ≤ℤ pos 4294967295 → AreSettled heights tops number new
+pub settled_filtered : (s : Size) (e : ElementTable) (heights tops new : List ℤ) (number : ℤ) → 1 ≤ s.points → length heights ≡ cell_count s → AreTopped most_filtered heights tops
+    → neg_ℤ (pos most_entry) ≤ℤ number → number ≤ℤ pos most_entry → AreSettled heights tops number new
     → ((p : Pos) → InGrid s p → (z : ℤ) → relief s heights p ≡ Some z → IsGreatest (IsRaised s e (relief s heights) p) (plus number (relief s tops p)))
     → ArePlainlyFiltered Dilation s e heights new
 settled_filtered s e heights tops new number some whole topped least greatest settled fits =
@@ -80,7 +80,7 @@ plain_of filter s e n old new some made within = record {
 }
 
 -- a dilation of bounded heights by bounded numbers is bounded
-pub dilation_within : (s : Size) (e : ElementTable) (m : ℕ) (f g : Relief) → IsElement e → ((p : Pos) → InGrid s p → IsWithin m (f p)) → IsDilation s e f g → (p : Pos) → InGrid s p → IsWithin (m + 4294967295) (g p)
+pub dilation_within : (s : Size) (e : ElementTable) (m : ℕ) (f g : Relief) → IsElement e → ((p : Pos) → InGrid s p → IsWithin m (f p)) → IsDilation s e f g → (p : Pos) → InGrid s p → IsWithin (m + most_entry) (g p)
 dilation_within s e m f g is within raised p inside = record {
   least = λ z there.
       let r = found z there in
@@ -102,7 +102,7 @@ dilation_within s e m f g is within raised p inside = record {
   ]
 
 -- an erosion of bounded heights by bounded numbers is bounded
-pub erosion_within : (s : Size) (e : ElementTable) (m : ℕ) (f g : Relief) → IsElement e → ((p : Pos) → InGrid s p → IsWithin m (f p)) → IsErosion s e f g → (p : Pos) → InGrid s p → IsWithin (m + 4294967295) (g p)
+pub erosion_within : (s : Size) (e : ElementTable) (m : ℕ) (f g : Relief) → IsElement e → ((p : Pos) → InGrid s p → IsWithin m (f p)) → IsErosion s e f g → (p : Pos) → InGrid s p → IsWithin (m + most_entry) (g p)
 erosion_within s e m f g is within lowered p inside = record {
   least = λ z there.
       let r = found z there in
@@ -141,14 +141,14 @@ pub within_at : (s : Size) (n : ℕ) (values : List ℤ) → ArePlain s n values
 within_at s n values are p inside = (are.plain.each (place_of s p)).bounded
 
 -- what was dilated is plain, within more
-pub dilated_plain : (s : Size) (e : ElementTable) (m : ℕ) (old new : List ℤ) → 1 ≤ s.points → IsElement e → ArePlain s m old → ArePlainlyFiltered Dilation s e old new → ArePlain s (m + 4294967295) new
+pub dilated_plain : (s : Size) (e : ElementTable) (m : ℕ) (old new : List ℤ) → 1 ≤ s.points → IsElement e → ArePlain s m old → ArePlainlyFiltered Dilation s e old new → ArePlain s (m + most_entry) new
 dilated_plain s e m old new some is plain made =
-    plain_of Dilation s e (m + 4294967295) old new some made (dilation_within s e m (relief s old) (relief s new) is (within_at s m old plain) made.filtered)
+    plain_of Dilation s e (m + most_entry) old new some made (dilation_within s e m (relief s old) (relief s new) is (within_at s m old plain) made.filtered)
 
 -- and so is what was eroded
-pub eroded_plain : (s : Size) (e : ElementTable) (m : ℕ) (old new : List ℤ) → 1 ≤ s.points → IsElement e → ArePlain s m old → ArePlainlyFiltered Erosion s e old new → ArePlain s (m + 4294967295) new
+pub eroded_plain : (s : Size) (e : ElementTable) (m : ℕ) (old new : List ℤ) → 1 ≤ s.points → IsElement e → ArePlain s m old → ArePlainlyFiltered Erosion s e old new → ArePlain s (m + most_entry) new
 eroded_plain s e m old new some is plain made =
-    plain_of Erosion s e (m + 4294967295) old new some made (erosion_within s e m (relief s old) (relief s new) is (within_at s m old plain) made.filtered)
+    plain_of Erosion s e (m + most_entry) old new some made (erosion_within s e m (relief s old) (relief s new) is (within_at s m old plain) made.filtered)
 
 -- an erosion and then a dilation are an opening
 pub opened_of : (s : Size) (e : ElementTable) (old between new : List ℤ) → ArePlainlyFiltered Erosion s e old between → ArePlainlyFiltered Dilation s e between new → ArePlainlyFiltered Opening s e old new

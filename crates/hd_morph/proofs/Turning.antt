@@ -10,7 +10,7 @@ use Rattle.hd_map.specs.Map.{place_of}
 use Rattle.hd_map.proofs.Gather.{same_pos}
 use Rattle.hd_morph.specs.Element.{ElementTable, IsEntry, IsElement, number_at, centre}
 use Rattle.hd_morph.specs.Filter.{Relief, Erosion, IsOffset, IsRaised, IsDilation, IsErosion}
-use Rattle.hd_morph.specs.Plain.{value_at, relief, ArePlain}
+use Rattle.hd_morph.specs.Plain.{value_at, relief, ArePlain, most_filtered}
 use Rattle.hd_morph.specs.Raised.{ArePlainlyFiltered}
 use Rattle.hd_morph.specs.Turned.{minus, AreNegated, turned_table}
 
@@ -167,7 +167,7 @@ negated_plain s n old new negated are = record {
 
 -- the negated dilation of negated numbers by the turned element is the erosion
 pub eroded_of : (s : Size) (e : ElementTable) (old negatives lowered new : List ℤ) → IsElement e → AreNegated old negatives
-    → IsDilation s (turned_table e) (relief s negatives) (relief s lowered) → ArePlain s 12884901885 lowered → AreNegated lowered new → ArePlainlyFiltered Erosion s e old new
+    → IsDilation s (turned_table e) (relief s negatives) (relief s lowered) → ArePlain s most_filtered lowered → AreNegated lowered new → ArePlainlyFiltered Erosion s e old new
 eroded_of s e old negatives lowered new is first dilation plain second = record {
   whole = second.whole ∙ plain.whole;
   filtered = erosion_turned s e (relief s old) (relief s negatives) (relief s lowered) (relief s new) is (negative_relief s old negatives first) dilation (negative_relief s lowered new second);

@@ -19,10 +19,14 @@ number_at e u = slice_index_or e.table (u.y * e.width + u.x) None
 abbrev pub centre : ElementTable → Pos
 centre e = record { x = e.width / 2; y = e.height / 2 }
 
+-- the most that a number of an element is from zero
+abbrev pub most_entry : ℕ
+most_entry = 4294967295
+
 -- an entry of a table is none, or a number from -4,294,967,295 to 4,294,967,295
 abbrev pub IsEntry : Option ℤ → Type 0
 IsEntry None = Unit {0}
-IsEntry (Some z) = (neg_ℤ (pos 4294967295) ≤ℤ z) × (z ≤ℤ pos 4294967295)
+IsEntry (Some z) = (neg_ℤ (pos most_entry) ≤ℤ z) × (z ≤ℤ pos most_entry)
 
 -- a size is even
 abbrev pub HasEvenSize : ElementTable → Type 0

@@ -7,16 +7,16 @@ use Rattle.hd_morph.specs.declared.errors.MorphError.{MorphError}
 use Rattle.hd_morph.specs.declared.errors.MorphError.TheVariants.{Memory, HeightRange}
 use Rattle.hd_morph.specs.Filter.{Relief, relief_of}
 use Rattle.hd_morph.specs.Answer.{IsFirstOutside}
-use Rattle.hd_morph.specs.Plain.{shown, relief, IsPlainNumber, ArePlain}
+use Rattle.hd_morph.specs.Plain.{shown, relief, IsPlainNumber, ArePlain, most_height}
 
 -- the number stands for the height at a position of a map
 pub record IsPlainHeight (m : Map) (p : Pos) (number : ℤ) : Type 0 where
   pub is : shown number ≡ relief_of m p
-  pub plain : IsPlainNumber 4294967295 number
+  pub plain : IsPlainNumber most_height number
 
 -- the plain numbers are the heights of a map
 pub record AreHeightsOf (m : Map) (heights : List ℤ) : Type 0 where
-  pub plain : ArePlain m.size 4294967295 heights
+  pub plain : ArePlain m.size most_height heights
   pub each : (p : Pos) → InGrid m.size p → relief m.size heights p ≡ relief_of m p
 
 -- each height is of the type of the map

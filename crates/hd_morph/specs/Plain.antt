@@ -1,14 +1,27 @@
 -- Heights as plain numbers by index. A number far below every height stands for none, and stays
 -- far below when a number of an element is added to it.
-use Rattle.std.specs.Prelude.{◌≡◌, ◌≤ℤ◌, ℕ, ℤ, pos, negsuc, neg_ℤ, List, length, slice_index_or, Option, Some, None, int_lt, if◌then◌else◌}
+use Rattle.std.specs.Prelude.{◌≡◌, ◌≤ℤ◌, ◌+◌, ℕ, ℤ, pos, negsuc, neg_ℤ, List, length, slice_index_or, Option, Some, None, int_lt, if◌then◌else◌}
 use Rattle.hd_map.specs.declared.types.Size.{Size}
 use Rattle.hd_map.specs.Map.{place_of, cell_count}
+use Rattle.hd_morph.specs.Element.{most_entry}
 use Rattle.hd_morph.specs.Filter.{Relief}
 
 -- the value, if it is a number, is at most n from zero
 pub record IsWithin (n : ℕ) (value : Option ℤ) : Type 0 where
   pub least : (z : ℤ) → value ≡ Some z → neg_ℤ (pos n) ≤ℤ z
   pub greatest : (z : ℤ) → value ≡ Some z → z ≤ℤ pos n
+
+-- the most that a height of a map is from zero, 2 ^ 53
+abbrev pub most_height : ℕ
+most_height = 9007199254740992
+
+-- the same of a height that was filtered once
+abbrev pub most_between : ℕ
+most_between = most_height + most_entry
+
+-- and of one that was filtered twice
+abbrev pub most_filtered : ℕ
+most_filtered = most_between + most_entry
 
 -- -(2 ^ 62), which stands for none
 abbrev pub missing : ℤ

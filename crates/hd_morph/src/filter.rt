@@ -3,7 +3,7 @@ ghost use Rattle.std.specs.Prelude.{◌≡◌, ◌/◌, IfOk, IfSome};
 ghost use Rattle.hd_map.specs.Map.{IsSize};
 ghost use Rattle.hd_morph.specs.Element.{IsElement};
 ghost use Rattle.hd_morph.specs.Filter.{Dilation, Erosion, Opening, Closing};
-ghost use Rattle.hd_morph.specs.Plain.{ArePlain, IsPlain};
+ghost use Rattle.hd_morph.specs.Plain.{ArePlain, IsPlain, most_height, most_between, most_filtered};
 ghost use Rattle.hd_morph.specs.Raised.{ArePlainlyFiltered, IsFlat};
 ghost use Rattle.hd_morph.specs.Turned.{AreNegated};
 
@@ -26,7 +26,7 @@ pub fn dilated(
     element: &Element,
 ) -> Result<Vec<i64>, Memory>
     requires size { IsSize size }
-    requires heights { ArePlain size 8589934590 heights.now }
+    requires heights { ArePlain size most_between heights.now }
     ensures dilation { IfOk result (λ d. ArePlainlyFiltered Dilation size element.now heights.now d.items) }
     ensures element { IsElement element.now }
 {
@@ -67,7 +67,7 @@ pub fn eroded(
     element: &Element,
 ) -> Result<Vec<i64>, Memory>
     requires size { IsSize size }
-    requires heights { ArePlain size 8589934590 heights.old }
+    requires heights { ArePlain size most_between heights.old }
     ensures erosion { IfOk result (λ w. ArePlainlyFiltered Erosion size element.now heights.old w.items) }
     ensures element { IsElement element.now }
 {
@@ -79,7 +79,7 @@ pub fn eroded(
 
 // The heights, each negated.
 fn all_negated(heights: Vec<i64>) -> Vec<i64>
-    requires { IsPlain 17179869184 heights.items }
+    requires { IsPlain most_filtered heights.items }
     ensures { AreNegated heights.items result.items }
 {
     let mut heights = heights;
@@ -95,7 +95,7 @@ pub fn opened(
     element: &Element,
 ) -> Result<Vec<i64>, Memory>
     requires size { IsSize size }
-    requires heights { ArePlain size 4294967295 heights.items }
+    requires heights { ArePlain size most_height heights.items }
     ensures { IfOk result (λ g. ArePlainlyFiltered Opening size element.now heights.items g.items) }
 {
     let mut room = heights;
@@ -111,7 +111,7 @@ pub fn closed(
     element: &Element,
 ) -> Result<Vec<i64>, Memory>
     requires size { IsSize size }
-    requires heights { ArePlain size 4294967295 heights.items }
+    requires heights { ArePlain size most_height heights.items }
     ensures { IfOk result (λ g. ArePlainlyFiltered Closing size element.now heights.items g.items) }
 {
     let mut between = dilated(Vec::new(alloc), &heights, size, element)?;

@@ -1,7 +1,8 @@
 // Dilations by elements that have one and the same number everywhere.
 ghost use Rattle.std.specs.Prelude.{◌≡◌, ◌<◌, ◌≤ℤ◌, ◌^◌, IfOk, pos, neg_ℤ, length};
 ghost use Rattle.hd_map.specs.Map.{IsSize};
-ghost use Rattle.hd_morph.specs.Plain.{ArePlain};
+ghost use Rattle.hd_morph.specs.Element.{most_entry};
+ghost use Rattle.hd_morph.specs.Plain.{ArePlain, most_between};
 ghost use Rattle.hd_morph.specs.Raised.{AreFlatlyDilated};
 
 use crate::plain::settle;
@@ -20,11 +21,11 @@ pub fn dilate_flat(
     number: i64,
 ) -> Result<Vec<i64>, Memory>
     requires size { IsSize size }
-    requires heights { ArePlain size 8589934590 heights.now }
+    requires heights { ArePlain size most_between heights.now }
     requires across { across < 2 ^ 31 }
     requires down { down < 2 ^ 31 }
-    requires least { neg_ℤ (pos 4294967295) ≤ℤ number }
-    requires greatest { number ≤ℤ pos 4294967295 }
+    requires least { neg_ℤ (pos most_entry) ≤ℤ number }
+    requires greatest { number ≤ℤ pos most_entry }
     ensures { IfOk result (λ d. AreFlatlyDilated size across down number heights.now d.items) }
 {
     let mut tops = room;
@@ -44,12 +45,12 @@ fn raise_flat(
     number: i64,
 )
     requires size { IsSize size }
-    requires heights { ArePlain size 8589934590 heights.now }
+    requires heights { ArePlain size most_between heights.now }
     requires same { tops.old ≡ heights.now }
     requires across { across < 2 ^ 31 }
     requires down { down < 2 ^ 31 }
-    requires least { neg_ℤ (pos 4294967295) ≤ℤ number }
-    requires greatest { number ≤ℤ pos 4294967295 }
+    requires least { neg_ℤ (pos most_entry) ≤ℤ number }
+    requires greatest { number ≤ℤ pos most_entry }
     ensures { AreFlatlyDilated size across down number heights.now tops.new }
 {
     spread_round(tops, size, across, down);

@@ -1,9 +1,9 @@
 // Dilations by any element, offset by offset, each over whole rows.
 ghost use Rattle.std.specs.Prelude.{◌≡◌, ◌<◌, ◌≤◌, ◌+◌, ◌/◌, ◌≤ℤ◌, IfOk, IfSome, IfNone, ℕ, pos, neg_ℤ, length};
 ghost use Rattle.hd_map.specs.Map.{IsSize};
-ghost use Rattle.hd_morph.specs.Element.{IsElement, number_at};
+ghost use Rattle.hd_morph.specs.Element.{IsElement, number_at, most_entry};
 ghost use Rattle.hd_morph.specs.Filter.{Dilation};
-ghost use Rattle.hd_morph.specs.Plain.{ArePlain, IsPlain, IsPlainNumber, relief, shown, IsWithin};
+ghost use Rattle.hd_morph.specs.Plain.{ArePlain, IsPlain, IsPlainNumber, relief, shown, IsWithin, most_between};
 ghost use Rattle.hd_morph.specs.Raised.{ArePlainlyFiltered, AreRaisedTo, AreRaisedAcross, IsRowRaisedOnce, AreBlank, IsBlankRow, IsRowRaised, AreRaised, plus};
 
 use crate::Element;
@@ -20,7 +20,7 @@ pub fn dilate_by_offsets(
     element: &Element,
 ) -> Result<Vec<i64>, Memory>
     requires size { IsSize size }
-    requires heights { ArePlain size 8589934590 heights.now }
+    requires heights { ArePlain size most_between heights.now }
     requires element { IsElement element.now }
     ensures { IfOk result (λ d. ArePlainlyFiltered Dilation size element.now heights.now d.items) }
 {
@@ -35,7 +35,7 @@ pub fn dilate_by_offsets(
 // No top stands for a height at the call, and at the return they are the dilation.
 fn raise_and_settle(tops: &mut [i64], heights: &[i64], size: Size, element: &Element)
     requires size { IsSize size }
-    requires heights { ArePlain size 8589934590 heights.now }
+    requires heights { ArePlain size most_between heights.now }
     requires element { IsElement element.now }
     requires blank { AreBlank size tops.old }
     ensures { ArePlainlyFiltered Dilation size element.now heights.now tops.new }
@@ -47,7 +47,7 @@ fn raise_and_settle(tops: &mut [i64], heights: &[i64], size: Size, element: &Ele
 // Puts at each position the greatest of the raised heights.
 fn raise_rows(tops: &mut [i64], heights: &[i64], size: Size, element: &Element)
     requires size { IsSize size }
-    requires heights { ArePlain size 8589934590 heights.now }
+    requires heights { ArePlain size most_between heights.now }
     requires blank { AreBlank size tops.old }
     ensures { AreRaised size element.now (relief size heights.now) tops.new }
 {
@@ -61,7 +61,7 @@ fn raise_rows(tops: &mut [i64], heights: &[i64], size: Size, element: &Element)
 // Puts at each position of a row the greatest of the raised heights.
 fn raise_row(tops: &mut [i64], heights: &[i64], size: Size, element: &Element, y: u32)
     requires size { IsSize size }
-    requires heights { ArePlain size 8589934590 heights.now }
+    requires heights { ArePlain size most_between heights.now }
     requires row { y < size.profiles }
     requires blank { IsBlankRow size tops.old }
     ensures { IsRowRaised size element.now (relief size heights.now) y tops.new }
@@ -80,7 +80,7 @@ fn raise_row(tops: &mut [i64], heights: &[i64], size: Size, element: &Element, y
 // Raises the tops of a row by the heights that come from one offset of the element.
 fn raise_by(tops: &mut [i64], heights: &[i64], size: Size, element: &Element, y: u32, offset: Pos)
     requires size { IsSize size }
-    requires heights { ArePlain size 8589934590 heights.now }
+    requires heights { ArePlain size most_between heights.now }
     requires row { y < size.profiles }
     requires whole { length tops.old ≡ size.points }
     requires column { offset.x < element.now.width }
@@ -109,9 +109,9 @@ fn raise_by(tops: &mut [i64], heights: &[i64], size: Size, element: &Element, y:
 // the element, which has `reach` columns on either side of its centre.
 fn raise_from_row(tops: &mut [i64], heights: &[i64], reach: usize, column: usize, number: i64)
     requires whole { length heights.now ≡ length tops.old }
-    requires heights { IsPlain 8589934590 heights.now }
-    requires least { neg_ℤ (pos 4294967295) ≤ℤ number }
-    requires greatest { number ≤ℤ pos 4294967295 }
+    requires heights { IsPlain most_between heights.now }
+    requires least { neg_ℤ (pos most_entry) ≤ℤ number }
+    requires greatest { number ≤ℤ pos most_entry }
     ensures { AreRaisedAcross heights.now reach column number tops.old tops.new }
 {
     let ahead = reach.saturating_sub(column);
@@ -134,9 +134,9 @@ fn raise_stretch(
 )
     requires to { to + count ≤ length tops.old }
     requires from { from + count ≤ length heights.now }
-    requires heights { IsPlain 8589934590 heights.now }
-    requires least { neg_ℤ (pos 4294967295) ≤ℤ number }
-    requires greatest { number ≤ℤ pos 4294967295 }
+    requires heights { IsPlain most_between heights.now }
+    requires least { neg_ℤ (pos most_entry) ≤ℤ number }
+    requires greatest { number ≤ℤ pos most_entry }
     ensures { AreRaisedTo heights.now from count number to tops.old tops.new }
 {
     for step in 0..count {
@@ -148,9 +148,9 @@ fn raise_stretch(
 // A height plus a number, and a number far below every height where there is none.
 #[inline]
 fn raised_by(height: i64, number: i64) -> i64
-    requires plain { IsPlainNumber 8589934590 height }
-    requires least { neg_ℤ (pos 4294967295) ≤ℤ number }
-    requires greatest { number ≤ℤ pos 4294967295 }
+    requires plain { IsPlainNumber most_between height }
+    requires least { neg_ℤ (pos most_entry) ≤ℤ number }
+    requires greatest { number ≤ℤ pos most_entry }
     ensures { shown result ≡ plus number (shown height) }
 {
     height + number
@@ -161,7 +161,7 @@ fn number_of(element: &Element, offset: Pos) -> Option<i64>
     requires column { offset.x < element.now.width }
     requires row { offset.y < element.now.height }
     ensures number { result ≡ number_at element.now offset }
-    ensures within { IsWithin 4294967295 result }
+    ensures within { IsWithin most_entry result }
 {
     element.table()[(offset.y * element.width() + offset.x) as usize]
 }

@@ -1,8 +1,9 @@
 // Heights as plain numbers. One far below every height stands for none, and stays far below when a
 // number of an element is added to it, so that the larger of two numbers is right in either case.
 ghost use Rattle.std.specs.Prelude.{◌≡◌, ◌≤ℤ◌, ℤ, pos, neg_ℤ, is_some, Some};
+ghost use Rattle.hd_morph.specs.Element.{most_entry};
 ghost use Rattle.hd_morph.specs.Greatest.{larger};
-ghost use Rattle.hd_morph.specs.Plain.{shown, IsPlain, IsWithin};
+ghost use Rattle.hd_morph.specs.Plain.{shown, IsPlain, IsWithin, most_filtered};
 ghost use Rattle.hd_morph.specs.Raised.{IsNumberWithin, IsSettled, AreTopped, AreSettled};
 ghost use Rattle.hd_morph.specs.Turned.{IsNegated, AreNegated};
 
@@ -30,7 +31,7 @@ pub fn larger_of(a: i64, b: i64) -> i64
 
 /// Negates each height.
 pub fn negate(values: &mut [i64])
-    requires { IsPlain 17179869184 values.old }
+    requires { IsPlain most_filtered values.old }
     ensures { AreNegated values.old values.new }
 {
     for place in 0..values.len() {
@@ -41,7 +42,7 @@ pub fn negate(values: &mut [i64])
 // The negative of a height; what stands for none stays.
 #[inline]
 fn negated(value: i64) -> i64
-    requires { IsWithin 17179869184 (shown value) }
+    requires { IsWithin most_filtered (shown value) }
     ensures { IsNegated value result }
 {
     if is_shown(value) { -value } else { MISSING }
@@ -49,9 +50,9 @@ fn negated(value: i64) -> i64
 
 /// Adds a number to each top where a height stands; elsewhere nothing stands.
 pub fn settle(tops: &mut [i64], heights: &[i64], number: i64)
-    requires topped { AreTopped 17179869184 heights.now tops.old }
-    requires least { neg_ℤ (pos 4294967295) ≤ℤ number }
-    requires greatest { number ≤ℤ pos 4294967295 }
+    requires topped { AreTopped most_filtered heights.now tops.old }
+    requires least { neg_ℤ (pos most_entry) ≤ℤ number }
+    requires greatest { number ≤ℤ pos most_entry }
     ensures { AreSettled heights.now tops.old number tops.new }
 {
     for place in 0..tops.len() {
@@ -62,9 +63,9 @@ pub fn settle(tops: &mut [i64], heights: &[i64], number: i64)
 // The top plus a number where a height stands.
 #[inline]
 fn settled(height: i64, top: i64, number: i64) -> i64
-    requires topped { (z : ℤ) → shown height ≡ Some z → IsNumberWithin 17179869184 (shown top) }
-    requires least { neg_ℤ (pos 4294967295) ≤ℤ number }
-    requires greatest { number ≤ℤ pos 4294967295 }
+    requires topped { (z : ℤ) → shown height ≡ Some z → IsNumberWithin most_filtered (shown top) }
+    requires least { neg_ℤ (pos most_entry) ≤ℤ number }
+    requires greatest { number ≤ℤ pos most_entry }
     ensures { IsSettled (shown height) top number result }
 {
     if is_shown(height) {

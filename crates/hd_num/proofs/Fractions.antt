@@ -1,11 +1,11 @@
 -- Reduced fractions.
-use Rattle.std.proofs.Common.{◌≡◌, ℕ, ℤ, zero, suc, pos, negsuc, neg_ℤ, ◌+◌, ◌*◌, ◌/◌, ◌%◌, ◌<◌, ◌≤◌, ◌^◌, ◌+ℤ◌, ◌*ℤ◌, int_lt, unsigned_abs, FitsSigned, to_z, of_z, refl, sym, ap, ap₂, subst, ◌∙◌, arith, Bool, true, false, mul_assoc, mul_comm, mul_right_comm, mul-div_cancel, mul-add, mul-pos, mul-le-mul, le_of_lt, mul-le-mul_left, le_of_mul-le-mul_right, mul-lt-mul_of_pos_right, div-add-mod', subst₂}
+use Rattle.std.proofs.Common.{◌≡◌, ℕ, ℤ, zero, suc, pos, negsuc, neg_ℤ, ◌+◌, ◌*◌, ◌/◌, ◌%◌, ◌<◌, ◌≤◌, ◌^◌, ◌+ℤ◌, ◌*ℤ◌, int_lt, unsigned_abs, FitsSigned, to_z, of_z, refl, sym, ap, ap₂, subst, ◌∙◌, arith, Bool, true, false, mul_assoc, mul_comm, mul_right_comm, mul-div_cancel, mul-add, mul-pos, mul-le-mul_left, le_of_mul-le-mul_right, mul-lt-mul_of_pos_right, div-add-mod', subst₂}
 use mir.Syntax.{w128}
 use Rattle.std.specs.Int.{IsGcd, ◌∣◌}
-use Rattle.std.proofs.lemmas.Int.{unsigned_abs-mul, ints, to_z-of_z, to_z_pos, fits_signed_mul}
+use Rattle.std.proofs.lemmas.Int.{unsigned_abs-mul, ints, to_z-of_z, to_z_pos}
 use Rattle.std.proofs.lemmas.Nat.{mod-mul-add, mod_below}
 use Rattle.std.proofs.lemmas.Nat.Gcd.{IsGcd-from_zero, IsGcd-from_mod, dvd_antisymm, dvd_refl, dvd-zero, le_of_dvd}
-use Rattle.std.proofs.Math.Nat.{dvd-mul_left, dvd_of_mul-dvd-mul_right, mul-dvd-mul_right, eq-one_of_dvd-one, div-mul_cancel}
+use Rattle.std.proofs.Math.Nat.{le-mul_of_pos_right, dvd-mul_left, dvd_of_mul-dvd-mul_right, mul-dvd-mul_right, eq-one_of_dvd-one, div-mul_cancel}
 use Rattle.hd_num.specs.Frac.{IsReduced, IsFraction, sum_over_product}
 use Rattle.hd_num.specs.Whole.{signed_number}
 
@@ -135,37 +135,48 @@ divided n d g some h = record {
     value = ap (λ z. z *ℤ pos (d / g)) (signed_of_size n) ∙ product_of_signed (int_lt n (pos 0)) (unsigned_abs n) (d / g)
         ∙ ap (signed_number (int_lt n (pos 0))) sizes ∙ sym (product_of_signed (int_lt n (pos 0)) (unsigned_abs n / g) d)
 
-as_signed : (b : ℕ) → b < 2 ^ 62 → to_z w128 b ≡ pos b
-as_signed b h = to_z_pos w128 b (omega arith)
-
-size_of_product : (a : ℤ) (b : ℕ) → unsigned_abs a < 2 ^ 62 → b < 2 ^ 62 → unsigned_abs (a *ℤ pos b) ≤ 2 ^ 124
-size_of_product a b ha hb = subst (λ n. n ≤ 2 ^ 124) (sym (unsigned_abs-mul a (pos b))) (mul-le-mul (le_of_lt ha) (le_of_lt hb))
-
--- the products of the sum are those of whole numbers
-product_kept : (a' a : ℤ) (b : ℕ) → a' ≡ a → unsigned_abs a < 2 ^ 62 → b < 2 ^ 62 → to_z w128 (of_z w128 (a' *ℤ to_z w128 b)) ≡ a *ℤ pos b
-product_kept a' a b e ha hb =
-    ap₂ (λ y z. to_z w128 (of_z w128 (y *ℤ z))) e (as_signed b hb)
-    ∙ to_z-of_z w128 (a *ℤ pos b) (fits_signed_mul w128 a (pos b) (2 ^ 62) (2 ^ 62) (le_of_lt ha) (le_of_lt hb) (omega arith))
-
-sum_of_small : (x y : ℤ) → unsigned_abs x ≤ 2 ^ 124 → unsigned_abs y ≤ 2 ^ 124 → FitsSigned w128 (x +ℤ y)
-sum_of_small x y hx hy = omega (arith, ints)
+-- a factor is below what the product is below
+below_product : (n m limit : ℕ) → 0 < m → n * m < limit → n < limit
+below_product n m limit some h = let most = le-mul_of_pos_right n some in omega (arith, h, most)
 
 -- a small number keeps its value
-pub small_kept : (a : ℤ) → unsigned_abs a < 2 ^ 62 → to_z w128 (of_z w128 a) ≡ a
+small_kept : (a : ℤ) → unsigned_abs a < 2 ^ 126 → to_z w128 (of_z w128 a) ≡ a
 small_kept a h = to_z-of_z w128 a (small_fits a h)
   where
-    small_fits : (z : ℤ) → unsigned_abs z < 2 ^ 62 → FitsSigned w128 z
+    small_fits : (z : ℤ) → unsigned_abs z < 2 ^ 126 → FitsSigned w128 z
     small_fits z h = omega (arith, ints)
 
--- the sum of the products fits
-pub sum_fits : (a' a : ℤ) (b : ℕ) (c' c : ℤ) (d : ℕ) → a' ≡ a → c' ≡ c → unsigned_abs a < 2 ^ 62 → b < 2 ^ 62 → unsigned_abs c < 2 ^ 62 → d < 2 ^ 62
-    → FitsSigned w128 (to_z w128 (of_z w128 (a' *ℤ to_z w128 d)) +ℤ to_z w128 (of_z w128 (c' *ℤ to_z w128 b)))
-sum_fits a' a b c' c d ea ec ha hb hc hd = subst₂ (λ x y. FitsSigned w128 (x +ℤ y)) (sym (product_kept a' a d ea ha hd)) (sym (product_kept c' c b ec hc hb)) (sum_of_small (a *ℤ pos d) (c *ℤ pos b) (size_of_product a d ha hd) (size_of_product c b hc hb))
+-- so does a denominator of a product below 2^127
+den_kept : (d b : ℕ) → 0 < b → d * b < 2 ^ 127 → to_z w128 d ≡ pos d
+den_kept d b some h = let small = below_product d b (2 ^ 127) some h in to_z_pos w128 d (omega (arith, small))
 
--- and is the numerator of the sum
-pub sum_kept : (a' a : ℤ) (b : ℕ) (c' c : ℤ) (d : ℕ) → a' ≡ a → c' ≡ c → unsigned_abs a < 2 ^ 62 → b < 2 ^ 62 → unsigned_abs c < 2 ^ 62 → d < 2 ^ 62
-    → to_z w128 (of_z w128 (to_z w128 (of_z w128 (a' *ℤ to_z w128 d)) +ℤ to_z w128 (of_z w128 (c' *ℤ to_z w128 b)))) ≡ sum_over_product a b c d
-sum_kept a' a b c' c d ea ec ha hb hc hd = to_z-of_z w128 _ (sum_fits a' a b c' c d ea ec ha hb hc hd) ∙ ap₂ (λ x y. x +ℤ y) (product_kept a' a d ea ha hd) (product_kept c' c b ec hc hb)
+product_small : (a : ℤ) (d : ℕ) → unsigned_abs a * d < 2 ^ 126 → unsigned_abs (a *ℤ pos d) < 2 ^ 126
+product_small a d h = subst (λ n. n < 2 ^ 126) (sym (unsigned_abs-mul a (pos d))) h
+
+-- the product of a numerator and the other denominator is that of whole numbers
+product_kept : (a : ℤ) (d b : ℕ) → 0 < d → 0 < b → unsigned_abs a * d < 2 ^ 126 → d * b < 2 ^ 127
+    → to_z w128 (of_z w128 (to_z w128 (of_z w128 a) *ℤ to_z w128 d)) ≡ a *ℤ pos d
+product_kept a d b some some' small dens =
+    ap₂ (λ y z. to_z w128 (of_z w128 (y *ℤ z))) (small_kept a (below_product (unsigned_abs a) d (2 ^ 126) some small)) (den_kept d b some' dens)
+    ∙ small_kept (a *ℤ pos d) (product_small a d small)
+
+sum_of_small : (x y : ℤ) → unsigned_abs x < 2 ^ 126 → unsigned_abs y < 2 ^ 126 → FitsSigned w128 (x +ℤ y)
+sum_of_small x y hx hy = omega (arith, ints)
+
+module _ (a : ℤ) (b : ℕ) (c : ℤ) (d : ℕ) (some : 0 < b) (some' : 0 < d) (own : unsigned_abs a * d < 2 ^ 126) (other : unsigned_abs c * b < 2 ^ 126) (dens : b * d < 2 ^ 127) where
+  own_kept : to_z w128 (of_z w128 (to_z w128 (of_z w128 a) *ℤ to_z w128 d)) ≡ a *ℤ pos d
+  own_kept = product_kept a d b some' some own (subst (λ n. n < 2 ^ 127) (mul_comm b d) dens)
+
+  other_kept : to_z w128 (of_z w128 (to_z w128 (of_z w128 c) *ℤ to_z w128 b)) ≡ c *ℤ pos b
+  other_kept = product_kept c b d some some' other dens
+
+  -- the sum of the products fits
+  pub sum_fits : FitsSigned w128 (to_z w128 (of_z w128 (to_z w128 (of_z w128 a) *ℤ to_z w128 d)) +ℤ to_z w128 (of_z w128 (to_z w128 (of_z w128 c) *ℤ to_z w128 b)))
+  sum_fits = subst₂ (λ x y. FitsSigned w128 (x +ℤ y)) (sym own_kept) (sym other_kept) (sum_of_small (a *ℤ pos d) (c *ℤ pos b) (product_small a d own) (product_small c b other))
+
+  -- and is the numerator of the sum
+  pub sum_kept : to_z w128 (of_z w128 (to_z w128 (of_z w128 (to_z w128 (of_z w128 a) *ℤ to_z w128 d)) +ℤ to_z w128 (of_z w128 (to_z w128 (of_z w128 c) *ℤ to_z w128 b)))) ≡ sum_over_product a b c d
+  sum_kept = to_z-of_z w128 _ sum_fits ∙ ap₂ (λ x y. x +ℤ y) own_kept other_kept
 
 -- a reduced fraction is made of no greater numbers
 pub no_greater : (n : ℤ) (d : ℕ) (a : ℤ) (b : ℕ) → 0 < d → IsFraction n d a b → (unsigned_abs a ≤ unsigned_abs n) × (b ≤ d)

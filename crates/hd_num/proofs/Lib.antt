@@ -5,4 +5,6 @@ pub mod Numerals
 pub mod Percents
 pub mod Pieces
 pub mod ReadsBack
+mod StepReads
+pub mod StepTexts
 pub mod WordSteps

@@ -1,9 +1,8 @@
 -- One to three digits, and the texts of percents.
-use Rattle.std.proofs.Common.{◌≡◌, ℕ, zero, suc, ◌+◌, ◌<◌, ◌≤◌, ◌^◌, List, [], ◌∷◌, ◌++◌, length, take, min, Bool, true, false, not, ◌&&◌, ◌==◌, eqb, ltb, Option, Some, None, Ok, Err, if◌then◌else◌, cond, inl, inr, subst, refl, sym, ap, ◌∙◌, arith, length-take, append_assoc}
-use Rattle.std.specs.Prelude.{IfSome, Result, OnErr, ℤ, pos, negsuc, ◌*ℤ◌, int_lt, FitsSigned}
+use Rattle.std.proofs.Common.{◌≡◌, ℕ, zero, suc, ◌+◌, ◌<◌, ◌≤◌, ◌^◌, List, [], ◌∷◌, ◌++◌, length, take, Bool, true, false, not, ◌&&◌, ◌==◌, ltb, Option, Some, None, Ok, Err, if◌then◌else◌, inl, inr, subst, refl, sym, ap, ◌∙◌, arith, append_assoc}
+use Rattle.std.specs.Prelude.{IfSome, Result, OnOk, OnErr, ℤ, pos, negsuc, ◌*ℤ◌, int_lt, FitsSigned}
 use mir.Syntax.{w64, w128}
 use mir.Val.{to_z, of_z}
-use Rattle.std.specs.Int.Signed.{mag}
 use Rattle.std.specs.Int.RustNames.{unsigned_abs}
 use Rattle.std.proofs.lemmas.Int.{ints, to_z-of_z, fits_signed_mul}
 use Rattle.std.specs.Char.{is_ascii_digit}
@@ -84,7 +83,7 @@ prefix_then old mid new a b e h = (length a + h.0, h.1 ∙ ap (λ t. t ++ take h
         let e : length (x ∷ xs) + k ≡ suc (length xs + k) = omega arith in
         ap (λ n. take n (x ∷ xs ++ ys)) e ∙ ap (λ t. x ∷ t) (take_append_then xs ys k)
 
-abs_small : (z : ℤ) → FitsSigned w64 z → unsigned_abs z ≤ 2 ^ 63
+pub abs_small : (z : ℤ) → FitsSigned w64 z → unsigned_abs z ≤ 2 ^ 63
 abs_small (pos n) h = omega (arith, ints)
 abs_small (negsuc n) h = omega (arith, ints)
 
@@ -110,3 +109,8 @@ on_err_told (Err e) p = p
 pub on_err_map : {A B : Type 0} {P Q : Type 0} (r : Result A B) → (P → Q) → OnErr r P → OnErr r Q
 on_err_map (Ok x) f p = tt
 on_err_map (Err e) f p = f p
+
+-- what holds after success
+pub on_ok_map : {A B : Type 0} {P Q : Type 0} (r : Result A B) → (P → Q) → OnOk r P → OnOk r Q
+on_ok_map (Ok x) f p = f p
+on_ok_map (Err e) f p = tt

@@ -30,7 +30,7 @@ count_of-decimal n small =
     ∙ ap (λ b. if b then Some n else None) (lt-ltb n (2 ^ 32) small)
 
 -- printed digits begin with no sign
-first-decimal : (n sign : ℕ) → n < 2 ^ 64 → sign < 48 → get_or (decimal n) 0 0 ≢ sign
+pub first-decimal : (n sign : ℕ) → n < 2 ^ 64 → sign < 48 → get_or (decimal n) 0 0 ≢ sign
 first-decimal n sign small low = not_in_digits digits (decimal n) sign (digits_decimal digits n small) (λ within. omega arith) 0 (decimal_nonempty n small)
 
 -- printed digits have no sign to take away

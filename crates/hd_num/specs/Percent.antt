@@ -1,5 +1,5 @@
 -- The percents that words write, their texts, and the part of a height that a percent is.
-use Rattle.std.specs.Prelude.{◌&&◌, ◌==◌, ◌+◌, ◌*◌, ◌^◌, ◌-◌, ◌/◌, ◌%◌, ◌++◌, ◌*ℤ◌, ℕ, ℤ, pos, Bool, true, int_lt, nat_le, nat_lt, List, [], ◌∷◌, length, take, slice_index_or, decimal, Option, Some, None, if◌then◌else◌}
+use Rattle.std.specs.Prelude.{◌&&◌, ◌==◌, ◌+◌, ◌*◌, ◌^◌, ◌-◌, ◌/◌, ◌%◌, ◌++◌, ◌*ℤ◌, ℕ, ℤ, pos, Bool, int_lt, nat_le, nat_lt, List, [], ◌∷◌, length, take, slice_index_or, decimal, Option, Some, None, if◌then◌else◌}
 use Rattle.std.specs.Char.{is_ascii_digit}
 use Rattle.std.specs.Int.{is_in_range}
 use Rattle.std.specs.List.{after_first, before_first, list_all}

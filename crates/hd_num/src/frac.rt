@@ -47,12 +47,12 @@ impl Frac {
         self.den
     }
 
-    /// The sum of two fractions. All four numbers have an absolute value below 2^62.
+    /// The sum of two fractions. Each numerator times the other denominator has an absolute value below
+    /// 2^126, and the denominators have a product below 2^127.
     pub fn add(self, other: Frac) -> Frac
-        requires own_num { unsigned_abs self.num < 2 ^ 62 }
-        requires own_den { self.den < 2 ^ 62 }
-        requires other_num { unsigned_abs other.num < 2 ^ 62 }
-        requires other_den { other.den < 2 ^ 62 }
+        requires own { unsigned_abs self.num * other.den < 2 ^ 126 }
+        requires other { unsigned_abs other.num * self.den < 2 ^ 126 }
+        requires dens { self.den * other.den < 2 ^ 127 }
         ensures { IsFraction (sum_over_product self.num self.den other.num other.den) (self.den * other.den) result.num result.den }
     {
         let first = self.num * other.den as i128;

@@ -9,6 +9,7 @@ mod lines;
 mod percent;
 mod print;
 mod span;
+mod steps;
 mod whole;
 mod words;
 
@@ -20,5 +21,6 @@ pub use lines::next_line;
 pub use percent::{Percent, percent_less, push_percent, read_percent};
 pub use print::{push_text, push_unsigned, push_whole};
 pub use span::Span;
+pub use steps::push_steps;
 pub use whole::{Whole, is_negative, read_count, read_whole, unsigned_part};
 pub use words::{first_word, split_words};

@@ -1,6 +1,7 @@
 // The check of a certificate against a surface.
 ghost use Rattle.std.specs.Prelude.{◌≡◌, ◌⊎◌, ℕ, List as Items, Some, Ok, Err, IsTrue};
 ghost use Rattle.std.specs.Io.KnownBytes.{Keeps};
+ghost use Rattle.hd_check.specs.Rules.{IsVerdict};
 ghost use Rattle.hd_map.specs.Surface.{map_of};
 ghost use Rattle.hd_sdf_read.specs.FileOf.{file_of};
 ghost use Rattle.hd_run.specs.FaultCounts.{Count, RoseIn, SourceFailed, Stays, over};
@@ -14,7 +15,9 @@ use crate::limits::CERTIFICATE_LIMIT;
 use crate::stop::{Refusal, Stop};
 use crate::texts::ACCEPTED;
 use hd_base::{Sink, Source, write_all};
-use hd_check::{CertificateError, Verdict, check, read_certificate, verdict_is_determined};
+use hd_check::{
+    Certificate, CertificateError, Verdict, check, read_certificate, verdict_is_determined,
+};
 use hd_map::Surface;
 use hd_sdf_read::SdfFile;
 use hd_words::CheckJob;
@@ -106,8 +109,18 @@ fn judge(alloc: Global, surface: &Surface, text: &[u8]) -> Result<(), Stop>
             line,
         ))),
     };
-    match check(alloc, surface, &certificate) {
+    match verdict_on(alloc, surface, &certificate) {
         Verdict::Yes => Ok(()),
         Verdict::No { rule, at } => Err(Stop::Refused(Refusal::RuleFails { rule, at })),
+    }
+}
+
+// Whether a certificate is right on a surface, by the layout of the surface.
+fn verdict_on(alloc: Global, surface: &Surface, certificate: &Certificate) -> Verdict
+    ensures { IsVerdict (map_of surface.now) certificate.now result }
+{
+    match surface {
+        Surface::Narrow(grid) => check(alloc, grid, certificate),
+        Surface::Wide(grid) => check(alloc, grid, certificate),
     }
 }

@@ -4,7 +4,7 @@ use Rattle.std.specs.Int.{is_in_range}
 use Rattle.std.specs.List.{find}
 use Rattle.std.specs.Str.{str_eq_ignore_ascii_case}
 use Rattle.hd_map.specs.declared.types.DataType.{DataType}
-use Rattle.hd_map.specs.declared.types.DataType.TheVariants.{U8, U16, U32, I8, I16, I32}
+use Rattle.hd_map.specs.declared.types.DataType.TheVariants.{U8, U16, U32, I8, I16, I32, Single, Double}
 use Rattle.hd_map.specs.Map.{code_of}
 use Rattle.hd_num.specs.Decimal.{is_decimal}
 use Rattle.hd_num.specs.Whole.{whole_of}
@@ -53,6 +53,17 @@ extent_in Not = None
 
 abbrev pub extent_of : List ℕ → Option ℕ
 extent_of value = extent_in (whole_of value)
+
+-- a type whose heights are whole numbers
+abbrev pub IsWholeType : DataType → Type 0
+IsWholeType U8 = Unit {0}
+IsWholeType U16 = Unit {0}
+IsWholeType U32 = Unit {0}
+IsWholeType I8 = Unit {0}
+IsWholeType I16 = Unit {0}
+IsWholeType I32 = Unit {0}
+IsWholeType (Single places) = ⊥
+IsWholeType (Double places) = ⊥
 
 -- the type of the heights, by its code
 abbrev pub type_by_code : ℕ → Option DataType

@@ -5,6 +5,7 @@ ghost use Rattle.hd_map.specs.Map.{greatest_height, least_height};
 ghost use Rattle.hd_num.specs.Whole.{signed_number};
 ghost use Rattle.hd_sdf_read.specs.File.{is_gap};
 ghost use Rattle.hd_sdf_read.specs.Grammar.{cell_of, cells_from};
+ghost use Rattle.hd_sdf_read.specs.Keys.{IsWholeType};
 ghost use Rattle.hd_sdf_read.specs.Places.{DatumGiven, TakesCell, TakesHeight, cells_view};
 ghost use Rattle.hd_sdf_read.specs.Reads.{Gives};
 
@@ -14,13 +15,14 @@ use hd_map::{Cell, Cells, DataType, greatest_of, least_of};
 use hd_num::{Whole, is_negative, leading_digits, read_whole, unsigned_part};
 use std::alloc::Global;
 
-/// The cells of so many data at the front of a text, and the text after them.
+/// The cells of so many data of whole numbers at the front of a text, and the text after them.
 pub fn read_cells(
     alloc: Global,
     data_type: DataType,
     count: usize,
     text: &[u8],
 ) -> Result<(Cells, &[u8]), SdfError>
+    requires { IsWholeType data_type }
     ensures cells { Gives cells_view result (cells_from (least_height data_type) (greatest_height data_type) 0 count text.now) }
     ensures whole { IfOk result (λ parts. length (cells_in parts.0) ≡ count) }
     ensures data_type { IfOk result (λ parts. parts.0.data_type ≡ data_type) }

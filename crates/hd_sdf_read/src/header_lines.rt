@@ -3,7 +3,7 @@ ghost use Rattle.std.specs.Prelude.{◌≡◌, ◌≤◌, IfOk, IfSome, option_a
 ghost use Rattle.hd_map.specs.Map.{IsSize};
 ghost use Rattle.hd_sdf_read.specs.Entries.{value_of};
 ghost use Rattle.hd_sdf_read.specs.Grammar.{decimal_at, frame_of, required, version_of_line};
-ghost use Rattle.hd_sdf_read.specs.Keys.{extent_of, type_of};
+ghost use Rattle.hd_sdf_read.specs.Keys.{IsWholeType, extent_of, type_of};
 ghost use Rattle.hd_sdf_read.specs.Reads.{Gives};
 ghost use Rattle.hd_sdf_read.specs.Places.{HasDecimals, HeaderGiven, IsRead, IsSecondLine, VersionGiven, frame_view};
 ghost use Rattle.hd_sdf_read.specs.Views.{extras_of};
@@ -92,6 +92,7 @@ pub fn read_header(
 pub fn read_frame(alloc: Global, entries: &[Entry]) -> Result<Frame, SdfError>
     ensures frame { Gives frame_view result (frame_of (extras_of entries.now)) }
     ensures limits { IfOk result (λ frame. IsSize frame.size) }
+    ensures whole_type { IfOk result (λ frame. IsWholeType frame.data_type) }
     ensures decimals { IfOk result (λ frame. HasDecimals (frame_view frame)) }
 {
     let points = extent_at(entries, b"NumPoints").ok_or(SdfError::MissingKey(1))?;
@@ -122,7 +123,8 @@ fn extent_at(entries: &[Entry], key: &[u8]) -> Option<u32>
 
 // The type that a key has.
 fn type_at(entries: &[Entry], key: &[u8]) -> Option<DataType>
-    ensures { result ≡ option_and_then type_of (value_of key.now (extras_of entries.now)) }
+    ensures value { result ≡ option_and_then type_of (value_of key.now (extras_of entries.now)) }
+    ensures whole { IfSome result IsWholeType }
 {
     type_of(value_of(entries, key)?)
 }

@@ -1,6 +1,6 @@
 // The known keys of a header, and the forms of their values.
 ghost use Rattle.std.specs.Prelude.{◌≡◌, ◌≤◌, IfSome, if◌then◌else◌};
-ghost use Rattle.hd_sdf_read.specs.Keys.{extent_of, form_of, judge, same_key, type_of};
+ghost use Rattle.hd_sdf_read.specs.Keys.{IsWholeType, extent_of, form_of, judge, same_key, type_of};
 
 use hd_map::DataType;
 use hd_num::{Whole, is_decimal, read_whole};
@@ -107,7 +107,8 @@ pub fn extent_of(value: &[u8]) -> Option<u32>
 
 /// The type that a value is the code of, if heights of that type are supported.
 pub fn type_of(value: &[u8]) -> Option<DataType>
-    ensures { result ≡ type_of value.now }
+    ensures value { result ≡ type_of value.now }
+    ensures whole { IfSome result IsWholeType }
 {
     match read_whole(value) {
         Whole::Is(0) => Some(DataType::U8),

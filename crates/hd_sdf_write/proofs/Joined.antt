@@ -7,3 +7,6 @@ module _ (out first second third a b c : List ℕ) (one : first ≡ out ++ a) (t
 
   pub four_texts : (fourth d : List ℕ) → fourth ≡ third ++ d → fourth ≡ out ++ (((a ++ b) ++ c) ++ d)
   four_texts fourth d four = four ∙ ap (λ t. t ++ d) three_texts ∙ append_assoc out ((a ++ b) ++ c) d
+
+  pub five_texts : (fourth fifth d e : List ℕ) → fourth ≡ third ++ d → fifth ≡ fourth ++ e → fifth ≡ out ++ ((((a ++ b) ++ c) ++ d) ++ e)
+  five_texts fourth fifth d e four five = five ∙ ap (λ t. t ++ e) (four_texts fourth d four) ∙ append_assoc out (((a ++ b) ++ c) ++ d) e

@@ -14,14 +14,17 @@ use Rattle.std.proofs.lemmas.Slice.Eq.{bytes_eq-Decides}
 use Rattle.hd_map.specs.declared.types.Cell.{Cell}
 use Rattle.hd_map.specs.declared.types.Cell.TheVariants.{Bad, Height}
 use Rattle.hd_map.specs.declared.types.DataType.{DataType}
+use Rattle.hd_map.specs.declared.types.DataType.TheVariants.{U8, U16, U32, I8, I16, I32, Single, Double}
 use Rattle.hd_map.specs.Map.{AreCellsOf, IsCellOf, IsMap, Map, greatest_height, least_height}
 use Rattle.hd_map.proofs.DataTypes.{type_limits}
 use Rattle.hd_num.specs.Lines.{trimmed_by}
 use Rattle.hd_num.specs.Whole.{whole_of}
 use Rattle.hd_num.specs.declared.whole.Whole.TheVariants.{Is}
 use Rattle.hd_num.proofs.ReadsBack.{whole_of-signed_decimal}
+use Rattle.hd_num.proofs.StepTexts.{whole_text}
 use Rattle.hd_sdf_read.specs.File.{is_gap, is_trailer}
 use Rattle.hd_sdf_read.specs.Grammar.{after_token, cells_from, datum_at, token_of, trailer_of}
+use Rattle.hd_sdf_read.specs.Keys.{IsWholeType}
 use Rattle.hd_sdf_read.proofs.Counting.{datum_by_token}
 use Rattle.hd_sdf_read.proofs.Heights.{no_word}
 use Rattle.hd_sdf_read.proofs.Trims.{IsTrimmed, trimmed_is}
@@ -31,7 +34,7 @@ use Rattle.hd_sdf_read.proofs.Gapless.{number_gapless, number_some}
 use Rattle.hd_sdf_write.proofs.Rows.{length-profile}
 
 -- heights fit 64 bits
-small_fits : (h : ℤ) → negsuc 2147483647 ≤ℤ h → h ≤ℤ pos 4294967295 → FitsSigned w64 h
+small_fits : (h : ℤ) → negsuc 9007199254740991 ≤ℤ h → h ≤ℤ pos 9007199254740992 → FitsSigned w64 h
 small_fits (pos n) low high = record { sfits = omega (arith, ints, high) }
 small_fits (negsuc n) low high = record { sfits = omega (arith, ints, low) }
 
@@ -42,49 +45,62 @@ height_fits t h low high = let limits = type_limits t in small_fits h (omega (ar
 height_read : (t : DataType) (h : ℤ) → IsCellOf t (Height h) → whole_of (signed_decimal h) ≡ Is h
 height_read t h fits = whole_of-signed_decimal h (height_fits t h (fits h refl).0 (fits h refl).1)
 
+-- a height of a type of whole numbers
+height_text : (t : DataType) (h : ℤ) → IsWholeType t → cell_text t (Height h) ≡ signed_decimal h
+height_text U8 h whole = whole_text h
+height_text U16 h whole = whole_text h
+height_text U32 h whole = whole_text h
+height_text I8 h whole = whole_text h
+height_text I16 h whole = whole_text h
+height_text I32 h whole = whole_text h
+height_text (Single places) h whole = absurd whole
+height_text (Double places) h whole = absurd whole
+
 -- a datum is a token
 record IsToken (token : List ℕ) : Type 0 where
   some : 0 < length token
   none : list_any is_gap token ≡ false
 
-cell_token : (t : DataType) (cell : Cell) → IsCellOf t cell → IsToken (cell_text cell)
-cell_token t Bad fits = record { some = omega arith; none = refl }
-cell_token t (Height h) fits = let number = height_read t h fits in record { some = number_some (signed_decimal h) h number; none = number_gapless (signed_decimal h) h number }
+cell_token : (t : DataType) (cell : Cell) → IsWholeType t → IsCellOf t cell → IsToken (cell_text t cell)
+cell_token t Bad whole fits = record { some = omega arith; none = refl }
+cell_token t (Height h) whole fits =
+    let number = height_read t h fits in
+    subst IsToken (sym (height_text t h whole)) (record { some = number_some (signed_decimal h) h number; none = number_gapless (signed_decimal h) h number })
 
 int_le-from : (a b : ℤ) → a ≤ℤ b → int_le a b ≡ true
 int_le-from a b le = grind (arith, ints)
 
 -- and is read as its cell
-datum_read : (t : DataType) (read : ℕ) (text : List ℕ) (cell : Cell) → IsCellOf t cell → token_of text ≡ cell_text cell → datum_at (least_height t) (greatest_height t) read text ≡ Ok cell
-datum_read t read text Bad fits is = datum_by_token (least_height t) (greatest_height t) read text (codes "BAD") (sym is) refl refl
-datum_read t read text (Height h) fits is =
+datum_read : (t : DataType) (read : ℕ) (text : List ℕ) (cell : Cell) → IsWholeType t → IsCellOf t cell → token_of text ≡ cell_text t cell → datum_at (least_height t) (greatest_height t) read text ≡ Ok cell
+datum_read t read text Bad whole fits is = datum_by_token (least_height t) (greatest_height t) read text (codes "BAD") (sym is) refl refl
+datum_read t read text (Height h) whole fits is =
     let token : List ℕ = signed_decimal h in
     let number : whole_of (signed_decimal h) ≡ Is h = height_read t h fits in
     let some = number_some (signed_decimal h) h number in
     let filled : eqb (length (signed_decimal h)) 0 ≡ false = ne_eqb (length (signed_decimal h)) 0 (λ none. omega (arith, none, some)) in
     let no_bad : bytes_eq (signed_decimal h) (codes "BAD") ≡ false = no_word (codes "BAD") (signed_decimal h) h refl number in
     let within : (int_le (least_height t) h && int_le h (greatest_height t)) ≡ true = and_from _ _ (int_le-from (least_height t) h (fits h refl).0) (int_le-from h (greatest_height t) (fits h refl).1) in
-    datum_by_token (least_height t) (greatest_height t) read text (signed_decimal h) (sym is) filled (no_word (codes "*") (signed_decimal h) h refl number)
+    datum_by_token (least_height t) (greatest_height t) read text (signed_decimal h) (sym (is ∙ height_text t h whole)) filled (no_word (codes "*") (signed_decimal h) h refl number)
     ∙ rw (no_bad, number, within) refl
 
 -- a text begins with the datum of a cell, between gaps
-record Begins (cell : Cell) (text : List ℕ) : Type 0 where
+record Begins (t : DataType) (cell : Cell) (text : List ℕ) : Type 0 where
   front : List ℕ
   gap : ℕ
   rest : List ℕ
   gaps : list_all is_gap front ≡ true
   ends : is_gap gap ≡ true
-  whole : text ≡ front ++ (cell_text cell ++ gap ∷ rest)
+  whole : text ≡ front ++ (cell_text t cell ++ gap ∷ rest)
 
 -- a text holds the data of cells, up to a rest
-abbrev Laid : List Cell → List ℕ → List ℕ → Type 0
-Laid [] text tail = text ≡ tail
-Laid (cell ∷ cells) text tail = (b : Begins cell text) × Laid cells (b.gap ∷ b.rest) tail
+abbrev Laid : DataType → List Cell → List ℕ → List ℕ → Type 0
+Laid t [] text tail = text ≡ tail
+Laid t (cell ∷ cells) text tail = (b : Begins t cell text) × Laid t cells (b.gap ∷ b.rest) tail
 
-laid_append : (cells more : List Cell) (text mid tail : List ℕ) → Laid cells text mid → Laid more mid tail → Laid (cells ++ more) text tail
-laid_append [] more text mid tail first second = subst (λ (t : List ℕ). Laid more t tail) (sym first) second
-laid_append (cell ∷ cells) more text mid tail first second =
-    (first.0, laid_append cells more (first.0.gap ∷ first.0.rest) mid tail first.1 second)
+laid_append : (t : DataType) (cells more : List Cell) (text mid tail : List ℕ) → Laid t cells text mid → Laid t more mid tail → Laid t (cells ++ more) text tail
+laid_append t [] more text mid tail first second = subst (λ (bytes : List ℕ). Laid t more bytes tail) (sym first) second
+laid_append t (cell ∷ cells) more text mid tail first second =
+    (first.0, laid_append t cells more (first.0.gap ∷ first.0.rest) mid tail first.1 second)
 
 -- each cell is of the type
 abbrev AllFit : DataType → List Cell → Type 0
@@ -96,40 +112,40 @@ all_fit t [] fits = tt
 all_fit t (cell ∷ cells) fits = (fits 0 (omega arith), all_fit t cells (λ k inside. fits (suc k) (omega arith)))
 
 -- cells whose data a text holds are read from it
-cells_laid : (t : DataType) (cells : List Cell) (read : ℕ) (text tail : List ℕ) → AllFit t cells → Laid cells text tail
+cells_laid : (t : DataType) (cells : List Cell) (read : ℕ) (text tail : List ℕ) → IsWholeType t → AllFit t cells → Laid t cells text tail
     → cells_from (least_height t) (greatest_height t) read (length cells) text ≡ Ok (record { cells = cells; rest = tail })
 unfolding cells_from
-cells_laid t [] read text tail fits laid = ap (λ (r : List ℕ). Ok (record { cells = []; rest = r })) laid
-cells_laid t (cell ∷ cells) read text tail fits laid =
+cells_laid t [] read text tail whole fits laid = ap (λ (r : List ℕ). Ok (record { cells = []; rest = r })) laid
+cells_laid t (cell ∷ cells) read text tail whole fits laid =
     let b = laid.0 in
-    let token = cell_token t cell fits.0 in
+    let token = cell_token t cell whole fits.0 in
     let found : datum_at (least_height t) (greatest_height t) read text ≡ Ok cell =
-    datum_read t read text cell fits.0 (ap token_of b.whole ∙ token_front b.front (cell_text cell) b.gap b.rest b.gaps token.some token.none b.ends) in
-    let after : after_token text ≡ b.gap ∷ b.rest = ap after_token b.whole ∙ after_token_front b.front (cell_text cell) b.gap b.rest b.gaps token.some token.none b.ends in
-    let more = cells_laid t cells (read + 1) (b.gap ∷ b.rest) tail fits.1 laid.1 in
+    datum_read t read text cell whole fits.0 (ap token_of b.whole ∙ token_front b.front (cell_text t cell) b.gap b.rest b.gaps token.some token.none b.ends) in
+    let after : after_token text ≡ b.gap ∷ b.rest = ap after_token b.whole ∙ after_token_front b.front (cell_text t cell) b.gap b.rest b.gaps token.some token.none b.ends in
+    let more = cells_laid t cells (read + 1) (b.gap ∷ b.rest) tail whole fits.1 laid.1 in
     rw (found, after, more) refl
 
 -- the data of a profile, after gaps
-laid_row : (cells : List Cell) (cell : Cell) (front rest : List ℕ) → list_all is_gap front ≡ true → Laid (cell ∷ cells) (front ++ (spaced (cell ∷ cells) ++ 10 ∷ rest)) (10 ∷ rest)
-laid_row [] cell front rest gaps =
-    (record { front = front; gap = 10; rest = rest; gaps = gaps; ends = refl; whole = ap (λ (t : List ℕ). front ++ (t ++ 10 ∷ rest)) (append-nil (cell_text cell)) }, refl)
-laid_row (next ∷ cells) cell front rest gaps =
-    let more : List ℕ = spaced (next ∷ cells) ++ 10 ∷ rest in (
+laid_row : (t : DataType) (cells : List Cell) (cell : Cell) (front rest : List ℕ) → list_all is_gap front ≡ true → Laid t (cell ∷ cells) (front ++ (spaced t (cell ∷ cells) ++ 10 ∷ rest)) (10 ∷ rest)
+laid_row t [] cell front rest gaps =
+    (record { front = front; gap = 10; rest = rest; gaps = gaps; ends = refl; whole = ap (λ (bytes : List ℕ). front ++ (bytes ++ 10 ∷ rest)) (append-nil (cell_text t cell)) }, refl)
+laid_row t (next ∷ cells) cell front rest gaps =
+    let more : List ℕ = spaced t (next ∷ cells) ++ 10 ∷ rest in (
       record {
         front = front;
         gap = 32;
         rest = more;
         gaps = gaps;
         ends = refl;
-        whole = ap (λ (t : List ℕ). front ++ ((cell_text cell ++ t) ++ 10 ∷ rest)) (flat_map-cons (λ (c : Cell). 32 ∷ cell_text c) next cells)
-            ∙ ap (λ (t : List ℕ). front ++ t) (append_assoc (cell_text cell) (32 ∷ spaced (next ∷ cells)) (10 ∷ rest));
+        whole = ap (λ (bytes : List ℕ). front ++ ((cell_text t cell ++ bytes) ++ 10 ∷ rest)) (flat_map-cons (λ (c : Cell). 32 ∷ cell_text t c) next cells)
+            ∙ ap (λ (bytes : List ℕ). front ++ bytes) (append_assoc (cell_text t cell) (32 ∷ spaced t (next ∷ cells)) (10 ∷ rest));
       },
-      laid_row cells next (32 ∷ []) rest refl,
+      laid_row t cells next (32 ∷ []) rest refl,
     )
 
-laid_filled : (cells : List Cell) (front rest : List ℕ) → 0 < length cells → list_all is_gap front ≡ true → Laid cells (front ++ (spaced cells ++ 10 ∷ rest)) (10 ∷ rest)
-laid_filled [] front rest some gaps = absurd (omega arith)
-laid_filled (cell ∷ cells) front rest some gaps = laid_row cells cell front rest gaps
+laid_filled : (t : DataType) (cells : List Cell) (front rest : List ℕ) → 0 < length cells → list_all is_gap front ≡ true → Laid t cells (front ++ (spaced t cells ++ 10 ∷ rest)) (10 ∷ rest)
+laid_filled t [] front rest some gaps = absurd (omega arith)
+laid_filled t (cell ∷ cells) front rest some gaps = laid_row t cells cell front rest gaps
 
 -- the LF after the last profile, where there is one
 pub gaps_after : ℕ → List ℕ
@@ -142,36 +158,36 @@ are_gaps zero = refl
 are_gaps (suc y) = refl
 
 -- the data of so many profiles
-laid_profiles : (m : Map) (y : ℕ) (rest : List ℕ) → IsMap m → y ≤ m.size.profiles → Laid (take (y * m.size.points) m.cells) (profile_lines m y ++ rest) (gaps_after y ++ rest)
+laid_profiles : (m : Map) (y : ℕ) (rest : List ℕ) → IsMap m → y ≤ m.size.profiles → Laid m.data_type (take (y * m.size.points) m.cells) (profile_lines m y ++ rest) (gaps_after y ++ rest)
 unfolding profile_lines gaps_after
-laid_profiles m zero rest whole inside = let none : 0 ≡ 0 * m.size.points = omega arith in subst (λ n. Laid (take n m.cells) rest rest) none refl
+laid_profiles m zero rest whole inside = let none : 0 ≡ 0 * m.size.points = omega arith in subst (λ n. Laid m.data_type (take n m.cells) rest rest) none refl
 laid_profiles m (suc y) rest whole inside =
     let size = length-profile m y whole (omega arith) in
     let some = whole.size.some_points in
-    let before = laid_profiles m y (spaced (profile m y) ++ 10 ∷ rest) whole (omega arith) in
-    let row = laid_filled (profile m y) (gaps_after y) rest (omega (arith, size, some)) (are_gaps y) in
-    let text : (profile_lines m y ++ line (spaced (profile m y))) ++ rest ≡ profile_lines m y ++ (spaced (profile m y) ++ 10 ∷ rest) =
-    append_assoc (profile_lines m y) (line (spaced (profile m y))) rest ∙ ap (λ (t : List ℕ). profile_lines m y ++ t) (append_assoc (spaced (profile m y)) (10 ∷ []) rest) in
+    let before = laid_profiles m y (spaced m.data_type (profile m y) ++ 10 ∷ rest) whole (omega arith) in
+    let row = laid_filled m.data_type (profile m y) (gaps_after y) rest (omega (arith, size, some)) (are_gaps y) in
+    let text : (profile_lines m y ++ line (spaced m.data_type (profile m y))) ++ rest ≡ profile_lines m y ++ (spaced m.data_type (profile m y) ++ 10 ∷ rest) =
+    append_assoc (profile_lines m y) (line (spaced m.data_type (profile m y))) rest ∙ ap (λ (t : List ℕ). profile_lines m y ++ t) (append_assoc (spaced m.data_type (profile m y)) (10 ∷ []) rest) in
     let count : suc y * m.size.points ≡ y * m.size.points + m.size.points = omega arith in
     let width : y * m.size.points + m.size.points - y * m.size.points ≡ m.size.points = omega arith in
     let cells : take (suc y * m.size.points) m.cells ≡ take (y * m.size.points) m.cells ++ profile m y =
     ap (λ n. take n m.cells) count ∙ take-add (y * m.size.points) m.size.points m.cells
     ∙ ap (λ n. take (y * m.size.points) m.cells ++ take n (drop (y * m.size.points) m.cells)) (sym width) in
-    let laid = laid_append (take (y * m.size.points) m.cells) (profile m y) (profile_lines m y ++ (spaced (profile m y) ++ 10 ∷ rest))
-    (gaps_after y ++ (spaced (profile m y) ++ 10 ∷ rest)) (10 ∷ rest) before row in
-    subst (λ (t : List ℕ). Laid (take (suc y * m.size.points) m.cells) t (10 ∷ rest)) (sym text)
-    (subst (λ (cs : List Cell). Laid cs (profile_lines m y ++ (spaced (profile m y) ++ 10 ∷ rest)) (10 ∷ rest)) (sym cells) laid)
+    let laid = laid_append m.data_type (take (y * m.size.points) m.cells) (profile m y) (profile_lines m y ++ (spaced m.data_type (profile m y) ++ 10 ∷ rest))
+    (gaps_after y ++ (spaced m.data_type (profile m y) ++ 10 ∷ rest)) (10 ∷ rest) before row in
+    subst (λ (t : List ℕ). Laid m.data_type (take (suc y * m.size.points) m.cells) t (10 ∷ rest)) (sym text)
+    (subst (λ (cs : List Cell). Laid m.data_type cs (profile_lines m y ++ (spaced m.data_type (profile m y) ++ 10 ∷ rest)) (10 ∷ rest)) (sym cells) laid)
 
 -- the cells of a map are read from its lines
-pub cells_read : (m : Map) (rest : List ℕ) → IsMap m
+pub cells_read : (m : Map) (rest : List ℕ) → IsMap m → IsWholeType m.data_type
     → cells_from (least_height m.data_type) (greatest_height m.data_type) 0 (m.size.profiles * m.size.points) (profile_lines m m.size.profiles ++ rest)
     ≡ Ok (record { cells = m.cells; rest = gaps_after m.size.profiles ++ rest })
-cells_read m rest whole =
+cells_read m rest whole type =
     let all : take (m.size.profiles * m.size.points) m.cells ≡ m.cells = take_all (m.size.profiles * m.size.points) m.cells (omega (arith, whole.cells)) in
     let laid = laid_profiles m m.size.profiles rest whole (omega arith) in
-    let of_all = subst (λ (cs : List Cell). Laid cs (profile_lines m m.size.profiles ++ rest) (gaps_after m.size.profiles ++ rest)) all laid in
+    let of_all = subst (λ (cs : List Cell). Laid m.data_type cs (profile_lines m m.size.profiles ++ rest) (gaps_after m.size.profiles ++ rest)) all laid in
     ap (λ n. cells_from (least_height m.data_type) (greatest_height m.data_type) 0 n (profile_lines m m.size.profiles ++ rest)) (sym whole.cells)
-    ∙ cells_laid m.data_type m.cells 0 (profile_lines m m.size.profiles ++ rest) (gaps_after m.size.profiles ++ rest) (all_fit m.data_type m.cells whole.heights) of_all
+    ∙ cells_laid m.data_type m.cells 0 (profile_lines m m.size.profiles ++ rest) (gaps_after m.size.profiles ++ rest) type (all_fit m.data_type m.cells whole.heights) of_all
 
 -- a trailer between LFs
 trailer_trims : (trailer : List ℕ) → bytes_eq (trimmed_by is_gap trailer) trailer ≡ true → trimmed_by is_gap (10 ∷ cond (eqb (length trailer) 0) [] (line trailer)) ≡ trailer

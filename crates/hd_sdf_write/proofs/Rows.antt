@@ -6,17 +6,18 @@ use Rattle.std.proofs.lemmas.List.{get_or-drop, get_or-take, take_more}
 use Rattle.std.proofs.lemmas.List.Concat.{flat_map-append}
 use Rattle.hd_map.specs.declared.types.Cell.{Cell}
 use Rattle.hd_map.specs.declared.types.Cell.TheVariants.{Bad}
+use Rattle.hd_map.specs.declared.types.DataType.{DataType}
 use Rattle.hd_map.specs.declared.types.Pos.{Pos}
 use Rattle.hd_map.specs.Map.{IsMap, Map, cell_at}
 use Rattle.hd_sdf_write.specs.Canonical.{cell_text, line, profile, profile_lines, spaced}
 
 -- one more datum behind others
-spaced_push : (cells : List Cell) (cell : Cell) → 0 < length cells → spaced (cells ++ cell ∷ []) ≡ (spaced cells ++ 32 ∷ []) ++ cell_text cell
-spaced_push [] cell some = absurd (omega arith)
-spaced_push (first ∷ cells) cell some =
-    ap (λ t. cell_text first ++ t) (flat_map-append (λ c. 32 ∷ cell_text c) cells (cell ∷ []) ∙ ap (λ t. flat_map (λ c. 32 ∷ cell_text c) cells ++ (32 ∷ t)) (append-nil (cell_text cell)))
-    ∙ sym (append_assoc (cell_text first) (flat_map (λ c. 32 ∷ cell_text c) cells) (32 ∷ cell_text cell))
-    ∙ sym (append_assoc (spaced (first ∷ cells)) (32 ∷ []) (cell_text cell))
+spaced_push : (data_type : DataType) (cells : List Cell) (cell : Cell) → 0 < length cells → spaced data_type (cells ++ cell ∷ []) ≡ (spaced data_type cells ++ 32 ∷ []) ++ cell_text data_type cell
+spaced_push data_type [] cell some = absurd (omega arith)
+spaced_push data_type (first ∷ cells) cell some =
+    ap (λ t. cell_text data_type first ++ t) (flat_map-append (λ c. 32 ∷ cell_text data_type c) cells (cell ∷ []) ∙ ap (λ t. flat_map (λ c. 32 ∷ cell_text data_type c) cells ++ (32 ∷ t)) (append-nil (cell_text data_type cell)))
+    ∙ sym (append_assoc (cell_text data_type first) (flat_map (λ c. 32 ∷ cell_text data_type c) cells) (32 ∷ cell_text data_type cell))
+    ∙ sym (append_assoc (spaced data_type (first ∷ cells)) (32 ∷ []) (cell_text data_type cell))
 
 -- a profile has as many cells as it has points
 pub length-profile : (m : Map) (y : ℕ) → IsMap m → y < m.size.profiles → length (profile m y) ≡ m.size.points
@@ -27,18 +28,18 @@ length-profile m y whole inside =
 
 -- one more cell of a profile
 pub row_more : (m : Map) (x y : ℕ) (p : Pos) (cell : Cell) → IsMap m → 0 < x → x < m.size.points → y < m.size.profiles → p ≡ record { x = x; y = y } → cell ≡ cell_at m p
-    → spaced (take (x + 1) (profile m y)) ≡ (spaced (take x (profile m y)) ++ 32 ∷ []) ++ cell_text cell
+    → spaced m.data_type (take (x + 1) (profile m y)) ≡ (spaced m.data_type (take x (profile m y)) ++ 32 ∷ []) ++ cell_text m.data_type cell
 row_more m x y p cell whole some inside below at is =
     let size = length-profile m y whole below in
     let start : ℕ = y * m.size.points in
     let here : get_or (profile m y) x Bad ≡ cell =
     get_or-take (start + m.size.points - start) (drop start m.cells) x Bad (omega arith) ∙ get_or-drop start m.cells x Bad ∙ sym (is ∙ ap (cell_at m) at) in
-    ap spaced (take_more (profile m y) x Bad (omega arith) ∙ ap (λ c. take x (profile m y) ++ c ∷ []) here)
-    ∙ spaced_push (take x (profile m y)) cell (omega (arith, length-take x (profile m y)))
+    ap (spaced m.data_type) (take_more (profile m y) x Bad (omega arith) ∙ ap (λ c. take x (profile m y) ++ c ∷ []) here)
+    ∙ spaced_push m.data_type (take x (profile m y)) cell (omega (arith, length-take x (profile m y)))
 
 -- the first datum of a profile, as it is written
 pub row_first : (m : Map) (y : ℕ) (cell : Cell) → IsMap m → y < m.size.profiles → cell ≡ cell_at m (record { x = 0; y = y })
-    → (out after : List ℕ) → after ≡ out ++ cell_text cell → after ≡ out ++ spaced (take 1 (profile m y))
+    → (out after : List ℕ) → after ≡ out ++ cell_text m.data_type cell → after ≡ out ++ spaced m.data_type (take 1 (profile m y))
 row_first m y cell whole below is out after more =
     let size = length-profile m y whole below in
     let some = whole.size.some_points in
@@ -46,14 +47,14 @@ row_first m y cell whole below is out after more =
     let here : get_or (profile m y) 0 Bad ≡ cell =
     get_or-take (start + m.size.points - start) (drop start m.cells) 0 Bad (omega (arith, some)) ∙ get_or-drop start m.cells 0 Bad ∙ sym is in
     let one : take 1 (profile m y) ≡ cell ∷ [] = take_more (profile m y) 0 Bad (omega (arith, size, some)) ∙ ap (λ c. c ∷ []) here in
-    more ∙ ap (λ t. out ++ t) (sym (ap spaced one ∙ append-nil (cell_text cell)))
+    more ∙ ap (λ t. out ++ t) (sym (ap (spaced m.data_type) one ∙ append-nil (cell_text m.data_type cell)))
 
 -- one more profile
-pub profiles_more : (m : Map) (y : ℕ) (before out after : List ℕ) → before ≡ out ++ profile_lines m y → after ≡ (before ++ spaced (profile m y)) ++ line [] → after ≡ out ++ profile_lines m (y + 1)
+pub profiles_more : (m : Map) (y : ℕ) (before out after : List ℕ) → before ≡ out ++ profile_lines m y → after ≡ (before ++ spaced m.data_type (profile m y)) ++ line [] → after ≡ out ++ profile_lines m (y + 1)
 unfolding profile_lines
 profiles_more m y before out after so_far more =
     let step : y + 1 ≡ suc y = omega arith in
-    rw (step, more, so_far) (append_assoc (out ++ profile_lines m y) (spaced (profile m y)) (line []) ∙ append_assoc out (profile_lines m y) (spaced (profile m y) ++ line [])
+    rw (step, more, so_far) (append_assoc (out ++ profile_lines m y) (spaced m.data_type (profile m y)) (line []) ∙ append_assoc out (profile_lines m y) (spaced m.data_type (profile m y) ++ line [])
     ∙ ap (λ t. out ++ (profile_lines m y ++ t)) refl)
 
 -- no profile yet
@@ -63,9 +64,9 @@ profiles_none m out = sym (append-nil out)
 
 -- one more datum of a profile, as it is written
 pub row_step : (m : Map) (x y : ℕ) (cell : Cell) → IsMap m → 0 < x → x < m.size.points → y < m.size.profiles → cell ≡ cell_at m (record { x = x; y = y })
-    → (out before middle after : List ℕ) → before ≡ out ++ spaced (take x (profile m y)) → middle ≡ before ++ 32 ∷ [] → after ≡ middle ++ cell_text cell → after ≡ out ++ spaced (take (x + 1) (profile m y))
+    → (out before middle after : List ℕ) → before ≡ out ++ spaced m.data_type (take x (profile m y)) → middle ≡ before ++ 32 ∷ [] → after ≡ middle ++ cell_text m.data_type cell → after ≡ out ++ spaced m.data_type (take (x + 1) (profile m y))
 row_step m x y cell whole some inside below is out before middle after so_far space datum =
-    let row : List ℕ = spaced (take x (profile m y)) in
+    let row : List ℕ = spaced m.data_type (take x (profile m y)) in
     let more = row_more m x y (record { x = x; y = y }) cell whole some inside below refl is in
-    let text : after ≡ ((out ++ row) ++ 32 ∷ []) ++ cell_text cell = rw (datum, space, so_far) refl in
-    text ∙ ap (λ t. t ++ cell_text cell) (append_assoc out row (32 ∷ [])) ∙ append_assoc out (row ++ 32 ∷ []) (cell_text cell) ∙ ap (λ t. out ++ t) (sym more)
+    let text : after ≡ ((out ++ row) ++ 32 ∷ []) ++ cell_text m.data_type cell = rw (datum, space, so_far) refl in
+    text ∙ ap (λ t. t ++ cell_text m.data_type cell) (append_assoc out row (32 ∷ [])) ∙ append_assoc out (row ++ 32 ∷ []) (cell_text m.data_type cell) ∙ ap (λ t. out ++ t) (sym more)

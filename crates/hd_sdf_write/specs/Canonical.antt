@@ -1,11 +1,13 @@
 -- The canonical text of an SDF file.
 use Rattle.std.specs.Prelude.{◌+◌, ◌*◌, ◌==◌, ◌++◌, ℕ, zero, suc, List, [], ◌∷◌, length, slice_range, if◌then◌else◌, codes}
-use Rattle.std.specs.Fmt.{decimal, signed_decimal}
+use Rattle.std.specs.Fmt.{decimal}
 use Rattle.std.specs.List.{flat_map}
 use Rattle.hd_map.specs.declared.types.Cell.{Cell}
 use Rattle.hd_map.specs.declared.types.Cell.TheVariants.{Height, Bad}
-use Rattle.hd_map.specs.Map.{Map, code_of}
+use Rattle.hd_map.specs.declared.types.DataType.{DataType}
+use Rattle.hd_map.specs.Map.{Map, code_of, places_of}
 use Rattle.hd_map.specs.Sets.{unmasked as unmasked_map}
+use Rattle.hd_num.specs.Steps.{steps_text}
 use Rattle.hd_sdf_read.specs.declared.file.Extra.{Extra}
 use Rattle.hd_sdf_read.specs.declared.file.Version.{Version}
 use Rattle.hd_sdf_read.specs.declared.file.Version.TheVariants.{Bcr, Iso}
@@ -53,15 +55,16 @@ encoding_lines f = entry_line (codes "Compression") (codes "0")
 abbrev pub extra_lines : List Extra → List ℕ
 extra_lines extra = flat_map (λ e. entry_line e.key e.value) extra
 
--- a datum: the height, or `BAD` where none was measured. Masks are not written
-abbrev pub cell_text : Cell → List ℕ
-cell_text (Height h) = signed_decimal h
-cell_text Bad = codes "BAD"
+-- a datum of a type: the height, with the decimal places of the type, or `BAD` where none was measured. Masks are
+-- not written
+abbrev pub cell_text : DataType → Cell → List ℕ
+cell_text t (Height h) = steps_text h (places_of t)
+cell_text t Bad = codes "BAD"
 
--- data with one space between each two
-abbrev pub spaced : List Cell → List ℕ
-spaced [] = []
-spaced (cell ∷ cells) = cell_text cell ++ flat_map (λ c. 32 ∷ cell_text c) cells
+-- data of a type with one space between each two
+abbrev pub spaced : DataType → List Cell → List ℕ
+spaced t [] = []
+spaced t (cell ∷ cells) = cell_text t cell ++ flat_map (λ c. 32 ∷ cell_text t c) cells
 
 -- the cells of a profile
 abbrev pub profile : Map → ℕ → List Cell
@@ -70,7 +73,7 @@ profile m y = slice_range m.cells (y * m.size.points) (y * m.size.points + m.siz
 -- the lines of so many profiles, one for each
 unfoldable pub profile_lines : Map → ℕ → List ℕ
 profile_lines m zero = []
-profile_lines m (suc y) = profile_lines m y ++ line (spaced (profile m y))
+profile_lines m (suc y) = profile_lines m y ++ line (spaced m.data_type (profile m y))
 
 -- the end of the data, and the trailer where there is one
 unfoldable pub end_lines : List ℕ → List ℕ

@@ -14,7 +14,9 @@ use std::alloc::Global;
 /// The canonical text of a file: the version; the twelve known keys in their order and spelling, as
 /// `Key = value`, or `Key =` where the value is empty; the extra keys in their order; `*`; a line
 /// for each profile; `*`; and the trailer where there is one. An LF ends each line. Texts and
-/// decimals stand as they were read, whole numbers in plain digits. Masks are not written.
+/// decimals of keys stand as they were read, whole numbers in plain digits. A height of type 3 or 7
+/// is `-` where it is negative, the whole part of its value in plain digits, and, where the type has
+/// decimal places, `.` and that many digits. Masks are not written.
 ///
 /// `Memory` comes where the text is refused its memory.
 #[tactic(auto, unfolding(crate::specs::Canonical::canonical))]

@@ -36,6 +36,7 @@ impl Profile {
     }
 
     /// Takes the points of a profile of the grid. Past the last one none is present.
+    #[inline]
     pub fn take<S: Side, G: Heights>(&mut self, grid: &G, y: u32)
         requires profile { y ≤ (G.map grid.now).size.profiles }
         requires room { IsRoom (G.map grid.now) S.NAME self.old }

@@ -38,16 +38,14 @@ fn each_setting_has_its_regions_and_saddles(rt: HostRuntime) -> Result<(), Fail>
 // The surface of the last case, turned by a quarter.
 #[test]
 fn six_neighbours_are_not_their_mirror_image(rt: HostRuntime) -> Result<(), Fail> {
-    let cases = [
-        Case {
-            points: 3,
-            profiles: 3,
-            data: "7 2 3\n9 5 9\n1 9 8",
-            script: "neighbours 6\ndales\nneighbours 4\ndales\nneighbours 8\ndales\n",
-            status: Status::Done,
-            printed: "line 1 ok\ndales 2\ndale 1 0 2 6\ndale 0 2 1 3\nline 3 ok\ndales 3\ndale 1 0 2 5\ndale 0 2 1 3\ndale 2 2 8 1\nline 5 ok\ndales 2\ndale 1 0 2 4\ndale 0 2 1 5\n",
-        },
-    ];
+    let cases = [Case {
+        points: 3,
+        profiles: 3,
+        data: "7 2 3\n9 5 9\n1 9 8",
+        script: "neighbours 6\ndales\nneighbours 4\ndales\nneighbours 8\ndales\n",
+        status: Status::Done,
+        printed: "line 1 ok\ndales 2\ndale 1 0 2 6\ndale 0 2 1 3\nline 3 ok\ndales 3\ndale 1 0 2 5\ndale 0 2 1 3\ndale 2 2 8 1\nline 5 ok\ndales 2\ndale 1 0 2 4\ndale 0 2 1 5\n",
+    }];
     expect_all(&rt, &cases)
 }
 

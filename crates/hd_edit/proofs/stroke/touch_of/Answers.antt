@@ -2,18 +2,13 @@ use Rattle.std.proofs.Common.{ℤ, ◌+ℤ◌, FitsSigned, w64, refl, arith, rul
 use Rattle.std.proofs.lemmas.Int.{ints, to_z-of_z}
 use Rattle.hd_map.specs.declared.types.Cell.TheVariants.{Height}
 use Rattle.hd_map.specs.declared.types.DataType.{DataType}
-use Rattle.hd_map.specs.declared.types.DataType.TheVariants.{U8, U16, U32, I8, I16, I32}
 use Rattle.hd_map.specs.Map.{IsCellOf}
+use Rattle.hd_edit.proofs.DataTypes.{height_limits}
 use Rattle.hd_edit.proofs.stroke.touch_of.Goals as goal
 
 -- a height of a data type fits 64 bits
 fits_long : (t : DataType) (z : ℤ) → IsCellOf t (Height z) → FitsSigned w64 z
-fits_long U8 z is = let within = is z refl in omega (arith, ints, within.0, within.1)
-fits_long U16 z is = let within = is z refl in omega (arith, ints, within.0, within.1)
-fits_long U32 z is = let within = is z refl in omega (arith, ints, within.0, within.1)
-fits_long I8 z is = let within = is z refl in omega (arith, ints, within.0, within.1)
-fits_long I16 z is = let within = is z refl in omega (arith, ints, within.0, within.1)
-fits_long I32 z is = let within = is z refl in omega (arith, ints, within.0, within.1)
+fits_long t z is = let limits = height_limits t (Height z) z is refl in omega (arith, ints, limits.0, limits.1, limits.2)
 
 pub returns-in-None : goal.returns-in-None
 returns-in-None c =

@@ -1,5 +1,6 @@
 use Rattle.std.proofs.Common.{arith}
 use Rattle.hd_morph.specs.Filter.{Erosion}
+use Rattle.hd_morph.specs.Plain.{most_height, most_between}
 use Rattle.hd_morph.specs.Raised.{ArePlainlyFiltered}
 use Rattle.hd_morph.proofs.Settling.{plain_more}
 use Rattle.hd_morph.proofs.Listing.{filters_heights}
@@ -8,7 +9,7 @@ use Rattle.hd_morph.proofs.heights.eroded_heights.Goals as goal
 pub eroded-requires-clause-heights : goal.eroded-requires-clause-heights
 eroded-requires-clause-heights g c =
     let m = g.G.Heights.map c.args.grid.now in
-    rw (c.deref_mut.ensures.value, c.size.ensures) (plain_more m.size 4294967295 8589934590 c.in_ok-heights.heights.items (omega arith) c.in_ok-heights.ensures.plain)
+    rw (c.deref_mut.ensures.value, c.size.ensures) (plain_more m.size most_height most_between c.in_ok-heights.heights.items (omega arith) c.in_ok-heights.ensures.plain)
 
 pub returns : goal.returns
 returns g c =

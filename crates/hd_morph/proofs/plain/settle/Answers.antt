@@ -1,5 +1,6 @@
 use Rattle.std.proofs.Common.{pos, get_or, refl, arith, rules, SFits, w64}
 use Rattle.std.proofs.lemmas.Int.{to_z-of_z}
+use Rattle.hd_morph.specs.Plain.{most_filtered}
 use Rattle.hd_morph.proofs.PlainLemmas.{settled_more, topped_read}
 use Rattle.hd_morph.proofs.plain.settle.Goals as goal
 
@@ -11,7 +12,7 @@ settled-requires-clause-topped c =
     let height : SFits w64 (get_or c.args.heights.now c.loop-place.place (pos 0)) = search rules in
     let top : SFits w64 (get_or c.loop-place.tops c.loop-place.place (pos 0)) = search rules in
     rw (to_z-of_z w64 _ height, to_z-of_z w64 _ top)
-    (λ z is. topped_read 17179869184 c.args.heights.now c.args.tops.now c.loop-place.tops _ c.loop-place.place z (omega arith) c.requires.topped c.loop-place.invariant is)
+    (λ z is. topped_read most_filtered c.args.heights.now c.args.tops.now c.loop-place.tops _ c.loop-place.place z (omega arith) c.requires.topped c.loop-place.invariant is)
 
 pub loop-place-preserved : goal.loop-place-preserved
 loop-place-preserved c =

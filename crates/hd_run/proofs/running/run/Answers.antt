@@ -1,6 +1,7 @@
 use Rattle.std.proofs.Common.{◌≡◌, ◌∷◌, [], ◌∙◌, Some, Ok, codes, inl, inr, sym, ap, refl}
 use Rattle.std.specs.Option.{option_copied}
 use Rattle.std.proofs.KnownBytes.{Keeps-refl}
+use Rattle.hd_map.specs.SurfaceLaws.{surface-whole}
 use Rattle.hd_num.specs.Lines.{lines_of}
 use Rattle.hd_sdf_read.specs.FileOf.{file_of}
 use Rattle.hd_words.specs.Words.{run_request_of}
@@ -32,7 +33,7 @@ returns-in_default-clause-told g c = λ bytes second told named.
     let file = file_of c.in-Ok.file in
     let lines = lines_of c.as_slice.result.now in
     let dales : lines ≡ codes "dales" ∷ [] = ap lines_of c.as_slice.ensures in
-    run_answered request bytes second c.answers_are_determined.ensures (record { file = file; lines = lines }) (c.answer_keeps_a_state.ensures.first file c.in-Ok.file.surface.whole)
+    run_answered request bytes second c.answers_are_determined.ensures (record { file = file; lines = lines }) (c.answer_keeps_a_state.ensures.first file (surface-whole c.in-Ok.file.surface))
     (inputs_of-ok request bytes second file lines (c.in-Ok.ensures.told bytes told) (lines_to_answer-none request.script second (ap option_copied c.in_default.is) ∙ ap Ok (sym dales)))
     _ _ c.answer_all.result (g.W.Sink.written c.args.out.now) (g.W.Sink.written c.answer_all.new.out) c.answer_all.ensures.answers
 
@@ -70,7 +71,7 @@ returns-clause-told g c = λ bytes second told named.
     let script = c.in-Ok-read_second.ensures.told second (named c.in-Some.name.now name_is) in
     let lines = lines_of c.as_slice-2.result.now in
     let lines_is : lines ≡ lines_of second = ap lines_of (c.as_slice-2.ensures ∙ script.1) in
-    run_answered request bytes second c.answers_are_determined.ensures (record { file = file; lines = lines }) (c.answer_keeps_a_state.ensures.first file c.in-Ok.file.surface.whole)
+    run_answered request bytes second c.answers_are_determined.ensures (record { file = file; lines = lines }) (c.answer_keeps_a_state.ensures.first file (surface-whole c.in-Ok.file.surface))
     (inputs_of-ok request bytes second file lines (c.in-Ok.ensures.told bytes told) (lines_to_answer-fits request.script c.in-Some.name.now second name_is script.0 ∙ ap Ok (sym lines_is)))
     _ _ c.answer_all-2.result (g.W.Sink.written c.args.out.now) (g.W.Sink.written c.answer_all-2.new.out) c.answer_all-2.ensures.answers
 

@@ -38,8 +38,8 @@ returns-in-Six g c =
     lows_six m side y y (omega arith, omega arith) whole c.args.self.now.ranks.items is.ranks six 0 (omega arith) (omega arith) (take c.len-width.result pairs)
     (length-take-le c.len-width.result pairs (omega (arith, long, width)) ∙ width)
     (λ x below. (let inside : x < c.len-width.result = subst (λ n. x < n) (length-take-le c.len-width.result pairs (omega (arith, long, width))) below in
-        up_to pairs c.len-width.result x inside ∙ ap (λ ps. rank_in ps x) c.deref-in-Six.ensures.value ∙ two x (let l = is.room.pairs in omega (arith, inside, width, l))
-        ∙ ap (λ k. lower_of side (rank_in c.args.self.now.ranks.items k) (rank_in c.args.self.now.ranks.items (k + 1))) (let e : x ≡ x + 0 = omega arith in e)))
+    up_to pairs c.len-width.result x inside ∙ ap (λ ps. rank_in ps x) c.deref-in-Six.ensures.value ∙ two x (let l = is.room.pairs in omega (arith, inside, width, l))
+    ∙ ap (λ k. lower_of side (rank_in c.args.self.now.ranks.items k) (rank_in c.args.self.now.ranks.items (k + 1))) (let e : x ≡ x + 0 = omega arith in e)))
 
 pub returns-in-Eight : goal.returns-in-Eight
 returns-in-Eight g c =

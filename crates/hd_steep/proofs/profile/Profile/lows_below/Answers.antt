@@ -37,7 +37,7 @@ returns-in-Six g c =
     let rest : length (take count (drop 1 pairs)) ≡ count = length-take-le count (drop 1 pairs) (let d = length-drop {A = Rank} 1 pairs in omega (arith, d)) in
     lows_six m side y (y + 2) (omega arith, omega arith) whole c.args.self.now.ranks.items is.ranks six 1 (omega arith) (omega arith) (take count (drop 1 pairs)) (rest ∙ (omega (arith, long)))
     (λ x below. (let inside : x < count = subst (λ n. x < n) rest below in
-        after_first pairs count x inside ∙ ap (λ ps. rank_in ps (x + 1)) c.deref-in-Six.ensures.value ∙ two (x + 1) (let l = is.room.pairs in omega (arith, inside, long, l))))
+    after_first pairs count x inside ∙ ap (λ ps. rank_in ps (x + 1)) c.deref-in-Six.ensures.value ∙ two (x + 1) (let l = is.room.pairs in omega (arith, inside, long, l))))
 
 pub returns-in-Eight : goal.returns-in-Eight
 returns-in-Eight g c =

@@ -1,0 +1,36 @@
+// How far a height is over the least one of its data type.
+ghost use Rattle.std.specs.Prelude.{◌≡◌, ◌<◌, ◌^◌};
+
+/// How far a height is over the least one of its data type, which is less than 2 ^ 56, in seven bytes,
+/// the lowest first.
+// Bytes, since the alignment of a wider number would make a change take 16 or 24 of them in place of 12.
+#[derive(Clone, Copy)]
+pub struct OverLeast {
+    bytes: [u8; 7],
+}
+
+impl OverLeast {
+    ghost use Rattle.hd_edit.specs.Over.{number_of};
+
+    /// The bytes of a number.
+    #[inline]
+    pub fn new(number: u64) -> OverLeast
+        requires { number < 2 ^ 56 }
+        ensures { number_of result ≡ number }
+    {
+        let all = number.to_le_bytes();
+        OverLeast {
+            bytes: [all[0], all[1], all[2], all[3], all[4], all[5], all[6]],
+        }
+    }
+
+    /// The number of which these are the bytes.
+    #[inline]
+    pub fn number(self) -> u64
+        ensures number { result ≡ number_of self }
+        ensures small { result < 2 ^ 56 }
+    {
+        let [a, b, c, d, e, f, g] = self.bytes;
+        u64::from_le_bytes([a, b, c, d, e, f, g, 0])
+    }
+}

@@ -1,9 +1,0 @@
-use Rattle.std.proofs.Common.{sym, ◌∙◌}
-use Rattle.hd_map.proofs.Packed.{bad_read}
-use Rattle.hd_map.proofs.surface.SurfaceGrid.cell.Goals as goal
-
-pub returns-else-is_measured : goal.returns-else-is_measured
-returns-else-is_measured c =
-    let s = c.args.self.now in
-    let index = c.index_of-index in
-    sym (bad_read s.size s.data_type s.heights.items s.marks.items s.adjacency s.paired s.whole c.args.at index.result index.ensures.value index.ensures.in_map c.index.result.now c.index.ensures (sym c.is_measured.ensures ∙ c.if-is_measured.false))

@@ -1,0 +1,17 @@
+use Rattle.std.proofs.Common.{rules, pos, sym, subst}
+use Rattle.hd_map.specs.Map.{IsMap}
+use Rattle.hd_map.specs.Packing.{as_it_is}
+use Rattle.hd_map.proofs.Packed.{unmeasured_is, unmeasured_whole}
+use Rattle.hd_map.proofs.wide.Wide.unmeasured.Goals as goal
+
+pub invariant_of-result-clause-paired : goal.invariant_of-result-clause-paired
+invariant_of-result-clause-paired c = search rules
+
+pub invariant_of-result-clause-whole : goal.invariant_of-result-clause-whole
+invariant_of-result-clause-whole c =
+    let heights = c.in_ok-vec.field-0.items in
+    let marks = c.in_ok-vec-2.field-0.items in
+    subst IsMap (sym (unmeasured_is as_it_is (pos 0) c.args.size c.args.data_type heights marks (c.in_ok-vec.ensures.items_if_clones_equal (λ _ e. e)) (c.in_ok-vec-2.ensures.items_if_clones_equal (λ _ e. e)))) (unmeasured_whole c.args.size c.args.data_type c.requires.limits c.requires.places)
+
+pub returns : goal.returns
+returns c = unmeasured_is as_it_is (pos 0) c.args.size c.args.data_type c.in_ok-vec.field-0.items c.in_ok-vec-2.field-0.items (c.in_ok-vec.ensures.items_if_clones_equal (λ _ e. e)) (c.in_ok-vec-2.ensures.items_if_clones_equal (λ _ e. e))

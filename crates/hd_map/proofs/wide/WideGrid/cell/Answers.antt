@@ -1,0 +1,10 @@
+use Rattle.std.proofs.Common.{pos, sym, ◌∙◌}
+use Rattle.hd_map.specs.Packing.{as_it_is}
+use Rattle.hd_map.proofs.Packed.{bad_read}
+use Rattle.hd_map.proofs.wide.WideGrid.cell.Goals as goal
+
+pub returns-else-is_measured : goal.returns-else-is_measured
+returns-else-is_measured c =
+    let s = c.args.self.now in
+    let index = c.index_of-index in
+    sym (bad_read as_it_is s.size s.data_type s.heights.items s.marks.items s.adjacency s.paired s.whole c.args.at index.result index.ensures.value index.ensures.in_map c.index.result.now c.index.ensures (pos 0) (sym c.is_measured.ensures ∙ c.if-is_measured.false))

@@ -1,0 +1,180 @@
+// A surface whose heights take four bytes each.
+ghost use Rattle.std.specs.Prelude.{◌≡◌, IfOk, length, replicate, false};
+ghost use Rattle.hd_map.specs.Map.{IsSize, IsMap, IsNarrow, cell_count, least_height};
+ghost use Rattle.hd_map.specs.Packing.{kept_map, over_least};
+
+use crate::mark::{Mark, unmasked_marks};
+use crate::packing::pack_narrow;
+use crate::{
+    Adjacency, Cell, Cells, DataType, Grid, Heights, MapError, Pos, Size, contains, index_of,
+    is_cell_of, least_of,
+};
+use hd_list::Memory;
+use std::alloc::Global;
+
+/// A surface whose data type has heights that four bytes tell apart. As measured, a point takes five
+/// bytes: four for its height and one for its mark.
+#[derive(Debug, Drop)]
+pub struct Narrow {
+    size: Size,
+    data_type: DataType,
+    least: i64,
+    heights: Vec<u32>,
+    marks: Vec<Mark>,
+    adjacency: Adjacency,
+    ghost is_least: { least ≡ least_height data_type },
+    ghost narrow: { IsNarrow data_type },
+    ghost paired: { length heights.items ≡ length marks.items },
+    ghost whole: { IsMap (kept_map (over_least data_type) size data_type heights.items marks.items adjacency) },
+}
+
+impl Narrow {
+    ghost use Rattle.hd_map.specs.Cells.{cells_in};
+    ghost use Rattle.hd_map.specs.declared.types.Adjacency.TheVariants.{Eight};
+    ghost use Rattle.hd_map.specs.Layouts.{narrow_map};
+    ghost use Rattle.hd_map.specs.Sets.{unmasked, unmeasured_map};
+
+    /// A surface with these cells, none of them masked, and with eight neighbours.
+    ///
+    /// Both sizes are from 1 to 65,535 with at most 4,194,304 cells, and there are as many cells as
+    /// the size says.
+    pub fn new(size: Size, cells: Cells) -> Narrow
+        requires limits { IsSize size }
+        requires whole { length (cells_in cells) ≡ cell_count size }
+        ensures { narrow_map result ≡ record { size = size; data_type = cells.data_type; cells = cells_in cells; masks = replicate (cell_count size) false; adjacency = Eight } }
+    {
+        let Cells {
+            data_type,
+            least,
+            heights,
+            marks,
+        } = cells;
+        Narrow {
+            size,
+            data_type,
+            least,
+            heights,
+            marks,
+            adjacency: Adjacency::Eight,
+        }
+    }
+
+    /// A surface on which no point is measured and none is masked, with eight neighbours.
+    ///
+    /// Both sizes are from 1 to 65,535 with at most 4,194,304 cells, and the data type is one whose
+    /// heights four bytes tell apart. `Memory` comes where the surface is refused its memory.
+    pub(crate) fn unmeasured(
+        alloc: Global,
+        size: Size,
+        data_type: DataType,
+    ) -> Result<Narrow, Memory>
+        requires limits { IsSize size }
+        requires narrow { IsNarrow data_type }
+        ensures { IfOk result (λ s. narrow_map s ≡ unmeasured_map size data_type) }
+    {
+        let count = size.profiles as usize * size.points as usize;
+        Ok(Narrow {
+            size,
+            data_type,
+            least: least_of(data_type),
+            heights: vec![in alloc; 0; count]?,
+            marks: vec![in alloc; Mark::Unmeasured; count]?,
+            adjacency: Adjacency::Eight,
+        })
+    }
+
+    /// A copy with the same cells, none of them masked, and with eight neighbours. `Memory` comes
+    /// where the copy is refused its memory.
+    pub fn without_masks(&self, alloc: Global) -> Result<Narrow, Memory>
+        ensures { IfOk result (λ s. narrow_map s ≡ unmasked (narrow_map self.now)) }
+    {
+        let heights = Vec::from_slice(alloc, self.heights.as_slice())?;
+        let marks = unmasked_marks(alloc, self.marks.as_slice())?;
+        Ok(Narrow {
+            size: self.size,
+            data_type: self.data_type,
+            least: self.least,
+            heights,
+            marks,
+            adjacency: Adjacency::Eight,
+        })
+    }
+}
+
+impl Heights for Narrow {
+    ghost use Rattle.hd_map.specs.Layouts.{narrow_map};
+
+    ghost map = { narrow_map };
+
+    ghost whole = { λ s. s.whole };
+
+    fn size(&self) -> Size {
+        self.size
+    }
+
+    fn adjacency(&self) -> Adjacency {
+        self.adjacency
+    }
+
+    fn height(&self, at: Pos) -> Option<i64> {
+        let index = index_of(self.size, at) as usize;
+        match self.marks[index] {
+            Mark::Shown => Some(self.least + self.heights[index] as i64),
+            _ => None,
+        }
+    }
+}
+
+impl Grid for Narrow {
+    ghost comes_from = { λ _ _. Unit {0} };
+
+    ghost changes = { λ _. 0 };
+
+    ghost itself = { λ _. tt };
+
+    ghost onward = { λ _ _ _ _ _. tt };
+
+    fn data_type(&self) -> DataType {
+        self.data_type
+    }
+
+    fn cell(&self, at: Pos) -> Cell {
+        let index = index_of(self.size, at) as usize;
+        if self.marks[index].is_measured() {
+            Cell::Height(self.least + self.heights[index] as i64)
+        } else {
+            Cell::Bad
+        }
+    }
+
+    fn masked(&self, at: Pos) -> bool {
+        self.marks[index_of(self.size, at) as usize].is_masked()
+    }
+
+    fn set_cell(&mut self, at: Pos, cell: Cell) -> Result<(), MapError> {
+        if !contains(self.size, at) {
+            return Err(MapError::Outside(at));
+        }
+        if !is_cell_of(self.data_type, cell) {
+            return Err(MapError::HeightRange(at));
+        }
+        let index = index_of(self.size, at) as usize;
+        let packed = pack_narrow(self.data_type, cell, self.marks[index].is_masked());
+        self.heights[index] = packed.number;
+        self.marks[index] = packed.mark;
+        Ok(())
+    }
+
+    fn set_mask(&mut self, at: Pos, masked: bool) -> Result<(), MapError> {
+        if !contains(self.size, at) {
+            return Err(MapError::Outside(at));
+        }
+        let index = index_of(self.size, at) as usize;
+        self.marks[index] = Mark::of(self.marks[index].is_measured(), masked);
+        Ok(())
+    }
+
+    fn set_adjacency(&mut self, adjacency: Adjacency) {
+        self.adjacency = adjacency;
+    }
+}
