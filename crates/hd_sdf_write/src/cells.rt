@@ -55,8 +55,8 @@ fn places_of(data_type: DataType) -> u8
     }
 }
 
-// Adds a datum of a type with so many decimal places.
-#[inline]
+// Adds a datum of a type with so many decimal places. Inlined, it passes no cell through memory.
+#[inline(always)]
 fn push_cell(out: &mut List<u8>, cell: Cell, places: u8) -> Result<(), Memory>
     requires { places ≤ most_places }
     ensures { (t : DataType) → places_of t ≡ places → OnOk result (out.new ≡ out.old ++ cell_text t cell) }
