@@ -14,7 +14,7 @@ use itoa::Buffer;
 /// are decimal places, `.` and that many digits. Without decimal places this is a whole number in
 /// plain digits, and it always reads back as the decimal of this value. Where memory is refused, a
 /// prefix of its text may stand there.
-#[inline]
+#[inline(always)]
 #[tactic(auto, using(crate::proofs::StepReads::reads_back))]
 pub fn push_steps(out: &mut List<u8>, steps: i64, places: u8) -> Result<(), Memory>
     requires { places ≤ 18 }
