@@ -142,6 +142,25 @@ def plateau(random):
     return [[None if edges[y][x] and random.random() < 0.6 else heights[y][x] + random.randint(-4, 4) for x in range(48)] for y in range(40)]
 
 
+def groove(random):
+    """A depth standard with one groove, 1.25 deep, in micrometres with four decimals as an interferometer gives them."""
+    def height(x, y):
+        floor = -1.25 if 9 <= x < 16 else -0.6 if x in (8, 16) else 0
+        return f'{floor + 0.0021 * y + random.gauss(0, 0.0012):.4f}'
+    rows = [[height(x, y) for x in range(24)] for y in range(8)]
+    rows[3][8] = rows[6][16] = None
+    return rows
+
+
+def write_in_decimals(name, rows):
+    """Writes a surface of decimals in micrometres, with the exponents and the keys of such an instrument."""
+    lines = INSTRUMENT_HEADER.replace('; bearing shell 12, upper half', '; depth standard 3').replace('DataType    = 6', 'DataType    = 7')
+    lines = lines.replace('Zscale      = 1.0E-009', 'Zscale      = 1.0E-006').format(points=len(rows[0]), profiles=len(rows)).splitlines()
+    lines += [' '.join('BAD' if z is None else z for z in row) for row in rows]
+    with open(name, 'wb') as out:
+        out.write(''.join(line + '\r\n' for line in lines + ['*']).encode())
+
+
 def main():
     folder = pathlib.Path(sys.argv[1] if len(sys.argv) > 1 else pathlib.Path(__file__).parent)
     for make in (profile, small, turned, ground, dimples, plateau, seal):
@@ -149,6 +168,7 @@ def main():
         scales = {'profile': ('1e-6', '1e-6'), 'small': ('1e-6', '1e-6'), 'turned': ('5e-6', '9e-6')}.get(make.__name__, ('2e-6', '2e-6'))
         write_surface(folder / f'{make.__name__}.sdf', make.__name__, scales, 5, len(rows[0]), len(rows), rows)
     write_as_instrument(folder / 'pockets.sdf', pockets(random.Random(2026)))
+    write_in_decimals(folder / 'groove.sdf', groove(random.Random(2026)))
 
 
 if __name__ == '__main__':

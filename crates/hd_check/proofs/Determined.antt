@@ -17,26 +17,26 @@ use Rattle.hd_check.specs.Rules.{point_of, FirstLeak, IsCutClosed, all_rules, Is
 abbrev pub IsDetermined : (Option Pos → Type 0) → Type 0
 IsDetermined R = (o o' : Option Pos) → R o → R o' → o ≡ o'
 
-asks_one : (P : Type 0) (at : Pos) → IsDetermined (Asks P at)
+pub asks_one : (P : Type 0) (at : Pos) → IsDetermined (Asks P at)
 asks_one P at None None h k = refl
 asks_one P at None (Some q) h k = absurd (k.1 h)
 asks_one P at (Some p) None h k = absurd (h.1 k)
 asks_one P at (Some p) (Some q) h k = ap Some (h.0 ∙ sym k.0)
 
 -- the first at which something fails is one
-first_one : (P : ℕ → Type 0) (j k : ℕ) → ((i : ℕ) → i < j → P i) → (P j → ⊥) → ((i : ℕ) → i < k → P i) → (P k → ⊥) → j ≡ k
+pub first_one : (P : ℕ → Type 0) (j k : ℕ) → ((i : ℕ) → i < j → P i) → (P j → ⊥) → ((i : ℕ) → i < k → P i) → (P k → ⊥) → j ≡ k
 first_one P j k before fails before' fails' = elim (cases_lt j k) [
   | inl less ↦ absurd (fails (before' j less))
   | inr more ↦ elim (cases_lt k j) [ inl less ↦ absurd (fails' (before k less)) | inr more' ↦ omega arith ]
 ]
 
-each_one : (P : ℕ → Type 0) (at : ℕ → Pos) (n : ℕ) → IsDetermined (AsksEach P at n)
+pub each_one : (P : ℕ → Type 0) (at : ℕ → Pos) (n : ℕ) → IsDetermined (AsksEach P at n)
 each_one P at n None None h k = refl
 each_one P at n None (Some q) h (j, inside, before, fails, is) = absurd (fails (h j inside))
 each_one P at n (Some p) None (j, inside, before, fails, is) k = absurd (fails (k j inside))
 each_one P at n (Some p) (Some q) (i, inside, before, fails, is) (j, inside', before', fails', is') = ap Some (is ∙ ap at (first_one P i j before fails before' fails') ∙ sym is')
 
-then_one : (A B : Option Pos → Type 0) → IsDetermined A → IsDetermined B → IsDetermined (Then A B)
+pub then_one : (A B : Option Pos → Type 0) → IsDetermined A → IsDetermined B → IsDetermined (Then A B)
 then_one A B a b None None h k = refl
 then_one A B a b None (Some q) h k = elim k [ inl x ↦ a None (Some q) h.0 x | inr y ↦ b None (Some q) h.1 y.1 ]
 then_one A B a b (Some p) None h k = elim h [ inl x ↦ a (Some p) None x k.0 | inr y ↦ b (Some p) None y.1 k.1 ]
@@ -76,7 +76,7 @@ AreDetermined (R ∷ Rs) = IsDetermined R × AreDetermined Rs
 no_no : (n n' : ℕ) (p q : Pos) → n ≡ n' → Some p ≡ Some q → No n p ≡ No n' q
 no_no n n' p q e f = cc
 
-tried_one : (n : ℕ) (Rs : List (Option Pos → Type 0)) → AreDetermined Rs → (v w : Verdict) → TriedFrom n Rs v → TriedFrom n Rs w → v ≡ w
+pub tried_one : (n : ℕ) (Rs : List (Option Pos → Type 0)) → AreDetermined Rs → (v w : Verdict) → TriedFrom n Rs v → TriedFrom n Rs w → v ≡ w
 tried_one n [] d Yes Yes h k = refl
 tried_one n [] d Yes (No r p) h k = absurd k
 tried_one n [] d (No r p) w h k = absurd h

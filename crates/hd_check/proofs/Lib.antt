@@ -1,14 +1,14 @@
--- hd_cert, which makes certificates, cites these
+-- hd_cert, which makes certificates, cites these, and hd_audit, which has certificates of another kind
 pub mod Searching
 pub mod Paths
 pub mod Pits
+pub mod Adding
+pub mod Determined
+pub mod ReadingSteps
+pub mod ReadsBack
 mod Pairs
 mod Leaks
 mod Verdicts
 mod Across
 mod Right
-mod Determined
-mod ReadingSteps
-mod Adding
 mod Parts
-mod ReadsBack

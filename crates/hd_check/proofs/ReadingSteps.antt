@@ -1,71 +1,71 @@
--- Reading so many points, and lines without words.
-use Rattle.std.proofs.Common.{◌≡◌, ◌≤◌, ◌<◌, ◌+◌, ◌-◌, ℕ, suc, List, [], ◌∷◌, ◌++◌, length, map, Ok, Err, refl, sym, ap, ◌∙◌, append_assoc, append-nil, arith}
+-- Reading so many items, and lines without words.
+use Rattle.std.proofs.Common.{◌≡◌, ◌≤◌, ◌<◌, ◌+◌, ◌-◌, ℕ, suc, List, [], ◌∷◌, ◌++◌, length, map, Option, Ok, Err, refl, sym, ap, ◌∙◌, append_assoc, append-nil, arith}
 use Rattle.std.proofs.lemmas.List.{drop_all}
-use Rattle.hd_map.specs.declared.types.Pos.{Pos}
 use Rattle.hd_num.specs.Lines.{lines_of, words_of}
 use Rattle.hd_check.specs.declared.lines.Place.{Place}
 use Rattle.hd_check.specs.declared.types.CertificateError.{CertificateError}
 use Rattle.hd_check.specs.declared.types.CertificateError.TheVariants.{BadLine}
-use Rattle.hd_check.specs.Reading.{Lines, Read, and_then, line_as, point_form, points_in, blank_among, none_form, saddle_words}
+use Rattle.hd_check.specs.Reading.{Lines, Read, and_then, items_in, line_as, blank_among, none_form, saddle_words}
 use Rattle.hd_check.specs.Places.{IsPlace, lines_at}
 
--- points, and then those that are read
-abbrev pub before : List Pos → Read (List Pos) → Read (List Pos)
-before ps (Ok x) = Ok (ps ++ x.0, x.1)
-before ps (Err e) = Err e
+module _ {A : Type 0} (form : List (List ℕ) → Option A) where
+  -- items, and then those that are read
+  abbrev pub before : List A → Read (List A) → Read (List A)
+  before xs (Ok r) = Ok (xs ++ r.0, r.1)
+  before xs (Err e) = Err e
 
--- the points that are read before a place, and how many are left
-pub record ArePointsBefore (bytes : List ℕ) (count : ℕ) (start : Place) (points : List Pos) (place : Place) (k : ℕ) : Type 0 where
-  pub at : IsPlace bytes place
-  pub whole : points_in count (lines_at bytes start) ≡ before points (points_in (count - k) (lines_at bytes place))
+  -- the items that are read before a place, and how many are left
+  pub record AreItemsBefore (bytes : List ℕ) (count : ℕ) (start : Place) (items : List A) (place : Place) (k : ℕ) : Type 0 where
+    pub at : IsPlace bytes place
+    pub whole : items_in form count (lines_at bytes start) ≡ before items (items_in form (count - k) (lines_at bytes place))
 
-before_none : (r : Read (List Pos)) → r ≡ before [] r
-before_none (Ok x) = refl
-before_none (Err e) = refl
+  before_none : (r : Read (List A)) → r ≡ before [] r
+  before_none (Ok x) = refl
+  before_none (Err e) = refl
 
--- none is read at first
-pub points_none : (bytes : List ℕ) (count : ℕ) (start : Place) → IsPlace bytes start → ArePointsBefore bytes count start [] start 0
-points_none bytes count start at = record {
-  at = at;
-  whole = before_none (points_in count (lines_at bytes start)) ∙ ap (λ (n : ℕ). before [] (points_in n (lines_at bytes start))) (let e : count ≡ count - 0 = omega arith in e);
-}
+  -- none is read at first
+  pub items_none : (bytes : List ℕ) (count : ℕ) (start : Place) → IsPlace bytes start → AreItemsBefore bytes count start [] start 0
+  items_none bytes count start at = record {
+    at = at;
+    whole = before_none (items_in form count (lines_at bytes start)) ∙ ap (λ (n : ℕ). before [] (items_in form n (lines_at bytes start))) (let e : count ≡ count - 0 = omega arith in e);
+  }
 
-one_more : (ps : List Pos) (p : Pos) (r : Read (List Pos)) → before ps (and_then r (λ qs rest. Ok (p ∷ qs, rest))) ≡ before (ps ++ p ∷ []) r
-one_more ps p (Ok x) = ap (λ (qs : List Pos). Ok (qs, x.1)) (sym (append_assoc ps (p ∷ []) x.0))
-one_more ps p (Err e) = refl
+  one_more : (xs : List A) (x : A) (r : Read (List A)) → before xs (and_then r (λ ys rest. Ok (x ∷ ys, rest))) ≡ before (xs ++ x ∷ []) r
+  one_more xs x (Ok r) = ap (λ (ys : List A). Ok (ys, r.1)) (sym (append_assoc xs (x ∷ []) r.0))
+  one_more xs x (Err e) = refl
 
--- what so many points give, when the first of them is read
-points_step : (n : ℕ) (rest next : Lines) (p : Pos) → line_as point_form rest ≡ Ok (p, next) → points_in (suc n) rest ≡ and_then (points_in n next) (λ qs rest. Ok (p ∷ qs, rest))
-points_step n rest next p read = ap (λ (r : Read Pos). and_then r (λ p rest. and_then (points_in n rest) (λ ps rest. Ok (p ∷ ps, rest)))) read
+  -- what so many items give, when the first of them is read
+  items_step : (n : ℕ) (rest next : Lines) (x : A) → line_as form rest ≡ Ok (x, next) → items_in form (suc n) rest ≡ and_then (items_in form n next) (λ xs rest. Ok (x ∷ xs, rest))
+  items_step n rest next x read = ap (λ (r : Read A). and_then r (λ x rest. and_then (items_in form n rest) (λ xs rest. Ok (x ∷ xs, rest)))) read
 
-points_fail : (n : ℕ) (rest : Lines) (e : CertificateError) → line_as point_form rest ≡ Err e → points_in (suc n) rest ≡ Err e
-points_fail n rest e read = ap (λ (r : Read Pos). and_then r (λ p rest. and_then (points_in n rest) (λ ps rest. Ok (p ∷ ps, rest)))) read
+  items_fail : (n : ℕ) (rest : Lines) (e : CertificateError) → line_as form rest ≡ Err e → items_in form (suc n) rest ≡ Err e
+  items_fail n rest e read = ap (λ (r : Read A). and_then r (λ x rest. and_then (items_in form n rest) (λ xs rest. Ok (x ∷ xs, rest)))) read
 
--- one more is read
-pub points_more : (bytes : List ℕ) (count : ℕ) (start : Place) (points : List Pos) (place next : Place) (k : ℕ) (p : Pos) → k < count → ArePointsBefore bytes count start points place k
-    → line_as point_form (lines_at bytes place) ≡ Ok (p, lines_at bytes next) → IsPlace bytes next → ArePointsBefore bytes count start (points ++ p ∷ []) next (k + 1)
-points_more bytes count start points place next k p less so_far read at =
-    let left : count - k ≡ suc (count - (k + 1)) = omega (arith, less) in
-    record {
-      at = at;
-      whole = so_far.whole ∙ ap (λ (n : ℕ). before points (points_in n (lines_at bytes place))) left
-          ∙ ap (before points) (points_step (count - (k + 1)) (lines_at bytes place) (lines_at bytes next) p read)
-          ∙ one_more points p (points_in (count - (k + 1)) (lines_at bytes next));
-    }
+  -- one more is read
+  pub items_more : (bytes : List ℕ) (count : ℕ) (start : Place) (items : List A) (place next : Place) (k : ℕ) (x : A) → k < count → AreItemsBefore bytes count start items place k
+      → line_as form (lines_at bytes place) ≡ Ok (x, lines_at bytes next) → IsPlace bytes next → AreItemsBefore bytes count start (items ++ x ∷ []) next (k + 1)
+  items_more bytes count start items place next k x less so_far read at =
+      let left : count - k ≡ suc (count - (k + 1)) = omega (arith, less) in
+      record {
+        at = at;
+        whole = so_far.whole ∙ ap (λ (n : ℕ). before items (items_in form n (lines_at bytes place))) left
+            ∙ ap (before items) (items_step (count - (k + 1)) (lines_at bytes place) (lines_at bytes next) x read)
+            ∙ one_more items x (items_in form (count - (k + 1)) (lines_at bytes next));
+      }
 
--- one is not read
-pub points_bad : (bytes : List ℕ) (count : ℕ) (start : Place) (points : List Pos) (place : Place) (k : ℕ) (e : CertificateError) → k < count → ArePointsBefore bytes count start points place k
-    → line_as point_form (lines_at bytes place) ≡ Err e → points_in count (lines_at bytes start) ≡ Err e
-points_bad bytes count start points place k e less so_far read =
-    let left : count - k ≡ suc (count - (k + 1)) = omega (arith, less) in
-    so_far.whole ∙ ap (λ (n : ℕ). before points (points_in n (lines_at bytes place))) left ∙ ap (before points) (points_fail (count - (k + 1)) (lines_at bytes place) e read)
+  -- one is not read
+  pub items_bad : (bytes : List ℕ) (count : ℕ) (start : Place) (items : List A) (place : Place) (k : ℕ) (e : CertificateError) → k < count → AreItemsBefore bytes count start items place k
+      → line_as form (lines_at bytes place) ≡ Err e → items_in form count (lines_at bytes start) ≡ Err e
+  items_bad bytes count start items place k e less so_far read =
+      let left : count - k ≡ suc (count - (k + 1)) = omega (arith, less) in
+      so_far.whole ∙ ap (λ (n : ℕ). before items (items_in form n (lines_at bytes place))) left ∙ ap (before items) (items_fail (count - (k + 1)) (lines_at bytes place) e read)
 
--- all are read
-pub points_all : (bytes : List ℕ) (count : ℕ) (start : Place) (points : List Pos) (place : Place) (k : ℕ) → count ≤ k → ArePointsBefore bytes count start points place k
-    → points_in count (lines_at bytes start) ≡ Ok (points, lines_at bytes place)
-points_all bytes count start points place k done so_far =
-    let left : count - k ≡ 0 = omega (arith, done) in
-    so_far.whole ∙ ap (λ (n : ℕ). before points (points_in n (lines_at bytes place))) left ∙ ap (λ (qs : List Pos). Ok (qs, lines_at bytes place)) (append-nil points)
+  -- all are read
+  pub items_all : (bytes : List ℕ) (count : ℕ) (start : Place) (items : List A) (place : Place) (k : ℕ) → count ≤ k → AreItemsBefore bytes count start items place k
+      → items_in form count (lines_at bytes start) ≡ Ok (items, lines_at bytes place)
+  items_all bytes count start items place k done so_far =
+      let left : count - k ≡ 0 = omega (arith, done) in
+      so_far.whole ∙ ap (λ (n : ℕ). before items (items_in form n (lines_at bytes place))) left ∙ ap (λ (xs : List A). Ok (xs, lines_at bytes place)) (append-nil items)
 
 -- no line is left at the end
 pub no_lines : (bytes : List ℕ) (place : Place) → length bytes ≤ place.from → (lines_at bytes place).lines ≡ []

@@ -21,18 +21,18 @@ use Rattle.hd_num.specs.Lines.{is_blank, is_filled, is_line_feed, lines_of, with
 use Rattle.hd_num.proofs.ReadsBack.{count_of-decimal, digits, whole_of-signed_decimal}
 use Rattle.hd_check.specs.declared.types.Certificate.{Certificate}
 use Rattle.hd_check.specs.declared.words.Head.{Head}
-use Rattle.hd_check.specs.Reading.{Lines, Read, after_cut, after_from, after_path, after_head, after_saddle, after_to, and_then, certificate_of, counted_in, fitting, head_form, line_as, line_gives, point_form, point_of_counts, points_in, saddle_form, saddle_of_parts, value_of}
+use Rattle.hd_check.specs.Reading.{Lines, Read, after_cut, after_from, after_path, after_head, after_saddle, after_to, and_then, certificate_of, count_form, fitting, head_form, items_in, line_as, line_gives, point_form, point_of_counts, saddle_form, saddle_of_parts, value_of}
 use Rattle.hd_check.specs.Text.{adjacency_word, certificate_lines, certificate_text, line_text, point_words, saddle_lines, side_word}
 use Rattle.hd_check.specs.Writable.{IsWritable, IsWritablePoint, IsWritableSaddle, AreWritable}
 
 -- neither a blank nor a line feed
-abbrev is_clear : ℕ → Bool
+abbrev pub is_clear : ℕ → Bool
 is_clear byte = not (is_blank byte || is_line_feed byte)
 
 -- bytes, and none of them a blank or a line feed
-record IsWord (w : List ℕ) : Type 0 where
-  some : is_filled w ≡ true
-  clear : list_all is_clear w ≡ true
+pub record IsWord (w : List ℕ) : Type 0 where
+  pub some : is_filled w ≡ true
+  pub clear : list_all is_clear w ≡ true
 
 not_blank : (b : ℕ) → is_clear b ≡ true → is_blank b ≡ false
 not_blank b h = elim (is_blank b) as (λ v. not (v || is_line_feed b) ≡ true → v ≡ false) [ true ↦ λ e. sym e | false ↦ λ e. refl ] h
@@ -56,12 +56,12 @@ split_alone test fails [] clear = refl
 split_alone test fails (b ∷ w) clear = slice_split-cons_no test b w (fails b ((and_parts _ _ clear).0)) ∙ ap (onto_first b) (split_alone test fails w (and_parts _ _ clear).1)
 
 -- words, and no other bytes
-abbrev AreWords : List (List ℕ) → Type 0
+abbrev pub AreWords : List (List ℕ) → Type 0
 AreWords [] = Unit {0}
 AreWords (w ∷ ws) = IsWord w × AreWords ws
 
 -- lines of some words each
-abbrev AreLines : List (List (List ℕ)) → Type 0
+abbrev pub AreLines : List (List (List ℕ)) → Type 0
 AreLines [] = Unit {0}
 AreLines ([] ∷ lines) = ⊥
 AreLines ((w ∷ ws) ∷ lines) = AreWords (w ∷ ws) × AreLines lines
@@ -121,21 +121,21 @@ map_words ([] ∷ lines) are = absurd are
 map_words ((w ∷ ws) ∷ lines) are = ap₂ (λ (us : List (List ℕ)) (uss : List (List (List ℕ))). us ∷ uss) (words_joined w ws are.0) (map_words lines are.1)
 
 -- the lines of the text, by their words
-lines_back : (lines : List (List (List ℕ))) → AreLines lines → map words_of (lines_of (flat_map line_text lines)) ≡ lines
+pub lines_back : (lines : List (List (List ℕ))) → AreLines lines → map words_of (lines_of (flat_map line_text lines)) ≡ lines
 lines_back lines are = ap (λ (ps : List (List ℕ)). map words_of (without_empty_last ps)) (split_text lines are) ∙ ap (map words_of) (empty_last (map joined lines)) ∙ map_words lines are
 
 -- digits are a word
-clear_digit : (b : ℕ) → is_ascii_digit b ≡ true → is_clear b ≡ true
+pub clear_digit : (b : ℕ) → is_ascii_digit b ≡ true → is_clear b ≡ true
 clear_digit b h = grind (arith, nat_tests)
 
-clear_digits : (w : List ℕ) → list_all is_ascii_digit w ≡ true → list_all is_clear w ≡ true
+pub clear_digits : (w : List ℕ) → list_all is_ascii_digit w ≡ true → list_all is_clear w ≡ true
 clear_digits [] h = refl
 clear_digits (b ∷ w) h = and_from _ _ (clear_digit b (and_parts _ _ h).0) (clear_digits w (and_parts _ _ h).1)
 
-filled : (w : List ℕ) → 0 < length w → is_filled w ≡ true
+pub filled : (w : List ℕ) → 0 < length w → is_filled w ≡ true
 filled w some = ap not (ne_eqb (length w) 0 (λ none. omega (arith, none, some)))
 
-decimal_word : (n : ℕ) → n < 2 ^ 64 → IsWord (decimal n)
+pub decimal_word : (n : ℕ) → n < 2 ^ 64 → IsWord (decimal n)
 decimal_word n small = record { some = filled (decimal n) (decimal_nonempty n small); clear = clear_digits (decimal n) (digits_decimal digits n small) }
 
 signed_word : (z : ℤ) → FitsSigned w64 z → IsWord (signed_decimal z)
@@ -149,12 +149,20 @@ signed_word (negsuc n) fits =
 point_clear : (p : Pos) → IsWritablePoint p → AreWords (point_words p)
 point_clear p fits = let x = fits.column in let y = fits.profile in (decimal_word p.x (omega arith), (decimal_word p.y (omega arith), tt))
 
+-- lines of items are lines of words
+pub items_clear : {A : Type 0} (words : A → List (List ℕ)) (Is : A → Type 0) → ((x : A) → Is x → AreLines (words x ∷ [])) → (xs : List A) → All Is xs → (rest : List (List (List ℕ))) → AreLines rest → AreLines (map words xs ++ rest)
+items_clear words Is clear [] all rest are = are
+items_clear words Is clear (x ∷ xs) all rest are = more_lines (words x) (clear x (All-head Is x xs all)) (items_clear words Is clear xs (All-tail Is x xs all) rest are)
+  where
+    more_lines : (ws : List (List ℕ)) → AreLines (ws ∷ []) → AreLines (map words xs ++ rest) → AreLines (ws ∷ (map words xs ++ rest))
+    more_lines [] one more = absurd one
+    more_lines (w ∷ ws) one more = (one.0, more)
+
 points_clear : (ps : List Pos) → All IsWritablePoint ps → (rest : List (List (List ℕ))) → AreLines rest → AreLines (map point_words ps ++ rest)
-points_clear [] all rest are = are
-points_clear (p ∷ ps) all rest are = (point_clear p (All-head IsWritablePoint p ps all), points_clear ps (All-tail IsWritablePoint p ps all) rest are)
+points_clear = items_clear point_words IsWritablePoint (λ p fits. (point_clear p fits, tt))
 
 -- a line of a word and a number
-number_clear : (key : List ℕ) (n : ℕ) → IsWord key → n < 2 ^ 32 → AreWords (key ∷ decimal n ∷ [])
+pub number_clear : (key : List ℕ) (n : ℕ) → IsWord key → n < 2 ^ 32 → AreWords (key ∷ decimal n ∷ [])
 number_clear key n is small = (is, (decimal_word n (omega arith), tt))
 
 -- the words that stand in each certificate
@@ -179,14 +187,14 @@ word_path = record { some = refl; clear = refl }
 word_cut : IsWord (codes "cut")
 word_cut = record { some = refl; clear = refl }
 
-word_end : IsWord (codes "end")
+pub word_end : IsWord (codes "end")
 word_end = record { some = refl; clear = refl }
 
-side_clear : (side : SideName) → IsWord (side_word side)
+pub side_clear : (side : SideName) → IsWord (side_word side)
 side_clear Dales = record { some = refl; clear = refl }
 side_clear Hills = record { some = refl; clear = refl }
 
-adjacency_clear : (adjacency : Adjacency) → IsWord (adjacency_word adjacency)
+pub adjacency_clear : (adjacency : Adjacency) → IsWord (adjacency_word adjacency)
 adjacency_clear Four = record { some = refl; clear = refl }
 adjacency_clear Six = record { some = refl; clear = refl }
 adjacency_clear Eight = record { some = refl; clear = refl }
@@ -217,26 +225,27 @@ all_clear c is = (
 point_back : (p : Pos) → IsWritablePoint p → point_form (point_words p) ≡ Some p
 point_back p fits = ap₂ point_of_counts (count_of-decimal p.x fits.column) (count_of-decimal p.y fits.profile)
 
-abbrev from_line : ℕ → List (List (List ℕ)) → Lines
+abbrev pub from_line : ℕ → List (List (List ℕ)) → Lines
 from_line number lines = record { number = number; lines = lines }
 
-points_back : (ps : List Pos) (number : ℕ) (rest : List (List (List ℕ))) → All IsWritablePoint ps → (n : ℕ) × (points_in (length ps) (from_line number (map point_words ps ++ rest)) ≡ Ok (ps, from_line n rest))
-points_back [] number rest all = (number, refl)
-points_back (p ∷ ps) number rest all =
-    let more = points_back ps (number + 1) rest (All-tail IsWritablePoint p ps all) in (
-      more.0,
-      ap (λ (o : Option Pos). and_then (line_gives number (map point_words ps ++ rest) o) (λ q left. and_then (points_in (length ps) left) (λ qs left. Ok (q ∷ qs, left)))) (point_back p (All-head IsWritablePoint p ps all))
-          ∙ ap (λ (r : Read (List Pos)). and_then r (λ qs left. Ok (p ∷ qs, left))) more.1,
-    )
+module _ {A : Type 0} (words : A → List (List ℕ)) (form : List (List ℕ) → Option A) (Is : A → Type 0) (back : (x : A) → Is x → form (words x) ≡ Some x) where
+  items_back : (xs : List A) (number : ℕ) (rest : List (List (List ℕ))) → All Is xs → (n : ℕ) × (items_in form (length xs) (from_line number (map words xs ++ rest)) ≡ Ok (xs, from_line n rest))
+  items_back [] number rest all = (number, refl)
+  items_back (x ∷ xs) number rest all =
+      let more = items_back xs (number + 1) rest (All-tail Is x xs all) in (
+        more.0,
+        ap (λ (o : Option A). and_then (line_gives number (map words xs ++ rest) o) (λ y left. and_then (items_in form (length xs) left) (λ ys left. Ok (y ∷ ys, left)))) (back x (All-head Is x xs all))
+            ∙ ap (λ (r : Read (List A)). and_then r (λ ys left. Ok (x ∷ ys, left))) more.1,
+      )
 
--- so do a number and points
-counted_back : (key : List ℕ) → bytes_eq key key ≡ true → (ps : List Pos) (number : ℕ) (rest : List (List (List ℕ))) → AreWritable ps
-    → (n : ℕ) × (counted_in key (from_line number ((key ∷ decimal (length ps) ∷ []) ∷ (map point_words ps ++ rest))) ≡ Ok (ps, from_line n rest))
-counted_back key same ps number rest are =
-    let more = points_back ps (number + 1) rest are.each in (
-      more.0,
-      ap₂ (λ (b : Bool) (o : Option ℕ). and_then (line_gives number (map point_words ps ++ rest) (if b then o else None)) points_in) same (count_of-decimal (length ps) are.few) ∙ more.1,
-    )
+  -- a number and so many items read back
+  pub counted_back : (key : List ℕ) → bytes_eq key key ≡ true → (xs : List A) (number : ℕ) (rest : List (List (List ℕ))) → length xs < 2 ^ 32 → All Is xs
+      → (n : ℕ) × (and_then (line_as (count_form key) (from_line number ((key ∷ decimal (length xs) ∷ []) ∷ (map words xs ++ rest)))) (items_in form) ≡ Ok (xs, from_line n rest))
+  counted_back key same xs number rest few all =
+      let more = items_back xs (number + 1) rest all in (
+        more.0,
+        ap₂ (λ (b : Bool) (o : Option ℕ). and_then (line_gives number (map words xs ++ rest) (if b then o else None)) (items_in form)) same (count_of-decimal (length xs) few) ∙ more.1,
+      )
 
 -- a saddle
 saddle_back : (s : Pos × ℤ) → IsWritablePoint s.0 → FitsSigned w64 s.1 → saddle_form (codes "saddle" ∷ decimal s.0.x ∷ decimal s.0.y ∷ signed_decimal s.1 ∷ []) ≡ Some (Some s)
@@ -246,7 +255,7 @@ saddle_back s point fits = ap₂ (λ (p : Option Pos) (h : Option ℤ). saddle_o
 path_back : (head : Head) (from to : Pos) (saddle : Option (Pos × ℤ)) (path : List Pos) (number : ℕ) (rest : List (List (List ℕ))) → IsWritableSaddle saddle path → AreWritable path
     → (n : ℕ) × (after_to head from to (from_line number (saddle_lines saddle path ++ rest)) ≡ after_path head from to saddle path (from_line n rest))
 path_back head from to (Some s) path number rest is are =
-    let more = counted_back (codes "path") refl path (number + 1) rest are in (
+    let more = counted_back point_words point_form IsWritablePoint point_back (codes "path") refl path (number + 1) rest are.few are.each in (
       more.0,
       ap (λ (o : Option (Option (Pos × ℤ))). and_then (line_gives number ((codes "path" ∷ decimal (length path) ∷ []) ∷ (map point_words path ++ rest)) o) (after_saddle head from to)) (saddle_back s is.0 is.1)
           ∙ ap (λ (r : Read (List Pos)). and_then r (after_path head from to (Some s))) more.1,
@@ -257,7 +266,7 @@ path_back head from to None path number rest is are = (number + 1, ap (λ (ps : 
 cut_back : (head : Head) (from to : Pos) (saddle : Option (Pos × ℤ)) (path cut : List Pos) (number : ℕ) → AreWritable cut
     → value_of (after_path head from to saddle path (from_line number (cut_part cut))) ≡ Ok (record { side = head.side; adjacency = head.adjacency; from = from; to = to; saddle = saddle; path = path; cut = cut })
 cut_back head from to saddle path cut number are =
-    let more = counted_back (codes "cut") refl cut number ((codes "end" ∷ []) ∷ []) are in
+    let more = counted_back point_words point_form IsWritablePoint point_back (codes "cut") refl cut number ((codes "end" ∷ []) ∷ []) are.few are.each in
     ap (λ (r : Read (List Pos)). value_of (and_then r (after_cut head from to saddle path))) more.1
 
 head_back : (side : SideName) (adjacency : Adjacency) → head_form (codes "certificate" ∷ side_word side ∷ adjacency_word adjacency ∷ []) ≡ Some (record { side = side; adjacency = adjacency })

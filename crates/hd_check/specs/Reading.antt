@@ -138,10 +138,14 @@ end_form [] = None
 end_form (name ∷ []) = if bytes_eq name (codes "end") then Some tt else None
 end_form (a ∷ b ∷ more) = None
 
+-- so many lines of a form
+abbrev pub items_in : {A : Type 0} → (List (List ℕ) → Option A) → ℕ → Lines → Read (List A)
+items_in form zero rest = Ok ([], rest)
+items_in form (suc n) rest = and_then (line_as form rest) (λ x rest. and_then (items_in form n rest) (λ xs rest. Ok (x ∷ xs, rest)))
+
 -- so many lines `X Y`
 abbrev pub points_in : ℕ → Lines → Read (List Pos)
-points_in zero rest = Ok ([], rest)
-points_in (suc n) rest = and_then (line_as point_form rest) (λ p rest. and_then (points_in n rest) (λ ps rest. Ok (p ∷ ps, rest)))
+points_in n rest = items_in point_form n rest
 
 -- a line with a number, and then so many lines `X Y`
 abbrev pub counted_in : List ℕ → Lines → Read (List Pos)

@@ -34,8 +34,8 @@ pub fn first_absent<G: Heights>(surface: &G, certificate: &Certificate) -> Optio
     absent_of(surface, certificate.cut.as_slice())
 }
 
-// Whether a position is in the grid and present.
-fn is_point<G: Heights>(surface: &G, at: Pos) -> bool
+/// Whether a position is in the grid and present.
+pub fn is_point<G: Heights>(surface: &G, at: Pos) -> bool
     ensures { IsTrue result ↔ Present (G.map surface.now) at }
 {
     contains(surface.size(), at) && is_present(surface, at)
@@ -70,8 +70,8 @@ pub fn wrong_pit<G: Heights>(alloc: Global, surface: &G, certificate: &Certifica
     None
 }
 
-// Whether a present point is a pit.
-fn is_pit<G: Heights>(alloc: Global, surface: &G, side: SideName, at: Pos) -> bool
+/// Whether a present point is a pit.
+pub fn is_pit<G: Heights>(alloc: Global, surface: &G, side: SideName, at: Pos) -> bool
     requires { Present (G.map surface.now) at }
     ensures { IsTrue result ↔ IsPit (G.map surface.now) side (rank (G.map surface.now) at) }
 {
@@ -142,8 +142,8 @@ fn stray_of<G: Heights>(surface: &G, path: &[Pos]) -> Option<Pos>
     None
 }
 
-// Whether two present points are neighbours.
-fn are_neighbours<G: Heights>(surface: &G, a: Pos, b: Pos) -> bool
+/// Whether two present points are neighbours.
+pub fn are_neighbours<G: Heights>(surface: &G, a: Pos, b: Pos) -> bool
     requires a { Present (G.map surface.now) a }
     requires b { Present (G.map surface.now) b }
     ensures { IsTrue result ↔ Neighbour (G.map surface.now) a b }

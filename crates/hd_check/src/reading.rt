@@ -165,8 +165,12 @@ fn point_line(bytes: &[u8], place: Place) -> Result<(Pos, Place), CertificateErr
     }
 }
 
-// Reads `end` and what follows it.
-fn last_lines(alloc: Global, bytes: &[u8], place: Place) -> Result<((), Place), CertificateError>
+/// Reads `end` and the lines without words that follow it, up to the end of the text.
+pub fn last_lines(
+    alloc: Global,
+    bytes: &[u8],
+    place: Place,
+) -> Result<((), Place), CertificateError>
     requires { IsPlace bytes.now place }
     ensures { Gives bytes.now result (end_in (lines_at bytes.now place)) }
 {

@@ -25,7 +25,7 @@ pub struct Certificate {
     pub cut: List<Pos>,
 }
 
-/// Why no certificate was read.
+/// Why no certificate was read, of saddles or of prunings.
 #[derive(Debug, PartialEq, Eq, Drop, Error)]
 pub enum CertificateError {
     /// Want of memory. The text may be a certificate's or not.
@@ -52,7 +52,7 @@ pub enum Verdict {
     Yes,
     /// A rule fails, and those before it hold.
     No {
-        /// The number of the rule, from 1 to 11.
+        /// The number of the rule: from 1 on for a saddle certificate, from 12 on for a pruning certificate.
         rule: u8,
         /// The position where it fails.
         at: Pos,

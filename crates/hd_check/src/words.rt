@@ -38,8 +38,8 @@ fn head_of(name: &[u8], side: &[u8], adjacency: &[u8]) -> Option<Head>
     Some(Head { side, adjacency })
 }
 
-// The setting that a word names.
-fn adjacency_of(word: &[u8]) -> Option<Adjacency>
+/// The setting that a word names.
+pub fn adjacency_of(word: &[u8]) -> Option<Adjacency>
     ensures { result ≡ adjacency_of word.now }
 {
     match word {
@@ -50,8 +50,8 @@ fn adjacency_of(word: &[u8]) -> Option<Adjacency>
     }
 }
 
-// The side that a word names.
-fn side_of(word: &[u8]) -> Option<SideName>
+/// The side that a word names.
+pub fn side_of(word: &[u8]) -> Option<SideName>
     ensures { result ≡ side_of word.now }
 {
     match word {

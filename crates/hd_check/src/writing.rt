@@ -57,8 +57,8 @@ fn push_point(out: &mut List<u8>, at: Pos) -> Result<(), Memory>
     Ok(())
 }
 
-// Adds a count.
-fn push_count(out: &mut List<u8>, count: u32) -> Result<(), Memory>
+/// Adds a count in plain digits. Where memory is refused, a prefix of its text may stand there.
+pub fn push_count(out: &mut List<u8>, count: u32) -> Result<(), Memory>
     ensures { Adds out.old out.new result (decimal count) }
 {
     push_unsigned(out, u64::from(count))?;

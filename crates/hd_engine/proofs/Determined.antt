@@ -1,6 +1,6 @@
 -- A line, and a script, has one answer.
 use Rattle.std.specs.Prelude.{ℤ, codes}
-use Rattle.std.proofs.Common.{◌≡◌, ◌+◌, ◌++◌, ◌&&◌, ◌∙◌, ℕ, List, [], ◌∷◌, Option, Some, None, Result, Ok, Err, inl, inr, refl, sym, ap, subst, arith}
+use Rattle.std.proofs.Common.{◌≡◌, ◌+◌, ◌++◌, ◌&&◌, ◌∙◌, ℕ, List, [], ◌∷◌, Option, Some, None, Result, Ok, Err, inl, inr, length, refl, sym, ap, ap₂, subst, arith}
 use Rattle.hd_map.specs.declared.types.Pos.{Pos}
 use Rattle.hd_map.specs.declared.types.Rank.{Rank}
 use Rattle.hd_map.specs.declared.types.RegionSize.{RegionSize}
@@ -30,26 +30,49 @@ use Rattle.hd_script.specs.declared.command.Command.{Command}
 use Rattle.hd_script.specs.declared.command.Command.TheVariants as command
 use Rattle.hd_script.specs.declared.command.LineError.{LineError}
 use Rattle.hd_script.specs.Line.{script_line}
+use Rattle.std.specs.Fmt.{signed_decimal}
+use Rattle.hd_audit.specs.declared.types.Audit.{Audit}
+use Rattle.hd_audit.specs.Shown.{IsShown}
+use Rattle.hd_audit.specs.Text.{audit_text}
+use Rattle.hd_feature.specs.declared.region.Region.{Region}
+use Rattle.hd_feature.specs.Value.{AreSameValues}
+use Rattle.hd_map.specs.declared.types.Size.{Size}
+use Rattle.hd_num.specs.declared.percent.Percent.{Percent}
+use Rattle.hd_prune.specs.declared.step.Kept.{Kept}
+use Rattle.hd_prune.specs.Staying.{AreKeptAlone}
+use Rattle.hd_stats.specs.declared.name.HeightName.{HeightName}
+use Rattle.hd_stats.specs.Distribution.{IsHist, IsPerc}
+use Rattle.hd_stats.specs.Fill.{AreFills, AreSameFills}
+use Rattle.hd_stats.specs.Heights.{IsHeightValue}
+use Rattle.hd_stats.specs.Names.{height_name_of}
+use Rattle.hd_survey.specs.Features.{AreFeatures}
 use Rattle.hd_survey.specs.Lines.{ArePrunedLines}
 use Rattle.hd_survey.specs.Owned.{ArePrunedRegions}
 use Rattle.hd_survey.specs.Regions.{AreRegionSizes}
-use Rattle.hd_survey.specs.Values.{AreSameValues, IsNotationValue, IsParameterValue}
+use Rattle.hd_survey.specs.Values.{IsNotationValue, IsParameterValue, side_of}
 use Rattle.hd_lines.specs.declared.line.BorderLine.{BorderLine}
 use Rattle.hd_report.specs.Borders.{borders_text}
+use Rattle.hd_report.specs.Distributions.{hist_line}
+use Rattle.hd_report.specs.Place.{point_text}
 use Rattle.hd_report.specs.Prunings.{prune_text}
 use Rattle.hd_report.specs.Regions.{label_text, regions_text}
 use Rattle.hd_report.specs.Trees.{tree_text}
 use Rattle.hd_report.specs.Values.{height_text, value_text}
+use Rattle.hd_report.specs.Volumes.{fill_heading, fill_text, volume_lines}
 use Rattle.hd_engine.specs.Answers.{IsCommandAnswer, IsReadAnswer, IsAnswer, AreAnswers}
 use Rattle.hd_engine.specs.Edits.{IsOutcomeAnswer, IsEditAnswer, IsUndoAnswer}
 use Rattle.hd_engine.specs.Elements.{IsElementAnswer, IsMadeAnswer}
+use Rattle.hd_engine.specs.Audits.{IsAuditAnswer}
 use Rattle.hd_engine.specs.Borders.{IsBordersAnswer}
+use Rattle.hd_engine.specs.Distributions.{AreCountsOf, IsShareOf, sum_notation_of}
+use Rattle.hd_engine.specs.Heights.{IsHeightOf}
 use Rattle.hd_engine.specs.Prunings.{IsPruneAnswer}
 use Rattle.hd_engine.specs.Regions.{IsRegionsAnswer, IsLabelAnswer, TellsRoot}
 use Rattle.hd_engine.specs.Reply.{Reply, Reports, Becomes, accepted_with}
 use Rattle.hd_engine.specs.State.{State, IsState}
 use Rattle.hd_engine.specs.Trees.{IsTreeAnswer}
 use Rattle.hd_engine.specs.Values.{IsNamedAnswer, IsNotationAnswer}
+use Rattle.hd_engine.specs.Volumes.{IsVolumesAnswer}
 use Rattle.hd_engine.proofs.Makes.{made_once}
 use Rattle.hd_engine.proofs.SaddleAnswers.{saddle-one}
 
@@ -75,6 +98,15 @@ same_text (Some f) None same = absurd same
 same_text None (Some g) same = absurd same
 same_text None None same = refl
 
+-- the same volumes have the same lines
+same_lines : (size : Size) (kept : List Kept) (xs ys : List (Option Frac)) → AreSameFills xs ys → volume_lines size kept xs ≡ volume_lines size kept ys
+same_lines size [] xs ys same = refl
+same_lines size (k ∷ kept) [] [] same = refl
+same_lines size (k ∷ kept) [] (y ∷ ys) same = absurd same
+same_lines size (k ∷ kept) (x ∷ xs) [] same = absurd same
+same_lines size (k ∷ kept) (x ∷ xs) (y ∷ ys) same =
+    ap₂ (λ (text rest : List ℕ). (codes "volume " ++ point_text size k.pit ++ 32 ∷ [] ++ text ++ 10 ∷ []) ++ rest) (same_text x y same.0) (same_lines size kept xs ys same.1)
+
 -- what the layers below determine
 pub record Determine : Type 0 where
   pub edits : (elements : List ElementTable) (m : Map) (edit : Edit) (x y : Result Map EditError) → IsMap m → IsEdited elements m edit x → IsEdited elements m edit y → x ≡ y
@@ -87,6 +119,13 @@ pub record Determine : Type 0 where
   pub saddles : (m : Map) (side : SideName) (a b s t : Rank) → IsSaddle m side a b s → IsSaddle m side a b t → s ≡ t
   pub certificates : (m : Map) (side : SideName) (a b : Pos) (saddle : Option Rank) (c d : Certificate) → IsShownCertificate m side a b saddle c → IsShownCertificate m side a b saddle d → c ≡ d
   pub notations : (m : Map) (n : Notation) (a b : Option Frac) → IsMap m → IsNotationValue m n a → IsNotationValue m n b → AreSameValues a b
+  pub audits : (m : Map) (side : SideName) (percent : Percent) (a b : Audit) → IsMap m → IsShown m side percent a → IsShown m side percent b → a ≡ b
+  pub kept : (m : Map) (side : SideName) (thousandths : ℕ) (a b : List Kept) → AreKeptAlone m side thousandths a → AreKeptAlone m side thousandths b → a ≡ b
+  pub fills : (m : Map) (side : SideName) (kept : List Kept) (a b : List (Option Frac)) → AreFills m side kept a → AreFills m side kept b → AreSameFills a b
+  pub features : (m : Map) (side : SideName) (thousandths : ℕ) (a b : List Region) → IsMap m → AreFeatures m side thousandths a → AreFeatures m side thousandths b → a ≡ b
+  pub counts : (n : Notation) (regions : List Region) (bins : ℕ) (a b : Option (List ℕ)) → IsHist n regions bins a → IsHist n regions bins b → a ≡ b
+  pub shares : (n : Notation) (regions : List Region) (above : ℤ) (a b : Option Frac) → IsPerc n regions above a → IsPerc n regions above b → AreSameValues a b
+  pub heights : (m : Map) (name : HeightName) (a b : Option Frac) → IsHeightValue m name a → IsHeightValue m name b → AreSameValues a b
   pub parameters : (m : Map) (p : Parameter) (a b : Option Frac) → IsMap m → IsParameterValue m p a → IsParameterValue m p b → AreSameValues a b
 
 module _ (one : Determine) (s : State) (number : ℕ) (a b : Reply) (s' s'' : State) (whole : IsState s) where
@@ -164,6 +203,40 @@ module _ (one : Determine) (s : State) (number : ℕ) (a b : Reply) (s' s'' : St
       reports-same s s' s'' _ _ a b (ap (λ text. accepted_with (codes "feature " ++ word ++ 32 ∷ [] ++ text ++ 10 ∷ [])) (same_text x.value y.value same)) x.answer y.answer
   feature-one word (Err error) x y = reports-one s s' s'' _ a b x y
 
+  audit-one : (side : SideName) (percent : Percent) → IsAuditAnswer s side percent a s' → IsAuditAnswer s side percent b s'' → Agrees a b s' s''
+  audit-one side percent x y =
+      let same : x.audit ≡ y.audit = one.audits s.map side percent x.audit y.audit whole.map x.shown y.shown in
+      reports-same s s' s'' _ _ a b (ap (λ (c : Audit). accepted_with (audit_text c)) same) x.answer y.answer
+
+  volumes-one : (side : SideName) (thousandths : ℕ) → IsVolumesAnswer s side thousandths a s' → IsVolumesAnswer s side thousandths b s'' → Agrees a b s' s''
+  volumes-one side thousandths x y =
+      let kept : x.kept ≡ y.kept = one.kept s.map side thousandths x.kept y.kept x.are_kept y.are_kept in
+      let same = one.fills s.map side y.kept x.volumes y.volumes (subst (λ (ks : List Kept). AreFills s.map side ks x.volumes) kept x.are) y.are in
+      reports-same s s' s'' _ _ a b
+      (ap (λ (ks : List Kept). accepted_with (fill_text side thousandths s.map.size ks x.volumes)) kept
+      ∙ ap (λ lines. accepted_with (fill_heading side thousandths (length y.kept) ++ lines)) (same_lines s.map.size y.kept x.volumes y.volumes same))
+      x.answer y.answer
+
+  height-one : (name : List ℕ) (c : Option ℤ) (p : Result HeightName NotationError) → IsHeightOf s number name c p a s' → IsHeightOf s number name c p b s'' → Agrees a b s' s''
+  height-one name c (Ok p) x y =
+      let same = one.heights s.map p x.value y.value x.is y.is in
+      reports-same s s' s'' _ _ a b (ap (λ text. accepted_with (codes "height " ++ name ++ height_text c ++ 32 ∷ [] ++ text ++ 10 ∷ [])) (same_text x.value y.value same)) x.answer y.answer
+  height-one name c (Err error) x y = reports-one s s' s'' _ a b x y
+
+  counts-one : (bins : ℕ) (word : List ℕ) (n : Result Notation NotationError) → AreCountsOf s number bins word n a s' → AreCountsOf s number bins word n b s'' → Agrees a b s' s''
+  counts-one bins word (Ok n) x y =
+      let features = one.features s.map (side_of n.kind) n.percent.thousandths x.are.features y.are.features whole.map x.are.are y.are.are in
+      let same = one.counts n y.are.features bins x.counts y.counts (subst (λ (rs : List Region). IsHist n rs bins x.counts) features x.are.is) y.are.is in
+      reports-same s s' s'' _ _ a b (ap (λ counts. accepted_with (hist_line bins word counts)) same) x.answer y.answer
+  counts-one bins word (Err error) x y = reports-one s s' s'' _ a b x y
+
+  share-one : (above : ℤ) (word : List ℕ) (n : Result Notation NotationError) → IsShareOf s number above word n a s' → IsShareOf s number above word n b s'' → Agrees a b s' s''
+  share-one above word (Ok n) x y =
+      let features = one.features s.map (side_of n.kind) n.percent.thousandths x.is.features y.is.features whole.map x.is.are y.is.are in
+      let same = one.shares n y.is.features above x.share y.share (subst (λ (rs : List Region). IsPerc n rs above x.share) features x.is.is) y.is.is in
+      reports-same s s' s'' _ _ a b (ap (λ text. accepted_with (codes "perc " ++ signed_decimal above ++ 32 ∷ [] ++ word ++ 32 ∷ [] ++ text ++ 10 ∷ [])) (same_text x.share y.share same)) x.answer y.answer
+  share-one above word (Err error) x y = reports-one s s' s'' _ a b x y
+
   command-one : (asked : Command) → IsCommandAnswer s number asked a s' → IsCommandAnswer s number asked b s'' → Agrees a b s' s''
   command-one (command.Do edit) x y = edit-one edit x y
   command-one (command.Undo n) x y = undo-one n x y
@@ -178,8 +251,13 @@ module _ (one : Determine) (s : State) (number : ℕ) (a b : Reply) (s' s'' : St
   command-one (command.Tree side) x y = tree-one side x y
   command-one (command.Prune name percent) x y = prune-one name percent.thousandths x y
   command-one (command.Lines name percent) x y = borders-one name percent.thousandths x y
+  command-one (command.Audit name percent) x y = audit-one name percent x y
+  command-one (command.Fill name percent) x y = volumes-one name percent.thousandths x y
   command-one (command.Param name height) x y = param-one name height (parameter_of name height) x y
   command-one (command.Feature word) x y = feature-one word (notation_of word) x y
+  command-one (command.HeightValue name c) x y = height-one name c (height_name_of name c) x y
+  command-one (command.Hist bins word) x y = counts-one bins word (sum_notation_of word) x y
+  command-one (command.Perc above word) x y = share-one above word (sum_notation_of word) x y
 
   read-one : (read : Result (Option Command) LineError) → IsReadAnswer s number read a s' → IsReadAnswer s number read b s'' → Agrees a b s' s''
   read-one (Err error) x y = reports-one s s' s'' _ a b x y

@@ -22,6 +22,10 @@ use Rattle.hd_script.specs.Line.{script_line}
 use Rattle.hd_engine.specs.Answers.{IsCommandAnswer, IsReadAnswer, IsAnswer}
 use Rattle.hd_engine.specs.Edits.{IsOutcomeAnswer, IsUndoAnswer}
 use Rattle.hd_engine.specs.Elements.{IsMadeAnswer}
+use Rattle.hd_stats.specs.declared.name.HeightName.{HeightName}
+use Rattle.hd_stats.specs.Names.{height_name_of}
+use Rattle.hd_engine.specs.Distributions.{AreCountsOf, IsShareOf, sum_notation_of}
+use Rattle.hd_engine.specs.Heights.{IsHeightOf}
 use Rattle.hd_engine.specs.Regions.{IsLabelAnswer}
 use Rattle.hd_engine.specs.Reply.{Reply, Reports}
 use Rattle.hd_engine.specs.Values.{IsNamedAnswer, IsNotationAnswer}
@@ -66,6 +70,18 @@ module _ (keeps : KeepsMaps) (s : State) (number : ℕ) (reply : Reply) (after :
   feature-keeps word (Ok n) is = stays s after _ reply whole is.answer
   feature-keeps word (Err error) is = stays s after _ reply whole is
 
+  height-keeps : (name : List ℕ) (c : Option ℤ) (p : Result HeightName NotationError) → IsHeightOf s number name c p reply after → IsState after
+  height-keeps name c (Ok p) is = stays s after _ reply whole is.answer
+  height-keeps name c (Err error) is = stays s after _ reply whole is
+
+  counts-keep : (bins : ℕ) (word : List ℕ) (n : Result Notation NotationError) → AreCountsOf s number bins word n reply after → IsState after
+  counts-keep bins word (Ok n) is = stays s after _ reply whole is.answer
+  counts-keep bins word (Err error) is = stays s after _ reply whole is
+
+  share-keeps : (above : ℤ) (word : List ℕ) (n : Result Notation NotationError) → IsShareOf s number above word n reply after → IsState after
+  share-keeps above word (Ok n) is = stays s after _ reply whole is.answer
+  share-keeps above word (Err error) is = stays s after _ reply whole is
+
   command-keeps : (asked : Command) → IsCommandAnswer s number asked reply after → IsState after
   command-keeps (command.Do edit) is = outcome-keeps edit is.outcome is.edited is.answer
   command-keeps (command.Undo n) is = undo-keeps n is
@@ -81,8 +97,13 @@ module _ (keeps : KeepsMaps) (s : State) (number : ℕ) (reply : Reply) (after :
   command-keeps (command.Tree side) is = stays s after _ reply whole is.answer
   command-keeps (command.Prune name percent) is = stays s after _ reply whole is.answer
   command-keeps (command.Lines name percent) is = stays s after _ reply whole is.answer
+  command-keeps (command.Audit name percent) is = stays s after _ reply whole is.answer
+  command-keeps (command.Fill name percent) is = stays s after _ reply whole is.answer
   command-keeps (command.Param name height) is = param-keeps name height (parameter_of name height) is
   command-keeps (command.Feature word) is = feature-keeps word (notation_of word) is
+  command-keeps (command.HeightValue name c) is = height-keeps name c (height_name_of name c) is
+  command-keeps (command.Hist bins word) is = counts-keep bins word (sum_notation_of word) is
+  command-keeps (command.Perc above word) is = share-keeps above word (sum_notation_of word) is
 
   read-keeps : (read : Result (Option Command) LineError) → IsReadAnswer s number read reply after → IsState after
   read-keeps (Err error) is = stays s after _ reply whole is

@@ -6,3 +6,4 @@ mod SaddleAnswers
 pub mod Determined
 mod FileForms
 mod Positions
+mod Served

@@ -5,10 +5,13 @@ use Rattle.hd_script.specs.declared.command.Command.{Command}
 use Rattle.hd_script.specs.declared.command.Command.TheVariants as command
 use Rattle.hd_script.specs.declared.command.LineError.{LineError}
 use Rattle.hd_script.specs.Line.{script_line}
+use Rattle.hd_engine.specs.Audits.{IsAuditAnswer}
 use Rattle.hd_engine.specs.Borders.{IsBordersAnswer}
+use Rattle.hd_engine.specs.Distributions.{IsHistAnswer, IsPercAnswer}
 use Rattle.hd_engine.specs.Edits.{IsEditAnswer, IsUndoAnswer}
 use Rattle.hd_engine.specs.Elements.{IsElementAnswer, IsElementsAnswer}
 use Rattle.hd_report.specs.Forms.{form_text}
+use Rattle.hd_engine.specs.Heights.{IsHeightAnswer}
 use Rattle.hd_engine.specs.Info.{IsInfoAnswer}
 use Rattle.hd_engine.specs.Neighbours.{IsNeighboursAnswer}
 use Rattle.hd_engine.specs.Prunings.{IsPruneAnswer}
@@ -18,6 +21,7 @@ use Rattle.hd_engine.specs.Saddles.{IsSaddleAnswer}
 use Rattle.hd_engine.specs.State.{State}
 use Rattle.hd_engine.specs.Trees.{IsTreeAnswer}
 use Rattle.hd_engine.specs.Values.{IsFeatureAnswer, IsParamAnswer}
+use Rattle.hd_engine.specs.Volumes.{IsVolumesAnswer}
 
 -- what a command comes to on a state
 abbrev pub IsCommandAnswer : State → ℕ → Command → Reply → State → Type 0
@@ -35,8 +39,13 @@ IsCommandAnswer s number (command.Saddle name a b) reply after = IsSaddleAnswer 
 IsCommandAnswer s number (command.Tree name) reply after = IsTreeAnswer s name reply after
 IsCommandAnswer s number (command.Prune name percent) reply after = IsPruneAnswer s name percent.thousandths reply after
 IsCommandAnswer s number (command.Lines name percent) reply after = IsBordersAnswer s name percent.thousandths reply after
+IsCommandAnswer s number (command.Audit name percent) reply after = IsAuditAnswer s name percent reply after
+IsCommandAnswer s number (command.Fill name percent) reply after = IsVolumesAnswer s name percent.thousandths reply after
 IsCommandAnswer s number (command.Param name height) reply after = IsParamAnswer s number name height reply after
 IsCommandAnswer s number (command.Feature word) reply after = IsFeatureAnswer s number word reply after
+IsCommandAnswer s number (command.HeightValue name c) reply after = IsHeightAnswer s number name c reply after
+IsCommandAnswer s number (command.Hist bins word) reply after = IsHistAnswer s number bins word reply after
+IsCommandAnswer s number (command.Perc above word) reply after = IsPercAnswer s number above word reply after
 
 -- what a line that was read comes to: a line that has not its form is refused, and a skipped one prints nothing
 abbrev pub IsReadAnswer : State → ℕ → Result (Option Command) LineError → Reply → State → Type 0

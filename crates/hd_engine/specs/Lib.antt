@@ -13,4 +13,8 @@ pub mod Prunings
 pub mod Borders
 pub mod Info
 pub mod Values
+pub mod Heights
+pub mod Distributions
+pub mod Audits
+pub mod Volumes
 pub mod Answers

@@ -3,21 +3,25 @@ ghost use Rattle.std.specs.Prelude.{◌≡◌, ℕ, true, List, Ok, Some};
 ghost use Rattle.hd_map.specs.declared.types.Pos.{Pos};
 ghost use Rattle.hd_map.specs.declared.types.SideName.{SideName};
 ghost use Rattle.hd_map.specs.Map.{IsMap};
-ghost use Rattle.hd_script.specs.declared.command.Command.TheVariants.{Saddle};
+ghost use Rattle.hd_num.specs.declared.percent.Percent.{Percent};
+ghost use Rattle.hd_script.specs.declared.command.Command.TheVariants.{Audit, Saddle};
 ghost use Rattle.hd_script.specs.Line.{script_line};
 ghost use Rattle.hd_sdf_read.specs.File.{File};
 ghost use Rattle.hd_engine.specs.Answers.{IsAnswer, AreAnswers};
+ghost use Rattle.hd_engine.specs.Audits.{PrintsRightAudit};
 ghost use Rattle.hd_engine.specs.Reply.{Reply};
 ghost use Rattle.hd_engine.specs.Saddles.{PrintsRight};
 ghost use Rattle.hd_engine.specs.State.{State, IsState, first_state};
 
+use hd_audit::{shown_pruning_certificate_is_determined, shown_pruning_certificate_is_right};
 use hd_cert::{shown_certificate_is_determined, shown_certificate_is_right};
 use hd_edit::{edit_is_determined, edits_keep_maps, logs_keep_maps, undos_keep_maps};
 use hd_map::{change_tree_is_determined, saddle_is_determined};
+use hd_stats::further_values_are_determined;
 use hd_steep::root_is_determined;
 use hd_survey::{
-    pruned_lines_are_determined, pruned_regions_are_determined, region_sizes_are_determined,
-    values_are_determined,
+    features_are_determined, kept_pits_are_determined, pruned_lines_are_determined,
+    pruned_regions_are_determined, region_sizes_are_determined, values_are_determined,
 };
 
 /// A line has one answer on a state, and one state after it.
@@ -32,7 +36,11 @@ pub fn answer_is_determined()
     shown_certificate_is_determined();
     pruned_regions_are_determined();
     pruned_lines_are_determined();
+    kept_pits_are_determined();
+    features_are_determined();
     values_are_determined();
+    further_values_are_determined();
+    shown_pruning_certificate_is_determined();
 }
 
 /// The lines of a script have one answer on a state, and one state after them.
@@ -60,4 +68,12 @@ pub fn printed_certificate_is_right()
         → IsAnswer s number line reply after → reply.accepted ≡ true → PrintsRight s.map side a b reply }
 {
     shown_certificate_is_right();
+}
+
+/// Each `audit` line prints a certificate of its side and percent that is right on the map at that line.
+pub fn printed_pruning_certificate_is_right()
+    ensures { (s : State) (number : ℕ) (line : List ℕ) (side : SideName) (percent : Percent) (reply : Reply) (after : State) → script_line line ≡ Ok (Some (Audit side percent))
+        → IsState s → IsAnswer s number line reply after → PrintsRightAudit s.map side percent reply }
+{
+    shown_pruning_certificate_is_right();
 }

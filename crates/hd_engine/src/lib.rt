@@ -8,12 +8,14 @@ mod parts;
 mod reports;
 mod saddles;
 mod session;
+mod surveyed;
 mod texts;
+mod values;
 mod workpiece;
 
 pub use answer::Answer;
 pub use laws::{
     answer_is_determined, answer_keeps_a_state, answers_are_determined,
-    printed_certificate_is_right,
+    printed_certificate_is_right, printed_pruning_certificate_is_right,
 };
 pub use session::Session;

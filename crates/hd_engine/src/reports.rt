@@ -1,6 +1,8 @@
 // The texts of reports on a map.
-ghost use Rattle.std.specs.Prelude.{◌≡◌, IfOk, List as Items};
-ghost use Rattle.hd_feature.specs.declared.notation.Notation.{Notation};
+ghost use Rattle.std.specs.Prelude.{◌≡◌, IfOk, List as Items, Option as Maybe};
+ghost use Rattle.hd_audit.specs.declared.types.Audit.{Audit};
+ghost use Rattle.hd_audit.specs.Shown.{IsShown};
+ghost use Rattle.hd_audit.specs.Text.{audit_text};
 ghost use Rattle.hd_map.specs.declared.types.Pos.{Pos};
 ghost use Rattle.hd_map.specs.declared.types.RegionSize.{RegionSize};
 ghost use Rattle.hd_map.specs.ChangeTree.{Joining, IsChangeTree};
@@ -13,28 +15,30 @@ ghost use Rattle.hd_report.specs.Borders.{borders_text};
 ghost use Rattle.hd_report.specs.Prunings.{prune_text};
 ghost use Rattle.hd_report.specs.Regions.{label_text, regions_text};
 ghost use Rattle.hd_report.specs.Trees.{tree_text};
-ghost use Rattle.hd_report.specs.Values.{feature_line, param_line};
+ghost use Rattle.hd_num.specs.declared.frac.Frac.{Frac};
+ghost use Rattle.hd_prune.specs.declared.step.Kept.{Kept};
+ghost use Rattle.hd_prune.specs.Staying.{AreKeptAlone};
+ghost use Rattle.hd_report.specs.Volumes.{fill_text};
+ghost use Rattle.hd_stats.specs.Fill.{AreFills};
+ghost use Rattle.hd_survey.specs.Findings.{AreFindings};
 ghost use Rattle.hd_survey.specs.Lines.{ArePrunedLines};
 ghost use Rattle.hd_survey.specs.Owned.{ArePrunedRegions};
 ghost use Rattle.hd_survey.specs.Regions.{AreRegionSizes};
-ghost use Rattle.hd_survey.specs.Sums.{IsSumOfMeans};
-ghost use Rattle.hd_survey.specs.Values.{IsNotationValue, IsParameterValue};
 ghost use Rattle.hd_engine.specs.Info.{info_on};
 ghost use Rattle.hd_engine.specs.Texts.{texts_view};
 
 use crate::texts::Texts;
-use hd_feature::{Notation, Parameter};
+use hd_audit::{make_audit, text_of_audit};
 use hd_list::{List, Memory};
 use hd_map::{Grid, Heights, Pos, Side, presence_of};
 use hd_num::Percent;
 use hd_report::{
-    Scales, list_borders, list_pruning, list_regions, list_tree, tell_feature, tell_info,
-    tell_label, tell_parameter,
+    Scales, list_borders, list_pruning, list_regions, list_tree, list_volumes, tell_info,
+    tell_label,
 };
+use hd_stats::fill;
 use hd_steep::root;
-use hd_survey::{
-    change_tree, notation_value, parameter_value, pruned_lines, pruned_regions, region_sizes,
-};
+use hd_survey::{Findings, change_tree, kept_pits, pruned_lines, pruned_regions};
 use std::alloc::Global;
 
 /// The size, the type, the present points and the range of their heights, and the scales.
@@ -59,12 +63,15 @@ pub(crate) fn report_info<G: Grid>(
 pub(crate) fn report_regions<S: Side, G: Heights>(
     alloc: Global,
     grid: &G,
+    findings: &mut Findings<S>,
 ) -> Result<List<u8>, Memory>
-    ensures { IfOk result (λ text. (regions : Items RegionSize) × AreRegionSizes (G.map grid.now) S.NAME regions
+    requires { AreFindings (G.map grid.now) S.NAME findings.old }
+    ensures findings { AreFindings (G.map grid.now) S.NAME findings.new }
+    ensures text { IfOk result (λ text. (regions : Items RegionSize) × AreRegionSizes (G.map grid.now) S.NAME regions
         × (text ≡ regions_text S.NAME (G.map grid.now).size regions)) }
 {
-    let regions = region_sizes::<S, G>(alloc, grid)?;
-    let text = list_regions(alloc, S::NAME, grid.size(), regions.as_slice())?;
+    findings.find_sizes(alloc, grid)?;
+    let text = list_regions(alloc, S::NAME, grid.size(), findings.sizes())?;
     Ok(text)
 }
 
@@ -84,11 +91,17 @@ pub(crate) fn report_label<S: Side, G: Heights>(
 }
 
 /// The change tree of a side.
-pub(crate) fn report_tree<S: Side, G: Heights>(alloc: Global, grid: &G) -> Result<List<u8>, Memory>
-    ensures { IfOk result (λ text. (joins : Items Joining) × IsChangeTree (G.map grid.now) S.NAME joins
+pub(crate) fn report_tree<S: Side, G: Heights>(
+    alloc: Global,
+    grid: &G,
+    findings: &mut Findings<S>,
+) -> Result<List<u8>, Memory>
+    requires { AreFindings (G.map grid.now) S.NAME findings.old }
+    ensures findings { AreFindings (G.map grid.now) S.NAME findings.new }
+    ensures text { IfOk result (λ text. (joins : Items Joining) × IsChangeTree (G.map grid.now) S.NAME joins
         × (text ≡ tree_text S.NAME (G.map grid.now).size joins)) }
 {
-    let tree = change_tree::<S, G>(alloc, grid)?;
+    let tree = change_tree::<S, G>(alloc, grid, findings)?;
     let text = list_tree(alloc, S::NAME, grid.size(), tree.joins.as_slice())?;
     Ok(text)
 }
@@ -97,12 +110,15 @@ pub(crate) fn report_tree<S: Side, G: Heights>(alloc: Global, grid: &G) -> Resul
 pub(crate) fn report_pruning<S: Side, G: Heights>(
     alloc: Global,
     grid: &G,
+    findings: &mut Findings<S>,
     percent: Percent,
 ) -> Result<List<u8>, Memory>
-    ensures { IfOk result (λ text. (steps : Items Leaving) × (kept : Items RegionSize) × ArePrunedRegions (G.map grid.now) S.NAME percent.thousandths steps kept
+    requires { AreFindings (G.map grid.now) S.NAME findings.old }
+    ensures findings { AreFindings (G.map grid.now) S.NAME findings.new }
+    ensures text { IfOk result (λ text. (steps : Items Leaving) × (kept : Items RegionSize) × ArePrunedRegions (G.map grid.now) S.NAME percent.thousandths steps kept
         × (text ≡ prune_text S.NAME percent.thousandths (G.map grid.now).size steps kept)) }
 {
-    let pruned = pruned_regions::<S, G>(alloc, grid, percent)?;
+    let pruned = pruned_regions::<S, G>(alloc, grid, findings, percent)?;
     let text = list_pruning(
         alloc,
         S::NAME,
@@ -118,42 +134,57 @@ pub(crate) fn report_pruning<S: Side, G: Heights>(
 pub(crate) fn report_borders<S: Side, G: Heights>(
     alloc: Global,
     grid: &G,
+    findings: &mut Findings<S>,
     percent: Percent,
 ) -> Result<List<u8>, Memory>
-    ensures { IfOk result (λ text. (lines : Items BorderLine) × ArePrunedLines (G.map grid.now) S.NAME percent.thousandths lines
+    requires { AreFindings (G.map grid.now) S.NAME findings.old }
+    ensures findings { AreFindings (G.map grid.now) S.NAME findings.new }
+    ensures text { IfOk result (λ text. (lines : Items BorderLine) × ArePrunedLines (G.map grid.now) S.NAME percent.thousandths lines
         × (text ≡ borders_text S.NAME percent.thousandths (G.map grid.now).size lines)) }
 {
-    let lines = pruned_lines::<S, G>(alloc, grid, percent)?;
+    let lines = pruned_lines::<S, G>(alloc, grid, findings, percent)?;
     let text = list_borders(alloc, S::NAME, grid.size(), percent, lines.as_slice())?;
     Ok(text)
 }
 
-/// The value of a parameter by its name, with its height in steps where it has one.
-pub(crate) fn report_parameter<G: Heights>(
+/// The certificate of the pruning of a side at a percent.
+pub(crate) fn report_audit<S: Side, G: Heights>(
     alloc: Global,
     grid: &G,
-    name: &[u8],
-    height: Option<i64>,
-    parameter: &Parameter,
+    findings: &mut Findings<S>,
+    percent: Percent,
 ) -> Result<List<u8>, Memory>
-    requires { IsSumOfMeans parameter.now }
-    ensures { IfOk result (λ text. (value : _) × IsParameterValue (G.map grid.now) parameter.now value × (text ≡ param_line name.now height value)) }
+    requires { AreFindings (G.map grid.now) S.NAME findings.old }
+    ensures findings { AreFindings (G.map grid.now) S.NAME findings.new }
+    ensures text { IfOk result (λ text. (audit : Audit) × IsShown (G.map grid.now) S.NAME percent audit × (text ≡ audit_text audit)) }
 {
-    let value = parameter_value(alloc, grid, parameter)?;
-    let text = tell_parameter(alloc, name, height, value)?;
+    let kept = kept_pits::<S, G>(alloc, grid, findings, percent, presence_of(grid).range)?;
+    let audit = make_audit::<S, G>(alloc, grid, percent, &kept)?;
+    let text = text_of_audit(alloc, &audit)?;
     Ok(text)
 }
 
-/// The value of a notation by its word.
-pub(crate) fn report_feature<G: Heights>(
+/// The fill volumes of the pits that the pruning of a side at a percent keeps.
+pub(crate) fn report_volumes<S: Side, G: Heights>(
     alloc: Global,
     grid: &G,
-    word: &[u8],
-    notation: &Notation,
+    findings: &mut Findings<S>,
+    percent: Percent,
 ) -> Result<List<u8>, Memory>
-    ensures { IfOk result (λ text. (value : _) × IsNotationValue (G.map grid.now) notation.now value × (text ≡ feature_line word.now value)) }
+    requires { AreFindings (G.map grid.now) S.NAME findings.old }
+    ensures findings { AreFindings (G.map grid.now) S.NAME findings.new }
+    ensures text { IfOk result (λ text. (kept : Items Kept) × (volumes : Items (Maybe Frac)) × AreKeptAlone (G.map grid.now) S.NAME percent.thousandths kept
+        × AreFills (G.map grid.now) S.NAME kept volumes × (text ≡ fill_text S.NAME percent.thousandths (G.map grid.now).size kept volumes)) }
 {
-    let value = notation_value(alloc, grid, notation)?;
-    let text = tell_feature(alloc, word, value)?;
+    let kept = kept_pits::<S, G>(alloc, grid, findings, percent, presence_of(grid).range)?;
+    let volumes = fill::<S, G>(alloc, grid, &kept)?;
+    let text = list_volumes(
+        alloc,
+        S::NAME,
+        grid.size(),
+        percent,
+        kept.as_slice(),
+        volumes.as_slice(),
+    )?;
     Ok(text)
 }

@@ -7,7 +7,7 @@ ghost use Rattle.hd_engine.specs.State.{first_state, saved_file};
 
 use crate::Answer;
 use crate::parts::{joined, parted};
-use crate::workpiece::Workpiece;
+use crate::surveyed::Surveyed;
 use hd_list::Memory;
 use hd_map::{Narrow, Surface, Wide};
 use hd_sdf_read::SdfFile;
@@ -26,8 +26,8 @@ pub struct Session {
 /// The surface in its layout, which is chosen once.
 #[derive(Drop)]
 enum Layout {
-    Narrow(Workpiece<Narrow>),
-    Wide(Workpiece<Wide>),
+    Narrow(Surveyed<Narrow>),
+    Wide(Surveyed<Wide>),
 }
 
 impl Model for Session {
@@ -54,8 +54,8 @@ impl Session {
     {
         let (texts, surface) = parted(file);
         let layout = match surface {
-            Surface::Narrow(grid) => Layout::Narrow(Workpiece::new(alloc, texts, grid)?),
-            Surface::Wide(grid) => Layout::Wide(Workpiece::new(alloc, texts, grid)?),
+            Surface::Narrow(grid) => Layout::Narrow(Surveyed::new(alloc, texts, grid)?),
+            Surface::Wide(grid) => Layout::Wide(Surveyed::new(alloc, texts, grid)?),
         };
         Ok(Session {
             layout,
@@ -70,11 +70,13 @@ impl Session {
         ensures { IfOk result (λ file. file_of file ≡ saved_file self.now.state) }
     {
         match &self.layout {
-            Layout::Narrow(work) => {
+            Layout::Narrow(surveyed) => {
+                let work = &surveyed.work;
                 let surface = work.board.grid().without_masks(work.alloc)?;
                 joined(work.alloc, &work.texts, Surface::Narrow(surface))
             }
-            Layout::Wide(work) => {
+            Layout::Wide(surveyed) => {
+                let work = &surveyed.work;
                 let surface = work.board.grid().without_masks(work.alloc)?;
                 joined(work.alloc, &work.texts, Surface::Wide(surface))
             }
@@ -94,8 +96,8 @@ impl Session {
     {
         self.asked += 1;
         match &mut self.layout {
-            Layout::Narrow(work) => work.answer(number, line),
-            Layout::Wide(work) => work.answer(number, line),
+            Layout::Narrow(surveyed) => surveyed.answer(number, line),
+            Layout::Wide(surveyed) => surveyed.answer(number, line),
         }
     }
 }

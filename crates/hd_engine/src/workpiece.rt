@@ -1,15 +1,19 @@
 // A surface that lines of a script work on.
-ghost use Rattle.std.specs.Prelude.{◌≡◌, ◌<◌, ◌^◌, [], IfOk, OnErr};
+ghost use Rattle.std.specs.Prelude.{◌≡◌, ◌≤◌, ◌<◌, ◌^◌, [], IfOk, OnErr};
 ghost use Rattle.hd_map.specs.Map.{Present};
 ghost use Rattle.hd_script.specs.Whole.{IsTable, IsWhole};
 ghost use Rattle.hd_report.specs.Edits.{edit_text, kept_text};
 ghost use Rattle.hd_report.specs.Elements.{element_text};
 ghost use Rattle.hd_report.specs.Forms.{form_text};
+ghost use Rattle.hd_report.specs.Notations.{notation_text};
 ghost use Rattle.hd_engine.specs.Answers.{IsAnswer, IsCommandAnswer};
+ghost use Rattle.hd_engine.specs.Audits.{IsAuditAnswer};
 ghost use Rattle.hd_engine.specs.Borders.{IsBordersAnswer};
+ghost use Rattle.hd_engine.specs.Distributions.{IsHistAnswer, IsPercAnswer};
 ghost use Rattle.hd_engine.specs.Edits.{IsEditAnswer, IsUndoAnswer};
 ghost use Rattle.hd_engine.specs.Neighbours.{IsNeighboursAnswer};
 ghost use Rattle.hd_engine.specs.Elements.{IsElementAnswer, IsElementsAnswer};
+ghost use Rattle.hd_engine.specs.Heights.{IsHeightAnswer};
 ghost use Rattle.hd_engine.specs.Info.{IsInfoAnswer};
 ghost use Rattle.hd_engine.specs.Prunings.{IsPruneAnswer};
 ghost use Rattle.hd_engine.specs.Regions.{IsLabelAnswer, IsRegionsAnswer, TellsRoot};
@@ -17,23 +21,31 @@ ghost use Rattle.hd_engine.specs.Reply.{refused_for, reply_of};
 ghost use Rattle.hd_engine.specs.Saddles.{IsSaddleAnswer};
 ghost use Rattle.hd_engine.specs.Trees.{IsTreeAnswer};
 ghost use Rattle.hd_engine.specs.Values.{IsFeatureAnswer, IsParamAnswer};
+ghost use Rattle.hd_engine.specs.Volumes.{IsVolumesAnswer};
+ghost use Rattle.hd_survey.specs.Findings.{AreFindings};
+ghost use Rattle.hd_survey.specs.Survey.{IsSurvey};
 ghost use Rattle.hd_engine.specs.Workpiece.{state_of};
 
 use crate::Answer;
 use crate::reports::{
-    report_borders, report_feature, report_info, report_label, report_parameter, report_pruning,
-    report_regions, report_tree,
+    report_audit, report_borders, report_info, report_label, report_pruning, report_regions,
+    report_tree, report_volumes,
 };
 use crate::saddles::show_saddle;
 use crate::texts::Texts;
+use crate::values::{
+    report_distribution, report_feature, report_height, report_parameter, report_share,
+};
 use hd_edit::{Board, Edit, EditError, LogEnds};
-use hd_feature::{named, read_notation};
+use hd_feature::{NotationError, named, read_notation, read_without_statistic};
 use hd_list::{List, Memory};
 use hd_map::{Adjacency, Down, Grid, Pos, Side, SideName, Up, contains, is_present};
 use hd_morph::{Element, ElementError};
 use hd_num::Percent;
 use hd_report::{edit_cause, element_cause, form_cause, kept_cause, list_elements, notation_cause};
 use hd_script::{Command, LineError, read_line};
+use hd_stats::height_name;
+use hd_survey::{Findings, Survey};
 use std::alloc::Global;
 
 /// A grid that a script works on, with the texts of its file. Contracts see it as its state.
@@ -64,69 +76,8 @@ impl<G: Grid> Workpiece<G> {
         })
     }
 
-    /// The answer to a line without its LF. The number is the one that the line has in its answer.
-    ///
-    /// `Memory` comes where the line, the edit or the answer is refused its memory; the surface, the
-    /// earlier maps, the elements and the setting of the neighbours are then as before.
-    pub fn answer(&mut self, number: u64, line: &[u8]) -> Result<Answer, Memory>
-        requires { G.changes self.old.board.grid < 2 ^ 62 }
-        ensures ok { IfOk result (λ a. IsAnswer (state_of G.map self.old) number line.now (reply_of a) (state_of G.map self.new)) }
-        ensures memory { OnErr result ((state_of G.map self.new) ≡ (state_of G.map self.old)) }
-    {
-        match read_line(self.alloc, line) {
-            Err(LineError::Memory) => Err(Memory),
-            Err(error) => self.refuse_form(number, error),
-            Ok(None) => Ok(Answer::with_text(List::new(self.alloc))),
-            Ok(Some(command)) => self.obey(number, command),
-        }
-    }
-
-    // The answer to a line that has not its form.
-    fn refuse_form(&self, number: u64, error: LineError) -> Result<Answer, Memory>
-        ensures { IfOk result (λ a. reply_of a ≡ refused_for number (form_text error)) }
-    {
-        let cause = form_cause(self.alloc, error)?;
-        Answer::refused(self.alloc, number, cause.as_slice())
-    }
-
-    // The answer to a command.
-    fn obey(&mut self, number: u64, command: Command) -> Result<Answer, Memory>
-        requires whole { IsWhole command }
-        requires count { G.changes self.old.board.grid < 2 ^ 62 }
-        ensures ok { IfOk result (λ a. IsCommandAnswer (state_of G.map self.old) number command (reply_of a) (state_of G.map self.new)) }
-        ensures memory { OnErr result ((state_of G.map self.new) ≡ (state_of G.map self.old)) }
-    {
-        match command {
-            Command::Do(edit) => self.edit(number, &edit),
-            Command::Undo(count) => self.undo(number, count),
-            Command::Element {
-                name,
-                width,
-                height,
-                table,
-            } => self.define(number, name, width, height, table),
-            Command::Elements => self.elements(),
-            Command::Neighbours(adjacency) => self.set_adjacency(number, adjacency),
-            Command::Info => self.info(),
-            Command::Dales => self.list::<Down>(),
-            Command::Hills => self.list::<Up>(),
-            Command::Label { side, at } => self.label(number, side, at),
-            Command::Saddle { side, a, b } => self.saddle(number, side, a, b),
-            Command::Prune { side, percent } => self.prune(side, percent),
-            Command::Lines { side, percent } => self.borders(side, percent),
-            Command::Param { name, height } => self.param(number, name.as_slice(), height),
-            Command::Feature { word } => self.feature(number, word.as_slice()),
-            Command::Tree {
-                side: SideName::Dales,
-            } => self.tree::<Down>(),
-            Command::Tree {
-                side: SideName::Hills,
-            } => self.tree::<Up>(),
-        }
-    }
-
-    // Makes an edit, once the memory for its answer is there.
-    fn edit(&mut self, number: u64, edit: &Edit) -> Result<Answer, Memory>
+    /// Makes an edit, once the memory for its answer is there.
+    pub(crate) fn edit(&mut self, number: u64, edit: &Edit) -> Result<Answer, Memory>
         requires { G.changes self.old.board.grid < 2 ^ 62 }
         ensures ok { IfOk result (λ a. IsEditAnswer (state_of G.map self.old) number edit.now (reply_of a) (state_of G.map self.new)) }
         ensures memory { OnErr result ((state_of G.map self.new) ≡ (state_of G.map self.old)) }
@@ -147,8 +98,8 @@ impl<G: Grid> Workpiece<G> {
         Answer::refused(self.alloc, number, cause.as_slice())
     }
 
-    // Goes back over kept edits, once the memory for its answer is there.
-    fn undo(&mut self, number: u64, count: u64) -> Result<Answer, Memory>
+    /// Goes back over kept edits, once the memory for its answer is there.
+    pub(crate) fn undo(&mut self, number: u64, count: u64) -> Result<Answer, Memory>
         requires { G.changes self.old.board.grid < 2 ^ 62 }
         ensures ok { IfOk result (λ a. IsUndoAnswer (state_of G.map self.old) number count (reply_of a) (state_of G.map self.new)) }
         ensures memory { OnErr result ((state_of G.map self.new) ≡ (state_of G.map self.old)) }
@@ -168,8 +119,8 @@ impl<G: Grid> Workpiece<G> {
         Answer::refused(self.alloc, number, cause.as_slice())
     }
 
-    // Defines an element, once the memory for its answer is there.
-    fn define(
+    /// Defines an element, once the memory for its answer is there.
+    pub(crate) fn define(
         &mut self,
         number: u64,
         name: List<u8>,
@@ -199,8 +150,12 @@ impl<G: Grid> Workpiece<G> {
         Answer::refused(self.alloc, number, cause.as_slice())
     }
 
-    // Sets which points are neighbours, once the memory for its answer is there.
-    fn set_adjacency(&mut self, number: u64, adjacency: Adjacency) -> Result<Answer, Memory>
+    /// Sets which points are neighbours, once the memory for its answer is there.
+    pub(crate) fn set_adjacency(
+        &mut self,
+        number: u64,
+        adjacency: Adjacency,
+    ) -> Result<Answer, Memory>
         requires { G.changes self.old.board.grid < 2 ^ 62 }
         ensures ok { IfOk result (λ a. IsNeighboursAnswer (state_of G.map self.old) number adjacency (reply_of a) (state_of G.map self.new)) }
         ensures memory { OnErr result ((state_of G.map self.new) ≡ (state_of G.map self.old)) }
@@ -210,8 +165,8 @@ impl<G: Grid> Workpiece<G> {
         Ok(ok)
     }
 
-    // The answer that lists the elements.
-    fn elements(&self) -> Result<Answer, Memory>
+    /// The answer that lists the elements.
+    pub(crate) fn elements(&self) -> Result<Answer, Memory>
         ensures { IfOk result (λ a. IsElementsAnswer (state_of G.map self.now) (reply_of a) (state_of G.map self.now)) }
     {
         let lines = self.board.elements()?;
@@ -219,24 +174,26 @@ impl<G: Grid> Workpiece<G> {
         Ok(Answer::with_text(text))
     }
 
-    // The answer that tells the size, the type, the heights and the scales.
-    fn info(&self) -> Result<Answer, Memory>
+    /// The answer that tells the size, the type, the heights and the scales.
+    pub(crate) fn info(&self) -> Result<Answer, Memory>
         ensures { IfOk result (λ a. IsInfoAnswer (state_of G.map self.now) (reply_of a) (state_of G.map self.now)) }
     {
         let text = report_info(self.alloc, &self.texts, self.board.grid())?;
         Ok(Answer::with_text(text))
     }
 
-    // The answer that lists the regions of a side.
-    fn list<S: Side>(&self) -> Result<Answer, Memory>
-        ensures { IfOk result (λ a. IsRegionsAnswer (state_of G.map self.now) S.NAME (reply_of a) (state_of G.map self.now)) }
+    /// The answer that lists the regions of a side.
+    pub(crate) fn list<S: Side>(&self, findings: &mut Findings<S>) -> Result<Answer, Memory>
+        requires { AreFindings (G.map self.now.board.grid) S.NAME findings.old }
+        ensures findings { AreFindings (G.map self.now.board.grid) S.NAME findings.new }
+        ensures answer { IfOk result (λ a. IsRegionsAnswer (state_of G.map self.now) S.NAME (reply_of a) (state_of G.map self.now)) }
     {
-        let text = report_regions::<S, G>(self.alloc, self.board.grid())?;
+        let text = report_regions::<S, G>(self.alloc, self.board.grid(), findings)?;
         Ok(Answer::with_text(text))
     }
 
-    // The answer that tells in which region of a side a point lies.
-    fn label(&self, number: u64, side: SideName, at: Pos) -> Result<Answer, Memory>
+    /// The answer that tells in which region of a side a point lies.
+    pub(crate) fn label(&self, number: u64, side: SideName, at: Pos) -> Result<Answer, Memory>
         ensures { IfOk result (λ a. IsLabelAnswer (state_of G.map self.now) number side at (reply_of a) (state_of G.map self.now)) }
     {
         let grid = self.board.grid();
@@ -261,96 +218,286 @@ impl<G: Grid> Workpiece<G> {
         Ok(Answer::with_text(text))
     }
 
-    // The answer that shows the saddle of the pits of two points.
-    fn saddle(&self, number: u64, side: SideName, a: Pos, b: Pos) -> Result<Answer, Memory>
-        ensures { IfOk result (λ r. IsSaddleAnswer (state_of G.map self.now) number side a b (reply_of r) (state_of G.map self.now)) }
+    /// The answer that shows the saddle of the pits of two points.
+    pub(crate) fn saddle(
+        &self,
+        survey: &mut Survey,
+        number: u64,
+        side: SideName,
+        a: Pos,
+        b: Pos,
+    ) -> Result<Answer, Memory>
+        requires { IsSurvey (G.map self.now.board.grid) survey.old }
+        ensures survey { IsSurvey (G.map self.now.board.grid) survey.new }
+        ensures answer { IfOk result (λ r. IsSaddleAnswer (state_of G.map self.now) number side a b (reply_of r) (state_of G.map self.now)) }
     {
         let grid = self.board.grid();
         match side {
-            SideName::Dales => show_saddle::<Down, G>(self.alloc, grid, number, a, b),
-            SideName::Hills => show_saddle::<Up, G>(self.alloc, grid, number, a, b),
+            SideName::Dales => show_saddle::<Down, G>(
+                self.alloc,
+                grid,
+                &mut survey.dales,
+                number,
+                a,
+                b,
+            ),
+            SideName::Hills => show_saddle::<Up, G>(
+                self.alloc,
+                grid,
+                &mut survey.hills,
+                number,
+                a,
+                b,
+            ),
         }
     }
 
-    // The answer that lists the change tree of a side.
-    fn tree<S: Side>(&self) -> Result<Answer, Memory>
-        ensures { IfOk result (λ a. IsTreeAnswer (state_of G.map self.now) S.NAME (reply_of a) (state_of G.map self.now)) }
+    /// The answer that lists the change tree of a side.
+    pub(crate) fn tree<S: Side>(&self, findings: &mut Findings<S>) -> Result<Answer, Memory>
+        requires { AreFindings (G.map self.now.board.grid) S.NAME findings.old }
+        ensures findings { AreFindings (G.map self.now.board.grid) S.NAME findings.new }
+        ensures answer { IfOk result (λ a. IsTreeAnswer (state_of G.map self.now) S.NAME (reply_of a) (state_of G.map self.now)) }
     {
-        let text = report_tree::<S, G>(self.alloc, self.board.grid())?;
+        let text = report_tree::<S, G>(self.alloc, self.board.grid(), findings)?;
         Ok(Answer::with_text(text))
     }
 
-    // The answer that tells the pruning of a side.
-    fn prune(&self, side: SideName, percent: Percent) -> Result<Answer, Memory>
-        ensures { IfOk result (λ a. IsPruneAnswer (state_of G.map self.now) side percent.thousandths (reply_of a) (state_of G.map self.now)) }
+    /// The answer that tells the pruning of a side.
+    pub(crate) fn prune(
+        &self,
+        survey: &mut Survey,
+        side: SideName,
+        percent: Percent,
+    ) -> Result<Answer, Memory>
+        requires { IsSurvey (G.map self.now.board.grid) survey.old }
+        ensures survey { IsSurvey (G.map self.now.board.grid) survey.new }
+        ensures answer { IfOk result (λ a. IsPruneAnswer (state_of G.map self.now) side percent.thousandths (reply_of a) (state_of G.map self.now)) }
     {
         match side {
-            SideName::Dales => self.tell_pruning::<Down>(percent),
-            SideName::Hills => self.tell_pruning::<Up>(percent),
+            SideName::Dales => self.tell_pruning::<Down>(&mut survey.dales, percent),
+            SideName::Hills => self.tell_pruning::<Up>(&mut survey.hills, percent),
         }
     }
 
     // The same, by the order of the side.
-    fn tell_pruning<S: Side>(&self, percent: Percent) -> Result<Answer, Memory>
-        ensures { IfOk result (λ a. IsPruneAnswer (state_of G.map self.now) S.NAME percent.thousandths (reply_of a) (state_of G.map self.now)) }
+    fn tell_pruning<S: Side>(
+        &self,
+        findings: &mut Findings<S>,
+        percent: Percent,
+    ) -> Result<Answer, Memory>
+        requires { AreFindings (G.map self.now.board.grid) S.NAME findings.old }
+        ensures findings { AreFindings (G.map self.now.board.grid) S.NAME findings.new }
+        ensures answer { IfOk result (λ a. IsPruneAnswer (state_of G.map self.now) S.NAME percent.thousandths (reply_of a) (state_of G.map self.now)) }
     {
-        let text = report_pruning::<S, G>(self.alloc, self.board.grid(), percent)?;
+        let text = report_pruning::<S, G>(self.alloc, self.board.grid(), findings, percent)?;
         Ok(Answer::with_text(text))
     }
 
-    // The answer that lists the borders that the pruning of a side leaves.
-    fn borders(&self, side: SideName, percent: Percent) -> Result<Answer, Memory>
-        ensures { IfOk result (λ a. IsBordersAnswer (state_of G.map self.now) side percent.thousandths (reply_of a) (state_of G.map self.now)) }
+    /// The answer that lists the borders that the pruning of a side leaves.
+    pub(crate) fn borders(
+        &self,
+        survey: &mut Survey,
+        side: SideName,
+        percent: Percent,
+    ) -> Result<Answer, Memory>
+        requires { IsSurvey (G.map self.now.board.grid) survey.old }
+        ensures survey { IsSurvey (G.map self.now.board.grid) survey.new }
+        ensures answer { IfOk result (λ a. IsBordersAnswer (state_of G.map self.now) side percent.thousandths (reply_of a) (state_of G.map self.now)) }
     {
         match side {
-            SideName::Dales => self.list_borders::<Down>(percent),
-            SideName::Hills => self.list_borders::<Up>(percent),
+            SideName::Dales => self.list_borders::<Down>(&mut survey.dales, percent),
+            SideName::Hills => self.list_borders::<Up>(&mut survey.hills, percent),
         }
     }
 
     // The same, by the order of the side.
-    fn list_borders<S: Side>(&self, percent: Percent) -> Result<Answer, Memory>
-        ensures { IfOk result (λ a. IsBordersAnswer (state_of G.map self.now) S.NAME percent.thousandths (reply_of a) (state_of G.map self.now)) }
+    fn list_borders<S: Side>(
+        &self,
+        findings: &mut Findings<S>,
+        percent: Percent,
+    ) -> Result<Answer, Memory>
+        requires { AreFindings (G.map self.now.board.grid) S.NAME findings.old }
+        ensures findings { AreFindings (G.map self.now.board.grid) S.NAME findings.new }
+        ensures answer { IfOk result (λ a. IsBordersAnswer (state_of G.map self.now) S.NAME percent.thousandths (reply_of a) (state_of G.map self.now)) }
     {
-        let text = report_borders::<S, G>(self.alloc, self.board.grid(), percent)?;
+        let text = report_borders::<S, G>(self.alloc, self.board.grid(), findings, percent)?;
         Ok(Answer::with_text(text))
     }
 
-    // The answer that tells the value of a parameter by its name.
-    fn param(&self, number: u64, name: &[u8], height: Option<i64>) -> Result<Answer, Memory>
-        ensures { IfOk result (λ a. IsParamAnswer (state_of G.map self.now) number name.now height (reply_of a) (state_of G.map self.now)) }
+    /// The answer that prints the certificate of the pruning of a side.
+    pub(crate) fn audit(
+        &self,
+        survey: &mut Survey,
+        side: SideName,
+        percent: Percent,
+    ) -> Result<Answer, Memory>
+        requires { IsSurvey (G.map self.now.board.grid) survey.old }
+        ensures survey { IsSurvey (G.map self.now.board.grid) survey.new }
+        ensures answer { IfOk result (λ a. IsAuditAnswer (state_of G.map self.now) side percent (reply_of a) (state_of G.map self.now)) }
+    {
+        match side {
+            SideName::Dales => self.print_audit::<Down>(&mut survey.dales, percent),
+            SideName::Hills => self.print_audit::<Up>(&mut survey.hills, percent),
+        }
+    }
+
+    // The same, by the order of the side.
+    fn print_audit<S: Side>(
+        &self,
+        findings: &mut Findings<S>,
+        percent: Percent,
+    ) -> Result<Answer, Memory>
+        requires { AreFindings (G.map self.now.board.grid) S.NAME findings.old }
+        ensures findings { AreFindings (G.map self.now.board.grid) S.NAME findings.new }
+        ensures answer { IfOk result (λ a. IsAuditAnswer (state_of G.map self.now) S.NAME percent (reply_of a) (state_of G.map self.now)) }
+    {
+        let text = report_audit::<S, G>(self.alloc, self.board.grid(), findings, percent)?;
+        Ok(Answer::with_text(text))
+    }
+
+    /// The answer that lists the fill volumes of the pits that the pruning of a side keeps.
+    pub(crate) fn fill(
+        &self,
+        survey: &mut Survey,
+        side: SideName,
+        percent: Percent,
+    ) -> Result<Answer, Memory>
+        requires { IsSurvey (G.map self.now.board.grid) survey.old }
+        ensures survey { IsSurvey (G.map self.now.board.grid) survey.new }
+        ensures answer { IfOk result (λ a. IsVolumesAnswer (state_of G.map self.now) side percent.thousandths (reply_of a) (state_of G.map self.now)) }
+    {
+        match side {
+            SideName::Dales => self.list_volumes::<Down>(&mut survey.dales, percent),
+            SideName::Hills => self.list_volumes::<Up>(&mut survey.hills, percent),
+        }
+    }
+
+    // The same, by the order of the side.
+    fn list_volumes<S: Side>(
+        &self,
+        findings: &mut Findings<S>,
+        percent: Percent,
+    ) -> Result<Answer, Memory>
+        requires { AreFindings (G.map self.now.board.grid) S.NAME findings.old }
+        ensures findings { AreFindings (G.map self.now.board.grid) S.NAME findings.new }
+        ensures answer { IfOk result (λ a. IsVolumesAnswer (state_of G.map self.now) S.NAME percent.thousandths (reply_of a) (state_of G.map self.now)) }
+    {
+        let text = report_volumes::<S, G>(self.alloc, self.board.grid(), findings, percent)?;
+        Ok(Answer::with_text(text))
+    }
+
+    /// The answer that tells the value of a parameter by its name.
+    pub(crate) fn param(
+        &self,
+        survey: &mut Survey,
+        number: u64,
+        name: &[u8],
+        height: Option<i64>,
+    ) -> Result<Answer, Memory>
+        requires { IsSurvey (G.map self.now.board.grid) survey.old }
+        ensures survey { IsSurvey (G.map self.now.board.grid) survey.new }
+        ensures answer { IfOk result (λ a. IsParamAnswer (state_of G.map self.now) number name.now height (reply_of a) (state_of G.map self.now)) }
     {
         match named(name, height) {
             Ok(parameter) => {
                 let text = report_parameter(
                     self.alloc,
                     self.board.grid(),
+                    survey,
                     name,
                     height,
                     &parameter,
                 )?;
                 Ok(Answer::with_text(text))
             }
-            Err(error) => {
-                let cause = notation_cause(self.alloc, error)?;
-                Answer::refused(self.alloc, number, cause.as_slice())
-            }
+            Err(error) => self.refuse_notation(number, error),
         }
     }
 
-    // The answer that tells the value of a feature notation.
-    fn feature(&self, number: u64, word: &[u8]) -> Result<Answer, Memory>
-        ensures { IfOk result (λ a. IsFeatureAnswer (state_of G.map self.now) number word.now (reply_of a) (state_of G.map self.now)) }
+    /// The answer that tells the value of a feature notation.
+    pub(crate) fn feature(
+        &self,
+        survey: &mut Survey,
+        number: u64,
+        word: &[u8],
+    ) -> Result<Answer, Memory>
+        requires { IsSurvey (G.map self.now.board.grid) survey.old }
+        ensures survey { IsSurvey (G.map self.now.board.grid) survey.new }
+        ensures answer { IfOk result (λ a. IsFeatureAnswer (state_of G.map self.now) number word.now (reply_of a) (state_of G.map self.now)) }
     {
         match read_notation(word) {
             Ok(notation) => {
-                let text = report_feature(self.alloc, self.board.grid(), word, &notation)?;
+                let text = report_feature(self.alloc, self.board.grid(), survey, word, &notation)?;
                 Ok(Answer::with_text(text))
             }
-            Err(error) => {
-                let cause = notation_cause(self.alloc, error)?;
-                Answer::refused(self.alloc, number, cause.as_slice())
-            }
+            Err(error) => self.refuse_notation(number, error),
         }
+    }
+
+    /// The answer that tells the value of a height parameter by its name.
+    pub(crate) fn height(&self, number: u64, name: &[u8], c: Option<i64>) -> Result<Answer, Memory>
+        ensures { IfOk result (λ a. IsHeightAnswer (state_of G.map self.now) number name.now c (reply_of a) (state_of G.map self.now)) }
+    {
+        match height_name(name, c) {
+            Ok(parameter) => {
+                let text = report_height(self.alloc, self.board.grid(), name, c, parameter)?;
+                Ok(Answer::with_text(text))
+            }
+            Err(error) => self.refuse_notation(number, error),
+        }
+    }
+
+    /// The answer that tells how the attributes of a notation are distributed.
+    pub(crate) fn hist(
+        &self,
+        survey: &mut Survey,
+        number: u64,
+        bins: u32,
+        word: &[u8],
+    ) -> Result<Answer, Memory>
+        requires some { 1 ≤ bins }
+        requires few { bins ≤ 64 }
+        requires survey { IsSurvey (G.map self.now.board.grid) survey.old }
+        ensures survey { IsSurvey (G.map self.now.board.grid) survey.new }
+        ensures answer { IfOk result (λ a. IsHistAnswer (state_of G.map self.now) number bins word.now (reply_of a) (state_of G.map self.now)) }
+    {
+        match read_without_statistic(word) {
+            Ok(notation) => {
+                let grid = self.board.grid();
+                let text = report_distribution(self.alloc, grid, survey, bins, word, &notation)?;
+                Ok(Answer::with_text(text))
+            }
+            Err(error) => self.refuse_notation(number, error),
+        }
+    }
+
+    /// The answer that tells which share of the attributes of a notation is above a value.
+    pub(crate) fn perc(
+        &self,
+        survey: &mut Survey,
+        number: u64,
+        above: i64,
+        word: &[u8],
+    ) -> Result<Answer, Memory>
+        requires { IsSurvey (G.map self.now.board.grid) survey.old }
+        ensures survey { IsSurvey (G.map self.now.board.grid) survey.new }
+        ensures answer { IfOk result (λ a. IsPercAnswer (state_of G.map self.now) number above word.now (reply_of a) (state_of G.map self.now)) }
+    {
+        match read_without_statistic(word) {
+            Ok(notation) => {
+                let grid = self.board.grid();
+                let text = report_share(self.alloc, grid, survey, above, word, &notation)?;
+                Ok(Answer::with_text(text))
+            }
+            Err(error) => self.refuse_notation(number, error),
+        }
+    }
+
+    // The answer to a notation or a name that is refused.
+    fn refuse_notation(&self, number: u64, error: NotationError) -> Result<Answer, Memory>
+        ensures { IfOk result (λ a. reply_of a ≡ refused_for number (notation_text error)) }
+    {
+        let cause = notation_cause(self.alloc, error)?;
+        Answer::refused(self.alloc, number, cause.as_slice())
     }
 }

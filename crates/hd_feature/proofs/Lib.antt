@@ -2,3 +2,4 @@ pub mod Bounds
 pub mod Cuts
 pub mod HeightsAlone
 pub mod Values
+pub mod Appended

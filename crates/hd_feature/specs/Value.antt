@@ -93,3 +93,10 @@ pub record IsStatistic (statistic : Statistic) (values : List ℤ) (area : ℕ) 
 -- the value of a notation: none exactly where no region is significant or no point is present
 abbrev pub IsValue : Notation → List Region → ℕ → Option Frac → Type 0
 IsValue n regions area value = MatchOption value ((attributes n regions ≡ []) ⊎ (area ≡ 0)) (IsStatistic n.statistic (attributes n regions) area)
+
+-- the same value, by numerator and denominator
+abbrev pub AreSameValues : Option Frac → Option Frac → Type 0
+AreSameValues (Some f) (Some g) = (f.num ≡ g.num) × (f.den ≡ g.den)
+AreSameValues (Some f) None = ⊥
+AreSameValues None (Some g) = ⊥
+AreSameValues None None = Unit {0}

@@ -1,5 +1,5 @@
 // A word as a notation.
-ghost use Rattle.std.specs.Prelude.{◌≡◌};
+ghost use Rattle.std.specs.Prelude.{◌≡◌, ◌++◌, codes};
 ghost use Rattle.hd_feature.specs.Notation.{attribute_of, edge_bound, has_attribute, has_significance, height_of, kind_of, notation_of, number_of, paired, pruning_of, scope_of, significance_of, statistic_of};
 
 use crate::parts::{Part, read_part};
@@ -35,6 +35,29 @@ pub fn read_notation(word: &[u8]) -> Result<Notation, NotationError>
         attribute,
         statistic,
     })
+}
+
+/// Reads a word as the first five parts of a notation: as `read_notation` reads it with `;Sum` after it,
+/// with the same refusals.
+pub fn read_without_statistic(word: &[u8]) -> Result<Notation, NotationError>
+    ensures { result ≡ notation_of (word.now ++ codes ";Sum") }
+{
+    let (_scope, rest) = read_part::<Scope>(1, Some(word))?;
+    let (kind, rest) = read_part::<Kind>(2, rest)?;
+    let (percent, rest) = read_part::<Percent>(3, rest)?;
+    let (significance, rest) = read_part::<Significance>(4, rest)?;
+    let (attribute, rest) = read_part::<Attribute>(5, rest)?;
+    if rest.is_none() {
+        return paired(Notation {
+            kind,
+            percent,
+            significance,
+            attribute,
+            statistic: Statistic::Sum,
+        });
+    }
+    let (_statistic, _more) = read_part::<Statistic>(6, rest)?;
+    Err(NotationError::BadPart(7))
 }
 
 // The notation, where its parts go together.

@@ -32,8 +32,8 @@ fn total(values: &[i64]) -> i128
     sum
 }
 
-// The greatest of some numbers.
-fn greatest(values: &[i64]) -> i64
+/// The greatest of some numbers.
+pub fn greatest(values: &[i64]) -> i64
     requires { 0 < length values.now }
     ensures { result ≡ greatest values.now }
 {
@@ -44,8 +44,8 @@ fn greatest(values: &[i64]) -> i64
     greatest
 }
 
-// The least of some numbers.
-fn least(values: &[i64]) -> i64
+/// The least of some numbers.
+pub fn least(values: &[i64]) -> i64
     requires { 0 < length values.now }
     ensures { result ≡ least values.now }
 {

@@ -33,8 +33,13 @@ pub fn evaluate(
     Ok(Some(statistic_of(notation.statistic, values.as_slice(), area)))
 }
 
-// The attributes of the significant regions.
-fn attributes(alloc: Global, notation: &Notation, regions: &[Region]) -> Result<Vec<i64>, Memory>
+/// The attributes of the regions that are significant to a notation, in their order, in steps, points
+/// or features. No region has more than 4,194,304 points. `Memory` comes where memory is refused.
+pub fn attributes(
+    alloc: Global,
+    notation: &Notation,
+    regions: &[Region],
+) -> Result<Vec<i64>, Memory>
     requires { All (λ r. r.points ≤ 4194304) regions.now }
     ensures { IfOk result (λ values. values.items ≡ attributes notation.now regions.now) }
 {

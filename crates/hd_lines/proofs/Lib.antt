@@ -1,8 +1,11 @@
 pub mod Written
 pub mod Counted
-pub mod Noting
-pub mod Seeing
-pub mod Bordering
+pub mod Seen
+pub mod Slots
+pub mod Finding
+pub mod Rounds
+pub mod Chained
+pub mod Gathering
 pub mod Crossed
 pub mod Owners
 pub mod Ways

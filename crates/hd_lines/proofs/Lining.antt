@@ -1,5 +1,5 @@
 -- The lines of all borders are the border lines of the pruning.
-use Rattle.std.proofs.Common.{◌≡◌, ◌<◌, ◌⊎◌, ◌∙◌, ℕ, Bool, inl, inr, List, length, get_or, slice_get, Option, Some, sym, ap, subst, arith}
+use Rattle.std.proofs.Common.{◌≡◌, ◌<◌, ◌⊎◌, ◌∙◌, ℕ, Bool, inl, inr, List, length, get_or, slice_get, Some, sym, ap, subst, arith}
 use Rattle.std.specs.Prelude.{◌↔◌, All, Contains}
 use Rattle.std.proofs.lemmas.List.Elements.{Contains-get_or}
 use Rattle.std.proofs.lemmas.Option.{get_or_from_slice_get, same_Some, slice_get-get_or, slice_get_within}
@@ -7,33 +7,33 @@ use Rattle.hd_map.specs.declared.types.Rank.{Rank}
 use Rattle.hd_map.specs.declared.types.SideName.{SideName}
 use Rattle.hd_map.specs.Map.{IsMap, Map}
 use Rattle.hd_map.specs.Rank.{below_by}
-use Rattle.hd_map.specs.Region.{AreRegions}
 use Rattle.hd_map.specs.Saddle.{IsSaddle}
 use Rattle.hd_graph.proofs.Places.{at_place, item_at, place_of}
 use Rattle.hd_prune.specs.declared.step.Kept.{Kept}
 use Rattle.hd_prune.specs.declared.step.Owned.{Owned}
 use Rattle.hd_prune.specs.declared.step.Step.{Step}
 use Rattle.hd_prune.specs.Answer.{IsPruned}
+use Rattle.hd_steep.specs.Numbering.{AreNumbered, Numbering}
 use Rattle.hd_lines.specs.declared.border.Border.{Border}
 use Rattle.hd_lines.specs.declared.line.BorderLine.{BorderLine}
 use Rattle.hd_lines.specs.Borders.{AreBorders, AreFirstJoins}
 use Rattle.hd_lines.specs.Lines.{AreBorderLines, IsAcross, IsBorderLine, IsOwnedBy, Pair}
 use Rattle.hd_lines.specs.Listed.{AreListed, line_of}
-use Rattle.hd_lines.specs.Notes.{HasPlace}
+use Rattle.hd_lines.specs.Found.{HasPlace}
 use Rattle.hd_lines.specs.Places.{AreOwnerPlaces}
 use Rattle.hd_lines.proofs.Counted.{counted-as}
 use Rattle.hd_lines.proofs.Placing.{kept-last, last-kept, own-place, owned-place, pit_at-is, place-owned, place-owner, place-rises, placed, places-joined, pit_at, rises-at}
 use Rattle.hd_lines.proofs.Ways.{first-saddle}
 
 module _ (m : Map) (whole : IsMap m) (side : SideName) (thousandths : ℕ) (steps : List Step) (kept : List Kept) (owners : List Owned) (pruned : IsPruned m side thousandths steps kept owners)
-    (roots : List (Option ℕ)) (regions : AreRegions m side roots) (places : List ℕ) (are : AreOwnerPlaces kept owners roots places)
+    (regions : Numbering) (numbered : AreNumbered m side regions) (places : List ℕ) (are : AreOwnerPlaces kept owners regions.numbers places)
     (borders : List Border) (right : AreBorders m side places borders) where
   -- the kept pits of a border
   pub border-kept : (l : Border) → Contains borders l → ((a : Kept) × (slice_get kept l.a ≡ Some a)) × ((b : Kept) × (slice_get kept l.b ≡ Some b))
   border-kept l at =
       let r = (right.counted l at).reached in
-      let a = place-owner m whole side thousandths steps kept owners pruned roots regions places are r.0.from l.a r.1.from_in in
-      let b = place-owner m whole side thousandths steps kept owners pruned roots regions places are r.0.to l.b r.1.to_in in
+      let a = place-owner m whole side thousandths steps kept owners pruned regions numbered places are r.0.from l.a r.1.from_in in
+      let b = place-owner m whole side thousandths steps kept owners pruned regions numbered places are r.0.to l.b r.1.to_in in
       ((a.0, a.1), (b.0, b.1))
 
   pub borders-within : All (λ l. (l.a < length kept) × (l.b < length kept)) borders
@@ -47,13 +47,13 @@ module _ (m : Map) (whole : IsMap m) (side : SideName) (thousandths : ℕ) (step
   across-same i j a b at_a at_b p = (
     λ h. record {
       near = h.near;
-      from_in = place-owned m whole side thousandths steps kept owners pruned roots regions places are p.from i a at_a h.from_in;
-      to_in = place-owned m whole side thousandths steps kept owners pruned roots regions places are p.to j b at_b h.to_in;
+      from_in = place-owned m whole side thousandths steps kept owners pruned regions numbered places are p.from i a at_a h.from_in;
+      to_in = place-owned m whole side thousandths steps kept owners pruned regions numbered places are p.to j b at_b h.to_in;
     },
     λ h. record {
       near = h.near;
-      from_in = owned-place m whole side thousandths steps kept owners pruned roots regions places are p.from i a at_a h.from_in;
-      to_in = owned-place m whole side thousandths steps kept owners pruned roots regions places are p.to j b at_b h.to_in;
+      from_in = owned-place m whole side thousandths steps kept owners pruned regions numbered places are p.from i a at_a h.from_in;
+      to_in = owned-place m whole side thousandths steps kept owners pruned regions numbered places are p.to j b at_b h.to_in;
     },
   )
 
@@ -93,11 +93,11 @@ module _ (m : Map) (whole : IsMap m) (side : SideName) (thousandths : ℕ) (step
     border-line n l a b first at at_a at_b at_first =
         let in_borders : Contains borders l = at_place borders n l at in
         let own : HasPlace m places (pit_at kept l.a) l.a =
-        subst (λ (z : Rank). HasPlace m places z l.a) (sym (pit_at-is kept l.a a at_a)) (own-place m whole side thousandths steps kept owners pruned roots regions places are l.a a at_a) in
+        subst (λ (z : Rank). HasPlace m places z l.a) (sym (pit_at-is kept l.a a at_a)) (own-place m whole side thousandths steps kept owners pruned regions numbered places are l.a a at_a) in
         let own' : HasPlace m places (pit_at kept l.b) l.b =
-        subst (λ (z : Rank). HasPlace m places z l.b) (sym (pit_at-is kept l.b b at_b)) (own-place m whole side thousandths steps kept owners pruned roots regions places are l.b b at_b) in
-        let saddle = first-saddle m side places borders right (pit_at kept) (placed m whole side thousandths steps kept owners pruned roots regions places are)
-        (places-joined m whole side thousandths steps kept owners pruned roots regions places are) l in_borders own own' first (joins.each n l first at at_first) in
+        subst (λ (z : Rank). HasPlace m places z l.b) (sym (pit_at-is kept l.b b at_b)) (own-place m whole side thousandths steps kept owners pruned regions numbered places are l.b b at_b) in
+        let saddle = first-saddle m side places borders right (pit_at kept) (placed m whole side thousandths steps kept owners pruned regions numbered places are)
+        (places-joined m whole side thousandths steps kept owners pruned regions numbered places are) l in_borders own own' first (joins.each n l first at at_first) in
         record {
           first = kept-last m whole side thousandths steps kept owners pruned a (at_place kept l.a a at_a);
           second = kept-last m whole side thousandths steps kept owners pruned b (at_place kept l.b b at_b);

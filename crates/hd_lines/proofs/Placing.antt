@@ -1,33 +1,34 @@
 -- The places of owners: a point has the place of the kept pit that owns it.
-use Rattle.std.proofs.Common.{◌≡◌, ◌≢◌, ◌<◌, ◌≤◌, ◌∙◌, ℕ, inl, inr, List, [], ◌∷◌, length, get_or, map, slice_get, Option, Some, None, sym, ap, subst, arith}
+use Rattle.std.proofs.Common.{◌≡◌, ◌≢◌, ◌<◌, ◌≤◌, ◌∙◌, ℕ, inl, inr, List, [], ◌∷◌, length, get_or, map, slice_get, Some, None, sym, ap, subst, arith}
 use Rattle.std.specs.Prelude.{All, AllPairs, Contains, pos}
 use Rattle.std.proofs.lemmas.List.{get_or-map, length-map}
 use Rattle.std.proofs.lemmas.List.Elements.{Contains-get_or}
-use Rattle.std.proofs.lemmas.Option.{get_or_from_slice_get, same_Some, slice_get_within}
-use Rattle.hd_map.specs.declared.types.Pos.{Pos}
+use Rattle.std.specs.Option.{option_map}
+use Rattle.std.proofs.lemmas.Option.{get_or_from_slice_get, same_Some, slice_get-get_or, slice_get-map, slice_get_within}
 use Rattle.hd_map.specs.declared.types.Rank.{Rank}
 use Rattle.hd_map.specs.declared.types.SideName.{SideName}
-use Rattle.hd_map.specs.Map.{InGrid, IsMap, Map, cell_count, place_of, position_at}
+use Rattle.hd_map.specs.Map.{IsMap, Map, cell_count}
 use Rattle.hd_map.specs.Passes.{higher_by}
 use Rattle.hd_map.specs.Rank.{IsPoint, Near}
-use Rattle.hd_map.specs.Region.{AreRegions, IsPit, IsRoot}
+use Rattle.hd_map.specs.Region.{IsPit, IsRoot}
 use Rattle.hd_map.proofs.Apart.{length-le_from_apart}
 use Rattle.hd_map.proofs.Items.{Contains-map, map-Contains}
 use Rattle.hd_map.proofs.Nexts.{root-is_pit, root-pit, root-unique}
-use Rattle.hd_map.proofs.Points.{Near-from, place_inside, position_at-inside, position_at-place, present_or_not}
-use Rattle.hd_map.proofs.Regions.{region-of}
+use Rattle.hd_map.proofs.Points.{Near-from, place_inside}
+use Rattle.hd_map.proofs.Prunings.{pits-unique}
 use Rattle.hd_graph.proofs.Places.{at_place, less_same_more, one_place, place_of as place_in}
 use Rattle.hd_prune.specs.declared.step.Kept.{Kept}
 use Rattle.hd_prune.specs.declared.step.Owned.{Owned}
 use Rattle.hd_prune.specs.declared.step.Step.{Step}
 use Rattle.hd_prune.specs.Answer.{IsPruned}
-use Rattle.hd_prune.specs.Pruned.{leavings_of}
-use Rattle.hd_prune.proofs.Lists.{AllPairs-map}
+use Rattle.hd_prune.specs.Pruned.{leavings_of, owned_by}
+use Rattle.hd_steep.specs.Numbering.{AreNumbered, Numbering}
+use Rattle.hd_steep.proofs.Numbered.{number_of_point, numbers_whole, pit_of_point}
 use Rattle.hd_prune.proofs.Points.{JoinedBy}
 use Rattle.hd_lines.specs.Lines.{IsOwnedBy}
-use Rattle.hd_lines.specs.Notes.{HasPlace}
-use Rattle.hd_lines.specs.Places.{AreOwnerPlaces, HaveEntries}
-use Rattle.hd_lines.proofs.Noting.{place-one}
+use Rattle.hd_lines.specs.Found.{HasPlace}
+use Rattle.hd_lines.specs.Places.{AreOwnerPlaces, IsNumbered}
+use Rattle.hd_lines.proofs.Seen.{place-one}
 use Rattle.hd_lines.proofs.Owners.{AreOwners, neighbours-joined, owners-pruned}
 
 -- the index of a point is that of a cell
@@ -38,21 +39,6 @@ point-inside m x point = subst (λ (r : Rank). r.index < cell_count m.size) (sym
 pub root-point : (m : Map) (side : SideName) (x r : Rank) → IsRoot m side x r → IsPoint m x
 root-point m side x r ([], nexts) = nexts.1.point
 root-point m side x r ((q ∷ path), nexts) = Near-from m x q nexts.0.lower.near
-
--- roots are indexes of cells
-pub roots-inside : (m : Map) (side : SideName) (roots : List (Option ℕ)) → IsMap m → AreRegions m side roots → HaveEntries roots (length roots)
-roots-inside m side roots whole regions k r at =
-    let within : k < cell_count m.size = subst (λ n. k < n) regions.whole (slice_get_within roots k (Some r) at) in
-    let p : Pos = position_at m.size k in
-    let inside : InGrid m.size p = position_at-inside m.size k whole.size.some_points within in
-    let place : place_of m.size p ≡ k = position_at-place m.size k whole.size.some_points in
-    elim (present_or_not m p inside) [
-      | inl here ↦
-          let found = regions.present p here in
-          let is : Some (found.0).index ≡ Some r = same_Some (Some (found.0).index) (Some r) (sym found.2 ∙ ap (slice_get roots) place ∙ at) in
-          subst (λ n. n < length roots) (same_Some (found.0).index r is) (subst (λ n. (found.0).index < n) (sym regions.whole) (point-inside m found.0 (root-is_pit m side _ found.0 found.1).point))
-      | inr gone ↦ absurd (let none : ◌≡◌ {A = Option (Option ℕ)} (Some None) (Some (Some r)) = sym (regions.absent p inside gone) ∙ ap (slice_get roots) place ∙ at in cc)
-    ]
 
 -- the pit of a place
 abbrev pub pit_at : List Kept → ℕ → Rank
@@ -75,8 +61,8 @@ module _ (m : Map) (whole : IsMap m) (side : SideName) (thousandths : ℕ) (step
       let i = place_in kept k.0 k.1 in
       (i.0, k.0, i.1, k.2)
 
-  pub kept-point : (k : Kept) → Contains kept k → IsPoint m k.pit
-  kept-point k at = (are_owners.among k.pit (kept-last k at)).point
+  kept-pit : (k : Kept) → Contains kept k → IsPit m side k.pit
+  kept-pit k at = are_owners.among k.pit (kept-last k at)
 
   -- they stand in position order
   pub kept-rises : AllPairs (λ a b. a.pit.index < b.pit.index) kept
@@ -92,7 +78,7 @@ module _ (m : Map) (whole : IsMap m) (side : SideName) (thousandths : ℕ) (step
 
   pub kept-few : length kept ≤ 4194304
   kept-few =
-      let most = length-le_from_apart (λ (k : Kept). k.pit.index) (cell_count m.size) kept kept-once (λ k at. point-inside m k.pit (kept-point k at)) in
+      let most = length-le_from_apart (λ (k : Kept). k.pit.index) (cell_count m.size) kept kept-once (λ k at. point-inside m k.pit (kept-pit k at).point) in
       let cells = whole.size.cells in
       omega arith
 
@@ -111,81 +97,95 @@ module _ (m : Map) (whole : IsMap m) (side : SideName) (thousandths : ℕ) (step
     ]
   ]
 
-  -- the pits with their owners
-  owned-of : (r : Rank) → IsPit m side r → Contains owners (record { pit = r; owner = pruned.owner r })
-  owned-of r is = subst (λ (os : List Owned). Contains os (record { pit = r; owner = pruned.owner r })) (sym pruned.owned)
-      (map-Contains (λ (p : Rank). record { pit = p; owner = pruned.owner p }) pruned.pruning.pits r ((pruned.pruning.are_pits.exactly r).1 is))
-
-  owned-pit : (o : Owned) → Contains owners o → IsPit m side o.pit × IsPit m side o.owner
-  owned-pit o at =
+  -- each owner is a pit
+  owner-pit : (o : Owned) → Contains owners o → IsPit m side o.owner
+  owner-pit o at =
       let p = Contains-map (λ (q : Rank). record { pit = q; owner = pruned.owner q }) pruned.pruning.pits o (subst (λ (os : List Owned). Contains os o) pruned.owned at) in
-      let is : IsPit m side p.0 = (pruned.pruning.are_pits.exactly p.0).0 p.1 in
-      let of : IsPit m side (pruned.owner p.0) = are_owners.among (pruned.owner p.0) (are_owners.kept_owner p.0 is) in
-      (subst (λ (z : Owned). IsPit m side z.pit) p.2 is, subst (λ (z : Owned). IsPit m side z.owner) p.2 of)
+      subst (λ (z : Owned). IsPit m side z.owner) p.2 (are_owners.among (pruned.owner p.0) (are_owners.kept_owner p.0 ((pruned.pruning.are_pits.exactly p.0).0 p.1)))
 
-  pub pits-inside : All (λ o. o.pit.index < cell_count m.size) owners
-  pits-inside k d inside = point-inside m (get_or owners k d).pit ((owned-pit (get_or owners k d) (Contains-get_or owners k d inside)).0).point
+  module _ (regions : Numbering) (numbered : AreNumbered m side regions) where
+    -- the pits of the regions stand with their owners, in the same order
+    owners-listed : owners ≡ owned_by pruned.owner regions.pits
+    owners-listed = pruned.owned ∙ ap (owned_by pruned.owner) (pits-unique m side pruned.pruning.pits regions.pits pruned.pruning.are_pits numbered.pits)
 
-  pub owners-inside : All (λ o. o.owner.index < cell_count m.size) owners
-  owners-inside k d inside = point-inside m (get_or owners k d).owner ((owned-pit (get_or owners k d) (Contains-get_or owners k d inside)).1).point
+    pub owners-whole : length owners ≡ length regions.pits
+    owners-whole = ap length owners-listed ∙ length-map regions.pits (λ (p : Rank). record { pit = p; owner = pruned.owner p })
 
-  pub kept-inside : All (λ k. k.pit.index < cell_count m.size) kept
-  kept-inside k d inside = point-inside m (get_or kept k d).pit (kept-point (get_or kept k d) (Contains-get_or kept k d inside))
+    number-inside : (x : Rank) → IsPoint m x → x.index < length regions.numbers
+    number-inside x point = subst (λ n. x.index < n) (sym (numbers_whole m side regions numbered)) (point-inside m x point)
 
-  pub owners-once : AllPairs (λ a b. a.pit.index ≢ b.pit.index) owners
-  owners-once =
-      let make : Rank → Owned = λ p. record { pit = p; owner = pruned.owner p } in
-      subst (λ (os : List Owned). AllPairs (λ (a : Owned) (b : Owned). a.pit.index ≢ b.pit.index) os) (sym pruned.owned)
-      (AllPairs-map (λ (a : Owned) (b : Owned). a.pit.index ≢ b.pit.index) make pruned.pruning.pits (λ i j d less inside e. (let h = pruned.pruning.are_pits.in_order i j d less inside in omega arith)))
+    pit-numbered : (p : Rank) → IsPit m side p → IsNumbered regions p.index
+    pit-numbered p pit = record { inside = number-inside p pit.point; below = (number_of_point m side regions numbered p pit.point).0 }
 
-  module _ (roots : List (Option ℕ)) (regions : AreRegions m side roots) (places : List ℕ) (are : AreOwnerPlaces kept owners roots places) where
-    -- a point has the place of the owner of its root
-    place-is : (x r : Rank) (i : ℕ) (k : Kept) → IsPoint m x → IsRoot m side x r → slice_get kept i ≡ Some k → k.pit ≡ pruned.owner r → HasPlace m places x i
-    place-is x r i k point root at e =
-        let found = region-of m side roots regions x point in
-        let same : found.0 ≡ r = root-unique m side x found.0 r found.1 root in
-        record {
-          point = point;
-          place = are.each x.index i (record { pit = r; owner = pruned.owner r }) k (subst (λ (z : Rank). slice_get roots x.index ≡ Some (Some z.index)) same found.2.label)
-              (owned-of r (root-is_pit m side x r root)) at (ap (λ (z : Rank). z.index) e);
-        }
+    pub kept-numbered : All (λ k. IsNumbered regions k.pit.index) kept
+    kept-numbered k d inside = pit-numbered (get_or kept k d).pit (kept-pit (get_or kept k d) (Contains-get_or kept k d inside))
 
-    -- and there is one
-    pub placed : (x : Rank) → IsPoint m x → (i : ℕ) × HasPlace m places x i
-    placed x point =
-        let found = region-of m side roots regions x point in
-        let k = last-kept (pruned.owner found.0) (are_owners.kept_owner found.0 (root-is_pit m side x found.0 found.1)) in
-        (k.0, place-is x found.0 k.0 k.1 point found.1 k.2 k.3)
+    pub owners-numbered : All (λ o. IsNumbered regions o.owner.index) owners
+    owners-numbered k d inside = pit-numbered (get_or owners k d).owner (owner-pit (get_or owners k d) (Contains-get_or owners k d inside))
 
-    -- what has a place is owned by the kept pit there
-    pub place-owner : (x : Rank) (i : ℕ) → HasPlace m places x i → (k : Kept) × (slice_get kept i ≡ Some k) × IsOwnedBy m side pruned.owner x k.pit
-    place-owner x i h =
-        let found = region-of m side roots regions x h.point in
-        let k = last-kept (pruned.owner found.0) (are_owners.kept_owner found.0 (root-is_pit m side x found.0 found.1)) in
-        let same : k.0 ≡ i = place-one m side places x k.0 i (place-is x found.0 k.0 k.1 h.point found.1 k.2 k.3) h in
-        (k.1, subst (λ j. slice_get kept j ≡ Some k.1) same k.2, record { root = found.0; is_root = found.1; owned = sym k.3 })
+    -- a pit is the one with its number, so two pits have two numbers
+    number-pit : (p : Rank) → IsPit m side p → slice_get regions.pits (get_or regions.numbers p.index 0) ≡ Some p
+    number-pit p pit = (let found = pit_of_point m side regions numbered p pit.point in found.2 ∙ ap Some (root-unique m side p found.0 p found.1 (root-pit m side p pit)))
 
-    pub place-owned : (x : Rank) (i : ℕ) (k : Kept) → slice_get kept i ≡ Some k → HasPlace m places x i → IsOwnedBy m side pruned.owner x k.pit
-    place-owned x i k at h = (let o = place-owner x i h in subst (λ (z : Kept). IsOwnedBy m side pruned.owner x z.pit) (same_Some o.0 k (sym o.1 ∙ at)) o.2)
+    pub kept-numbers : AllPairs (λ a b. get_or regions.numbers a.pit.index 0 ≢ get_or regions.numbers b.pit.index 0) kept
+    kept-numbers i j d less inside e =
+        let a : Rank = (get_or kept i d).pit in
+        let b : Rank = (get_or kept j d).pit in
+        let pit : (k : ℕ) → k < length kept → IsPit m side (get_or kept k d).pit = λ k within. kept-pit (get_or kept k d) (Contains-get_or kept k d within) in
+        let same : a ≡ b = same_Some a b (sym (number-pit a (pit i (omega arith))) ∙ ap (slice_get regions.pits) e ∙ number-pit b (pit j inside)) in
+        kept-once i j d less inside (ap (λ (z : Rank). z.index) same)
 
-    pub owned-place : (x : Rank) (i : ℕ) (k : Kept) → slice_get kept i ≡ Some k → IsOwnedBy m side pruned.owner x k.pit → HasPlace m places x i
-    owned-place x i k at o = place-is x o.root i k (root-point m side x o.root o.is_root) o.is_root at (sym o.owned)
+    module _ (places : List ℕ) (are : AreOwnerPlaces kept owners regions.numbers places) where
+      -- a point has the place of the owner of its root
+      place-is : (x r : Rank) (i : ℕ) (k : Kept) → IsPoint m x → IsRoot m side x r → slice_get kept i ≡ Some k → k.pit ≡ pruned.owner r → HasPlace m places x i
+      place-is x r i k point root at e =
+          let found = pit_of_point m side regions numbered x point in
+          let number : ℕ = get_or regions.numbers x.index 0 in
+          let same : found.0 ≡ r = root-unique m side x found.0 r found.1 root in
+          let owned : slice_get owners number ≡ Some (record { pit = r; owner = pruned.owner r }) =
+          ap (λ (os : List Owned). slice_get os number) owners-listed ∙ slice_get-map (λ (p : Rank). record { pit = p; owner = pruned.owner p }) regions.pits number
+          ∙ ap (option_map (λ (p : Rank). record { pit = p; owner = pruned.owner p })) (found.2 ∙ ap Some same) in
+          record {
+            point = point;
+            place = are.each x.index number i (record { pit = r; owner = pruned.owner r }) k (slice_get-get_or regions.numbers x.index 0 (number-inside x point)) owned at (ap (λ (z : Rank). z.index) e);
+          }
 
-    -- a kept pit has its own place
-    pub own-place : (i : ℕ) (k : Kept) → slice_get kept i ≡ Some k → HasPlace m places k.pit i
-    own-place i k at =
-        let last = kept-last k (at_place kept i k at) in
-        let pit = are_owners.among k.pit last in
-        place-is k.pit k.pit i k pit.point (root-pit m side k.pit pit) at (sym (are_owners.own k.pit last))
+      -- and there is one
+      pub placed : (x : Rank) → IsPoint m x → (i : ℕ) × HasPlace m places x i
+      placed x point =
+          let found = pit_of_point m side regions numbered x point in
+          let k = last-kept (pruned.owner found.0) (are_owners.kept_owner found.0 (root-is_pit m side x found.0 found.1)) in
+          (k.0, place-is x found.0 k.0 k.1 point found.1 k.2 k.3)
 
-    -- neighbours of two places join the pits there
-    pub places-joined : (x y : Rank) (i j : ℕ) → Near m x y → HasPlace m places x i → HasPlace m places y j → i ≢ j → JoinedBy m side (higher_by side x y) (pit_at kept i) (pit_at kept j)
-    places-joined x y i j near h h' apart =
-        let a = place-owner x i h in
-        let b = place-owner y j h' in
-        let ra = a.2 in
-        let rb = b.2 in
-        let different : pruned.owner ra.root ≢ pruned.owner rb.root = λ e. apart (one_place (λ (z : Kept). z.pit.index) kept kept-once i j a.0 b.0 a.1 b.1 (ap (λ (z : Rank). z.index) (sym ra.owned ∙ e ∙ rb.owned))) in
-        subst (λ (z : Rank). JoinedBy m side (higher_by side x y) z (pit_at kept j)) (ra.owned ∙ sym (pit_at-is kept i a.0 a.1))
-        (subst (λ (z : Rank). JoinedBy m side (higher_by side x y) (pruned.owner ra.root) z) (rb.owned ∙ sym (pit_at-is kept j b.0 b.1))
-        (neighbours-joined m side pruned.last pruned.owner are_owners x y ra.root rb.root near ra.is_root rb.is_root different))
+      -- what has a place is owned by the kept pit there
+      pub place-owner : (x : Rank) (i : ℕ) → HasPlace m places x i → (k : Kept) × (slice_get kept i ≡ Some k) × IsOwnedBy m side pruned.owner x k.pit
+      place-owner x i h =
+          let found = pit_of_point m side regions numbered x h.point in
+          let k = last-kept (pruned.owner found.0) (are_owners.kept_owner found.0 (root-is_pit m side x found.0 found.1)) in
+          let same : k.0 ≡ i = place-one m places x k.0 i (place-is x found.0 k.0 k.1 h.point found.1 k.2 k.3) h in
+          (k.1, subst (λ j. slice_get kept j ≡ Some k.1) same k.2, record { root = found.0; is_root = found.1; owned = sym k.3 })
+
+      pub place-owned : (x : Rank) (i : ℕ) (k : Kept) → slice_get kept i ≡ Some k → HasPlace m places x i → IsOwnedBy m side pruned.owner x k.pit
+      place-owned x i k at h = (let o = place-owner x i h in subst (λ (z : Kept). IsOwnedBy m side pruned.owner x z.pit) (same_Some o.0 k (sym o.1 ∙ at)) o.2)
+
+      pub owned-place : (x : Rank) (i : ℕ) (k : Kept) → slice_get kept i ≡ Some k → IsOwnedBy m side pruned.owner x k.pit → HasPlace m places x i
+      owned-place x i k at o = place-is x o.root i k (root-point m side x o.root o.is_root) o.is_root at (sym o.owned)
+
+      -- a kept pit has its own place
+      pub own-place : (i : ℕ) (k : Kept) → slice_get kept i ≡ Some k → HasPlace m places k.pit i
+      own-place i k at =
+          let last = kept-last k (at_place kept i k at) in
+          let pit = are_owners.among k.pit last in
+          place-is k.pit k.pit i k pit.point (root-pit m side k.pit pit) at (sym (are_owners.own k.pit last))
+
+      -- neighbours of two places join the pits there
+      pub places-joined : (x y : Rank) (i j : ℕ) → Near m x y → HasPlace m places x i → HasPlace m places y j → i ≢ j → JoinedBy m side (higher_by side x y) (pit_at kept i) (pit_at kept j)
+      places-joined x y i j near h h' apart =
+          let a = place-owner x i h in
+          let b = place-owner y j h' in
+          let ra = a.2 in
+          let rb = b.2 in
+          let different : pruned.owner ra.root ≢ pruned.owner rb.root = λ e. apart (one_place (λ (z : Kept). z.pit.index) kept kept-once i j a.0 b.0 a.1 b.1 (ap (λ (z : Rank). z.index) (sym ra.owned ∙ e ∙ rb.owned))) in
+          subst (λ (z : Rank). JoinedBy m side (higher_by side x y) z (pit_at kept j)) (ra.owned ∙ sym (pit_at-is kept i a.0 a.1))
+          (subst (λ (z : Rank). JoinedBy m side (higher_by side x y) (pruned.owner ra.root) z) (rb.owned ∙ sym (pit_at-is kept j b.0 b.1))
+          (neighbours-joined m side pruned.last pruned.owner are_owners x y ra.root rb.root near ra.is_root rb.is_root different))

@@ -18,8 +18,8 @@ use Rattle.hd_prune.proofs.Points.{JoinedBy, joined_along, joined_both, joined_h
 use Rattle.hd_lines.specs.declared.border.Border.{Border}
 use Rattle.hd_lines.specs.Borders.{AreBorders, IsFirstJoin, LowerStep}
 use Rattle.hd_lines.specs.Lines.{IsAcross, Pair}
-use Rattle.hd_lines.specs.Notes.{HasPlace}
-use Rattle.hd_lines.proofs.Noting.{place-one}
+use Rattle.hd_lines.specs.Found.{HasPlace}
+use Rattle.hd_lines.proofs.Seen.{place-one}
 
 -- the higher of two that are below a level is below it
 pub higher-below : (side : SideName) (x y w : Rank) → below_by side x w ≡ true → below_by side y w ≡ true → below_by side (higher_by side x y) w ≡ true
@@ -78,7 +78,7 @@ module _ (m : Map) (side : SideName) (places : List ℕ) (borders : List Border)
 
   -- and so does each path below it
   path-lower : (w t : Rank) → below_by side t w ≡ true → {x y : Rank} → JoinedBy m side t x y → (i j : ℕ) → HasPlace m places x i → HasPlace m places y j → Reach (LowerStep (below_by side) borders w) i j
-  path-lower w t low (here {a = x}) i j h k = subst (λ n. Reach (LowerStep (below_by side) borders w) i n) (place-one m side places x i j h k) here
+  path-lower w t low (here {a = x}) i j h k = subst (λ n. Reach (LowerStep (below_by side) borders w) i n) (place-one m places x i j h k) here
   path-lower w t low (step {a = x} {b = y} {c = z} s r) i j h k =
       let o = placed y (Near-to m x y s.0) in
       reach-trans (LowerStep (below_by side) borders w)
@@ -111,4 +111,4 @@ module _ (m : Map) (side : SideName) (places : List ℕ) (borders : List Border)
       different e = (let less = are.lesser l at in omega arith)
 
       apart : pit l.b ≢ pit l.a
-      apart e = different (place-one m side places (pit l.a) l.a l.b own (subst (λ (z : Rank). HasPlace m places z l.b) e own'))
+      apart e = different (place-one m places (pit l.a) l.a l.b own (subst (λ (z : Rank). HasPlace m places z l.b) e own'))

@@ -10,9 +10,6 @@ module _ {X : Type 0} (key : X → ℕ) (value : ℕ → X → ℕ) (xs : List X
   abbrev pub AreWritten : ℕ → List ℕ → Type 0
   AreWritten n table = (i : ℕ) (x : X) → i < n → slice_get xs i ≡ Some x → slice_get table (key x) ≡ Some (value i x)
 
-  pub written-none : (table : List ℕ) → AreWritten 0 table
-  written-none table = λ i x less at. absurd (omega arith)
-
   -- one more is written, and those before it stay
   pub written-more : AllPairs (λ x y. key x ≢ key y) xs → (n : ℕ) (d : X) (table : List ℕ) → AreWritten n table → n < length xs → key (get_or xs n d) < length table
       → AreWritten (n + 1) (set table (key (get_or xs n d)) (value n (get_or xs n d)))

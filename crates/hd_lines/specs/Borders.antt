@@ -1,25 +1,14 @@
 -- Borders by places, and which regions those of lower passes join.
-use Rattle.std.specs.Prelude.{◌≡◌, ◌<◌, ◌≤◌, ◌⊎◌, ◌↔◌, ℕ, Bool, true, false, List, length, map, slice_get, Some, Contains, AllPairs}
-use Rattle.std.specs.BTreeMap.{BTreeMap, IsOrdered}
+use Rattle.std.specs.Prelude.{◌≡◌, ◌<◌, ◌≤◌, ◌⊎◌, ◌↔◌, ℕ, Bool, true, false, List, length, slice_get, Some, Contains, AllPairs}
 use Rattle.hd_map.specs.declared.types.Rank.{Rank}
 use Rattle.hd_map.specs.declared.types.SideName.{SideName}
 use Rattle.hd_map.specs.Map.{Map}
 use Rattle.hd_map.proofs.Levels.{Reach}
 use Rattle.hd_graph.specs.Classes.{AreOneClass}
 use Rattle.hd_lines.specs.declared.border.Border.{Border}
-use Rattle.hd_lines.specs.declared.notes.Note.{Note}
 use Rattle.hd_lines.specs.declared.saddles.Crossing.{Crossing}
 use Rattle.hd_lines.specs.Lines.{AreCounted, IsAcross, Pair}
-use Rattle.hd_lines.specs.Notes.{HasPlace, pair_cmp}
-
--- the border of a note
-abbrev pub border_of : (ℕ × ℕ) × Note → Border
-border_of entry = record { a = entry.0.0; b = entry.0.1; pairs = entry.1.pairs; pass = entry.1.pass }
-
--- the borders of notes, by the two places
-pub record AreBordersOf (notes : BTreeMap (ℕ × ℕ) Note) (borders : List Border) : Type 0 where
-  pub listed : borders ≡ map border_of notes.entries
-  pub ordered : IsOrdered pair_cmp notes
+use Rattle.hd_lines.specs.Found.{HasPlace}
 
 -- one border for each two places with a pair across, by the lesser place and then by the other
 pub record AreBorders (m : Map) (side : SideName) (places : List ℕ) (borders : List Border) : Type 0 where

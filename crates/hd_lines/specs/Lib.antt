@@ -1,5 +1,6 @@
 pub mod Lines
 pub mod Places
-pub mod Notes
+pub mod Chains
+pub mod Found
 pub mod Borders
 pub mod Listed

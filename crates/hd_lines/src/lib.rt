@@ -2,10 +2,12 @@
 #![tactic(auto)]
 
 mod border;
+mod chains;
+mod found;
 mod laws;
 mod line;
 mod lines;
-mod notes;
+mod pairs;
 mod places;
 mod saddles;
 

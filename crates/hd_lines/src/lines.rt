@@ -1,54 +1,42 @@
 // The border lines of a pruning.
 ghost use Rattle.std.specs.Prelude.{◌≡◌, ◌<◌, ℕ, length, All, IfOk};
-ghost use Rattle.hd_map.specs.Map.{cell_count};
-ghost use Rattle.hd_map.specs.Region.{AreRegions};
 ghost use Rattle.hd_prune.specs.Answer.{IsPruned};
-ghost use Rattle.hd_lines.specs.Borders.{AreBorders};
 ghost use Rattle.hd_lines.specs.Lines.{AreLinesOf};
 ghost use Rattle.hd_lines.specs.Listed.{AreListed};
+ghost use Rattle.hd_steep.specs.Numbering.{AreNumbered};
 
-use crate::border::{Border, borders_of};
+use crate::border::Border;
 use crate::line::BorderLine;
-use crate::notes::notes_of;
+use crate::pairs::borders_of;
 use crate::places::owner_places;
 use crate::saddles::first_joins;
 use hd_list::{List, Memory};
 use hd_map::{Heights, Side};
 use hd_prune::{Kept, Pruned};
+use hd_steep::Regions;
 use std::alloc::Global;
 
 /// The border lines of the pruning of a grid on a side (for dales the ridge lines, for hills the course
 /// lines of ISO 25178-2): one for each two kept pits of whose points some are neighbours, by the index of
-/// the first pit and then of the second. The roots are those that `regions` gives for this grid and side.
-/// `Memory` comes where memory is refused.
+/// the first pit and then of the second. The regions are those of this grid and side. `Memory` comes where
+/// memory is refused.
 pub fn border_lines<S: Side, G: Heights>(
     alloc: Global,
     grid: &G,
-    roots: &List<Option<u32>>,
+    regions: &Regions,
     pruned: &Pruned,
 ) -> Result<List<BorderLine>, Memory>
-    requires regions { AreRegions (G.map grid.now) S.NAME roots.now }
+    requires regions { AreNumbered (G.map grid.now) S.NAME regions.now }
     requires pruned { (thousandths : ℕ) × IsPruned (G.map grid.now) S.NAME thousandths pruned.now.steps pruned.now.kept pruned.now.owners }
     ensures { IfOk result (AreLinesOf (G.map grid.now) S.NAME pruned.now.steps pruned.now.kept pruned.now.owners) }
 {
     let kept = pruned.kept.as_slice();
-    let places = owner_places(alloc, kept, pruned.owners.as_slice(), roots.as_slice())?;
-    let borders = borders::<S, G>(alloc, grid, &places)?;
+    let borders = {
+        let places = owner_places(alloc, kept, pruned.owners.as_slice(), regions)?;
+        borders_of::<S, G>(alloc, grid, &places, kept.len().max(1))?
+    };
     let firsts = first_joins::<S>(alloc, &borders, kept.len())?;
     list_lines(alloc, kept, &borders, &firsts)
-}
-
-// The borders between the points of different places.
-fn borders<S: Side, G: Heights>(
-    alloc: Global,
-    grid: &G,
-    places: &[u32],
-) -> Result<Vec<Border>, Memory>
-    requires { length places.now ≡ cell_count (G.map grid.now).size }
-    ensures { IfOk result (λ borders. AreBorders (G.map grid.now) S.NAME places.now borders.items) }
-{
-    let notes = notes_of::<S, G>(alloc, grid, places)?;
-    borders_of(alloc, &notes)
 }
 
 // The lines of borders between kept pits.

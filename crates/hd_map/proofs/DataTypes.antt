@@ -1,6 +1,7 @@
 -- The heights of the data types.
 use Rattle.std.proofs.Common.{◌≤◌, ◌≤ℤ◌, ◌<ℤ◌, ◌+ℤ◌, ℤ, pos, arith}
-use Rattle.std.specs.Prelude.{negsuc}
+use Rattle.std.specs.Prelude.{negsuc, FitsSigned}
+use mir.Syntax.{w64}
 use Rattle.std.proofs.lemmas.Int.{ints}
 use Rattle.hd_map.specs.declared.types.DataType.{DataType}
 use Rattle.hd_map.specs.declared.types.DataType.TheVariants.{U8, U16, U32, I8, I16, I32, Single, Double}
@@ -31,3 +32,11 @@ narrow_places (Double places) narrow = absurd (omega (arith, ints, narrow))
 -- each height of a type that four bytes hold is less than 2 ^ 32 over the least one
 pub in_four_bytes : (t : DataType) (h : ℤ) → IsNarrow t → h ≤ℤ greatest_height t → h <ℤ (least_height t +ℤ pos 4294967296)
 in_four_bytes t h narrow below = omega (arith, ints, below, narrow)
+
+-- each height of a type is kept in 64 bits
+pub in_64_bits : (t : DataType) (h : ℤ) → (least_height t ≤ℤ h) × (h ≤ℤ greatest_height t) → FitsSigned w64 h
+in_64_bits t h within =
+    let limits = type_limits t in
+    let low = within.0 in
+    let high = within.1 in
+    omega (arith, ints, limits.0, limits.2, low, high)

@@ -1,11 +1,14 @@
 -- What is packed is read again, and a point that is set or added keeps the others.
-use Rattle.std.proofs.Common.{◌≡◌, ◌≢◌, ◌<◌, ◌+◌, ◌-◌, ◌++◌, ◌≤◌, ℕ, ℤ, zero, suc, Bool, false, List, [], ◌∷◌, length, get_or, set, take, drop, map, replicate, None, inl, inr, ap, sym, refl, ◌∙◌, arith}
+use Rattle.std.proofs.Common.{◌≡◌, ◌≢◌, ◌<◌, ◌+◌, ◌-◌, ◌*ℤ◌, ◌++◌, ◌≤◌, ℕ, ℤ, zero, suc, Bool, false, List, [], ◌∷◌, length, get_or, set, take, drop, map, replicate, None, inl, inr, ap, ap₂, append-nil, sym, refl, ◌∙◌, arith}
+use Rattle.std.specs.Int.{int_wrap, w64}
 use Rattle.std.specs.Simd.Lanes.{zip2}
 use Rattle.std.proofs.Math.ListN.{length-set}
 use Rattle.std.proofs.Math.Seq.{map-set_same, take-append_seam}
-use Rattle.std.proofs.lemmas.Bool.{cases_eq, cases_lt}
+use Rattle.std.proofs.lemmas.Bool.{cases_Bool, cases_eq, cases_lt}
+use Rattle.std.proofs.lemmas.Int.{int_wrap_fits}
 use Rattle.std.proofs.lemmas.Grind.{get_or-set_at}
-use Rattle.std.proofs.lemmas.List.{get_or-replicate, length-replicate, length-map, map-append, map-set, get_or-map, get_or-set_other, get_or_append_left, get_or_push, replicate_more, take_more_set, take_all, length_push}
+use Rattle.std.proofs.lemmas.List.{get_or-replicate, length-replicate, length-map, map-append, map-set, get_or-map, get_or-set_other, get_or_append_left, get_or_push, replicate_more, take_more_set, take_all, drop_all, length_push}
+use Rattle.std.proofs.lemmas.List.Edits.{map_over_more}
 use Rattle.std.proofs.lemmas.Simd.{get_or-zip2, length-zip2}
 use Rattle.hd_map.specs.declared.types.Adjacency.{Adjacency}
 use Rattle.hd_map.specs.declared.types.Adjacency.TheVariants.{Eight}
@@ -18,8 +21,9 @@ use Rattle.hd_map.specs.declared.mark.Mark.{Mark}
 use Rattle.hd_map.specs.declared.mark.Mark.TheVariants.{Shown, Masked, Unmeasured, MaskedUnmeasured}
 use Rattle.hd_map.specs.Map.{Map, IsMap, IsSize, IsCellOf, most_places, places_of, AreCellsOf, cell_count, place_of, cell_at, mask_at, shown_height}
 use Rattle.hd_map.specs.Sets.{with_cell, with_mask, unmasked, unmeasured_map}
-use Rattle.hd_map.specs.Packing.{measures, masks, cell_from, kept_cells, kept_map}
+use Rattle.hd_map.specs.Packing.{measures, masks, as_it_is, cell_from, kept_cells, kept_map, multiplied}
 use Rattle.hd_map.specs.Unmasked.{AreUnmasked}
+use Rattle.hd_map.proofs.DataTypes.{in_64_bits}
 
 module _ {X Y Z : Type 0} (f : X → Y → Z) where
   -- a pair that is set in two lists
@@ -108,7 +112,7 @@ module _ {H : Type 0} (height : H → ℤ) (s : Size) (t : DataType) (numbers : 
       ∙ ap (λ covers. with_lists s t adjacency kept.cells covers) (map-set masks marks k new ∙ ap (λ m. set kept.masks k m) covers ∙ ap (λ (i : ℕ). set kept.masks i masked) here)
 
 -- the last number that was added is taken again
-pub popped : (xs zs : List ℕ) (x count : ℕ) → count ≡ length xs + 1 → zs ≡ take (count - 1) (xs ++ x ∷ []) → zs ≡ xs
+pub popped : {X : Type 0} (xs zs : List X) (x : X) (count : ℕ) → count ≡ length xs + 1 → zs ≡ take (count - 1) (xs ++ x ∷ []) → zs ≡ xs
 popped xs zs x count one_more is = is ∙ ap (λ n. take n (xs ++ x ∷ [])) (let last : count - 1 ≡ length xs = omega (arith, one_more) in last) ∙ take-append_seam xs (x ∷ [])
 
 -- cells of a data type, with one more
@@ -236,3 +240,36 @@ module _ {H : Type 0} (height : H → ℤ) (s : Size) (t : DataType) (numbers co
   -- it is a map
   pub unmasked_whole : IsMap (kept_map height s t copy marks Eight)
   unmasked_whole = rw unmasked_map (record { size = whole.size; places = whole.places; cells = whole.cells; masks = length-replicate (cell_count s) false; heights = whole.heights })
+
+-- heights that are multiplied in 64 bits are multiplied, where the products are of a data type
+pub multiplied_cells : (t : DataType) (factor : ℤ) (heights : List ℤ) (marks : List Mark) → AreCellsOf t (map (multiplied factor) (kept_cells as_it_is heights marks))
+    → kept_cells as_it_is (map (λ height. int_wrap w64 (height *ℤ factor)) heights) marks ≡ map (multiplied factor) (kept_cells as_it_is heights marks)
+multiplied_cells t factor [] marks fits = refl
+multiplied_cells t factor (height ∷ heights) [] fits = refl
+multiplied_cells t factor (height ∷ heights) (mark ∷ marks) fits =
+    let more = multiplied_cells t factor heights marks (λ k inside. fits (suc k) (omega arith)) in
+    elim (cases_Bool (measures mark)) [
+      | inl measured ↦
+          let here : cell_from as_it_is (int_wrap w64 (height *ℤ factor)) mark ≡ multiplied factor (cell_from as_it_is height mark) =
+          rw measured (ap Height (int_wrap_fits w64 (height *ℤ factor) (in_64_bits t (height *ℤ factor) (fits 0 (omega arith) (height *ℤ factor) (rw measured refl))))) in
+          ap₂ (λ (c : Cell) (cs : List Cell). c ∷ cs) here more
+      | inr other ↦ ap₂ (λ (c : Cell) (cs : List Cell). c ∷ cs) (rw other refl) more
+    ]
+
+-- numbers that are multiplied in 64 bits, one after another
+module _ (factor shown : ℤ) (same : shown ≡ factor) (xs ys : List ℤ) (i : ℕ) where
+  pub multiplied_more : (x product : ℤ) → i < length xs → ys ≡ map (λ number. int_wrap w64 (number *ℤ shown)) (take i xs) ++ drop i xs → x ≡ get_or ys i x → product ≡ int_wrap w64 (x *ℤ factor)
+      → set ys i product ≡ map (λ number. int_wrap w64 (number *ℤ shown)) (take (i + 1) xs) ++ drop (i + 1) xs
+  multiplied_more x product inside so_far here is =
+      ap (λ p. set ys i p) (is ∙ ap (λ f. int_wrap w64 (x *ℤ f)) (sym same)) ∙ map_over_more (λ number. int_wrap w64 (number *ℤ shown)) xs ys i x inside so_far here
+
+  pub multiplied_all : length xs ≤ i → ys ≡ map (λ number. int_wrap w64 (number *ℤ shown)) (take i xs) ++ drop i xs → ys ≡ map (λ number. int_wrap w64 (number *ℤ factor)) xs
+  multiplied_all all so_far =
+      so_far ∙ ap₂ (λ (first more : List ℤ). map (λ number. int_wrap w64 (number *ℤ shown)) first ++ more) (take_all i xs all) (drop_all i xs all) ∙ append-nil (map (λ number. int_wrap w64 (number *ℤ shown)) xs)
+      ∙ ap (λ f. map (λ number. int_wrap w64 (number *ℤ f)) xs) same
+
+-- cells whose heights were multiplied
+pub multiplied_kept : (t : DataType) (factor shown : ℤ) → shown ≡ factor → (heights new : List ℤ) (marks : List Mark) → new ≡ map (λ number. int_wrap w64 (number *ℤ shown)) heights
+    → AreCellsOf t (map (multiplied factor) (kept_cells as_it_is heights marks)) → kept_cells as_it_is new marks ≡ map (multiplied factor) (kept_cells as_it_is heights marks)
+multiplied_kept t factor shown same heights new marks is fits =
+    ap (λ ns. kept_cells as_it_is ns marks) (is ∙ ap (λ f. map (λ number. int_wrap w64 (number *ℤ f)) heights) same) ∙ multiplied_cells t factor heights marks fits

@@ -1,5 +1,5 @@
 -- How a surface keeps its points: as heights, in one of two layouts, and marks.
-use Rattle.std.specs.Prelude.{◌+ℤ◌, ℕ, ℤ, pos, Bool, true, false, List, map, if◌then◌else◌}
+use Rattle.std.specs.Prelude.{◌+ℤ◌, ◌*ℤ◌, ℕ, ℤ, pos, Bool, true, false, List, map, if◌then◌else◌}
 use Rattle.std.specs.Simd.Lanes.{zip2}
 use Rattle.hd_map.specs.declared.types.Adjacency.{Adjacency}
 use Rattle.hd_map.specs.declared.types.Size.{Size}
@@ -43,3 +43,8 @@ kept_cells height numbers marks = zip2 (cell_from height) numbers marks
 -- the map that is kept as these numbers and marks
 abbrev pub kept_map : {H : Type 0} → (H → ℤ) → Size → DataType → List H → List Mark → Adjacency → Map
 kept_map height s t numbers marks adjacency = record { size = s; data_type = t; cells = kept_cells height numbers marks; masks = map masks marks; adjacency = adjacency }
+
+-- the cell of so many times a height
+abbrev pub multiplied : ℤ → Cell → Cell
+multiplied factor (Height h) = Height (h *ℤ factor)
+multiplied factor Bad = Bad

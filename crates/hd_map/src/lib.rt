@@ -17,6 +17,7 @@ mod surface;
 mod types;
 mod under;
 mod wide;
+mod wide_cells;
 
 pub use cells::Cells;
 pub use grid::{
@@ -37,3 +38,4 @@ pub use surface::Surface;
 pub use types::{Adjacency, Cell, DataType, MapError, Pass, Pos, Rank, RegionSize, SideName, Size};
 pub use under::Under;
 pub use wide::Wide;
+pub use wide_cells::WideCells;

@@ -1,12 +1,13 @@
 // A surface whose heights take eight bytes each.
-ghost use Rattle.std.specs.Prelude.{◌≡◌, ◌≤◌, IfOk, length};
-ghost use Rattle.hd_map.specs.Map.{IsSize, IsMap, most_places, places_of};
+ghost use Rattle.std.specs.Prelude.{◌≡◌, ◌≤◌, IfOk, length, replicate, false};
+ghost use Rattle.hd_map.specs.Map.{IsSize, IsMap, cell_count, most_places, places_of};
 ghost use Rattle.hd_map.specs.Packing.{as_it_is, kept_map};
 
 use crate::mark::{Mark, unmasked_marks};
 use crate::packing::pack_wide;
 use crate::{
-    Adjacency, Cell, DataType, Grid, Heights, MapError, Pos, Size, contains, index_of, is_cell_of,
+    Adjacency, Cell, DataType, Grid, Heights, MapError, Pos, Size, WideCells, contains, index_of,
+    is_cell_of,
 };
 use hd_list::Memory;
 use std::alloc::Global;
@@ -25,8 +26,33 @@ pub struct Wide {
 }
 
 impl Wide {
+    ghost use Rattle.hd_map.specs.Cells.{wide_cells_in};
+    ghost use Rattle.hd_map.specs.declared.types.Adjacency.TheVariants.{Eight};
     ghost use Rattle.hd_map.specs.Layouts.{wide_map};
     ghost use Rattle.hd_map.specs.Sets.{unmasked, unmeasured_map};
+
+    /// A surface with these cells, none of them masked, and with eight neighbours.
+    ///
+    /// Both sizes are from 1 to 65,535 with at most 4,194,304 cells, and there are as many cells as
+    /// the size says.
+    pub fn new(size: Size, cells: WideCells) -> Wide
+        requires limits { IsSize size }
+        requires whole { length (wide_cells_in cells) ≡ cell_count size }
+        ensures { wide_map result ≡ record { size = size; data_type = cells.data_type; cells = wide_cells_in cells; masks = replicate (cell_count size) false; adjacency = Eight } }
+    {
+        let WideCells {
+            data_type,
+            heights,
+            marks,
+        } = cells;
+        Wide {
+            size,
+            data_type,
+            heights,
+            marks,
+            adjacency: Adjacency::Eight,
+        }
+    }
 
     /// A surface on which no point is measured and none is masked, with eight neighbours.
     ///

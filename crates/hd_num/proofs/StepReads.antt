@@ -26,11 +26,11 @@ use Rattle.hd_num.proofs.StepTexts.{rest_below}
 no_mark : (c : ℕ) → is_ascii_digit c ≡ true → is_exponent_mark c ≡ false
 no_mark c digit = grind (arith, nat_tests)
 
-no_point : (c : ℕ) → is_ascii_digit c ≡ true → is_point c ≡ false
+pub no_point : (c : ℕ) → is_ascii_digit c ≡ true → is_point c ≡ false
 no_point c digit = grind (arith, nat_tests)
 
 -- the first place after digits that fail the test
-past_digits : (test : ℕ → Bool) → ((c : ℕ) → is_ascii_digit c ≡ true → test c ≡ false) → (ds rest : List ℕ) → list_all is_ascii_digit ds ≡ true
+pub past_digits : (test : ℕ → Bool) → ((c : ℕ) → is_ascii_digit c ≡ true → test c ≡ false) → (ds rest : List ℕ) → list_all is_ascii_digit ds ≡ true
     → position_or_len test (ds ++ rest) ≡ length ds + position_or_len test rest
 past_digits test fails [] rest all = omega arith
 past_digits test fails (d ∷ ds) rest all =
@@ -64,7 +64,7 @@ padded_digits places n some fits small =
     }
 
 -- digits behind a number
-value_after : (m : ℕ) (ds : List ℕ) → digits_value_after 10 m ds ≡ m * 10 ^ length ds + digits_value 10 ds
+pub value_after : (m : ℕ) (ds : List ℕ) → digits_value_after 10 m ds ≡ m * 10 ^ length ds + digits_value 10 ds
 value_after m [] = omega arith
 value_after m (d ∷ ds) =
     let v : ℕ = digit_value d in
@@ -88,19 +88,35 @@ sign_same true text minus = refl
 sign_same false text minus = ne_eqb (get_or text 0 0) 45 minus
 
 -- what follows the whole digits: nothing, or a point and these digits
-record IsTail (tail fs : List ℕ) : Type 0 where
-  point : position_or_len is_point tail ≡ 0
-  marks : position_or_len is_exponent_mark tail ≡ length tail
-  after : drop 1 tail ≡ fs
-  short : length tail ≤ length fs + 1
+pub record IsTail (tail fs : List ℕ) : Type 0 where
+  pub point : position_or_len is_point tail ≡ 0
+  pub marks : position_or_len is_exponent_mark tail ≡ length tail
+  pub after : drop 1 tail ≡ fs
+  pub short : length tail ≤ length fs + 1
 
-no_tail : IsTail [] []
+pub no_tail : IsTail [] []
 no_tail = record { point = refl; marks = refl; after = refl; short = omega arith }
 
-point_tail : (fs : List ℕ) → list_all is_ascii_digit fs ≡ true → IsTail (46 ∷ fs) fs
+pub point_tail : (fs : List ℕ) → list_all is_ascii_digit fs ≡ true → IsTail (46 ∷ fs) fs
 point_tail fs all =
     let past : position_or_len is_exponent_mark fs ≡ length fs + 0 = ap (position_or_len is_exponent_mark) (sym (append-nil fs)) ∙ past_digits is_exponent_mark no_mark fs [] all in
     record { point = refl; marks = omega (arith, past); after = refl; short = omega arith }
+
+-- a word of a sign or none, digits and such a tail is read as a decimal
+pub decimal_word : (word ds tail fs : List ℕ) (negative : Bool) (value scale : ℕ) → without_leading_sign word ≡ ds ++ tail → starts_with_minus word ≡ negative → length word ≤ 64
+    → list_all is_ascii_digit ds ≡ true → list_all is_ascii_digit fs ≡ true → 1 ≤ length ds + length fs → length ds + length fs ≤ 38 → length fs ≡ scale → IsTail tail fs → value ≡ digits_value 10 (ds ++ fs)
+    → Some (record { negative = negative; digits = value; exponent = neg_ℤ (pos scale); literal = word }) ≡ decimal_of word
+decimal_word word ds tail fs negative value scale unsigned minus short all more some few size ends value_is =
+    let text : List ℕ = ds ++ tail in
+    let marks : position_or_len is_exponent_mark text ≡ length text = past_digits is_exponent_mark no_mark ds tail all ∙ ap (λ n. length ds + n) ends.marks ∙ sym (length-append ds tail) in
+    let point : position_or_len is_point text ≡ length ds + 0 = past_digits is_point no_point ds tail all ∙ ap (λ n. length ds + n) ends.point in
+    let plain : length ds + 0 ≡ length ds = omega arith in
+    let whole : ds ≡ before_first is_point text = sym (ap (λ n. take n text) (point ∙ plain) ∙ take-append_seam ds tail) in
+    let fraction : fs ≡ after_first is_point text = sym (ap (λ n. drop (n + 1) text) (point ∙ plain) ∙ drop-append-add ds tail 1 ∙ ends.after) in
+    decimal_is word value (neg_ℤ (pos scale)) negative word
+    (decimal_found word text text ds fs value (pos 0) (neg_ℤ (pos scale)) (sym unsigned) (split_none text marks) whole fraction short some few all more value_is
+    (omega (arith, ints, size)) (record { low = omega (arith, ints); high = omega (arith, ints) }))
+    (sym minus) refl
 
 -- a sign, digits and such a tail are read as a decimal
 decimal_parts : (negative : Bool) (ds tail fs : List ℕ) (value scale : ℕ) → list_all is_ascii_digit ds ≡ true → list_all is_ascii_digit fs ≡ true → 0 < length ds → length ds ≤ 20 → scale ≤ 18 → length fs ≡ scale
@@ -112,16 +128,8 @@ decimal_parts negative ds tail fs value scale all more some few small size ends 
     let first : get_or text 0 0 ≡ get_or ds 0 0 = get_or_append_left ds tail 0 0 some in
     let no_minus : get_or text 0 0 ≢ 45 = λ e. minus (sym first ∙ e) in
     let no_plus : get_or text 0 0 ≢ 43 = λ e. plus (sym first ∙ e) in
-    let marks : position_or_len is_exponent_mark text ≡ length text = past_digits is_exponent_mark no_mark ds tail all ∙ ap (λ n. length ds + n) ends.marks ∙ sym (length-append ds tail) in
-    let point : position_or_len is_point text ≡ length ds + 0 = past_digits is_point no_point ds tail all ∙ ap (λ n. length ds + n) ends.point in
-    let plain : length ds + 0 ≡ length ds = omega arith in
-    let whole : ds ≡ before_first is_point text = sym (ap (λ n. take n text) (point ∙ plain) ∙ take-append_seam ds tail) in
-    let fraction : fs ≡ after_first is_point text = sym (ap (λ n. drop (n + 1) text) (point ∙ plain) ∙ drop-append-add ds tail 1 ∙ ends.after) in
     let short : length word ≤ 64 = omega (arith, length-append (sign_text negative) text, length-append ds tail, ends.short, sign_short negative) in
-    decimal_is word value (neg_ℤ (pos scale)) negative word
-    (decimal_found word text text ds fs value (pos 0) (neg_ℤ (pos scale)) (sym (unsigned_same negative text no_minus no_plus)) (split_none text marks) whole fraction short (omega arith) (omega arith) all more value_is
-    (omega (arith, ints, size)) (record { low = omega (arith, ints); high = omega (arith, ints) }))
-    (sym (sign_same negative text no_minus)) refl
+    decimal_word word ds tail fs negative value scale (unsigned_same negative text no_minus no_plus) (sign_same negative text no_minus) short all more (omega arith) (omega arith) size ends value_is
   where
     sign_short : (b : Bool) → length (sign_text b) ≤ 1
     sign_short true = omega arith

@@ -46,3 +46,4 @@ pub mod KeptMerges
 pub mod Noting
 pub mod KeptLows
 pub mod Staying
+pub mod Spans

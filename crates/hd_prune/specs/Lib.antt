@@ -8,3 +8,4 @@ pub mod Kept
 pub mod Answer
 pub mod Staying
 pub mod Notes
+pub mod Span

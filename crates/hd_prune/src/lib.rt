@@ -10,6 +10,7 @@ mod leaving;
 mod line;
 mod order;
 mod pruning;
+mod span;
 mod step;
 mod taking;
 
@@ -17,4 +18,5 @@ pub use around::Around;
 pub use keeping::keep;
 pub use laws::{pruning_is_nested, pruning_keeps_what_is_not_undercut};
 pub use pruning::{Pruned, prune};
+pub use span::height_span;
 pub use step::{Kept, Owned, Step};

@@ -1,2 +1,3 @@
 mod TextRuns
 mod ListedTexts
+mod VolumeRuns

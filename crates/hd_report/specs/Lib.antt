@@ -11,3 +11,5 @@ pub mod Info
 pub mod Notations
 pub mod Values
 pub mod Borders
+pub mod Distributions
+pub mod Volumes

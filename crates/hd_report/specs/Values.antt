@@ -14,9 +14,17 @@ abbrev pub height_text : Option ℤ → List ℕ
 height_text None = []
 height_text (Some c) = 32 ∷ [] ++ signed_decimal c
 
+-- a command, a name, a height where there is one, and the value
+abbrev pub named_line : List ℕ → List ℕ → Option ℤ → Option Frac → List ℕ
+named_line command name height value = command ++ name ++ height_text height ++ 32 ∷ [] ++ value_text value ++ 10 ∷ []
+
 -- `param NAME VALUE` or `param NAME C VALUE`
 abbrev pub param_line : List ℕ → Option ℤ → Option Frac → List ℕ
-param_line name height value = codes "param " ++ name ++ height_text height ++ 32 ∷ [] ++ value_text value ++ 10 ∷ []
+param_line name height value = named_line (codes "param ") name height value
+
+-- `height NAME VALUE` or `height NAME C VALUE`
+abbrev pub height_line : List ℕ → Option ℤ → Option Frac → List ℕ
+height_line name height value = named_line (codes "height ") name height value
 
 -- `feature WORD VALUE`
 abbrev pub feature_line : List ℕ → Option Frac → List ℕ

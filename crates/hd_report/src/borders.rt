@@ -12,7 +12,7 @@ use hd_num::{Percent, push_percent, push_text, push_unsigned};
 use std::alloc::Global;
 
 // So many bytes are reserved for the line of a border.
-const BORDER_BYTES: usize = 52;
+const BORDER_BYTES: usize = 64;
 
 /// The border lines of a pruning at a percent on a grid of this size: how many there are, and a line for
 /// each in their order with the two pits, the number of the pairs of neighbours across the border, the

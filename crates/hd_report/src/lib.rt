@@ -2,6 +2,7 @@
 #![tactic(auto)]
 
 mod borders;
+mod distributions;
 mod edits;
 mod elements;
 mod forms;
@@ -14,8 +15,10 @@ mod prunings;
 mod regions;
 mod trees;
 mod values;
+mod volumes;
 
 pub use borders::list_borders;
+pub use distributions::{tell_distribution, tell_share};
 pub use edits::{edit_cause, kept_cause};
 pub use elements::{element_cause, list_elements};
 pub use forms::form_cause;
@@ -26,4 +29,5 @@ pub use points::{not_present_cause, one_region_cause, outside_cause};
 pub use prunings::list_pruning;
 pub use regions::{list_regions, tell_label};
 pub use trees::list_tree;
-pub use values::{tell_feature, tell_parameter};
+pub use values::{tell_feature, tell_height, tell_parameter};
+pub use volumes::list_volumes;

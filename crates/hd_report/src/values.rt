@@ -1,6 +1,6 @@
 // The lines of the values of parameters and notations.
 ghost use Rattle.std.specs.Prelude.{◌≡◌, ◌++◌, ◌∷◌, [], IfOk, OnOk};
-ghost use Rattle.hd_report.specs.Values.{feature_line, height_text, param_line, value_text};
+ghost use Rattle.hd_report.specs.Values.{feature_line, height_line, height_text, named_line, param_line, value_text};
 
 use hd_list::{List, Memory};
 use hd_num::{Frac, push_frac, push_text, push_whole};
@@ -16,8 +16,34 @@ pub fn tell_parameter(
 ) -> Result<List<u8>, Memory>
     ensures { IfOk result (λ text. text ≡ param_line name.now height value) }
 {
+    tell_named(alloc, b"param ".as_slice(), name, height, value)
+}
+
+/// `height NAME VALUE`, with the height in steps after the name where there is one, and `none` for no
+/// value. `Memory` comes where the text is refused its memory.
+pub fn tell_height(
+    alloc: Global,
+    name: &[u8],
+    height: Option<i64>,
+    value: Option<Frac>,
+) -> Result<List<u8>, Memory>
+    ensures { IfOk result (λ text. text ≡ height_line name.now height value) }
+{
+    tell_named(alloc, b"height ".as_slice(), name, height, value)
+}
+
+// A command, a name, a height where there is one, and the value.
+fn tell_named(
+    alloc: Global,
+    command: &[u8],
+    name: &[u8],
+    height: Option<i64>,
+    value: Option<Frac>,
+) -> Result<List<u8>, Memory>
+    ensures { IfOk result (λ text. text ≡ named_line command.now name.now height value) }
+{
     let mut text = List::new(alloc);
-    push_text(&mut text, b"param ".as_slice())?;
+    push_text(&mut text, command)?;
     push_text(&mut text, name)?;
     push_height(&mut text, height)?;
     push_value(&mut text, value)?;
@@ -35,8 +61,8 @@ pub fn tell_feature(alloc: Global, word: &[u8], value: Option<Frac>) -> Result<L
     Ok(text)
 }
 
-// Adds a space, a fraction or `none`, and the end of the line.
-fn push_value(text: &mut List<u8>, value: Option<Frac>) -> Result<(), Memory>
+/// Adds a space, a fraction or `none`, and the end of the line.
+pub fn push_value(text: &mut List<u8>, value: Option<Frac>) -> Result<(), Memory>
     ensures { OnOk result (text.new ≡ text.old ++ 32 ∷ [] ++ value_text value ++ 10 ∷ []) }
 {
     push_text(text, b" ".as_slice())?;

@@ -1,32 +1,38 @@
 -- What a check comes to, from its parts.
-use Rattle.std.proofs.Common.{◌≡◌, ◌<◌, ◌≤◌, ◌⊎◌, ℕ, true, false, List, length, Option, Result, Ok, Err, inl, inr, refl, sym, ap, ◌∙◌, subst, arith, nat_lt}
+use Rattle.std.proofs.Common.{◌≡◌, ◌<◌, ◌≤◌, ◌⊎◌, ℕ, Bool, true, false, List, length, Option, Result, Ok, Err, inl, inr, refl, sym, ap, ◌∙◌, subst, arith, nat_lt}
 use Rattle.std.specs.Prelude.{MatchResult, OnErr, OnOk, is_err}
 use Rattle.std.specs.Io.KnownBytes.{Appends}
 use Rattle.std.proofs.KnownBytes.{Keeps-refl}
 use Rattle.std.proofs.lemmas.Bool.Decides.{nat_tests}
 use Rattle.hd_base.specs.Told.{AppendsPart}
+use Rattle.hd_audit.specs.declared.types.Audit.{Audit}
+use Rattle.hd_audit.specs.Reading.{audit_of}
+use Rattle.hd_audit.specs.Rules as pruning
 use Rattle.hd_check.specs.declared.types.Certificate.{Certificate}
 use Rattle.hd_check.specs.declared.types.CertificateError.{CertificateError}
 use Rattle.hd_check.specs.declared.types.CertificateError.TheVariants.{BadLine}
+use Rattle.hd_check.specs.declared.types.CertificateError.TheVariants as unread
 use Rattle.hd_check.specs.declared.types.Verdict.{Verdict}
-use Rattle.hd_check.specs.declared.types.Verdict.TheVariants.{Yes}
+use Rattle.hd_check.specs.declared.types.Verdict.TheVariants.{Yes, No}
 use Rattle.hd_check.specs.Reading.{certificate_of}
 use Rattle.hd_check.specs.Rules.{IsVerdict}
 use Rattle.hd_map.specs.Map.{Map}
+use Rattle.hd_num.specs.Lines.{lines_of}
 use Rattle.hd_sdf_read.specs.File.{File}
 use Rattle.hd_run.specs.declared.stop.Refusal.{Refusal}
-use Rattle.hd_run.specs.declared.stop.Refusal.TheVariants.{SecondTooLong, Unreadable}
+use Rattle.hd_run.specs.declared.stop.Refusal.TheVariants.{SecondTooLong, Unreadable, RuleFails}
 use Rattle.hd_run.specs.declared.stop.Stop.{Stop}
 use Rattle.hd_run.specs.declared.stop.Stop.TheVariants.{Memory, ReadFault, WriteFault, Refused}
 use Rattle.hd_run.specs.Limits.{certificate_limit}
 use Rattle.hd_run.specs.Inputs.{IsSurfaceRead, IsSecondRead}
-use Rattle.hd_run.specs.Outcome.{RunOutcome, IsTheRunOutcome, IsOutcomeOfCertificate, IsOutcomeOfCheck, IsOutcomeOfReading, acceptance, certificate_text_of, judges, surface_of}
-use Rattle.hd_run.specs.RunResult.{IsCheck, IsJudged}
+use Rattle.hd_run.specs.Outcome.{RunOutcome, IsTheRunOutcome, IsOutcomeOfCertificate, IsOutcomeOfCheck, IsOutcomeOfKind, IsOutcomeOfReading, acceptance, begins_pruning, certificate_text_of, judges, surface_of}
+use Rattle.hd_run.specs.RunResult.{IsCheck, IsJudged, IsJudgedAs, stop_at, stop_of}
 use Rattle.hd_run.specs.Texts.{accepted_text}
 
--- that a certificate has one verdict on a map
-abbrev pub VerdictIsDetermined : Type 0
-VerdictIsDetermined = (m : Map) (c : Certificate) (v w : Verdict) → IsVerdict m c v → IsVerdict m c w → v ≡ w
+-- that a certificate of either kind has one verdict on a map
+pub record VerdictsAreDetermined : Type 0 where
+  pub saddles : (m : Map) (c : Certificate) (v w : Verdict) → IsVerdict m c v → IsVerdict m c w → v ≡ w
+  pub prunings : (m : Map) (a : Audit) (v w : Verdict) → pruning.IsVerdict m a v → pruning.IsVerdict m a w → v ≡ w
 
 -- what holds of a value, and of an error
 pub of_ok : {T E P : Type 0} (r : Result T E) → is_err r ≡ false → OnOk r P → P
@@ -37,18 +43,31 @@ pub of_err : {T E P : Type 0} (r : Result T E) → is_err r ≡ true → OnErr r
 of_err (Ok x) failed h = absurd (cc)
 of_err (Err e) failed h = h
 
--- a certificate that is read, and by which all rules hold
-pub accepted_is : (m : Map) (text : List ℕ) (certificate : Certificate) (error : CertificateError) → (Ok certificate ≡ Err error) ⊎ (Ok certificate ≡ certificate_of text) → IsVerdict m certificate Yes
-    → IsOutcomeOfCertificate m text (Ok acceptance)
-accepted_is m text certificate error (inl wrong) right = absurd (cc)
-accepted_is m text certificate error (inr is) right = subst (λ (r : Result Certificate CertificateError). IsOutcomeOfReading m r (Ok acceptance)) is (Yes, right, refl)
+-- a certificate that is read, by its verdict
+pub judged_by : {C : Type 0} (Is : C → Verdict → Type 0) (reading : Result C CertificateError) (certificate : C) (error : CertificateError) (verdict : Verdict) → (Ok certificate ≡ Err error) ⊎ (Ok certificate ≡ reading) → Is certificate verdict
+    → IsJudgedAs (IsOutcomeOfReading Is reading) (stop_at verdict)
+judged_by Is reading certificate error verdict (inl wrong) is = absurd (cc)
+judged_by Is reading certificate error Yes (inr read) is = subst (λ (r : _). IsOutcomeOfReading Is r (Ok acceptance)) read (Yes, is, refl)
+judged_by Is reading certificate error (No rule at) (inr read) is = subst (λ (r : _). IsOutcomeOfReading Is r (Err (RuleFails rule at))) read (No rule at, is, refl)
 
-one_outcome : VerdictIsDetermined → (m : Map) (reading : Result Certificate CertificateError) (a b : RunOutcome) → IsOutcomeOfReading m reading a → IsOutcomeOfReading m reading b → a ≡ b
-one_outcome law m (Ok certificate) a b (v, is, e) (w, is', e') = e ∙ ap judges (law m certificate v w is is') ∙ sym e'
-one_outcome law m (Err error) a b (line, is, e) (line', is', e') =
+-- one that is not
+pub not_judged : {C : Type 0} (Is : C → Verdict → Type 0) (reading : Result C CertificateError) (error : CertificateError) → (◌≡◌ {A = Result C CertificateError} (Err error) (Err unread.Memory)) ⊎ (Err error ≡ reading)
+    → IsJudgedAs {T = Unit {0}} (IsOutcomeOfReading Is reading) (Err (stop_of error))
+not_judged Is reading unread.Memory h = tt
+not_judged Is reading (BadLine line) (inl wrong) = absurd (cc)
+not_judged Is reading (BadLine line) (inr read) = subst (λ (r : _). IsOutcomeOfReading Is r (Err (Unreadable line))) read (line, refl, refl)
+
+one_outcome : {C : Type 0} (Is : C → Verdict → Type 0) → ((c : C) (v w : Verdict) → Is c v → Is c w → v ≡ w) → (reading : Result C CertificateError) (a b : RunOutcome) → IsOutcomeOfReading Is reading a → IsOutcomeOfReading Is reading b → a ≡ b
+one_outcome Is law (Ok certificate) a b (v, is, e) (w, is', e') = e ∙ ap judges (law certificate v w is is') ∙ sym e'
+one_outcome Is law (Err error) a b (line, is, e) (line', is', e') =
     let told : BadLine line ≡ BadLine line' = sym is ∙ is' in
     let same : line ≡ line' = cc in
     e ∙ ap (λ n. Err (Unreadable n)) same ∙ sym e'
+
+-- a certificate of either kind has one outcome
+one_of_kind : VerdictsAreDetermined → (m : Map) (kind : Bool) (text : List ℕ) (a b : RunOutcome) → IsOutcomeOfKind kind m text a → IsOutcomeOfKind kind m text b → a ≡ b
+one_of_kind laws m true text a b x y = one_outcome (pruning.IsVerdict m) (laws.prunings m) (audit_of text) a b x y
+one_of_kind laws m false text a b x y = one_outcome (IsVerdict m) (laws.saddles m) (certificate_of text) a b x y
 
 text_fits : (bytes : List ℕ) → length bytes ≤ certificate_limit → certificate_text_of bytes ≡ Ok bytes
 text_fits bytes fits = let test : nat_lt certificate_limit (length bytes) ≡ false = grind (arith, nat_tests) in rw test refl
@@ -93,12 +112,12 @@ module _ (surface second : List ℕ) where
     check_second_stops WriteFault told h = absurd h
     check_second_stops (Refused refusal) told h = (second_refused refusal (text_long second h.0 ∙ ap Err (sym h.1)), Keeps-refl told)
 
-    module _ (law : VerdictIsDetermined) (fits : length second ≤ certificate_limit) where
+    module _ (laws : VerdictsAreDetermined) (fits : length second ≤ certificate_limit) where
       -- what the certificate comes to is the outcome
       judged_is : (o : RunOutcome) → IsOutcomeOfCertificate file.map second o → IsTheRunOutcome (IsOutcomeOfCheck surface second) o
       judged_is o h = record {
         is = at_text o (Ok second) (text_fits second fits) h;
-        only = λ other k. one_outcome law file.map _ other o (of_text other (Ok second) (text_fits second fits) k) h;
+        only = λ other k. one_of_kind laws file.map (begins_pruning (lines_of second)) second other o (of_text other (Ok second) (text_fits second fits) k) h;
       }
 
       -- a certificate that is refused stops a check

@@ -4,3 +4,4 @@ mod Runs
 mod Checks
 mod Savings
 mod Stops
+mod SurfacePieces

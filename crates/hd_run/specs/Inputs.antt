@@ -1,12 +1,16 @@
 -- What the reading of the two inputs tells.
-use Rattle.std.specs.Prelude.{◌≡◌, ◌≢◌, ◌<◌, ◌≤◌, ℕ, List, length, Result, Ok, Err, ⊤}
+use Rattle.std.specs.Prelude.{◌≡◌, ◌≢◌, ◌<◌, ◌≤◌, ℕ, List, length, Some, Result, Ok, Err, ⊤}
 use Rattle.hd_base.specs.Causes.{Rose}
 use Rattle.hd_sdf_read.specs.declared.file.SdfFile.{SdfFile}
 use Rattle.hd_sdf_read.specs.FileOf.{file_of}
 use Rattle.hd_run.specs.declared.stop.Refusal.{Refusal}
-use Rattle.hd_run.specs.declared.stop.Refusal.TheVariants.{SecondTooLong}
+use Rattle.hd_run.specs.declared.stop.Refusal.TheVariants.{SecondTooLong, SurfaceTooLong}
 use Rattle.hd_run.specs.declared.stop.Stop.{Stop}
 use Rattle.hd_run.specs.declared.stop.Stop.TheVariants.{Memory, ReadFault, WriteFault, Refused}
+use Rattle.hd_base.specs.Told.{Told}
+use Rattle.hd_sdf_read.specs.Reader.{StandsFor}
+use Rattle.hd_sdf_read.specs.declared.reader.SdfReader.{SdfReader}
+use Rattle.hd_run.specs.Limits.{surface_limit}
 use Rattle.hd_run.specs.Outcome.{surface_of}
 
 -- what the answer tells of the surface's bytes
@@ -34,3 +38,11 @@ pub record HasReadStop {T : Type 0} (before now : ℕ) (result : Result T Stop) 
   pub fault : result ≡ Err ReadFault → Rose before now
   pub no_fault : result ≢ Err ReadFault → now ≡ before
   pub no_write : result ≢ Err WriteFault
+
+-- what feeding a reader with all that is left tells of these bytes: it stands for them, or they are too many
+abbrev pub IsFed : Told → SdfReader → Result (Unit {0}) Stop → Type 0
+IsFed before reader (Ok done) = (bytes : List ℕ) → before ≡ Some bytes → (length bytes ≤ surface_limit) × StandsFor reader bytes
+IsFed before reader (Err (Refused refusal)) = (bytes : List ℕ) → before ≡ Some bytes → (surface_limit < length bytes) × (refusal ≡ SurfaceTooLong)
+IsFed before reader (Err Memory) = ⊤
+IsFed before reader (Err ReadFault) = ⊤
+IsFed before reader (Err WriteFault) = ⊥

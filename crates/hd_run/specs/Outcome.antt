@@ -1,7 +1,7 @@
 -- What the bytes of the two inputs come to.
-use Rattle.std.specs.Prelude.{◌≡◌, ℕ, Bool, true, List, ◌∷◌, [], length, Option, Some, None, Result, Ok, Err, MatchResult, codes, nat_lt, if◌then◌else◌}
+use Rattle.std.specs.Prelude.{◌≡◌, ℕ, Bool, true, false, List, ◌∷◌, [], length, Option, Some, None, Result, Ok, Err, MatchResult, codes, nat_lt, if◌then◌else◌}
 use Rattle.std.specs.Option.{option_map}
-use Rattle.hd_check.specs.declared.types.Certificate.{Certificate}
+use Rattle.std.specs.Str.{bytes_eq}
 use Rattle.hd_check.specs.declared.types.CertificateError.{CertificateError}
 use Rattle.hd_check.specs.declared.types.CertificateError.TheVariants.{BadLine}
 use Rattle.hd_check.specs.declared.types.Verdict.{Verdict}
@@ -9,7 +9,9 @@ use Rattle.hd_check.specs.declared.types.Verdict.TheVariants.{Yes, No}
 use Rattle.hd_check.specs.Reading.{certificate_of}
 use Rattle.hd_check.specs.Rules.{IsVerdict}
 use Rattle.hd_map.specs.Map.{Map}
-use Rattle.hd_num.specs.Lines.{lines_of}
+use Rattle.hd_audit.specs.Reading.{audit_of}
+use Rattle.hd_audit.specs.Rules as pruning
+use Rattle.hd_num.specs.Lines.{lines_of, words_of}
 use Rattle.hd_sdf_read.specs.declared.error.SdfError.{SdfError}
 use Rattle.hd_sdf_read.specs.File.{File}
 use Rattle.hd_sdf_read.specs.Grammar.{file_in}
@@ -102,15 +104,30 @@ abbrev pub judges : Verdict → RunOutcome
 judges Yes = Ok acceptance
 judges (No rule at) = Err (RuleFails rule at)
 
--- the verdict on the certificate that was read, or the first line that has not its form
-abbrev pub IsOutcomeOfReading : Map → Result Certificate CertificateError → RunOutcome → Type 0
-IsOutcomeOfReading m reading o = MatchResult reading
-    (λ certificate. (verdict : Verdict) × IsVerdict m certificate verdict × (o ≡ judges verdict))
+-- the verdict on the certificate that was read, where Is tells the verdicts, or the first line that has not its form
+abbrev pub IsOutcomeOfReading : {C : Type 0} → (C → Verdict → Type 0) → Result C CertificateError → RunOutcome → Type 0
+IsOutcomeOfReading Is reading o = MatchResult reading
+    (λ certificate. (verdict : Verdict) × Is certificate verdict × (o ≡ judges verdict))
     (λ error. (line : ℕ) × (error ≡ BadLine line) × (o ≡ Err (Unreadable line)))
 
--- what a certificate's text comes to on a map
+-- whether the first of these words is `pruning`
+abbrev pub names_pruning : List (List ℕ) → Bool
+names_pruning [] = false
+names_pruning (word ∷ words) = bytes_eq word (codes "pruning")
+
+-- whether the first line of a text names a pruning
+abbrev pub begins_pruning : List (List ℕ) → Bool
+begins_pruning [] = false
+begins_pruning (line ∷ lines) = names_pruning (words_of line)
+
+-- what a certificate's text comes to on a map: a pruning certificate where the first word of its first line is
+-- `pruning`, and else a saddle certificate
+abbrev pub IsOutcomeOfKind : Bool → Map → List ℕ → RunOutcome → Type 0
+IsOutcomeOfKind true m text o = IsOutcomeOfReading (pruning.IsVerdict m) (audit_of text) o
+IsOutcomeOfKind false m text o = IsOutcomeOfReading (IsVerdict m) (certificate_of text) o
+
 abbrev pub IsOutcomeOfCertificate : Map → List ℕ → RunOutcome → Type 0
-IsOutcomeOfCertificate m text o = IsOutcomeOfReading m (certificate_of text) o
+IsOutcomeOfCertificate m text o = IsOutcomeOfKind (begins_pruning (lines_of text)) m text o
 
 -- the certificate's text, if it is not too long
 abbrev pub certificate_text_of : List ℕ → Result (List ℕ) Refusal

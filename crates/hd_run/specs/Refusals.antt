@@ -2,7 +2,7 @@
 use Rattle.std.specs.Prelude.{◌++◌, ℕ, List, codes, decimal, nat_eq, if◌then◌else◌}
 use Rattle.hd_map.specs.declared.types.Pos.{Pos}
 use Rattle.hd_sdf_read.specs.declared.error.SdfError.{SdfError}
-use Rattle.hd_sdf_read.specs.declared.error.SdfError.TheVariants.{Memory, BadVersion, BadHeaderLine, KeyTwice, BadValue, HeaderEnds, MissingKey, Unsupported, TooLarge, BadDatum, DatumRange, TooFewData, TooManyData, TrailerTooLong, TooManyKeys}
+use Rattle.hd_sdf_read.specs.declared.error.SdfError.TheVariants.{Memory, BadVersion, BadHeaderLine, KeyTwice, BadValue, HeaderEnds, MissingKey, Unsupported, TooLarge, BadDatum, BadDecimal, DatumRange, TooFewData, TooManyData, TrailerTooLong, TooManyKeys}
 use Rattle.hd_run.specs.declared.stop.Refusal.{Refusal}
 use Rattle.hd_run.specs.declared.stop.Refusal.TheVariants.{SurfaceTooLong, Surface, SecondTooLong, Unreadable, RuleFails}
 use Rattle.hd_run.specs.Texts.{line, too_long_text, second_too_long_text}
@@ -37,6 +37,7 @@ surface_cause (MissingKey key) = missing_key key
 surface_cause (Unsupported number) = at_line number (codes ": not supported")
 surface_cause TooLarge = codes "too many points"
 surface_cause (BadDatum number) = at_datum number (codes " is not whole or BAD")
+surface_cause (BadDecimal number) = at_datum number (codes " is not a decimal or BAD")
 surface_cause (DatumRange number) = at_datum number (codes " is out of range")
 surface_cause (TooFewData number) = codes "only " ++ decimal number ++ codes " data"
 surface_cause (TooManyData number) = at_datum number (codes " is one too many")

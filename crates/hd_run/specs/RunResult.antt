@@ -10,7 +10,12 @@ use Rattle.hd_words.specs.Words.{RunRequest}
 use Rattle.hd_run.specs.declared.stop.Stop.{Stop}
 use Rattle.hd_run.specs.declared.stop.Stop.TheVariants.{Memory, ReadFault, WriteFault, Refused}
 use Rattle.hd_run.specs.FaultCounts.{Count, RoseIn, Stays}
-use Rattle.hd_run.specs.Outcome.{Work, Inputs, IsTheRunOutcome, inputs_of, saved_of, acceptance, IsOutcomeOfRun, IsOutcomeOfCheck, IsOutcomeOfCertificate}
+use Rattle.hd_check.specs.declared.types.CertificateError.{CertificateError}
+use Rattle.hd_check.specs.declared.types.CertificateError.TheVariants as error
+use Rattle.hd_check.specs.declared.types.Verdict.{Verdict}
+use Rattle.hd_check.specs.declared.types.Verdict.TheVariants.{Yes, No}
+use Rattle.hd_run.specs.declared.stop.Refusal.TheVariants.{Unreadable, RuleFails}
+use Rattle.hd_run.specs.Outcome.{RunOutcome, Work, Inputs, IsTheRunOutcome, inputs_of, saved_of, acceptance, IsOutcomeOfRun, IsOutcomeOfCheck, IsOutcomeOfCertificate}
 use Rattle.hd_run.specs.Saving.{Saving, SavesSome, IsSavedAs}
 use Rattle.hd_run.specs.Texts.{accepted_text}
 use Rattle.hd_run.specs.WrittenAnswers.{AnswersFirst, reply_of}
@@ -85,10 +90,24 @@ pub record HasSinkStop {T : Type 0} (out saved : Count) (result : Result T Stop)
   pub other : result ≢ Err WriteFault → Stays out × Stays saved
   pub only : (stop : Stop) → result ≡ Err stop → (stop ≡ WriteFault) ⊎ (stop ≡ Memory)
 
--- what the reading of a certificate and the rules come to: all hold, or why they are refused
+-- what the judging of an input comes to, where Is tells its outcome: it is accepted, or why it is refused
+abbrev pub IsJudgedAs : {T : Type 0} → (RunOutcome → Type 0) → Result T Stop → Type 0
+IsJudgedAs Is (Ok done) = Is (Ok acceptance)
+IsJudgedAs Is (Err (Refused refusal)) = Is (Err refusal)
+IsJudgedAs Is (Err Memory) = ⊤
+IsJudgedAs Is (Err ReadFault) = ⊥
+IsJudgedAs Is (Err WriteFault) = ⊥
+
+-- what the reading of a certificate and its rules come to: all hold, or why they are refused
 abbrev pub IsJudged : {T : Type 0} → Map → List ℕ → Result T Stop → Type 0
-IsJudged m text (Ok done) = IsOutcomeOfCertificate m text (Ok acceptance)
-IsJudged m text (Err (Refused refusal)) = IsOutcomeOfCertificate m text (Err refusal)
-IsJudged m text (Err Memory) = ⊤
-IsJudged m text (Err ReadFault) = ⊥
-IsJudged m text (Err WriteFault) = ⊥
+IsJudged {T = T} m text result = IsJudgedAs {T = T} (IsOutcomeOfCertificate m text) result
+
+-- why a check stops where a certificate is not read
+abbrev pub stop_of : CertificateError → Stop
+stop_of error.Memory = Memory
+stop_of (error.BadLine line) = Refused (Unreadable line)
+
+-- whether a check stops at a verdict
+abbrev pub stop_at : Verdict → Result (Unit {0}) Stop
+stop_at Yes = Ok tt
+stop_at (No rule at) = Err (Refused (RuleFails rule at))

@@ -34,6 +34,11 @@ fn push_cause(out: &mut List<u8>, error: SdfError) -> Result<(), Memory>
         SdfError::Unsupported(line) => push_at_line(out, line, b": not supported".as_slice()),
         SdfError::TooLarge => push_text(out, b"too many points".as_slice()),
         SdfError::BadDatum(datum) => push_at_datum(out, datum, b" is not whole or BAD".as_slice()),
+        SdfError::BadDecimal(datum) => push_at_datum(
+            out,
+            datum,
+            b" is not a decimal or BAD".as_slice(),
+        ),
         SdfError::DatumRange(datum) => push_at_datum(out, datum, b" is out of range".as_slice()),
         SdfError::TooFewData(count) => push_too_few(out, count),
         SdfError::TooManyData(datum) => push_at_datum(out, datum, b" is one too many".as_slice()),

@@ -1,24 +1,31 @@
 // The check of a certificate against a surface.
-ghost use Rattle.std.specs.Prelude.{◌≡◌, ◌⊎◌, ℕ, List as Items, Some, Ok, Err, IsTrue};
+ghost use Rattle.std.specs.Prelude.{◌≡◌, ◌⊎◌, ℕ, List as Items, Some, Ok, Err, IfOk, IsTrue};
 ghost use Rattle.std.specs.Io.KnownBytes.{Keeps};
+ghost use Rattle.hd_audit.specs.Reading.{audit_of};
+ghost use Rattle.hd_audit.specs.Rules as pruning;
+ghost use Rattle.hd_check.specs.Reading.{certificate_of};
 ghost use Rattle.hd_check.specs.Rules.{IsVerdict};
 ghost use Rattle.hd_map.specs.Surface.{map_of};
 ghost use Rattle.hd_sdf_read.specs.FileOf.{file_of};
 ghost use Rattle.hd_run.specs.FaultCounts.{Count, RoseIn, SourceFailed, Stays, over};
 ghost use Rattle.hd_run.specs.Limits.{certificate_limit, surface_limit};
-ghost use Rattle.hd_run.specs.Outcome.{surface_of};
+ghost use Rattle.hd_num.specs.Lines.{lines_of};
+ghost use Rattle.hd_run.specs.Outcome.{IsOutcomeOfReading, begins_pruning, surface_of};
 ghost use Rattle.hd_run.specs.ReadOrder.{SecondComesLast, StopsWithin, reading};
-ghost use Rattle.hd_run.specs.RunResult.{HasRunStop, IsCheck, IsJudged};
+ghost use Rattle.hd_run.specs.RunResult.{HasRunStop, IsCheck, IsJudged, IsJudgedAs, stop_at, stop_of};
 
 use crate::inputs::{read_second, read_surface};
 use crate::limits::CERTIFICATE_LIMIT;
 use crate::stop::{Refusal, Stop};
 use crate::texts::ACCEPTED;
+use hd_audit::{Audit, check_audit, pruning_verdict_is_determined, read_audit};
 use hd_base::{Sink, Source, write_all};
 use hd_check::{
     Certificate, CertificateError, Verdict, check, read_certificate, verdict_is_determined,
 };
+use hd_list::{List, Memory};
 use hd_map::Surface;
+use hd_num::{first_word, next_line};
 use hd_sdf_read::SdfFile;
 use hd_words::CheckJob;
 use std::alloc::Global;
@@ -84,11 +91,12 @@ fn check_second<R: Source, W: Sink>(
         (over (R.faults script.old) (R.faults script.new)) (over (W.faults out.old) (W.faults out.new)) saved result }
 {
     verdict_is_determined();
+    pruning_verdict_is_determined();
     let text = match read_second(alloc, script, job.certificate, CERTIFICATE_LIMIT) {
         Ok(text) => text,
         Err(stop) => return Err(stop),
     };
-    match judge(alloc, &file.surface, text.as_slice()) {
+    match judge(alloc, &file.surface, text) {
         Ok(()) => {}
         Err(stop) => return Err(stop),
     }
@@ -98,18 +106,71 @@ fn check_second<R: Source, W: Sink>(
     Ok(true)
 }
 
-// Reads a certificate and tries the rules on a surface. Ok says that all of them hold.
-fn judge(alloc: Global, surface: &Surface, text: &[u8]) -> Result<(), Stop>
-    ensures { IsJudged (map_of surface.now) text.now result }
+// Reads a certificate of either kind and tries its rules on a surface. Ok says that all of them hold.
+fn judge(alloc: Global, surface: &Surface, text: List<u8>) -> Result<(), Stop>
+    ensures { IsJudged (map_of surface.now) text result }
 {
-    let certificate = match read_certificate(alloc, text) {
-        Ok(certificate) => certificate,
-        Err(CertificateError::Memory) => return Err(Stop::Memory),
-        Err(CertificateError::BadLine(line)) => return Err(Stop::Refused(Refusal::Unreadable(
-            line,
-        ))),
+    if begins_pruning(text.as_slice()) {
+        judge_pruning(alloc, surface, text)
+    } else {
+        judge_saddle(alloc, surface, text.as_slice())
+    }
+}
+
+// Whether the first word of the first line of a text is `pruning`.
+fn begins_pruning(text: &[u8]) -> bool
+    ensures { result ≡ begins_pruning (lines_of text.now) }
+{
+    let Some((line, _)) = next_line(text, 0) else {
+        return false;
     };
-    match verdict_on(alloc, surface, &certificate) {
+    match first_word(&text[line.start..line.end]) {
+        Some((word, _)) => word == b"pruning".as_slice(),
+        None => false,
+    }
+}
+
+// The same of a saddle certificate.
+fn judge_saddle(alloc: Global, surface: &Surface, text: &[u8]) -> Result<(), Stop>
+    ensures { IsJudgedAs (IsOutcomeOfReading (IsVerdict (map_of surface.now)) (certificate_of text.now)) result }
+{
+    match read_certificate(alloc, text) {
+        Ok(certificate) => stop_at(verdict_on(alloc, surface, &certificate)),
+        Err(error) => Err(stop_of(error)),
+    }
+}
+
+// The same of a pruning certificate. Its text may be larger than what is read of it, and is given up before
+// the rules are tried.
+fn judge_pruning(alloc: Global, surface: &Surface, text: List<u8>) -> Result<(), Stop>
+    ensures { IsJudgedAs (IsOutcomeOfReading (pruning.IsVerdict (map_of surface.now)) (audit_of text)) result }
+{
+    let read = read_audit(alloc, text.as_slice());
+    drop(text);
+    match read {
+        Ok(audit) => match audit_verdict_on(alloc, surface, &audit) {
+            Ok(verdict) => stop_at(verdict),
+            Err(Memory) => Err(Stop::Memory),
+        },
+        Err(error) => Err(stop_of(error)),
+    }
+}
+
+// Why a check stops where a certificate is not read.
+fn stop_of(error: CertificateError) -> Stop
+    ensures { result ≡ stop_of error }
+{
+    match error {
+        CertificateError::Memory => Stop::Memory,
+        CertificateError::BadLine(line) => Stop::Refused(Refusal::Unreadable(line)),
+    }
+}
+
+// Whether a check stops at a verdict.
+fn stop_at(verdict: Verdict) -> Result<(), Stop>
+    ensures { result ≡ stop_at verdict }
+{
+    match verdict {
         Verdict::Yes => Ok(()),
         Verdict::No { rule, at } => Err(Stop::Refused(Refusal::RuleFails { rule, at })),
     }
@@ -122,5 +183,15 @@ fn verdict_on(alloc: Global, surface: &Surface, certificate: &Certificate) -> Ve
     match surface {
         Surface::Narrow(grid) => check(alloc, grid, certificate),
         Surface::Wide(grid) => check(alloc, grid, certificate),
+    }
+}
+
+// The same of a pruning certificate.
+fn audit_verdict_on(alloc: Global, surface: &Surface, audit: &Audit) -> Result<Verdict, Memory>
+    ensures { IfOk result (pruning.IsVerdict (map_of surface.now) audit.now) }
+{
+    match surface {
+        Surface::Narrow(grid) => check_audit(alloc, grid, audit),
+        Surface::Wide(grid) => check_audit(alloc, grid, audit),
     }
 }

@@ -1,18 +1,21 @@
 // Reading the surface file and the second input.
-ghost use Rattle.std.specs.Prelude.{◌≡◌, ◌≤◌, ◌<◌, ◌-◌, ◌^◌, ℕ, List as Items, length, Some, IsTrue, IfOk};
+ghost use Rattle.std.specs.Prelude.{◌≡◌, ◌≢◌, ◌≤◌, ◌<◌, ◌+◌, ◌-◌, ◌^◌, ◌++◌, [], ℕ, List as Items, length, Some, Err, IsTrue, IfOk, OnOk};
+ghost use Rattle.hd_base.specs.Told.{TakesFew};
+ghost use Rattle.hd_sdf_read.specs.Reader.{StandsFor, fed_of};
 ghost use Rattle.hd_run.specs.FaultCounts.{over};
-ghost use Rattle.hd_run.specs.Inputs.{HasReadStop, IsRead, IsSecondRead, IsSurfaceRead};
+ghost use Rattle.hd_run.specs.Inputs.{HasReadStop, IsFed, IsRead, IsSecondRead, IsSurfaceRead};
 ghost use Rattle.hd_run.specs.Limits.{surface_limit};
 ghost use Rattle.hd_run.specs.ReadOrder.{StopsWithin, reading};
 
 use crate::limits::SURFACE_LIMIT;
 use crate::stop::{Refusal, Stop};
 use hd_base::{ReadError, Source, read_all};
-use hd_list::List;
-use hd_sdf_read::{SdfError, SdfFile, read_sdf};
+use hd_list::{List, Memory};
+use hd_sdf_read::{SdfError, SdfFile, SdfReader};
 use std::alloc::Global;
 
-/// The surface file under this name. Its bytes are read whole, or to one past the limit, and let go.
+/// The surface file under this name. Its bytes are read piece by piece, to their end or to one past
+/// the limit, also after an offence: a fault or too many bytes behind it come first.
 pub fn read_surface<S: Source>(alloc: Global, source: &mut S, name: &str) -> Result<SdfFile, Stop>
     requires { IsTrue (S.allows source.old name.now) }
     ensures told { (bytes : Items ℕ) → S.files source.old name.now ≡ Some bytes → IsSurfaceRead bytes result }
@@ -20,11 +23,79 @@ pub fn read_surface<S: Source>(alloc: Global, source: &mut S, name: &str) -> Res
         (over (S.faults source.old) (S.faults source.new))) }
     ensures cause { HasReadStop (S.faults source.old) (S.faults source.new) result }
 {
-    let bytes = match read_input(alloc, source, name, SURFACE_LIMIT, Refusal::SurfaceTooLong) {
-        Ok(bytes) => bytes,
-        Err(stop) => return Err(stop),
+    if source.open(name).is_err() {
+        return Err(Stop::ReadFault);
+    }
+    read_open(alloc, source)
+}
+
+// The same of the open file.
+fn read_open<S: Source>(alloc: Global, source: &mut S) -> Result<SdfFile, Stop>
+    requires { IsTrue (S.is_open source.old) }
+    ensures told { (bytes : Items ℕ) → S.left source.old ≡ Some bytes → IsSurfaceRead bytes result }
+    ensures few { (bytes : Items ℕ) → S.left source.old ≡ Some bytes → TakesFew bytes surface_limit (S.left source.new) }
+    ensures cause { HasReadStop (S.faults source.old) (S.faults source.new) result }
+{
+    let Ok(mut reader) = SdfReader::new(alloc) else {
+        return Err(Stop::Memory);
     };
-    match read_sdf(alloc, bytes.as_slice()) {
+    match feed_all(alloc, source, &mut reader) {
+        Ok(()) => finished(alloc, reader),
+        Err(stop) => Err(stop),
+    }
+}
+
+// Feeds the open file to a new reader, to its end or to one byte past the limit.
+fn feed_all<S: Source>(alloc: Global, source: &mut S, reader: &mut SdfReader) -> Result<(), Stop>
+    requires open { IsTrue (S.is_open source.old) }
+    requires fresh { StandsFor reader.old [] }
+    requires unfed { fed_of reader.old ≡ 0 }
+    ensures told { IsFed (S.left source.old) reader.new result }
+    ensures few { (bytes : Items ℕ) → S.left source.old ≡ Some bytes → TakesFew bytes surface_limit (S.left source.new) }
+    ensures cause { HasReadStop (S.faults source.old) (S.faults source.new) result }
+{
+    let mut piece = [0u8; 8192];
+    let mut count = 0usize;
+    'pieces: loop {
+        let room = (SURFACE_LIMIT + 1 - count).min(piece.len());
+        let Ok(taken) = source.read(&mut piece[..room]) else {
+            return Err(Stop::ReadFault);
+        };
+        if taken == 0 {
+            return Ok(());
+        }
+        if feed_piece(alloc, reader, &piece[..taken]).is_err() {
+            return Err(Stop::Memory);
+        }
+        count += taken;
+        if count > SURFACE_LIMIT {
+            return Err(Stop::Refused(Refusal::SurfaceTooLong));
+        }
+    }
+}
+
+// Feeds one piece. After an offence the reader stays with it.
+fn feed_piece(alloc: Global, reader: &mut SdfReader, piece: &[u8]) -> Result<(), Memory>
+    requires { fed_of reader.old + length piece.now < 2 ^ 63 }
+    ensures stands { OnOk result ((bytes : Items ℕ) → StandsFor reader.old bytes → StandsFor reader.new (bytes ++ piece.now)) }
+    ensures fed { fed_of reader.new ≤ fed_of reader.old + length piece.now }
+{
+    match reader.feed(alloc, piece) {
+        Ok(()) => Ok(()),
+        Err(refusal) => match refusal {
+            SdfError::Memory => Err(Memory),
+            _ => Ok(()),
+        },
+    }
+}
+
+// The file of a reader that was fed all bytes.
+fn finished(alloc: Global, reader: SdfReader) -> Result<SdfFile, Stop>
+    ensures told { (bytes : Items ℕ) → length bytes ≤ surface_limit → StandsFor reader bytes → IsSurfaceRead bytes result }
+    ensures no_fault { result ≢ Err Stop.ReadFault }
+    ensures no_write { result ≢ Err Stop.WriteFault }
+{
+    match reader.finish(alloc) {
         Ok(file) => Ok(file),
         Err(SdfError::Memory) => Err(Stop::Memory),
         Err(error) => Err(Stop::Refused(Refusal::Surface(error))),

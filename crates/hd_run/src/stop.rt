@@ -36,7 +36,7 @@ pub enum Refusal {
     Unreadable(u64),
     /// A rule of certificates fails, and those before it hold.
     RuleFails {
-        /// The number of the rule, from 1 to 11.
+        /// The number of the rule, from 1 to 18.
         rule: u8,
         /// The position where it fails.
         at: Pos,

@@ -4,3 +4,4 @@ pub mod Whole
 pub mod Table
 pub mod Line
 pub mod Filters
+pub mod Prunings

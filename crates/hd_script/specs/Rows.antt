@@ -2,11 +2,13 @@
 use Rattle.std.specs.Prelude.{◌*◌, ◌==◌, ℕ, List, [], ◌∷◌, length, Some, None, Result, Ok, Err, if◌then◌else◌}
 use Rattle.hd_edit.specs.declared.edit.Edit.{Edit}
 use Rattle.hd_edit.specs.declared.edit.Edit.TheVariants.{Set, Bad, Add, Mask, Unmask}
+use Rattle.hd_map.specs.declared.types.SideName.{SideName}
+use Rattle.hd_num.specs.declared.percent.Percent.{Percent}
 use Rattle.hd_script.specs.declared.command.Command.{Command}
-use Rattle.hd_script.specs.declared.command.Command.TheVariants.{Do, Undo, Element, Neighbours, Label, Saddle, Tree, Prune, Lines, Param, Feature}
+use Rattle.hd_script.specs.declared.command.Command.TheVariants.{Do, Undo, Element, Neighbours, Label, Saddle, Tree, Param, Feature, HeightValue, Hist, Perc}
 use Rattle.hd_script.specs.declared.command.LineError.{LineError}
 use Rattle.hd_script.specs.declared.command.LineError.TheVariants.{WordCount}
-use Rattle.hd_script.specs.Words.{and_then, count_word, whole_word, side_word, adjacency_word, name_word, percent_word, position_words, corner_words, entry_words}
+use Rattle.hd_script.specs.Words.{and_then, count_word, whole_word, side_word, adjacency_word, name_word, percent_word, bins_word, position_words, corner_words, entry_words}
 
 -- what the words after a name give
 abbrev pub Reading : Type 0
@@ -79,15 +81,10 @@ abbrev pub tree_words : Reading
 tree_words (side ∷ []) = and_then (side_word 2 side) (λ name. Ok (Tree name))
 tree_words words = Err WordCount
 
--- `prune S P`
-abbrev pub prune_words : Reading
-prune_words (side ∷ p ∷ []) = and_then (side_word 2 side) (λ name. and_then (percent_word 3 p) (λ percent. Ok (Prune name percent)))
-prune_words words = Err WordCount
-
--- `lines S P`
-abbrev pub lines_words : Reading
-lines_words (side ∷ p ∷ []) = and_then (side_word 2 side) (λ name. and_then (percent_word 3 p) (λ percent. Ok (Lines name percent)))
-lines_words words = Err WordCount
+-- a side and a percent, after the name of a report on a pruning
+abbrev pub pruning_words : (SideName → Percent → Command) → Reading
+pruning_words command (side ∷ p ∷ []) = and_then (side_word 2 side) (λ name. and_then (percent_word 3 p) (λ percent. Ok (command name percent)))
+pruning_words command words = Err WordCount
 
 -- `param NAME` or `param NAME C`
 abbrev pub param_words : Reading
@@ -99,3 +96,19 @@ param_words words = Err WordCount
 abbrev pub feature_words : Reading
 feature_words (word ∷ []) = Ok (Feature word)
 feature_words words = Err WordCount
+
+-- `height NAME` or `height NAME C`
+abbrev pub height_words : Reading
+height_words (name ∷ []) = Ok (HeightValue name None)
+height_words (name ∷ c ∷ []) = and_then (whole_word 3 c) (λ height. Ok (HeightValue name (Some height)))
+height_words words = Err WordCount
+
+-- `hist N WORD`
+abbrev pub hist_words : Reading
+hist_words (n ∷ word ∷ []) = and_then (bins_word 2 n) (λ bins. Ok (Hist bins word))
+hist_words words = Err WordCount
+
+-- `perc V WORD`
+abbrev pub perc_words : Reading
+perc_words (v ∷ word ∷ []) = and_then (whole_word 2 v) (λ above. Ok (Perc above word))
+perc_words words = Err WordCount

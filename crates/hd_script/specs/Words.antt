@@ -75,6 +75,17 @@ adjacency_word number word = read_or_bad number (adjacency_of word)
 unfoldable pub percent_word : ℕ → List ℕ → Result Percent LineError
 percent_word number word = read_or_bad number (percent_of word)
 
+-- a number of bins, from 1 to 64
+abbrev pub bins_within : ℕ → Option ℕ
+bins_within n = if nat_le 1 n && nat_le n 64 then Some n else None
+
+abbrev pub bins_of_count : Option ℕ → Option ℕ
+bins_of_count None = None
+bins_of_count (Some n) = bins_within n
+
+abbrev pub bins_word : ℕ → List ℕ → Result ℕ LineError
+bins_word number word = read_or_bad number (bins_of_count (count_of word))
+
 abbrev pub name_word : ℕ → List ℕ → Result (List ℕ) LineError
 name_word number word = read_or_bad number (name_of word)
 

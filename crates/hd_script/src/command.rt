@@ -57,6 +57,16 @@ pub enum Command {
         side: SideName,
         percent: Percent,
     },
+    /// The certificate of the pruning of a side at a percent.
+    Audit {
+        side: SideName,
+        percent: Percent,
+    },
+    /// The fill volumes of the pits that the pruning of a side at a percent keeps.
+    Fill {
+        side: SideName,
+        percent: Percent,
+    },
     /// The parameter of a name, at a height where one is given.
     Param {
         name: List<u8>,
@@ -64,6 +74,21 @@ pub enum Command {
     },
     /// The value of a feature notation.
     Feature {
+        word: List<u8>,
+    },
+    /// The height parameter of a name, at a height where one is given.
+    HeightValue {
+        name: List<u8>,
+        c: Option<i64>,
+    },
+    /// The distribution of the attribute values over so many bins, by the first five parts of a notation.
+    Hist {
+        bins: u32,
+        word: List<u8>,
+    },
+    /// The share of the attribute values above a value, by the first five parts of a notation.
+    Perc {
+        above: i64,
         word: List<u8>,
     },
 }

@@ -6,6 +6,7 @@ mod element;
 mod filters;
 mod line;
 mod parameters;
+mod prunings;
 mod rows;
 mod words;
 

@@ -2,15 +2,16 @@
 ghost use Rattle.std.specs.Prelude.{◌≡◌, ◌⊎◌, ◌<◌, ◌^◌, Err, All, IfOk, length, map};
 ghost use Rattle.hd_num.specs.Span.{IsPart, text_at};
 ghost use Rattle.hd_script.specs.Line.{is_comment, script_line, words_give};
-ghost use Rattle.hd_script.specs.Table.{commands, later_commands, read_by, report_commands};
+ghost use Rattle.hd_script.specs.Table.{commands, later_commands, pruning_commands, read_by, report_commands, value_commands};
 ghost use Rattle.hd_script.specs.Whole.{IsWhole, IsWholeIfAny};
 
 use crate::element::element_words;
 use crate::filters::{Filter, filter_words};
-use crate::parameters::{feature_words, param_words};
+use crate::parameters::{feature_words, height_words, hist_words, param_words, perc_words};
+use crate::prunings::{PruningReport, pruning_words};
 use crate::rows::{
-    add_words, bad_words, label_words, lines_words, mask_words, neighbours_words, no_words,
-    prune_words, saddle_words, set_words, tree_words, undo_words,
+    add_words, bad_words, label_words, mask_words, neighbours_words, no_words, saddle_words,
+    set_words, tree_words, undo_words,
 };
 use crate::words::text;
 use crate::{Command, LineError};
@@ -129,7 +130,7 @@ fn read_later_command(
     }
 }
 
-// The command that the words make after the name of a report.
+// The command that the words make after the name of a report on a map.
 #[tactic(auto, unfolding(crate::specs::Table::report_commands))]
 fn read_report_command(
     alloc: Global,
@@ -153,14 +154,58 @@ fn read_report_command(
         saddle_words(line, words)
     } else if name == b"tree".as_slice() {
         tree_words(line, words)
-    } else if name == b"prune".as_slice() {
-        prune_words(line, words)
+    } else {
+        read_pruning_command(alloc, name, line, words)
+    }
+}
+
+// The command that the words make after the name of a report on a pruning.
+#[tactic(auto, unfolding(crate::specs::Table::pruning_commands))]
+fn read_pruning_command(
+    alloc: Global,
+    name: &[u8],
+    line: &[u8],
+    words: &[Span],
+) -> Result<Command, LineError>
+    requires parts { All (IsPart line.now) words.now }
+    ensures value { (result ≡ Err LineError.Memory) ⊎ (result ≡ read_by pruning_commands name.now (map (text_at line.now) words.now)) }
+    ensures whole { IfOk result IsWhole }
+{
+    if name == b"prune".as_slice() {
+        pruning_words(line, words, PruningReport::Steps)
     } else if name == b"lines".as_slice() {
-        lines_words(line, words)
-    } else if name == b"param".as_slice() {
+        pruning_words(line, words, PruningReport::Borders)
+    } else if name == b"audit".as_slice() {
+        pruning_words(line, words, PruningReport::Certificate)
+    } else if name == b"fill".as_slice() {
+        pruning_words(line, words, PruningReport::Volumes)
+    } else {
+        read_value_command(alloc, name, line, words)
+    }
+}
+
+// The command that the words make after the name of a value.
+#[tactic(auto, unfolding(crate::specs::Table::value_commands))]
+fn read_value_command(
+    alloc: Global,
+    name: &[u8],
+    line: &[u8],
+    words: &[Span],
+) -> Result<Command, LineError>
+    requires parts { All (IsPart line.now) words.now }
+    ensures value { (result ≡ Err LineError.Memory) ⊎ (result ≡ read_by value_commands name.now (map (text_at line.now) words.now)) }
+    ensures whole { IfOk result IsWhole }
+{
+    if name == b"param".as_slice() {
         param_words(alloc, line, words)
     } else if name == b"feature".as_slice() {
         feature_words(alloc, line, words)
+    } else if name == b"height".as_slice() {
+        height_words(alloc, line, words)
+    } else if name == b"hist".as_slice() {
+        hist_words(alloc, line, words)
+    } else if name == b"perc".as_slice() {
+        perc_words(alloc, line, words)
     } else {
         Err(LineError::UnknownCommand)
     }

@@ -2,11 +2,10 @@
 ghost use Rattle.std.specs.Prelude.{◌≡◌, ◌∷◌, [], All, IfOk, map, if◌then◌else◌};
 ghost use Rattle.hd_script.specs.Whole.{IsWhole};
 ghost use Rattle.hd_num.specs.Span.{IsPart, text_at};
-ghost use Rattle.hd_script.specs.Rows.{add_words, bad_words, label_words, lines_words, mask_words, neighbours_words, no_words, prune_words, saddle_words, set_words, tree_words, undo_words, unmask_words};
+ghost use Rattle.hd_script.specs.Rows.{add_words, bad_words, label_words, mask_words, neighbours_words, no_words, saddle_words, set_words, tree_words, undo_words, unmask_words};
 
 use crate::words::{
-    adjacency_word, corner_words, count_word, percent_word, position_words, side_word, text,
-    whole_word,
+    adjacency_word, corner_words, count_word, position_words, side_word, text, whole_word,
 };
 use crate::{Command, LineError};
 use hd_edit::Edit;
@@ -215,32 +214,4 @@ pub fn neighbours_words(line: &[u8], words: &[Span]) -> Result<Command, LineErro
     };
     let adjacency = adjacency_word(2, text(line, *adjacency))?;
     Ok(Command::Neighbours(adjacency))
-}
-
-/// `prune S P`.
-pub fn prune_words(line: &[u8], words: &[Span]) -> Result<Command, LineError>
-    requires { All (IsPart line.now) words.now }
-    ensures value { result ≡ prune_words (map (text_at line.now) words.now) }
-    ensures whole { IfOk result IsWhole }
-{
-    let [side, percent] = words else {
-        return Err(LineError::WordCount);
-    };
-    let side = side_word(2, text(line, *side))?;
-    let percent = percent_word(3, text(line, *percent))?;
-    Ok(Command::Prune { side, percent })
-}
-
-/// `lines S P`.
-pub fn lines_words(line: &[u8], words: &[Span]) -> Result<Command, LineError>
-    requires { All (IsPart line.now) words.now }
-    ensures value { result ≡ lines_words (map (text_at line.now) words.now) }
-    ensures whole { IfOk result IsWhole }
-{
-    let [side, percent] = words else {
-        return Err(LineError::WordCount);
-    };
-    let side = side_word(2, text(line, *side))?;
-    let percent = percent_word(3, text(line, *percent))?;
-    Ok(Command::Lines { side, percent })
 }

@@ -3,7 +3,8 @@ ghost use Rattle.std.specs.Prelude.{◌≡◌, ◌⊎◌, ◌<◌, ◌^◌, ◌&
 ghost use Rattle.hd_morph.specs.Element.{IsEntry};
 ghost use Rattle.hd_num.specs.Span.{IsPart, text_at};
 ghost use Rattle.std.specs.List.{list_all};
-ghost use Rattle.hd_script.specs.Words.{adjacency_word, corner_words, count_word, entry_word, is_name_byte, name_word, percent_word, position_words, side_word, whole_word};
+ghost use Rattle.hd_script.specs.Whole.{AreBins};
+ghost use Rattle.hd_script.specs.Words.{adjacency_word, bins_word, corner_words, count_word, entry_word, is_name_byte, name_word, percent_word, position_words, side_word, whole_word};
 
 use crate::LineError;
 use hd_list::List;
@@ -13,6 +14,9 @@ use std::alloc::Global;
 
 // The greatest absolute value of an entry of an element.
 const GREATEST_ENTRY: i64 = 4_294_967_295;
+
+// The most bins of a distribution.
+const MOST_BINS: u32 = 64;
 
 /// The bytes of a word.
 pub fn text(line: &[u8], word: Span) -> &[u8]
@@ -98,6 +102,17 @@ pub fn corner_words(
     let from = position_words(2, x, y)?;
     let to = position_words(4, other_x, other_y)?;
     Ok((from, to))
+}
+
+/// The number of bins that the word of a number writes: a count from 1 to 64.
+pub fn bins_word(number: u32, word: &[u8]) -> Result<u32, LineError>
+    ensures value { result ≡ bins_word number word.now }
+    ensures bins { IfOk result AreBins }
+{
+    match read_count(word) {
+        Some(count) if 1 <= count && count <= MOST_BINS => Ok(count),
+        _ => Err(LineError::BadWord(number)),
+    }
 }
 
 /// The name that the word of a number is: 1 to 32 letters, digits, `_` and `-`. `Memory` comes

@@ -12,13 +12,10 @@ use Rattle.hd_num.specs.declared.whole.Whole.{Whole}
 use Rattle.hd_num.specs.declared.whole.Whole.TheVariants.{Is, Not, Outside}
 use Rattle.hd_sdf_read.specs.declared.error.SdfError.TheVariants.{DatumRange, TooFewData}
 use Rattle.hd_sdf_read.specs.declared.error.SdfError.{SdfError}
-use Rattle.hd_sdf_read.specs.Grammar.{Cells, after_token, cell_of, cells_from, datum_at, height_cell, is_star, token_of, with_cell}
+use Rattle.hd_sdf_read.specs.Bodies.{with_front}
+use Rattle.hd_sdf_read.specs.Grammar.{Cells, cell_of, cells_from, datum_at, height_cell, with_cell}
+use Rattle.hd_sdf_read.specs.Tokens.{after_token, is_star, token_of}
 use Rattle.hd_sdf_read.specs.Reads.{◌>>=◌}
-
--- cells before those that are read
-abbrev pub with_front : List Cell → Result Cells SdfError → Result Cells SdfError
-with_front front (Ok more) = Ok (record { cells = front ++ more.cells; rest = more.rest })
-with_front front (Err e) = Err e
 
 -- one more cell in front
 front_push : (front : List Cell) (cell : Cell) (read : Result Cells SdfError) → with_front front (read >>= with_cell cell) ≡ with_front (front ++ cell ∷ []) read

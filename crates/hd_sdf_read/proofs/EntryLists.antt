@@ -2,40 +2,39 @@
 use Rattle.std.proofs.Common.{◌≡◌, ◌+◌, ◌<◌, ℕ, Bool, true, false, List, ◌∷◌, length, drop, get_or, ◌||◌, Some, sym, ap, arith, if◌then◌else◌, ◌∙◌}
 use Rattle.std.specs.Prelude.{is_none}
 use Rattle.std.proofs.lemmas.List.{drop_more}
-use Rattle.hd_sdf_read.specs.declared.entries.Entry.{Entry}
+use Rattle.hd_sdf_read.specs.declared.file.Extra.{Extra}
 use Rattle.hd_sdf_read.specs.Entries.{extra_entries, has_key, value_of}
 use Rattle.hd_sdf_read.specs.Keys.{form_of, same_key}
-use Rattle.hd_sdf_read.specs.Views.{extra_of, extras_of}
 
 -- the entries from a place on
-from_place : (entries : List Entry) (i : ℕ) (d : Entry) → i < length entries → extras_of (drop i entries) ≡ extra_of (get_or entries i d) ∷ extras_of (drop (i + 1) entries)
-from_place entries i d inside = ap extras_of (drop_more entries i d inside)
+from_place : (entries : List Extra) (i : ℕ) (d : Extra) → i < length entries → drop i entries ≡ get_or entries i d ∷ drop (i + 1) entries
+from_place entries i d inside = drop_more entries i d inside
 
-module _ (key : List ℕ) (entries : List Entry) (i : ℕ) (d : Entry) (inside : i < length entries) where
+module _ (key : List ℕ) (entries : List Extra) (i : ℕ) (d : Extra) (inside : i < length entries) where
   -- the key of the entry at a place is the one that is looked for
-  pub has_key_found : has_key key (extras_of (drop i entries)) ≡ has_key key (extras_of entries) → same_key (get_or entries i d).key.now key ≡ true → true ≡ has_key key (extras_of entries)
-  has_key_found left found = sym (ap (λ b. b || has_key key (extras_of (drop (i + 1) entries))) found) ∙ sym (ap (has_key key) (from_place entries i d inside)) ∙ left
+  pub has_key_found : has_key key (drop i entries) ≡ has_key key entries → same_key (get_or entries i d).key key ≡ true → true ≡ has_key key entries
+  has_key_found left found = sym (ap (λ b. b || has_key key (drop (i + 1) entries)) found) ∙ sym (ap (has_key key) (from_place entries i d inside)) ∙ left
 
   -- it is another
-  pub has_key_passed : has_key key (extras_of (drop i entries)) ≡ has_key key (extras_of entries) → same_key (get_or entries i d).key.now key ≡ false → has_key key (extras_of (drop (i + 1) entries)) ≡ has_key key (extras_of entries)
-  has_key_passed left other = sym (ap (has_key key) (from_place entries i d inside) ∙ ap (λ b. b || has_key key (extras_of (drop (i + 1) entries))) other) ∙ left
+  pub has_key_passed : has_key key (drop i entries) ≡ has_key key entries → same_key (get_or entries i d).key key ≡ false → has_key key (drop (i + 1) entries) ≡ has_key key entries
+  has_key_passed left other = sym (ap (has_key key) (from_place entries i d inside) ∙ ap (λ b. b || has_key key (drop (i + 1) entries)) other) ∙ left
 
-  pub value_of_found : value_of key (extras_of (drop i entries)) ≡ value_of key (extras_of entries) → same_key (get_or entries i d).key.now key ≡ true → value_of key (extras_of entries) ≡ Some (get_or entries i d).value.now
+  pub value_of_found : value_of key (drop i entries) ≡ value_of key entries → same_key (get_or entries i d).key key ≡ true → value_of key entries ≡ Some (get_or entries i d).value
   value_of_found left found = sym left ∙ ap (value_of key) (from_place entries i d inside)
-      ∙ ap (λ b. if b then Some (get_or entries i d).value.now else value_of key (extras_of (drop (i + 1) entries))) found
+      ∙ ap (λ b. if b then Some (get_or entries i d).value else value_of key (drop (i + 1) entries)) found
 
-  pub value_of_passed : value_of key (extras_of (drop i entries)) ≡ value_of key (extras_of entries) → same_key (get_or entries i d).key.now key ≡ false → value_of key (extras_of (drop (i + 1) entries)) ≡ value_of key (extras_of entries)
+  pub value_of_passed : value_of key (drop i entries) ≡ value_of key entries → same_key (get_or entries i d).key key ≡ false → value_of key (drop (i + 1) entries) ≡ value_of key entries
   value_of_passed left other = sym (ap (value_of key) (from_place entries i d inside)
-      ∙ ap (λ b. if b then Some (get_or entries i d).value.now else value_of key (extras_of (drop (i + 1) entries))) other) ∙ left
+      ∙ ap (λ b. if b then Some (get_or entries i d).value else value_of key (drop (i + 1) entries)) other) ∙ left
 
 -- how many entries from a place on have a key that is not known
-pub extra_step : (entries : List Entry) (i : ℕ) (d : Entry) → i < length entries → (unknown : Bool) → is_none (form_of (get_or entries i d).key.now) ≡ unknown
-    → length (extra_entries (extras_of (drop i entries))) ≡ (if unknown then 1 else 0) + length (extra_entries (extras_of (drop (i + 1) entries)))
+pub extra_step : (entries : List Extra) (i : ℕ) (d : Extra) → i < length entries → (unknown : Bool) → is_none (form_of (get_or entries i d).key) ≡ unknown
+    → length (extra_entries (drop i entries)) ≡ (if unknown then 1 else 0) + length (extra_entries (drop (i + 1) entries))
 extra_step entries i d inside true unknown =
     ap (λ es. length (extra_entries es)) (from_place entries i d inside)
-    ∙ ap (λ b. length (if b then extra_of (get_or entries i d) ∷ extra_entries (extras_of (drop (i + 1) entries)) else extra_entries (extras_of (drop (i + 1) entries)))) unknown
+    ∙ ap (λ b. length (if b then get_or entries i d ∷ extra_entries (drop (i + 1) entries) else extra_entries (drop (i + 1) entries))) unknown
     ∙ (omega arith)
 extra_step entries i d inside false known =
     ap (λ es. length (extra_entries es)) (from_place entries i d inside)
-    ∙ ap (λ b. length (if b then extra_of (get_or entries i d) ∷ extra_entries (extras_of (drop (i + 1) entries)) else extra_entries (extras_of (drop (i + 1) entries)))) known
+    ∙ ap (λ b. length (if b then get_or entries i d ∷ extra_entries (drop (i + 1) entries) else extra_entries (drop (i + 1) entries))) known
     ∙ (omega arith)

@@ -1,9 +1,13 @@
 -- The first byte of a text that passes a test.
-use Rattle.std.proofs.Common.{◌≡◌, ◌+◌, ◌<◌, ℕ, Bool, true, false, List, length, take, drop, get_or, sym, ap, arith}
+use Rattle.std.proofs.Common.{◌≡◌, ◌+◌, ◌<◌, ℕ, Bool, true, false, List, length, take, drop, get_or, ◌∷◌, ◌++◌, sym, ap, arith, ◌∙◌}
 use Rattle.std.specs.List.{after_first, before_first, list_any, position_or_len}
 use Rattle.std.proofs.lemmas.List.Folds.{list_any_at, list_any_none}
 use Rattle.std.proofs.lemmas.List.Elements.{All-from_get_or}
+use Rattle.std.proofs.lemmas.List.{drop_more, take-append-drop}
 use Rattle.std.proofs.lemmas.List.Sums.{position_or_len_is}
+use Rattle.hd_num.specs.Lines.{is_line_feed}
+use Rattle.hd_sdf_read.specs.FirstLine.{IsFirstLine}
+use Rattle.hd_sdf_read.proofs.Trims.{none_before}
 
 -- it is found at its place
 pub record IsFirstAt (test : ℕ → Bool) (text : List ℕ) (place : ℕ) : Type 0 where
@@ -24,3 +28,13 @@ first_at test text place inside before here =
 -- none is found
 pub none_at : (test : ℕ → Bool) (text : List ℕ) → ((k : ℕ) → k < length text → test (get_or text k 0) ≡ false) → list_any test text ≡ false
 none_at test text none = list_any_none test text (All-from_get_or (λ x. test x ≡ false) text 0 none)
+
+-- the bytes before the first LF are the first line
+pub first_line : (text : List ℕ) (place : ℕ) → place < length text → ((k : ℕ) → k < place → is_line_feed (get_or text k 0) ≡ false) → get_or text place 0 ≡ 10
+    → IsFirstLine text (take place text) (drop (place + 1) text)
+first_line text place inside before here =
+    let first = first_at is_line_feed text place inside before (ap is_line_feed here) in
+    record {
+      text_is = sym (take-append-drop place text) ∙ ap (λ xs. take place text ++ xs) (drop_more text place 0 inside ∙ ap (λ x. x ∷ drop (place + 1) text) here);
+      one = ap (list_any is_line_feed) first.before ∙ none_before is_line_feed text;
+    }

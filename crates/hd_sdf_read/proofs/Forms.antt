@@ -4,7 +4,7 @@ use Rattle.std.specs.Prelude.{codes, IfOk, Result, Err, ok_or, option_and_then, 
 use Rattle.std.specs.Str.Parse.{starts_with_minus, without_leading_sign}
 use Rattle.std.proofs.lemmas.Bool.{and_from, cases_Bool, le-leb}
 use Rattle.std.proofs.lemmas.Slice.Eq.{bytes_eq-Decides}
-use Rattle.hd_map.specs.declared.types.Cell.{Cell}
+use Rattle.hd_map.specs.Map.{Map}
 use Rattle.hd_num.specs.Decimal.{decimal_of, digits_of, is_decimal, scale_of}
 use Rattle.hd_num.specs.Lines.{trimmed_by}
 use Rattle.hd_num.specs.declared.decimal.Decimal.{Decimal}
@@ -67,9 +67,9 @@ trailer_good text short =
     and_from _ _ (le-leb _ _ short) ((bytes_eq-Decides (trimmed_by is_gap (trimmed_by is_gap text)) (trimmed_by is_gap text)).1 (trimmed_same is_gap (trimmed_by is_gap text) (trimmed_is is_gap text)))
 
 -- the file of such parts
-pub forms_good : (version : Version) (entries : List Extra) (frame : Frame) (cells : List Cell) (trailer : List ℕ) → AreGood entries → HasDecimals frame → is_trailer trailer ≡ true
-    → HasForms (file_with version entries frame cells trailer)
-forms_good version entries frame cells trailer good decimals end = record {
+pub forms_good : (version : Version) (entries : List Extra) (frame : Frame) (map : Map) (trailer : List ℕ) → AreGood entries → HasDecimals frame → is_trailer trailer ≡ true
+    → HasForms (file_with version entries frame map trailer)
+forms_good version entries frame map trailer good decimals end = record {
   manufac_id = text_good (codes "ManufacID") entries good.forms;
   create_date = text_good (codes "CreateDate") entries good.forms;
   mod_date = text_good (codes "ModDate") entries good.forms;

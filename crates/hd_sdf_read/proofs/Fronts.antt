@@ -9,7 +9,7 @@ use Rattle.std.proofs.lemmas.List.Splits.{length-slice_split, slice_split_first}
 use Rattle.std.proofs.lemmas.List.Sums.{AllPass-from_list_all, suffix_len_is}
 use Rattle.hd_num.specs.Lines.{after_line, is_line_feed, lines_of, trimmed_by, without_empty_last, without_end, without_start}
 use Rattle.hd_sdf_read.specs.File.{is_gap}
-use Rattle.hd_sdf_read.specs.Grammar.{after_token, token_of}
+use Rattle.hd_sdf_read.specs.Tokens.{after_token, token_of}
 use Rattle.hd_sdf_read.proofs.Trims.{IsTrimmed}
 
 module _ (test : ℕ → Bool) where
@@ -43,7 +43,7 @@ module _ (test : ℕ → Bool) where
   start_all : (back : List ℕ) → list_all test back ≡ true → without_start test back ≡ []
   start_all back all = ap (without_start test) (sym (append-nil back)) ∙ start_front back [] all
 
-  end_front : (text back : List ℕ) → 0 < length text → test (get_or text (length text - 1) 0) ≡ false → list_all test back ≡ true → without_end test (text ++ back) ≡ text
+  pub end_front : (text back : List ℕ) → 0 < length text → test (get_or text (length text - 1) 0) ≡ false → list_all test back ≡ true → without_end test (text ++ back) ≡ text
   end_front text back some last all =
       let whole = length-append text back in
       let end : suffix_len test (text ++ back) ≡ length (text ++ back) - length text =
@@ -80,7 +80,7 @@ pub after_line_front : (text rest : List ℕ) → list_any is_line_feed text ≡
 after_line_front text rest one = after_front is_line_feed text 10 rest one refl
 
 -- no byte passes, so the first does not
-first_fails : (test : ℕ → Bool) (text : List ℕ) → 0 < length text → list_any test text ≡ false → test (get_or text 0 0) ≡ false
+pub first_fails : (test : ℕ → Bool) (text : List ℕ) → 0 < length text → list_any test text ≡ false → test (get_or text 0 0) ≡ false
 first_fails test [] some none = absurd (omega arith)
 first_fails test (x ∷ xs) some none = (or_parts (test x) (list_any test xs) none).0
 

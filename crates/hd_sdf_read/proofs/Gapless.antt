@@ -50,7 +50,7 @@ digits_gapless (d ∷ ds) digits =
     or_from _ _ (digit_no_gap d parts.0) (digits_gapless ds parts.1)
 
 -- a sign is no gap
-signed_gapless : (word : List ℕ) → list_any is_gap (without_leading_sign word) ≡ false → list_any is_gap word ≡ false
+pub signed_gapless : (word : List ℕ) → list_any is_gap (without_leading_sign word) ≡ false → list_any is_gap word ≡ false
 signed_gapless [] none = refl
 signed_gapless (x ∷ xs) none = elim (cases_Bool (eqb x 45)) [
   | inl minus ↦ or_from _ _ (ap is_gap (eqb-true x 45 minus)) (rw minus at none)
@@ -102,7 +102,7 @@ exponent_gapless text form = elim (cases_Bool (has_exponent text)) [
 ]
 
 -- nor has a decimal
-decimal_gapless : (word : List ℕ) → is_decimal word ≡ true → list_any is_gap word ≡ false
+pub decimal_gapless : (word : List ℕ) → is_decimal word ≡ true → list_any is_gap word ≡ false
 decimal_gapless word right =
     let text : List ℕ = without_leading_sign word in
     let unsigned : is_unsigned_decimal text ≡ true = (and_parts (leb (length word) 64) (is_unsigned_decimal text) right).1 in

@@ -18,7 +18,8 @@ use Rattle.hd_num.specs.Lines.{without_start}
 use Rattle.hd_num.specs.Whole.{is_numeral, signed_number, whole_of, whole_of_value}
 use Rattle.hd_num.specs.declared.whole.Whole.TheVariants.{Is, Not, Outside}
 use Rattle.hd_sdf_read.specs.File.{is_gap}
-use Rattle.hd_sdf_read.specs.Grammar.{after_token, cell_of, datum_at, is_star, token_of}
+use Rattle.hd_sdf_read.specs.Grammar.{cell_of, datum_at}
+use Rattle.hd_sdf_read.specs.Tokens.{after_token, is_star, token_of}
 use Rattle.hd_sdf_read.proofs.Counting.{datum_by_token}
 use Rattle.hd_sdf_read.specs.Places.{TakesHeight, TakesCell}
 
@@ -126,12 +127,12 @@ height_kept true n z is small = to_z-of_z w64 z (omega (arith, ints))
 height_kept false n z is small = to_z-of_z w64 z (omega (arith, ints))
 
 -- the first token, after the gaps
-token_at : (text front token : List ℕ) → front ≡ without_start is_gap text → take (position_or_len is_gap front) front ≡ token → token_of text ≡ token
+pub token_at : (text front token : List ℕ) → front ≡ without_start is_gap text → take (position_or_len is_gap front) front ≡ token → token_of text ≡ token
 unfolding token_of
 token_at text front token is place = ap (before_first is_gap) (sym is) ∙ place
 
 -- and the text after it
-rest_at : (text front rest : List ℕ) → front ≡ without_start is_gap text → drop (position_or_len is_gap front) front ≡ rest → rest ≡ after_token text
+pub rest_at : (text front rest : List ℕ) → front ≡ without_start is_gap text → drop (position_or_len is_gap front) front ≡ rest → rest ≡ after_token text
 unfolding after_token
 rest_at text front rest is after =
     let token = token_at text front (take (position_or_len is_gap front) front) is refl in

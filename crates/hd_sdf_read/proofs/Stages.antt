@@ -1,12 +1,17 @@
 -- A text, part by part.
 use Rattle.std.proofs.Common.{◌≡◌, ℕ, List, [], drop, Ok, Err, refl}
-use Rattle.hd_map.specs.Map.{cell_count}
+use Rattle.std.specs.Prelude.{true, false}
+use Rattle.hd_map.specs.declared.types.DataType.{DataType}
+use Rattle.hd_map.specs.declared.types.Size.{Size}
+use Rattle.hd_map.specs.Map.{cell_count, greatest_height, least_height}
 use Rattle.hd_num.specs.Lines.{lines_of}
 use Rattle.hd_sdf_read.specs.declared.error.SdfError.{SdfError}
 use Rattle.hd_sdf_read.specs.declared.file.Extra.{Extra}
 use Rattle.hd_sdf_read.specs.declared.file.Version.{Version}
 use Rattle.hd_sdf_read.specs.Entries.{Header, header_from}
-use Rattle.hd_sdf_read.specs.Grammar.{Cells, Frame, after_lines, body_in, cells_of, file_in, file_with, frame_of, trailer_of, version_of}
+use Rattle.hd_sdf_read.specs.Grammar.{Cells, Frame, Mapped, after_lines, body_in, cells_from, file_in, file_with, frame_of, map_with, mapped, trailer_of, version_of}
+use Rattle.hd_sdf_read.specs.Decimals.{Decimals, cells_at, decimals_from, most_places_in}
+use Rattle.hd_sdf_read.specs.Keys.{has_decimals, with_places}
 
 module _ (bytes : List ℕ) where
   pub no_version : (e : SdfError) → version_of (lines_of bytes) ≡ Err e → file_in bytes ≡ Err e
@@ -27,15 +32,37 @@ module _ (version : Version) (entries : List Extra) (text : List ℕ) where
   unfolding body_in
   no_frame e wrong = rw wrong refl
 
-  pub no_cells : (frame : Frame) (e : SdfError) → frame_of entries ≡ Ok frame → cells_of frame text ≡ Err e → body_in version entries text ≡ Err e
+  pub no_map : (frame : Frame) (e : SdfError) → frame_of entries ≡ Ok frame → mapped frame.size frame.data_type text ≡ Err e → body_in version entries text ≡ Err e
   unfolding body_in
-  no_cells frame e right wrong = rw (right, wrong) refl
+  no_map frame e right wrong = rw (right, wrong) refl
 
-  pub no_trailer : (frame : Frame) (parts : Cells) (e : SdfError) → frame_of entries ≡ Ok frame → cells_of frame text ≡ Ok parts → trailer_of (cell_count frame.size) parts.rest ≡ Err e → body_in version entries text ≡ Err e
+  pub no_trailer : (frame : Frame) (parts : Mapped) (e : SdfError) → frame_of entries ≡ Ok frame → mapped frame.size frame.data_type text ≡ Ok parts → trailer_of (cell_count frame.size) parts.rest ≡ Err e
+      → body_in version entries text ≡ Err e
   unfolding body_in
   no_trailer frame parts e right whole wrong = rw (right, whole, wrong) refl
 
-  pub whole_body : (frame : Frame) (parts : Cells) (trailer : List ℕ) → frame_of entries ≡ Ok frame → cells_of frame text ≡ Ok parts → trailer_of (cell_count frame.size) parts.rest ≡ Ok trailer
-      → body_in version entries text ≡ Ok (file_with version entries frame parts.cells trailer)
+  pub whole_body : (frame : Frame) (parts : Mapped) (trailer : List ℕ) → frame_of entries ≡ Ok frame → mapped frame.size frame.data_type text ≡ Ok parts → trailer_of (cell_count frame.size) parts.rest ≡ Ok trailer
+      → body_in version entries text ≡ Ok (file_with version entries frame parts.map trailer)
   unfolding body_in
   whole_body frame parts trailer right whole end = rw (right, whole, end) refl
+
+module _ (size : Size) (t : DataType) (text : List ℕ) where
+  -- the map of whole numbers
+  pub whole_numbers : (parts : Cells) → has_decimals t ≡ false → cells_from (least_height t) (greatest_height t) 0 (cell_count size) text ≡ Ok parts
+      → mapped size t text ≡ Ok (record { map = map_with size t parts.cells; rest = parts.rest })
+  unfolding mapped
+  whole_numbers parts type read = rw (type, read) refl
+
+  pub no_whole_numbers : (e : SdfError) → has_decimals t ≡ false → cells_from (least_height t) (greatest_height t) 0 (cell_count size) text ≡ Err e → mapped size t text ≡ Err e
+  unfolding mapped
+  no_whole_numbers e type wrong = rw (type, wrong) refl
+
+  -- the map of decimals
+  pub decimals : (parts : Decimals) → has_decimals t ≡ true → decimals_from [] (cell_count size) text ≡ Ok parts
+      → mapped size t text ≡ Ok (record { map = map_with size (with_places t (most_places_in parts.items)) (cells_at (most_places_in parts.items) parts.items); rest = parts.rest })
+  unfolding mapped
+  decimals parts type read = rw (type, read) refl
+
+  pub no_decimals : (e : SdfError) → has_decimals t ≡ true → decimals_from [] (cell_count size) text ≡ Err e → mapped size t text ≡ Err e
+  unfolding mapped
+  no_decimals e type wrong = rw (type, wrong) refl

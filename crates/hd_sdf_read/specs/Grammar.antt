@@ -1,6 +1,5 @@
 -- The grammar of SDF texts: each text has a file or the first offence.
-use Rattle.std.specs.Prelude.{◌==◌, ◌||◌, ◌&&◌, ◌+◌, ℕ, ℤ, zero, suc, pos, nat_lt, nat_le, int_le, Bool, true, false, List, [], ◌∷◌, length, drop, replicate, Option, Some, None, Result, Ok, Err, ok_or, option_and_then, unwrap_or, if◌then◌else◌, bytes_eq, codes}
-use Rattle.std.specs.List.{before_first}
+use Rattle.std.specs.Prelude.{◌||◌, ◌&&◌, ◌+◌, ℕ, ℤ, zero, suc, pos, nat_lt, nat_le, int_le, true, false, List, [], ◌∷◌, length, drop, replicate, Option, Some, None, Result, Ok, Err, ok_or, option_and_then, unwrap_or, if◌then◌else◌, bytes_eq, codes}
 use Rattle.hd_map.specs.declared.types.Adjacency.TheVariants.{Eight}
 use Rattle.hd_map.specs.Map.{Map, cell_count, least_height, greatest_height}
 use Rattle.hd_map.specs.declared.types.Cell.{Cell}
@@ -8,7 +7,7 @@ use Rattle.hd_map.specs.declared.types.Cell.TheVariants.{Height, Bad}
 use Rattle.hd_map.specs.declared.types.DataType.{DataType}
 use Rattle.hd_map.specs.declared.types.Size.{Size}
 use Rattle.hd_num.specs.Decimal.{decimal_of}
-use Rattle.hd_num.specs.Lines.{after_line, lines_of, trimmed, trimmed_by, without_start}
+use Rattle.hd_num.specs.Lines.{after_line, lines_of, trimmed, trimmed_by}
 use Rattle.hd_num.specs.Whole.{whole_of}
 use Rattle.hd_num.specs.declared.decimal.Decimal.{Decimal}
 use Rattle.hd_num.specs.declared.whole.Whole.{Whole}
@@ -20,8 +19,10 @@ use Rattle.hd_sdf_read.specs.declared.file.Version.{Version}
 use Rattle.hd_sdf_read.specs.declared.file.Version.TheVariants.{Bcr, Iso}
 use Rattle.hd_sdf_read.specs.Entries.{extra_entries, header_from, text_of, value_of}
 use Rattle.hd_sdf_read.specs.File.{File, is_gap}
-use Rattle.hd_sdf_read.specs.Keys.{extent_of, type_of}
+use Rattle.hd_sdf_read.specs.Decimals.{Decimals, cells_at, decimals_from, most_places_in}
+use Rattle.hd_sdf_read.specs.Keys.{extent_of, has_decimals, type_of, with_places}
 use Rattle.hd_sdf_read.specs.Reads.{◌>>=◌}
+use Rattle.hd_sdf_read.specs.Tokens.{after_token, is_absent, is_star, token_of}
 
 -- the version that a trimmed line names
 abbrev pub version_of_text : List ℕ → Option Version
@@ -90,22 +91,6 @@ minus_one = record { negative = true; digits = 1; exponent = pos 0; literal = co
 abbrev pub resolution_of : List Extra → Decimal
 resolution_of entries = unwrap_or (decimal_at (codes "Zresolution") entries) minus_one
 
--- the first token of a text: the first longest run of bytes that are neither blanks nor LFs, or nothing
-unfoldable pub token_of : List ℕ → List ℕ
-token_of text = before_first is_gap (without_start is_gap text)
-
--- the text after its first token
-unfoldable pub after_token : List ℕ → List ℕ
-after_token text = drop (length (token_of text)) (without_start is_gap text)
-
--- the token that ends the data
-abbrev pub is_star : List ℕ → Bool
-is_star token = bytes_eq token (codes "*")
-
--- no token is left
-abbrev pub is_absent : List ℕ → Bool
-is_absent token = length token == 0
-
 -- the cell of a whole number, if it is from the least to the greatest height
 abbrev pub height_cell : ℤ → ℤ → ℕ → Whole → Result Cell SdfError
 height_cell least greatest number Not = Err (BadDatum number)
@@ -143,11 +128,6 @@ cells_from least greatest read (suc missing) text = do
   more ← cells_from least greatest (read + 1) missing (after_token text)
   with_cell cell more
 
--- the cells of the data of a frame, and the text after them
-abbrev pub cells_of : Frame → List ℕ → Result Cells SdfError
-cells_of frame text =
-    cells_from (least_height frame.data_type) (greatest_height frame.data_type) 0 (cell_count frame.size) text
-
 -- all bytes after the end of the data, without blanks and LFs at both ends
 abbrev pub trailer_text : List ℕ → Result (List ℕ) SdfError
 trailer_text text = if nat_lt 65536 (length text) then Err TrailerTooLong else Ok text
@@ -159,19 +139,41 @@ trailer_of count text =
     else if is_star (token_of text) then trailer_text (trimmed_by is_gap (after_token text))
     else Err (TooManyData (count + 1))
 
--- the map of a frame and its cells, with no mask and with eight neighbours
-abbrev pub map_with : Frame → List Cell → Map
-map_with frame cells = record {
-  size = frame.size;
-  data_type = frame.data_type;
+-- the map of cells, with no mask and with eight neighbours
+abbrev pub map_with : Size → DataType → List Cell → Map
+map_with size data_type cells = record {
+  size = size;
+  data_type = data_type;
   cells = cells;
-  masks = replicate (cell_count frame.size) false;
+  masks = replicate (cell_count size) false;
   adjacency = Eight;
 }
 
+-- the map of data, and the text after them
+pub record Mapped : Type 0 where
+  pub map : Map
+  pub rest : List ℕ
+
+-- the map of whole numbers
+abbrev pub whole_map : Size → DataType → Cells → Result Mapped SdfError
+whole_map size t parts = Ok (record { map = map_with size t parts.cells; rest = parts.rest })
+
+-- the map of decimals, in steps of the last of the greatest number of places among them
+abbrev pub decimal_map : Size → DataType → Decimals → Result Mapped SdfError
+decimal_map size t parts = Ok (record {
+  map = map_with size (with_places t (most_places_in parts.items)) (cells_at (most_places_in parts.items) parts.items);
+  rest = parts.rest;
+})
+
+-- the map of data of a type
+unfoldable pub mapped : Size → DataType → List ℕ → Result Mapped SdfError
+mapped size t text =
+    if has_decimals t then (decimals_from [] (cell_count size) text >>= decimal_map size t)
+    else (cells_from (least_height t) (greatest_height t) 0 (cell_count size) text >>= whole_map size t)
+
 -- the file of these parts
-abbrev pub file_with : Version → List Extra → Frame → List Cell → List ℕ → File
-file_with version entries frame cells trailer = record {
+abbrev pub file_with : Version → List Extra → Frame → Map → List ℕ → File
+file_with version entries frame map trailer = record {
   version = version;
   manufac_id = text_of (codes "ManufacID") entries;
   create_date = text_of (codes "CreateDate") entries;
@@ -181,7 +183,7 @@ file_with version entries frame cells trailer = record {
   z_scale = frame.z_scale;
   z_resolution = resolution_of entries;
   extra = extra_entries entries;
-  map = map_with frame cells;
+  map = map;
   trailer = trailer;
 }
 
@@ -189,9 +191,9 @@ file_with version entries frame cells trailer = record {
 unfoldable pub body_in : Version → List Extra → List ℕ → Result File SdfError
 body_in version entries text = do
   frame ← frame_of entries
-  parts ← cells_of frame text
+  parts ← mapped frame.size frame.data_type text
   trailer ← trailer_of (cell_count frame.size) parts.rest
-  Ok (file_with version entries frame parts.cells trailer)
+  Ok (file_with version entries frame parts.map trailer)
 
 -- the file that a text is, or the first offence
 unfoldable pub file_in : List ℕ → Result File SdfError

@@ -1,5 +1,5 @@
 -- The known keys of a header, and what their values say.
-use Rattle.std.specs.Prelude.{◌==◌, ◌||◌, ℕ, pos, negsuc, nat_lt, Bool, List, [], ◌∷◌, Option, Some, None, is_some, if◌then◌else◌, codes}
+use Rattle.std.specs.Prelude.{◌==◌, ℕ, pos, negsuc, nat_lt, Bool, true, false, List, [], ◌∷◌, Option, Some, None, is_some, if◌then◌else◌, codes}
 use Rattle.std.specs.Int.{is_in_range}
 use Rattle.std.specs.List.{find}
 use Rattle.std.specs.Str.{str_eq_ignore_ascii_case}
@@ -54,20 +54,31 @@ extent_in Not = None
 abbrev pub extent_of : List ℕ → Option ℕ
 extent_of value = extent_in (whole_of value)
 
--- a type whose heights are whole numbers
-abbrev pub IsWholeType : DataType → Type 0
-IsWholeType U8 = Unit {0}
-IsWholeType U16 = Unit {0}
-IsWholeType U32 = Unit {0}
-IsWholeType I8 = Unit {0}
-IsWholeType I16 = Unit {0}
-IsWholeType I32 = Unit {0}
-IsWholeType (Single places) = ⊥
-IsWholeType (Double places) = ⊥
+-- the data of the type are decimals
+abbrev pub has_decimals : DataType → Bool
+has_decimals U8 = false
+has_decimals U16 = false
+has_decimals U32 = false
+has_decimals I8 = false
+has_decimals I16 = false
+has_decimals I32 = false
+has_decimals (Single places) = true
+has_decimals (Double places) = true
 
--- the type of the heights, by its code
+-- the type with so many places, where its data are decimals
+abbrev pub with_places : DataType → ℕ → DataType
+with_places U8 places = U8
+with_places U16 places = U16
+with_places U32 places = U32
+with_places I8 places = I8
+with_places I16 places = I16
+with_places I32 places = I32
+with_places (Single before) places = Single places
+with_places (Double before) places = Double places
+
+-- the type of the heights, by its code; decimals have no places yet
 abbrev pub type_by_code : ℕ → Option DataType
-type_by_code code = find (λ t. code == code_of t) (U8 ∷ U16 ∷ U32 ∷ I8 ∷ I16 ∷ I32 ∷ [])
+type_by_code code = find (λ t. code == code_of t) (U8 ∷ U16 ∷ U32 ∷ Single 0 ∷ I8 ∷ I16 ∷ I32 ∷ Double 0 ∷ [])
 
 abbrev pub type_in : Whole → Option DataType
 type_in (Is (pos n)) = type_by_code n
@@ -85,9 +96,9 @@ judge_zero (Is (negsuc n)) = Unsupported
 judge_zero Outside = Unsupported
 judge_zero Not = Wrong
 
--- a whole number from 0 to 7, of which 3 and 7 are not supported
+-- a whole number from 0 to 7
 abbrev pub judge_type : Whole → Verdict
-judge_type (Is (pos n)) = if nat_lt 7 n then Wrong else if n == 3 || n == 7 then Unsupported else Right
+judge_type (Is (pos n)) = if nat_lt 7 n then Wrong else Right
 judge_type (Is (negsuc n)) = Wrong
 judge_type Outside = Wrong
 judge_type Not = Wrong

@@ -1,6 +1,8 @@
 -- What is known of a text where its parts begin.
-use Rattle.std.specs.Prelude.{codes, ◌≡◌, ◌≤◌, ◌==◌, ℕ, ℤ, int_le, true, false, List, [], length, take, drop, Some, Result, Ok, Err}
-use Rattle.std.specs.List.{position_or_len}
+use Rattle.std.specs.Prelude.{codes, ◌≡◌, ◌==◌, ◌<◌, ◌^◌, ℕ, ℤ, int_le, true, false, List, length, take, drop, Some, Result, Ok, Err}
+use Rattle.std.specs.Char.{is_ascii_digit}
+use Rattle.std.specs.List.{list_all, position_or_len}
+use Rattle.std.specs.Str.Parse.{digits_value}
 use denote.Bor.{Bor}
 use Rattle.hd_map.specs.declared.cells.Cells as packed
 use Rattle.hd_map.specs.declared.types.Cell.{Cell}
@@ -10,44 +12,15 @@ use Rattle.hd_num.specs.Whole.{whole_of}
 use Rattle.hd_num.specs.declared.whole.Whole.TheVariants.{Is}
 use Rattle.hd_num.specs.declared.decimal.Decimal.{Decimal}
 use Rattle.hd_num.specs.Decimal.{decimal_of}
-use Rattle.hd_num.specs.Lines.{after_line, lines_of}
-use Rattle.hd_sdf_read.specs.declared.entries.Entry.{Entry}
 use Rattle.hd_sdf_read.specs.declared.error.SdfError.{SdfError}
-use Rattle.hd_sdf_read.specs.declared.error.SdfError.TheVariants.{Memory}
-use Rattle.hd_sdf_read.specs.declared.file.Version.{Version}
 use Rattle.hd_sdf_read.specs.declared.file.Extra.{Extra}
-use Rattle.hd_sdf_read.specs.declared.header_lines.Frame as declared
+use Rattle.hd_sdf_read.specs.declared.frame.Frame as declared
 use Rattle.hd_sdf_read.specs.declared.sdf.Kept.{Kept}
 use Rattle.hd_sdf_read.specs.declared.sdf.Origin.{Origin}
-use Rattle.hd_sdf_read.specs.Entries.{extra_entries, header_from, text_of}
-use Rattle.hd_sdf_read.specs.File.{AreGood, is_gap}
-use Rattle.hd_sdf_read.specs.Grammar.{Cells, Frame, after_lines, after_token, datum_at, resolution_of, version_of}
-use Rattle.hd_sdf_read.specs.Views.{extras_of}
-
--- line 2 begins here, behind some bytes
-pub record IsSecondLine (bytes : List ℕ) (start : ℕ) : Type 0 where
-  pub behind : 2 ≤ start
-  pub within : start ≤ length bytes
-  pub rest : drop start bytes ≡ after_line bytes
-  pub lines : lines_of (drop start bytes) ≡ drop 1 (lines_of bytes)
-
--- the version of a text and where line 2 begins, or why it has none
-abbrev pub VersionGiven : List ℕ → Result (Version × ℕ) SdfError → Type 0
-VersionGiven bytes (Ok (version, start)) = (version_of (lines_of bytes) ≡ Ok version) × IsSecondLine bytes start
-VersionGiven bytes (Err e) = version_of (lines_of bytes) ≡ Err e
-
--- the header from line 2 on, with these entries, and the data begin here
-pub record IsHeader (bytes : List ℕ) (start : ℕ) (entries : List Entry) (next : ℕ) : Type 0 where
-  pub last : ℕ
-  pub within : next ≤ length bytes
-  pub header : header_from 2 [] (lines_of (drop start bytes)) ≡ Ok (record { entries = extras_of entries; last = last })
-  pub rest : after_lines last bytes ≡ drop next bytes
-  pub good : AreGood (extras_of entries)
-
--- the entries of a header and where the data begin, or why there is none
-abbrev pub HeaderGiven : List ℕ → ℕ → Result (List Entry × ℕ) SdfError → Type 0
-HeaderGiven bytes start (Ok (entries, next)) = IsHeader bytes start entries next
-HeaderGiven bytes start (Err e) = (e ≡ Memory → ⊥) → header_from 2 [] (lines_of (drop start bytes)) ≡ Err e
+use Rattle.hd_sdf_read.specs.Entries.{extra_entries, text_of}
+use Rattle.hd_sdf_read.specs.File.{is_gap}
+use Rattle.hd_sdf_read.specs.Grammar.{Cells, Frame, datum_at, resolution_of}
+use Rattle.hd_sdf_read.specs.Tokens.{after_token}
 
 -- a decimal is the reading of its literal
 abbrev pub IsRead : Decimal → Type 0
@@ -78,6 +51,13 @@ abbrev pub DatumGiven : ℤ → ℤ → ℕ → List ℕ → Result (Cell × Bor
 DatumGiven least greatest read text (Ok (cell, rest)) =
     (datum_at least greatest read text ≡ Ok cell) × (rest.now ≡ after_token text)
 DatumGiven least greatest read text (Err e) = datum_at least greatest read text ≡ Err e
+
+-- so many digits at the front of a text, with more bytes behind them, write this number
+pub record AreDigits (text : List ℕ) (count n : ℕ) : Type 0 where
+  pub within : count < length text
+  pub digits : list_all is_ascii_digit (take count text) ≡ true
+  pub value : n ≡ digits_value 10 (take count text)
+  pub bound : n < 10 ^ 18
 
 -- a token at the front is this whole number, and the rest follows it
 pub record TakesHeight (text rest : List ℕ) (height : ℤ) : Type 0 where

@@ -1,5 +1,4 @@
 -- The parts of a text that the reader holds, as the texts they are.
-use Rattle.std.specs.Prelude.{List, map}
 use Rattle.hd_sdf_read.specs.declared.entries.Entry.{Entry}
 use Rattle.hd_sdf_read.specs.declared.entries.Line.{Line}
 use Rattle.hd_sdf_read.specs.declared.entries.Line.TheVariants as lines
@@ -9,10 +8,6 @@ use Rattle.hd_sdf_read.specs.Entries.{Kind, Skipped, Ends, Keyed, Unread, entry}
 -- the texts of an entry
 abbrev pub extra_of : Entry → Extra
 extra_of e = entry e.key.now e.value.now
-
--- the texts of entries
-abbrev pub extras_of : List Entry → List Extra
-extras_of entries = map extra_of entries
 
 -- the kind of a line
 abbrev pub kind_view : Line → Kind

@@ -1,82 +1,18 @@
 // The data of a file.
-ghost use Rattle.std.specs.Prelude.{◌≡◌, ◌<◌, ◌+◌, ◌^◌, IfOk, IfSome, IsTrue, length, slice_index, true};
-ghost use Rattle.hd_map.specs.Cells.{cells_in};
-ghost use Rattle.hd_map.specs.Map.{greatest_height, least_height};
+ghost use Rattle.std.specs.Prelude.{◌≡◌, ◌<◌, ◌^◌, IfSome, IsTrue, length, slice_index, true};
 ghost use Rattle.hd_num.specs.Whole.{signed_number};
 ghost use Rattle.hd_sdf_read.specs.File.{is_gap};
-ghost use Rattle.hd_sdf_read.specs.Grammar.{cell_of, cells_from};
-ghost use Rattle.hd_sdf_read.specs.Keys.{IsWholeType};
-ghost use Rattle.hd_sdf_read.specs.Places.{DatumGiven, TakesCell, TakesHeight, cells_view};
-ghost use Rattle.hd_sdf_read.specs.Reads.{Gives};
+ghost use Rattle.hd_sdf_read.specs.Grammar.{cell_of};
+ghost use Rattle.hd_sdf_read.specs.Places.{AreDigits, TakesCell, TakesHeight};
 
 use crate::SdfError;
-use crate::token::{is_gap, next_token, skip_gaps};
-use hd_map::{Cell, Cells, DataType, greatest_of, least_of};
-use hd_num::{Whole, is_negative, leading_digits, read_whole, unsigned_part};
-use std::alloc::Global;
+use crate::token::is_gap;
+use hd_map::Cell;
+use hd_num::{Whole, is_negative, read_whole, unsigned_part};
 
-/// The cells of so many data of whole numbers at the front of a text, and the text after them.
-pub fn read_cells(
-    alloc: Global,
-    data_type: DataType,
-    count: usize,
-    text: &[u8],
-) -> Result<(Cells, &[u8]), SdfError>
-    requires { IsWholeType data_type }
-    ensures cells { Gives cells_view result (cells_from (least_height data_type) (greatest_height data_type) 0 count text.now) }
-    ensures whole { IfOk result (λ parts. length (cells_in parts.0) ≡ count) }
-    ensures data_type { IfOk result (λ parts. parts.0.data_type ≡ data_type) }
-{
-    let least = least_of(data_type);
-    let greatest = greatest_of(data_type);
-    // A datum and the gap after it take two bytes at least.
-    let room = count.min(text.len() / 2 + 1);
-    let mut cells = Cells::with_capacity(alloc, data_type, room)?;
-    let mut rest = text;
-    'data: for read in 0..count {
-        let (cell, after) = match next_datum(least, greatest, read as u64, rest) {
-            Ok(parts) => parts,
-            Err(refusal) => return Err(refusal),
-        };
-        cells.push(cell)?;
-        rest = after;
-    }
-    Ok((cells, rest))
-}
-
-// The cell of the next datum, after so many, and the text after it. Most data are short whole
-// numbers, which are read in one pass; the others are read by their token.
-fn next_datum(least: i64, greatest: i64, read: u64, text: &[u8]) -> Result<(Cell, &[u8]), SdfError>
-    requires { read + 1 < 2 ^ 64 }
-    ensures { DatumGiven least greatest read text.now result }
-{
-    match leading_cell(least, greatest, skip_gaps(text)) {
-        Some(parts) => Ok(parts),
-        None => token_datum(least, greatest, read, text),
-    }
-}
-
-// The same, by its token.
-#[tactic(auto, unfolding(crate::specs::Grammar::datum_at))]
-fn token_datum(least: i64, greatest: i64, read: u64, text: &[u8]) -> Result<(Cell, &[u8]), SdfError>
-    requires { read + 1 < 2 ^ 64 }
-    ensures { DatumGiven least greatest read text.now result }
-{
-    let (token, rest) = next_token(text);
-    if token.is_empty() {
-        return Err(SdfError::TooFewData(read));
-    }
-    if token == b"*".as_slice() {
-        return Err(SdfError::TooFewData(read));
-    }
-    match cell_of(least, greatest, read + 1, token) {
-        Ok(cell) => Ok((cell, rest)),
-        Err(refusal) => Err(refusal),
-    }
-}
-
-// The cell of a height at the front of a text, if it is in the range, and the text after it.
-fn leading_cell(least: i64, greatest: i64, text: &[u8]) -> Option<(Cell, &[u8])>
+/// The cell of a height at the front of a text, if it is in the range, and the text after it.
+#[inline(always)]
+pub fn leading_cell(least: i64, greatest: i64, text: &[u8]) -> Option<(Cell, &[u8])>
     ensures { IfSome result (λ parts. TakesCell least greatest text.now parts.1.now parts.0) }
 {
     let (height, rest) = leading_height(text)?;
@@ -87,18 +23,39 @@ fn leading_cell(least: i64, greatest: i64, text: &[u8]) -> Option<(Cell, &[u8])>
     }
 }
 
-// The whole number at the front of a text, if a blank, an LF or the end follows it, and the text
-// after it. Numbers of eighteen digits and more are left out.
+// The whole number of at most eleven digits at the front of a text, if a blank or an LF follows it, and
+// the text after it. Where fewer than twelve bytes follow the sign, it is left out too.
+#[inline(always)]
 fn leading_height(text: &[u8]) -> Option<(i64, &[u8])>
     ensures { IfSome result (λ parts. TakesHeight text.now parts.1.now parts.0) }
 {
     let unsigned = unsigned_part(text);
-    let (count, number) = leading_digits(unsigned);
+    let (count, number) = few_digits(unsigned)?;
     let (_, rest) = unsigned.split_at(count);
-    if count == 0 || count == 18 || !ends_token(rest) {
+    if count == 0 || !ends_token(rest) {
         return None;
     }
     Some((signed(is_negative(text), number), rest))
+}
+
+// How many digits a text begins with, and the number that they write, where they are at most eleven
+// of twelve bytes: so many bytes are looked at one by one with no test for the end of the text.
+#[inline(always)]
+fn few_digits(text: &[u8]) -> Option<(usize, u64)>
+    ensures { IfSome result (λ parts. AreDigits text.now parts.0 parts.1) }
+{
+    if text.len() < 12 {
+        return None;
+    }
+    let mut number = 0u64;
+    'digits: for place in 0..12usize {
+        let byte = text[place];
+        if !byte.is_ascii_digit() {
+            return Some((place, number));
+        }
+        number = number * 10 + u64::from(byte - b'0');
+    }
+    None
 }
 
 // The number with a minus or without.
@@ -113,8 +70,8 @@ fn signed(negative: bool, number: u64) -> i64
     }
 }
 
-// Whether a token ends before this text.
-fn ends_token(text: &[u8]) -> bool
+/// Whether a token ends before this text.
+pub fn ends_token(text: &[u8]) -> bool
     ensures { IsTrue result → 0 < length text.now → is_gap (slice_index text.now 0) ≡ true }
 {
     match text.first() {
@@ -123,8 +80,8 @@ fn ends_token(text: &[u8]) -> bool
     }
 }
 
-// The cell of the datum of this number.
-fn cell_of(least: i64, greatest: i64, number: u64, token: &[u8]) -> Result<Cell, SdfError>
+/// The cell of the datum of this number.
+pub fn cell_of(least: i64, greatest: i64, number: u64, token: &[u8]) -> Result<Cell, SdfError>
     ensures { result ≡ cell_of least greatest number token.now }
 {
     if token == b"BAD".as_slice() {

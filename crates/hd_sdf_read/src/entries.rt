@@ -1,12 +1,14 @@
 // The lines of a header.
-ghost use Rattle.std.specs.Prelude.{◌≡◌, MatchOption, false, true, length};
+ghost use Rattle.std.specs.Prelude.{◌≡◌, IfOk, MatchOption, false, true, length};
 ghost use Rattle.std.specs.List.{after_first, before_first, list_any};
 ghost use Rattle.hd_sdf_read.specs.Entries.{extra_entries, has_key, is_equals, is_key, keyed, kind_of, offence, value_of};
-ghost use Rattle.hd_sdf_read.specs.Views.{extra_of, extras_of, kind_view};
+ghost use Rattle.hd_sdf_read.specs.Views.{extra_of, kind_view};
 
-use crate::SdfError;
 use crate::keys::{Verdict, form_of, judge, same_key};
+use crate::{Extra, SdfError};
+use hd_list::{List, Memory};
 use hd_num::trim;
+use std::alloc::Global;
 
 /// A key of a header and its value.
 #[derive(Clone, Copy)]
@@ -93,8 +95,8 @@ fn is_key(text: &[u8]) -> bool
 
 /// The first offence of a key line of this number after some entries, if it has one.
 #[tactic(auto, unfolding(crate::specs::Entries::offence))]
-pub fn offence(number: u64, before: &[Entry], entry: &Entry) -> Option<SdfError>
-    ensures { result ≡ offence number (extras_of before.now) (extra_of entry.now) }
+pub fn offence(number: u64, before: &[Extra], entry: &Entry) -> Option<SdfError>
+    ensures { result ≡ offence number before.now (extra_of entry.now) }
 {
     if has_key(before, entry.key) {
         return Some(SdfError::KeyTwice(number));
@@ -114,11 +116,11 @@ pub fn offence(number: u64, before: &[Entry], entry: &Entry) -> Option<SdfError>
 }
 
 // Whether a key stands among the entries.
-fn has_key(entries: &[Entry], key: &[u8]) -> bool
-    ensures { result ≡ has_key key.now (extras_of entries.now) }
+fn has_key(entries: &[Extra], key: &[u8]) -> bool
+    ensures { result ≡ has_key key.now entries.now }
 {
     'entries: for entry in entries {
-        if same_key(entry.key, key) {
+        if same_key(entry.key.as_slice(), key) {
             return true;
         }
     }
@@ -126,12 +128,12 @@ fn has_key(entries: &[Entry], key: &[u8]) -> bool
 }
 
 // How many entries have a key that is not known.
-fn count_extra(entries: &[Entry]) -> usize
-    ensures { result ≡ length (extra_entries (extras_of entries.now)) }
+fn count_extra(entries: &[Extra]) -> usize
+    ensures { result ≡ length (extra_entries entries.now) }
 {
     let mut count = 0;
     'entries: for entry in entries {
-        if form_of(entry.key).is_none() {
+        if form_of(entry.key.as_slice()).is_none() {
             count += 1;
         }
     }
@@ -139,14 +141,24 @@ fn count_extra(entries: &[Entry]) -> usize
 }
 
 /// The value of a key, where it stands among the entries.
-pub fn value_of<'a>(entries: &[Entry<'a>], key: &[u8]) -> Option<&'a [u8]>
-    ensures { MatchOption result (value_of key.now (extras_of entries.now) ≡ None)
-        (λ value. value_of key.now (extras_of entries.now) ≡ Some value.now) }
+pub fn value_of<'a>(entries: &'a [Extra], key: &[u8]) -> Option<&'a [u8]>
+    ensures { MatchOption result (value_of key.now entries.now ≡ None)
+        (λ value. value_of key.now entries.now ≡ Some value.now) }
 {
     'entries: for entry in entries {
-        if same_key(entry.key, key) {
-            return Some(entry.value);
+        if same_key(entry.key.as_slice(), key) {
+            return Some(entry.value.as_slice());
         }
     }
     None
+}
+
+/// A copy of an entry.
+pub fn owned(alloc: Global, entry: &Entry) -> Result<Extra, Memory>
+    ensures { IfOk result (λ extra. extra ≡ extra_of entry.now) }
+{
+    Ok(Extra {
+        key: List::from_slice(alloc, entry.key)?,
+        value: List::from_slice(alloc, entry.value)?,
+    })
 }

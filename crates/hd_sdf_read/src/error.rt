@@ -32,16 +32,21 @@ pub enum SdfError {
     /// This required key is absent.
     #[error("a required key is missing")]
     MissingKey(u8),
-    /// This line asks for a compression, a check or decimal data.
+    /// This line asks for a compression or a check.
     #[error("not supported")]
     Unsupported(u64),
     /// There are more than 4,194,304 points.
     #[error("too many points")]
     TooLarge,
-    /// This datum is neither `BAD` nor a whole number.
+    /// This datum of a type of whole numbers is neither `BAD` nor a whole number.
     #[error("a datum is not whole or BAD")]
     BadDatum(u64),
-    /// This datum is a whole number outside the range of the type.
+    /// This datum of a type of decimals is neither `BAD` nor a decimal.
+    #[error("a datum is not a decimal or BAD")]
+    BadDecimal(u64),
+    /// This datum is a whole number outside the range of the type. Or it is a decimal of more than 18
+    /// places, or one of the decimals up to this one, times ten to the greatest number of places among
+    /// them, is outside the range.
     #[error("a datum is out of range")]
     DatumRange(u64),
     /// The data end after so many, too few.

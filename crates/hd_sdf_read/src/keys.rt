@@ -1,6 +1,6 @@
 // The known keys of a header, and the forms of their values.
 ghost use Rattle.std.specs.Prelude.{◌≡◌, ◌≤◌, IfSome, if◌then◌else◌};
-ghost use Rattle.hd_sdf_read.specs.Keys.{IsWholeType, extent_of, form_of, judge, same_key, type_of};
+ghost use Rattle.hd_sdf_read.specs.Keys.{extent_of, form_of, has_decimals, judge, same_key, type_of, with_places};
 
 use hd_map::DataType;
 use hd_num::{Whole, is_decimal, read_whole};
@@ -16,7 +16,7 @@ pub enum Form {
     Number,
     /// The whole number 0. Other whole numbers are not supported.
     Zero,
-    /// A whole number from 0 to 7, the code of a type. Decimal data, 3 and 7, are not supported.
+    /// A whole number from 0 to 7, the code of a type.
     TypeCode,
 }
 
@@ -76,8 +76,7 @@ pub fn judge(form: Form, value: &[u8]) -> Verdict
             Whole::Not => Verdict::Wrong,
         },
         Form::TypeCode => match read_whole(value) {
-            Whole::Is(3 | 7) => Verdict::Unsupported,
-            Whole::Is(0..=6) => Verdict::Right,
+            Whole::Is(0..=7) => Verdict::Right,
             _ => Verdict::Wrong,
         },
     }
@@ -105,18 +104,37 @@ pub fn extent_of(value: &[u8]) -> Option<u32>
     }
 }
 
-/// The type that a value is the code of, if heights of that type are supported.
+/// The type that a value is the code of. Decimals have no places yet.
 pub fn type_of(value: &[u8]) -> Option<DataType>
-    ensures value { result ≡ type_of value.now }
-    ensures whole { IfSome result IsWholeType }
+    ensures { result ≡ type_of value.now }
 {
     match read_whole(value) {
         Whole::Is(0) => Some(DataType::U8),
         Whole::Is(1) => Some(DataType::U16),
         Whole::Is(2) => Some(DataType::U32),
+        Whole::Is(3) => Some(DataType::Single { places: 0 }),
         Whole::Is(4) => Some(DataType::I8),
         Whole::Is(5) => Some(DataType::I16),
         Whole::Is(6) => Some(DataType::I32),
+        Whole::Is(7) => Some(DataType::Double { places: 0 }),
         _ => None,
+    }
+}
+
+/// Whether the data of a type are decimals.
+pub fn has_decimals(data_type: DataType) -> bool
+    ensures { result ≡ has_decimals data_type }
+{
+    matches!(data_type, DataType::Single { .. } | DataType::Double { .. })
+}
+
+/// The type with so many decimal places, where its data are decimals.
+pub fn with_places(data_type: DataType, places: u8) -> DataType
+    ensures { result ≡ with_places data_type places }
+{
+    match data_type {
+        DataType::Single { .. } => DataType::Single { places },
+        DataType::Double { .. } => DataType::Double { places },
+        _ => data_type,
     }
 }

@@ -1,15 +1,30 @@
-//! Reads surfaces in the ASCII form of ISO 25178-71 (SDF), with whole-number heights.
+//! Reads surfaces in the ASCII form of ISO 25178-71 (SDF).
 #![tactic(auto)]
 
+mod behind;
+mod body;
 mod datum;
+mod decimal_data;
+mod decimals;
 mod entries;
 mod error;
 mod file;
-mod header_lines;
+mod frame;
+mod header;
+mod heading;
+mod joining;
 mod keys;
+mod part_line;
+mod part_token;
+mod part_trailer;
+mod reader;
+mod scaled;
 mod sdf;
+mod state;
 mod token;
+mod whole_data;
 
 pub use error::SdfError;
 pub use file::{Extra, SdfFile, Version};
+pub use reader::SdfReader;
 pub use sdf::read_sdf;

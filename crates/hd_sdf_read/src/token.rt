@@ -1,12 +1,12 @@
 // The tokens of the data.
 ghost use Rattle.std.specs.Prelude.{◌≡◌};
 ghost use Rattle.std.specs.List.{position_or_len};
-ghost use Rattle.hd_num.specs.Lines.{trimmed_by, without_end, without_start};
+ghost use Rattle.hd_num.specs.Lines.{without_end, without_start};
 ghost use Rattle.hd_sdf_read.specs.File.{is_gap};
-ghost use Rattle.hd_sdf_read.specs.Grammar.{after_token, token_of};
+ghost use Rattle.hd_sdf_read.specs.Tokens.{after_token, token_of};
 
 /// The first token of a text, or nothing, and the text after it.
-#[tactic(auto, unfolding(crate::specs::Grammar::token_of, crate::specs::Grammar::after_token))]
+#[tactic(auto, unfolding(crate::specs::Tokens::token_of, crate::specs::Tokens::after_token))]
 pub fn next_token(text: &[u8]) -> (&[u8], &[u8])
     ensures token { result.0.now ≡ token_of text.now }
     ensures rest { result.1.now ≡ after_token text.now }
@@ -27,15 +27,8 @@ pub fn skip_gaps(text: &[u8]) -> &[u8]
     &[]
 }
 
-/// A text without the blanks and LFs at both ends.
-pub fn trim_gaps(text: &[u8]) -> &[u8]
-    ensures { result.now ≡ trimmed_by is_gap text.now }
-{
-    drop_gaps(skip_gaps(text))
-}
-
-// A text without the blanks and LFs at its end.
-fn drop_gaps(text: &[u8]) -> &[u8]
+/// A text without the blanks and LFs at its end.
+pub fn drop_gaps(text: &[u8]) -> &[u8]
     ensures { result.now ≡ without_end is_gap text.now }
 {
     let mut end = text.len();
@@ -45,8 +38,8 @@ fn drop_gaps(text: &[u8]) -> &[u8]
     &text[..end]
 }
 
-// How many bytes stand before the first blank or LF.
-fn token_len(text: &[u8]) -> usize
+/// How many bytes stand before the first blank or LF.
+pub fn token_len(text: &[u8]) -> usize
     ensures { result ≡ position_or_len is_gap text.now }
 {
     'bytes: for (place, byte) in text.iter().enumerate() {

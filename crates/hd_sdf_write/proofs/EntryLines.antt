@@ -127,7 +127,7 @@ module _ (key tail value : List ℕ) (is : IsKeyText key) (good : is_value value
       ∙ ap (λ b. cond b (keyed (entry_of (key ++ 32 ∷ 61 ∷ tail))) Unread) equals ∙ keyed_is
 
 -- a key before a filled value
-entry_filled : (key : List ℕ) (x : ℕ) (xs : List ℕ) → entry_text key (x ∷ xs) ≡ key ++ 32 ∷ 61 ∷ 32 ∷ x ∷ xs
+pub entry_filled : (key : List ℕ) (x : ℕ) (xs : List ℕ) → entry_text key (x ∷ xs) ≡ key ++ 32 ∷ 61 ∷ 32 ∷ x ∷ xs
 entry_filled key x xs = ap (λ b. cond b (key ++ codes " =") (key ++ codes " = " ++ (x ∷ xs))) (ne_eqb (length (x ∷ xs)) 0 (λ none. omega (arith, none))) ∙ append_assoc key (codes " = ") (x ∷ xs)
 
 -- the line of a key and its value is that entry

@@ -1,14 +1,13 @@
 -- The lines of entries are read as these entries.
-use Rattle.std.proofs.Common.{◌≡◌, ◌+◌, ℕ, suc, true, List, [], ◌∷◌, ◌++◌, Some, None, Ok, Err, refl, sym, ap, arith, ◌∙◌, append_assoc, append-nil}
+use Rattle.std.proofs.Common.{◌≡◌, ◌+◌, ℕ, suc, List, [], ◌∷◌, ◌++◌, Some, None, Ok, Err, refl, sym, ap, arith, ◌∙◌, append_assoc, append-nil}
 use Rattle.std.specs.Prelude.{codes}
 use Rattle.std.proofs.lemmas.Bool.{and_parts}
 use Rattle.std.proofs.lemmas.List.Concat.{flat_map-cons}
 use Rattle.hd_num.specs.Lines.{after_line, lines_of}
 use Rattle.hd_sdf_read.specs.declared.error.SdfError.{SdfError}
-use Rattle.hd_sdf_read.specs.declared.error.SdfError.TheVariants.{Unsupported}
 use Rattle.hd_sdf_read.specs.declared.file.Extra.{Extra}
 use Rattle.hd_sdf_read.specs.Entries.{Keyed, Kind, header_by, header_from, kind_of, offence, unless}
-use Rattle.hd_sdf_read.specs.File.{is_entry, is_header_key, is_header_value}
+use Rattle.hd_sdf_read.specs.File.{is_header_key, is_header_value}
 use Rattle.hd_sdf_read.specs.Grammar.{after_lines}
 use Rattle.hd_sdf_read.proofs.Follow.{AllFollow}
 use Rattle.hd_sdf_write.specs.Canonical.{entry_line, entry_text, extra_lines, line}
@@ -68,20 +67,3 @@ header_reads (e ∷ es) before n k bytes text rest is whole at good =
           ∙ more.header ∙ ap (λ (entries : List Extra). Ok (record { entries = entries; last = more.last })) (append_assoc before (e ∷ []) es);
       rest_is = more.rest_is;
     }
-
--- the lines of such entries, one that is not supported, and others
-pub header_stops : (es before more : List Extra) (e : Extra) (n : ℕ) (text rest : List ℕ) → text ≡ extra_lines (es ++ e ∷ more) ++ rest → AllFollow before es → is_entry e ≡ true
-    → ((m : ℕ) → offence m (before ++ es) e ≡ Some (Unsupported m)) → (k : ℕ) × (header_from n before (lines_of text) ≡ Err (Unsupported k))
-header_stops [] before more e n text rest whole good form wrong =
-    let after : List ℕ = extra_lines more ++ rest in
-    let parts = and_parts (is_header_key e.key) (is_header_value e.value) form in
-    let lines : lines_of text ≡ entry_text e.key e.value ∷ lines_of after = ap lines_of (whole ∙ entry_front e more rest) ∙ lines_front (entry_text e.key e.value) after (entry_one e.key e.value parts.0 parts.1) in
-    let here : offence n before e ≡ Some (Unsupported n) = ap (λ (b : List Extra). offence n b e) (sym (append-nil before)) ∙ wrong n in
-    (n, ap (header_from n before) lines ∙ header_wrong n before (entry_text e.key e.value) (lines_of after) e (Unsupported n) (kind_entry e.key e.value parts.0 parts.1) here)
-header_stops (x ∷ es) before more e n text rest whole good form wrong =
-    let after : List ℕ = extra_lines (es ++ e ∷ more) ++ rest in
-    let parts = and_parts (is_header_key x.key) (is_header_value x.value) good.0 in
-    let lines : lines_of text ≡ entry_text x.key x.value ∷ lines_of after = ap lines_of (whole ∙ entry_front x (es ++ e ∷ more) rest) ∙ lines_front (entry_text x.key x.value) after (entry_one x.key x.value parts.0 parts.1) in
-    let later = header_stops es (before ++ x ∷ []) more e (n + 1) after rest refl good.2 form
-    (λ m. ap (λ (b : List Extra). offence m b e) (append_assoc before (x ∷ []) es) ∙ wrong m) in
-    (later.0, ap (header_from n before) lines ∙ header_keyed n before (entry_text x.key x.value) (lines_of after) x (kind_entry x.key x.value parts.0 parts.1) (good.1 n) ∙ later.1)

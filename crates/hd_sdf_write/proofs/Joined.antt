@@ -10,3 +10,6 @@ module _ (out first second third a b c : List ℕ) (one : first ≡ out ++ a) (t
 
   pub five_texts : (fourth fifth d e : List ℕ) → fourth ≡ third ++ d → fifth ≡ fourth ++ e → fifth ≡ out ++ ((((a ++ b) ++ c) ++ d) ++ e)
   five_texts fourth fifth d e four five = five ∙ ap (λ t. t ++ e) (four_texts fourth d four) ∙ append_assoc out (((a ++ b) ++ c) ++ d) e
+
+  pub six_texts : (fourth fifth sixth d e f : List ℕ) → fourth ≡ third ++ d → fifth ≡ fourth ++ e → sixth ≡ fifth ++ f → sixth ≡ out ++ (((((a ++ b) ++ c) ++ d) ++ e) ++ f)
+  six_texts fourth fifth sixth d e f four five six = six ∙ ap (λ t. t ++ f) (five_texts fourth fifth d e four five) ∙ append_assoc out ((((a ++ b) ++ c) ++ d) ++ e) f

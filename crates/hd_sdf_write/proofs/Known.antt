@@ -14,15 +14,14 @@ use Rattle.hd_num.specs.Whole.{whole_of}
 use Rattle.hd_num.specs.declared.decimal.Decimal.{Decimal}
 use Rattle.hd_num.specs.declared.whole.Whole.TheVariants.{Is}
 use Rattle.hd_num.proofs.ReadsBack.{whole_of-signed_decimal}
-use Rattle.hd_sdf_read.specs.declared.error.SdfError.TheVariants.{Unsupported as UnsupportedAt}
 use Rattle.hd_sdf_read.specs.declared.file.Extra.{Extra}
 use Rattle.hd_sdf_read.specs.declared.keys.Form.TheVariants.{Extent, Number, TypeCode}
 use Rattle.hd_sdf_read.specs.declared.keys.Verdict.{Verdict}
-use Rattle.hd_sdf_read.specs.declared.keys.Verdict.TheVariants.{Right, Wrong, Unsupported}
+use Rattle.hd_sdf_read.specs.declared.keys.Verdict.TheVariants.{Right, Wrong}
 use Rattle.hd_sdf_read.specs.Entries.{entry, extra_entries, offence, verdict_offence}
 use Rattle.hd_sdf_read.specs.File.{File, HasForms, is_entry, is_extra, is_header_value}
 use Rattle.hd_sdf_read.specs.Grammar.{Frame, frame_of, resolution_of}
-use Rattle.hd_sdf_read.specs.Keys.{IsWholeType, extent_in, extent_of, form_of, judge, judge_type, known_keys, type_by_code, type_in, type_of}
+use Rattle.hd_sdf_read.specs.Keys.{extent_in, extent_of, form_of, judge, judge_type, known_keys, type_by_code, type_in, type_of, with_places}
 use Rattle.hd_sdf_read.proofs.Gapless.{decimal_form, decimal_value, gapless_value, number_gapless}
 use Rattle.hd_sdf_read.proofs.Follow.{AllFollow, are_new, extra_kept, follow_append, follow_extra, unknown_new}
 
@@ -83,21 +82,21 @@ code_few I32 = omega arith
 code_few (Single places) = omega arith
 code_few (Double places) = omega arith
 
-code_known : (t : DataType) → IsWholeType t → (judge_type (Is (pos (code_of t))) ≡ Right) × (type_by_code (code_of t) ≡ Some t)
-code_known U8 whole = (refl, refl)
-code_known U16 whole = (refl, refl)
-code_known U32 whole = (refl, refl)
-code_known I8 whole = (refl, refl)
-code_known I16 whole = (refl, refl)
-code_known I32 whole = (refl, refl)
-code_known (Single places) whole = absurd whole
-code_known (Double places) whole = absurd whole
+code_known : (t : DataType) → (judge_type (Is (pos (code_of t))) ≡ Right) × (type_by_code (code_of t) ≡ Some (with_places t 0))
+code_known U8 = (refl, refl)
+code_known U16 = (refl, refl)
+code_known U32 = (refl, refl)
+code_known I8 = (refl, refl)
+code_known I16 = (refl, refl)
+code_known I32 = (refl, refl)
+code_known (Single places) = (refl, refl)
+code_known (Double places) = (refl, refl)
 
-type_right : (t : DataType) → IsWholeType t → judge TypeCode (decimal (code_of t)) ≡ Right
-type_right t whole = ap judge_type (whole_of-decimal (code_of t) (code_few t)) ∙ (code_known t whole).0
+type_right : (t : DataType) → judge TypeCode (decimal (code_of t)) ≡ Right
+type_right t = ap judge_type (whole_of-decimal (code_of t) (code_few t)) ∙ (code_known t).0
 
-type_is : (t : DataType) → IsWholeType t → type_of (decimal (code_of t)) ≡ Some t
-type_is t whole = ap type_in (whole_of-decimal (code_of t) (code_few t)) ∙ (code_known t whole).1
+type_is : (t : DataType) → type_of (decimal (code_of t)) ≡ Some (with_places t 0)
+type_is t = ap type_in (whole_of-decimal (code_of t) (code_few t)) ∙ (code_known t).1
 
 pub type_value : (t : DataType) → is_header_value (decimal (code_of t)) ≡ true
 type_value t = extent_value (code_of t) (code_few t)
@@ -156,24 +155,10 @@ last_follows : (f : File) (n : ℕ) → offence n (firsts f ++ (type_entry f ∷
 unfolding offence form_of
 last_follows f n = refl
 
--- nor have all known entries, where the heights are whole numbers
-known_follow : (f : File) → IsMap f.map → IsWholeType f.map.data_type → HasForms f → AllFollow [] (known f)
-known_follow f whole type forms = follow_append [] (firsts f) (type_entry f ∷ last_entry ∷ []) (firsts_follow f whole forms)
-    (type_value f.map.data_type, λ n. type_judged f n Right (type_right f.map.data_type type), (refl, last_follows f, tt))
-
--- decimals are not supported
-pub type_unsupported : (f : File) → (IsWholeType f.map.data_type → ⊥) → (n : ℕ) → offence n (firsts f) (type_entry f) ≡ Some (UnsupportedAt n)
-type_unsupported f decimals n = type_judged f n Unsupported (ap judge_type (whole_of-decimal (code_of f.map.data_type) (code_few f.map.data_type)) ∙ judged f.map.data_type decimals)
-  where
-    judged : (t : DataType) → (IsWholeType t → ⊥) → judge_type (Is (pos (code_of t))) ≡ Unsupported
-    judged U8 none = absurd (none tt)
-    judged U16 none = absurd (none tt)
-    judged U32 none = absurd (none tt)
-    judged I8 none = absurd (none tt)
-    judged I16 none = absurd (none tt)
-    judged I32 none = absurd (none tt)
-    judged (Single places) none = refl
-    judged (Double places) none = refl
+-- nor have all known entries
+known_follow : (f : File) → IsMap f.map → HasForms f → AllFollow [] (known f)
+known_follow f whole forms = follow_append [] (firsts f) (type_entry f ∷ last_entry ∷ []) (firsts_follow f whole forms)
+    (type_value f.map.data_type, λ n. type_judged f n Right (type_right f.map.data_type), (refl, last_follows f, tt))
 
 -- no known key is among the extra ones
 known_new : (f : File) (es : List Extra) → list_all is_extra es ≡ true → are_new (known f) es ≡ true
@@ -192,10 +177,10 @@ no_extra f es = refl
 abbrev pub entries_of : File → List Extra
 entries_of f = known f ++ f.extra
 
-pub entries_follow : (f : File) → IsMap f.map → IsWholeType f.map.data_type → HasForms f → AllFollow [] (entries_of f)
-entries_follow f whole type forms =
+pub entries_follow : (f : File) → IsMap f.map → HasForms f → AllFollow [] (entries_of f)
+entries_follow f whole forms =
     let few = forms.few in
-    follow_append [] (known f) f.extra (known_follow f whole type forms)
+    follow_append [] (known f) f.extra (known_follow f whole forms)
     (follow_extra f.extra (known f) (omega (arith, few, ap length (no_extra f []))) forms.extra forms.apart (known_new f f.extra forms.extra))
 
 pub extra_is : (f : File) → HasForms f → extra_entries (entries_of f) ≡ f.extra
@@ -203,11 +188,11 @@ extra_is f forms = no_extra f f.extra ∙ extra_kept f.extra forms.extra
 
 -- what the required keys say
 abbrev pub frame_for : File → Frame
-frame_for f = record { size = f.map.size; data_type = f.map.data_type; x_scale = f.x_scale; y_scale = f.y_scale; z_scale = f.z_scale }
+frame_for f = record { size = f.map.size; data_type = with_places f.map.data_type 0; x_scale = f.x_scale; y_scale = f.y_scale; z_scale = f.z_scale }
 
-pub frame_is : (f : File) → IsMap f.map → IsWholeType f.map.data_type → HasForms f → frame_of (entries_of f) ≡ Ok (frame_for f)
+pub frame_is : (f : File) → IsMap f.map → HasForms f → frame_of (entries_of f) ≡ Ok (frame_for f)
 unfolding frame_of
-frame_is f whole type forms =
+frame_is f whole forms =
     let size = whole.size in
     let few : leb (cell_count f.map.size) 4194304 ≡ true = le-leb (cell_count f.map.size) 4194304 size.cells in
     rw (
@@ -216,7 +201,7 @@ frame_is f whole type forms =
       forms.x_scale,
       forms.y_scale,
       forms.z_scale,
-      type_is f.map.data_type type,
+      type_is f.map.data_type,
       few,
     ) refl
 

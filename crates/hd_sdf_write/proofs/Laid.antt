@@ -1,5 +1,5 @@
 -- The data of the canonical text are read as the cells that they write.
-use Rattle.std.proofs.Common.{◌≡◌, ◌+◌, ◌-◌, ◌*◌, ◌<◌, ◌≤◌, ◌≤ℤ◌, ◌&&◌, ℕ, ℤ, zero, suc, pos, negsuc, true, false, List, [], ◌∷◌, ◌++◌, length, take, drop, eqb, ltb, cond, Ok, refl, sym, ap, subst, arith, ◌∙◌, append_assoc, append-nil, ne_eqb}
+use Rattle.std.proofs.Common.{◌≡◌, ◌+◌, ◌-◌, ◌*◌, ◌<◌, ◌≤◌, ◌≤ℤ◌, ◌&&◌, ℕ, ℤ, zero, suc, pos, negsuc, true, false, List, [], ◌∷◌, ◌++◌, length, take, drop, eqb, ltb, cond, Some, None, Ok, refl, sym, ap, subst, arith, ◌∙◌, append_assoc, append-nil, ne_eqb}
 use Rattle.std.specs.Prelude.{bytes_eq, codes, int_le}
 use Rattle.std.specs.Fmt.{signed_decimal}
 use Rattle.std.specs.Int.{w64}
@@ -15,22 +15,27 @@ use Rattle.hd_map.specs.declared.types.Cell.{Cell}
 use Rattle.hd_map.specs.declared.types.Cell.TheVariants.{Bad, Height}
 use Rattle.hd_map.specs.declared.types.DataType.{DataType}
 use Rattle.hd_map.specs.declared.types.DataType.TheVariants.{U8, U16, U32, I8, I16, I32, Single, Double}
-use Rattle.hd_map.specs.Map.{AreCellsOf, IsCellOf, IsMap, Map, greatest_height, least_height}
+use Rattle.hd_map.specs.Map.{AreCellsOf, IsCellOf, IsMap, Map, greatest_height, least_height, most_places, places_of}
 use Rattle.hd_map.proofs.DataTypes.{type_limits}
 use Rattle.hd_num.specs.Lines.{trimmed_by}
 use Rattle.hd_num.specs.Whole.{whole_of}
 use Rattle.hd_num.specs.declared.whole.Whole.TheVariants.{Is}
 use Rattle.hd_num.proofs.ReadsBack.{whole_of-signed_decimal}
+use Rattle.hd_num.proofs.StepReads.{reads_back as steps_read}
 use Rattle.hd_num.proofs.StepTexts.{whole_text}
+use Rattle.hd_num.specs.Decimal.{decimal_of}
+use Rattle.hd_num.specs.Steps.{steps_decimal}
+use Rattle.hd_num.specs.declared.decimal.Decimal.{Decimal}
 use Rattle.hd_sdf_read.specs.File.{is_gap, is_trailer}
-use Rattle.hd_sdf_read.specs.Grammar.{after_token, cells_from, datum_at, token_of, trailer_of}
-use Rattle.hd_sdf_read.specs.Keys.{IsWholeType}
+use Rattle.hd_sdf_read.specs.Grammar.{cells_from, datum_at, trailer_of}
+use Rattle.hd_sdf_read.specs.Tokens.{after_token, token_of}
+use Rattle.hd_sdf_read.specs.Keys.{has_decimals}
 use Rattle.hd_sdf_read.proofs.Counting.{datum_by_token}
 use Rattle.hd_sdf_read.proofs.Heights.{no_word}
 use Rattle.hd_sdf_read.proofs.Trims.{IsTrimmed, trimmed_is}
 use Rattle.hd_sdf_write.specs.Canonical.{cell_text, end_lines, line, profile, profile_lines, spaced}
 use Rattle.hd_sdf_read.proofs.Fronts.{after_token_front, token_front, trim_around}
-use Rattle.hd_sdf_read.proofs.Gapless.{number_gapless, number_some}
+use Rattle.hd_sdf_read.proofs.Gapless.{decimal_form, decimal_gapless, number_some}
 use Rattle.hd_sdf_write.proofs.Rows.{length-profile}
 
 -- heights fit 64 bits
@@ -46,32 +51,44 @@ height_read : (t : DataType) (h : ℤ) → IsCellOf t (Height h) → whole_of (s
 height_read t h fits = whole_of-signed_decimal h (height_fits t h (fits h refl).0 (fits h refl).1)
 
 -- a height of a type of whole numbers
-height_text : (t : DataType) (h : ℤ) → IsWholeType t → cell_text t (Height h) ≡ signed_decimal h
+height_text : (t : DataType) (h : ℤ) → has_decimals t ≡ false → cell_text t (Height h) ≡ signed_decimal h
 height_text U8 h whole = whole_text h
 height_text U16 h whole = whole_text h
 height_text U32 h whole = whole_text h
 height_text I8 h whole = whole_text h
 height_text I16 h whole = whole_text h
 height_text I32 h whole = whole_text h
-height_text (Single places) h whole = absurd whole
-height_text (Double places) h whole = absurd whole
+height_text (Single places) h whole = cc
+height_text (Double places) h whole = cc
+
+-- a height of any type is a decimal
+pub height_decimal : (t : DataType) (h : ℤ) → places_of t ≤ most_places → IsCellOf t (Height h) → decimal_of (cell_text t (Height h)) ≡ Some (steps_decimal h (places_of t))
+height_decimal t h few fits = steps_read h (places_of t) (height_fits t h (fits h refl).0 (fits h refl).1) few
 
 -- a datum is a token
-record IsToken (token : List ℕ) : Type 0 where
-  some : 0 < length token
-  none : list_any is_gap token ≡ false
+pub record IsToken (token : List ℕ) : Type 0 where
+  pub some : 0 < length token
+  pub none : list_any is_gap token ≡ false
 
-cell_token : (t : DataType) (cell : Cell) → IsWholeType t → IsCellOf t cell → IsToken (cell_text t cell)
-cell_token t Bad whole fits = record { some = omega arith; none = refl }
-cell_token t (Height h) whole fits =
-    let number = height_read t h fits in
-    subst IsToken (sym (height_text t h whole)) (record { some = number_some (signed_decimal h) h number; none = number_gapless (signed_decimal h) h number })
+decimal_some : (word : List ℕ) (d : Decimal) → decimal_of word ≡ Some d → 0 < length word
+unfolding decimal_of
+decimal_some [] d is = let wrong : None ≡ Some d = is in cc
+decimal_some (x ∷ xs) d is = omega arith
+
+pub cell_token : (t : DataType) (cell : Cell) → places_of t ≤ most_places → IsCellOf t cell → IsToken (cell_text t cell)
+cell_token t Bad few fits = record { some = omega arith; none = refl }
+cell_token t (Height h) few fits =
+    let decimal = height_decimal t h few fits in
+    record {
+      some = decimal_some (cell_text t (Height h)) (steps_decimal h (places_of t)) decimal;
+      none = decimal_gapless (cell_text t (Height h)) (decimal_form (cell_text t (Height h)) (steps_decimal h (places_of t)) decimal);
+    }
 
 int_le-from : (a b : ℤ) → a ≤ℤ b → int_le a b ≡ true
 int_le-from a b le = grind (arith, ints)
 
 -- and is read as its cell
-datum_read : (t : DataType) (read : ℕ) (text : List ℕ) (cell : Cell) → IsWholeType t → IsCellOf t cell → token_of text ≡ cell_text t cell → datum_at (least_height t) (greatest_height t) read text ≡ Ok cell
+datum_read : (t : DataType) (read : ℕ) (text : List ℕ) (cell : Cell) → has_decimals t ≡ false → IsCellOf t cell → token_of text ≡ cell_text t cell → datum_at (least_height t) (greatest_height t) read text ≡ Ok cell
 datum_read t read text Bad whole fits is = datum_by_token (least_height t) (greatest_height t) read text (codes "BAD") (sym is) refl refl
 datum_read t read text (Height h) whole fits is =
     let token : List ℕ = signed_decimal h in
@@ -84,16 +101,16 @@ datum_read t read text (Height h) whole fits is =
     ∙ rw (no_bad, number, within) refl
 
 -- a text begins with the datum of a cell, between gaps
-record Begins (t : DataType) (cell : Cell) (text : List ℕ) : Type 0 where
-  front : List ℕ
-  gap : ℕ
-  rest : List ℕ
-  gaps : list_all is_gap front ≡ true
-  ends : is_gap gap ≡ true
-  whole : text ≡ front ++ (cell_text t cell ++ gap ∷ rest)
+pub record Begins (t : DataType) (cell : Cell) (text : List ℕ) : Type 0 where
+  pub front : List ℕ
+  pub gap : ℕ
+  pub rest : List ℕ
+  pub gaps : list_all is_gap front ≡ true
+  pub ends : is_gap gap ≡ true
+  pub whole : text ≡ front ++ (cell_text t cell ++ gap ∷ rest)
 
 -- a text holds the data of cells, up to a rest
-abbrev Laid : DataType → List Cell → List ℕ → List ℕ → Type 0
+abbrev pub Laid : DataType → List Cell → List ℕ → List ℕ → Type 0
 Laid t [] text tail = text ≡ tail
 Laid t (cell ∷ cells) text tail = (b : Begins t cell text) × Laid t cells (b.gap ∷ b.rest) tail
 
@@ -103,26 +120,26 @@ laid_append t (cell ∷ cells) more text mid tail first second =
     (first.0, laid_append t cells more (first.0.gap ∷ first.0.rest) mid tail first.1 second)
 
 -- each cell is of the type
-abbrev AllFit : DataType → List Cell → Type 0
+abbrev pub AllFit : DataType → List Cell → Type 0
 AllFit t [] = Unit {0}
 AllFit t (cell ∷ cells) = IsCellOf t cell × AllFit t cells
 
-all_fit : (t : DataType) (cells : List Cell) → AreCellsOf t cells → AllFit t cells
+pub all_fit : (t : DataType) (cells : List Cell) → AreCellsOf t cells → AllFit t cells
 all_fit t [] fits = tt
 all_fit t (cell ∷ cells) fits = (fits 0 (omega arith), all_fit t cells (λ k inside. fits (suc k) (omega arith)))
 
 -- cells whose data a text holds are read from it
-cells_laid : (t : DataType) (cells : List Cell) (read : ℕ) (text tail : List ℕ) → IsWholeType t → AllFit t cells → Laid t cells text tail
+cells_laid : (t : DataType) (cells : List Cell) (read : ℕ) (text tail : List ℕ) → has_decimals t ≡ false → places_of t ≤ most_places → AllFit t cells → Laid t cells text tail
     → cells_from (least_height t) (greatest_height t) read (length cells) text ≡ Ok (record { cells = cells; rest = tail })
 unfolding cells_from
-cells_laid t [] read text tail whole fits laid = ap (λ (r : List ℕ). Ok (record { cells = []; rest = r })) laid
-cells_laid t (cell ∷ cells) read text tail whole fits laid =
+cells_laid t [] read text tail whole few fits laid = ap (λ (r : List ℕ). Ok (record { cells = []; rest = r })) laid
+cells_laid t (cell ∷ cells) read text tail whole few fits laid =
     let b = laid.0 in
-    let token = cell_token t cell whole fits.0 in
+    let token = cell_token t cell few fits.0 in
     let found : datum_at (least_height t) (greatest_height t) read text ≡ Ok cell =
     datum_read t read text cell whole fits.0 (ap token_of b.whole ∙ token_front b.front (cell_text t cell) b.gap b.rest b.gaps token.some token.none b.ends) in
     let after : after_token text ≡ b.gap ∷ b.rest = ap after_token b.whole ∙ after_token_front b.front (cell_text t cell) b.gap b.rest b.gaps token.some token.none b.ends in
-    let more = cells_laid t cells (read + 1) (b.gap ∷ b.rest) tail whole fits.1 laid.1 in
+    let more = cells_laid t cells (read + 1) (b.gap ∷ b.rest) tail whole few fits.1 laid.1 in
     rw (found, after, more) refl
 
 -- the data of a profile, after gaps
@@ -178,16 +195,19 @@ laid_profiles m (suc y) rest whole inside =
     subst (λ (t : List ℕ). Laid m.data_type (take (suc y * m.size.points) m.cells) t (10 ∷ rest)) (sym text)
     (subst (λ (cs : List Cell). Laid m.data_type cs (profile_lines m y ++ (spaced m.data_type (profile m y) ++ 10 ∷ rest)) (10 ∷ rest)) (sym cells) laid)
 
--- the cells of a map are read from its lines
-pub cells_read : (m : Map) (rest : List ℕ) → IsMap m → IsWholeType m.data_type
+-- the lines of a map hold its cells
+pub cells_are_laid : (m : Map) (rest : List ℕ) → IsMap m → Laid m.data_type m.cells (profile_lines m m.size.profiles ++ rest) (gaps_after m.size.profiles ++ rest)
+cells_are_laid m rest whole =
+    let all : take (m.size.profiles * m.size.points) m.cells ≡ m.cells = take_all (m.size.profiles * m.size.points) m.cells (omega (arith, whole.cells)) in
+    subst (λ (cs : List Cell). Laid m.data_type cs (profile_lines m m.size.profiles ++ rest) (gaps_after m.size.profiles ++ rest)) all (laid_profiles m m.size.profiles rest whole (omega arith))
+
+-- whole numbers are read from them
+pub whole_read : (m : Map) (rest : List ℕ) → IsMap m → has_decimals m.data_type ≡ false
     → cells_from (least_height m.data_type) (greatest_height m.data_type) 0 (m.size.profiles * m.size.points) (profile_lines m m.size.profiles ++ rest)
     ≡ Ok (record { cells = m.cells; rest = gaps_after m.size.profiles ++ rest })
-cells_read m rest whole type =
-    let all : take (m.size.profiles * m.size.points) m.cells ≡ m.cells = take_all (m.size.profiles * m.size.points) m.cells (omega (arith, whole.cells)) in
-    let laid = laid_profiles m m.size.profiles rest whole (omega arith) in
-    let of_all = subst (λ (cs : List Cell). Laid m.data_type cs (profile_lines m m.size.profiles ++ rest) (gaps_after m.size.profiles ++ rest)) all laid in
+whole_read m rest whole type =
     ap (λ n. cells_from (least_height m.data_type) (greatest_height m.data_type) 0 n (profile_lines m m.size.profiles ++ rest)) (sym whole.cells)
-    ∙ cells_laid m.data_type m.cells 0 (profile_lines m m.size.profiles ++ rest) (gaps_after m.size.profiles ++ rest) type (all_fit m.data_type m.cells whole.heights) of_all
+    ∙ cells_laid m.data_type m.cells 0 (profile_lines m m.size.profiles ++ rest) (gaps_after m.size.profiles ++ rest) type whole.places (all_fit m.data_type m.cells whole.heights) (cells_are_laid m rest whole)
 
 -- a trailer between LFs
 trailer_trims : (trailer : List ℕ) → bytes_eq (trimmed_by is_gap trailer) trailer ≡ true → trimmed_by is_gap (10 ∷ cond (eqb (length trailer) 0) [] (line trailer)) ≡ trailer

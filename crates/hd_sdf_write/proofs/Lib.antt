@@ -1,7 +1,11 @@
+mod Data
 mod EntryLines
 mod HeaderText
 mod Joined
 mod Known
 mod Laid
+mod LaidDecimals
+mod Parts
 mod ReadsBack
 mod Rows
+mod Sizes

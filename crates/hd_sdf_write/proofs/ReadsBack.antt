@@ -1,27 +1,32 @@
 -- The canonical text of a file is read as this file.
-use Rattle.std.proofs.Common.{◌≡◌, ℕ, false, List, [], ◌∷◌, ◌++◌, drop, ◌*◌, Option, Some, Ok, Err, ◌⊎◌, inl, inr, refl, sym, ap, ◌∙◌, append_assoc, append-nil}
+use Rattle.std.proofs.Common.{◌≡◌, ◌+◌, ◌-◌, ◌*◌, ℕ, zero, suc, false, List, [], ◌∷◌, ◌++◌, take, drop, Option, Some, Ok, inl, inr, refl, sym, ap, ap₂, ◌∙◌, append_assoc, append-nil}
 use Rattle.std.specs.Prelude.{codes, ok_or}
 use Rattle.std.specs.Fmt.{decimal}
-use Rattle.std.specs.List.{list_any}
-use Rattle.std.proofs.lemmas.List.Concat.{flat_map-append}
+use Rattle.std.specs.List.{flat_map, list_any}
+use Rattle.std.proofs.lemmas.Bool.{cases_Bool, or_from, or_parts}
+use Rattle.std.proofs.lemmas.List.Concat.{flat_map-append, flat_map-cons}
 use Rattle.hd_map.specs.declared.types.DataType.{DataType}
 use Rattle.hd_map.specs.declared.types.DataType.TheVariants.{U8, U16, U32, I8, I16, I32, Single, Double}
-use Rattle.hd_map.specs.Map.{IsMap, code_of}
+use Rattle.hd_map.specs.declared.types.Cell.{Cell}
+use Rattle.hd_map.specs.declared.types.Cell.TheVariants.{Bad, Height}
+use Rattle.hd_map.specs.Map.{IsMap, Map, code_of, places_of}
+use Rattle.hd_map.specs.Sets.{unmasked}
 use Rattle.hd_num.specs.Lines.{after_line, is_line_feed, lines_of}
-use Rattle.hd_sdf_read.specs.declared.error.SdfError.TheVariants.{BadVersion, Unsupported}
+use Rattle.hd_sdf_read.specs.declared.error.SdfError.TheVariants.{BadVersion}
 use Rattle.hd_sdf_read.specs.declared.file.Extra.{Extra}
 use Rattle.hd_sdf_read.specs.declared.file.Version.{Version}
 use Rattle.hd_sdf_read.specs.declared.file.Version.TheVariants.{Bcr, Iso}
 use Rattle.hd_sdf_read.specs.Entries.{header_from}
 use Rattle.hd_sdf_read.specs.File.{File, HasForms}
-use Rattle.hd_sdf_read.specs.Grammar.{after_lines, file_in, file_with, version_of, version_of_line}
-use Rattle.hd_sdf_read.specs.Keys.{IsWholeType}
-use Rattle.hd_sdf_read.proofs.Stages.{no_header, whole_body, whole_header}
-use Rattle.hd_sdf_write.specs.Canonical.{canonical, encoding_lines, end_lines, entry_line, extra_lines, line, name_lines, profile_lines, scale_lines, unmasked, version_text}
+use Rattle.hd_sdf_read.specs.Grammar.{after_lines, file_in, file_with, map_with, mapped, version_of, version_of_line}
+use Rattle.hd_sdf_read.specs.Keys.{has_decimals, with_places}
+use Rattle.hd_sdf_read.proofs.Stages.{decimals, whole_body, whole_header, whole_numbers}
+use Rattle.hd_sdf_write.specs.Canonical.{as_read, canonical, cell_text, encoding_lines, end_lines, entry_line, extra_lines, is_height, line, name_lines, profile, profile_lines, scale_lines, spaced, type_read, typed, version_text}
 use Rattle.hd_sdf_read.proofs.Fronts.{after_line_front, lines_front}
-use Rattle.hd_sdf_write.proofs.HeaderText.{header_reads, header_stops}
-use Rattle.hd_sdf_write.proofs.Known.{entries_follow, entries_of, extra_is, firsts, firsts_follow, frame_for, frame_is, known, last_entry, resolution_is, type_entry, type_unsupported, type_value}
-use Rattle.hd_sdf_write.proofs.Laid.{are_gaps, cells_read, gaps_after, trailer_read}
+use Rattle.hd_sdf_write.proofs.HeaderText.{header_reads}
+use Rattle.hd_sdf_write.proofs.Known.{entries_follow, entries_of, extra_is, frame_for, frame_is, known, resolution_is}
+use Rattle.hd_sdf_write.proofs.Laid.{are_gaps, gaps_after, trailer_read, whole_read}
+use Rattle.hd_sdf_write.proofs.LaidDecimals.{cells_are_read, data_for, decimals_read, type_is_read}
 
 -- the lines of the known entries
 known_group : (a b c d e f g h i j k l : List ℕ) → ((a ++ b ++ c ++ d ++ e) ++ (f ++ g ++ h ++ i)) ++ (j ++ k ++ l) ≡ a ++ (b ++ (c ++ (d ++ (e ++ (f ++ (g ++ (h ++ (i ++ (j ++ (k ++ (l ++ [])))))))))))
@@ -75,56 +80,154 @@ version_found : (f : File) → version_of (lines_of (canonical f)) ≡ Ok f.vers
 version_found f = ap version_of (canonical_lines f) ∙ ap (λ (o : Option Version). ok_or o BadVersion) (version_reads f.version)
 
 -- the parts make the file
-parts_are : (f : File) → HasForms f → file_with f.version (entries_of f) (frame_for f) f.map.cells f.trailer ≡ unmasked f
+parts_are : (f : File) → HasForms f → file_with f.version (entries_of f) (frame_for f) (map_with f.map.size (type_read f.map) f.map.cells) f.trailer ≡ as_read f
 parts_are f forms = rw (resolution_is f forms, extra_is f forms) refl
 
-pub reads_back : (f : File) → IsMap f.map → IsWholeType f.map.data_type → HasForms f → file_in (canonical f) ≡ Ok (unmasked f)
-reads_back f whole type forms =
+-- a type of whole numbers has no places
+whole_type : (t : DataType) → has_decimals t ≡ false → with_places t 0 ≡ t
+whole_type U8 whole = refl
+whole_type U16 whole = refl
+whole_type U32 whole = refl
+whole_type I8 whole = refl
+whole_type I16 whole = refl
+whole_type I32 whole = refl
+whole_type (Single places) whole = cc
+whole_type (Double places) whole = cc
+
+same_kind : (t : DataType) → has_decimals (with_places t 0) ≡ has_decimals t
+same_kind U8 = refl
+same_kind U16 = refl
+same_kind U32 = refl
+same_kind I8 = refl
+same_kind I16 = refl
+same_kind I32 = refl
+same_kind (Single places) = refl
+same_kind (Double places) = refl
+
+whole_type_read : (m : Map) → has_decimals m.data_type ≡ false → m.data_type ≡ type_read m
+whole_type_read m whole = elim (cases_Bool (list_any is_height m.cells)) [
+  | inl some ↦ rw some refl
+  | inr none ↦ rw none (sym (whole_type m.data_type whole))
+]
+
+-- the map of a file is read from its lines
+map_reads : (f : File) → IsMap f.map
+    → mapped f.map.size (with_places f.map.data_type 0) (data_text f) ≡ Ok (record { map = map_with f.map.size (type_read f.map) f.map.cells; rest = gaps_after f.map.size.profiles ++ end_lines f.trailer })
+map_reads f whole = elim (cases_Bool (has_decimals f.map.data_type)) [
+  | inl type ↦
+      let m : Map = f.map in
+      let p : ℕ = places_of m.data_type in
+      decimals m.size (with_places m.data_type 0) (data_text f) (record { items = data_for p m.cells; rest = gaps_after m.size.profiles ++ end_lines f.trailer }) (same_kind m.data_type ∙ type) (decimals_read m (end_lines f.trailer) whole type)
+      ∙ ap₂ (λ (t : DataType) (cells : List Cell). Ok (record { map = map_with m.size t cells; rest = gaps_after m.size.profiles ++ end_lines f.trailer })) (type_is_read m type) (cells_are_read m)
+  | inr type ↦
+      let m : Map = f.map in
+      ap (λ (t : DataType). mapped m.size t (data_text f)) (whole_type m.data_type type)
+      ∙ whole_numbers m.size m.data_type (data_text f) (record { cells = m.cells; rest = gaps_after m.size.profiles ++ end_lines f.trailer }) type (whole_read m (end_lines f.trailer) whole type)
+      ∙ ap (λ (t : DataType). Ok (record { map = map_with m.size t m.cells; rest = gaps_after m.size.profiles ++ end_lines f.trailer })) (whole_type_read m type)
+]
+
+pub reads_back : (f : File) → IsMap f.map → HasForms f → file_in (canonical f) ≡ Ok (as_read f)
+reads_back f whole forms =
     let is = canonical_is f in
     let one = version_one f.version in
     let lines = canonical_lines f in
     let version = version_found f in
     let second : after_lines 1 (canonical f) ≡ header_text f = ap after_line is ∙ after_line_front (version_text f.version) (header_text f) one in
-    let reads = header_reads (entries_of f) [] 2 1 (canonical f) (header_text f) (data_text f) refl refl second (entries_follow f whole type forms) in
+    let reads = header_reads (entries_of f) [] 2 1 (canonical f) (header_text f) (data_text f) refl refl second (entries_follow f whole forms) in
     let header : header_from 2 [] (drop 1 (lines_of (canonical f))) ≡ Ok (record { entries = entries_of f; last = reads.last }) =
     ap (λ (ls : List (List ℕ)). header_from 2 [] (drop 1 ls)) lines ∙ reads.header in
-    let cells = cells_read f.map (end_lines f.trailer) whole type in
     let trailer = trailer_read (f.map.size.profiles * f.map.size.points) (gaps_after f.map.size.profiles) f.trailer (are_gaps f.map.size.profiles) forms.trailer in
     whole_header (canonical f) f.version (record { entries = entries_of f; last = reads.last }) (data_text f) version header reads.rest_is
-    ∙ whole_body f.version (entries_of f) (data_text f) (frame_for f) (record { cells = f.map.cells; rest = gaps_after f.map.size.profiles ++ end_lines f.trailer }) f.trailer (frame_is f whole type forms) cells trailer
+    ∙ whole_body f.version (entries_of f) (data_text f) (frame_for f) (record { map = map_with f.map.size (type_read f.map) f.map.cells; rest = gaps_after f.map.size.profiles ++ end_lines f.trailer }) f.trailer
+    (frame_is f whole forms) (map_reads f whole) trailer
     ∙ ap (λ (x : File). Ok x) (parts_are f forms)
 
+-- the code of a type does not tell its places
+same_code : (t : DataType) → code_of (with_places t 0) ≡ code_of t
+same_code U8 = refl
+same_code U16 = refl
+same_code U32 = refl
+same_code I8 = refl
+same_code I16 = refl
+same_code I32 = refl
+same_code (Single places) = refl
+same_code (Double places) = refl
+
+-- a part of cells none of which was measured
+none_in_drop : (n : ℕ) (cells : List Cell) → list_any is_height cells ≡ false → list_any is_height (drop n cells) ≡ false
+none_in_drop zero cells none = none
+none_in_drop (suc n) [] none = refl
+none_in_drop (suc n) (cell ∷ cells) none = none_in_drop n cells (or_parts (is_height cell) (list_any is_height cells) none).1
+
+none_in_take : (n : ℕ) (cells : List Cell) → list_any is_height cells ≡ false → list_any is_height (take n cells) ≡ false
+none_in_take zero cells none = refl
+none_in_take (suc n) [] none = refl
+none_in_take (suc n) (cell ∷ cells) none =
+    let parts = or_parts (is_height cell) (list_any is_height cells) none in
+    or_from _ _ parts.0 (none_in_take n cells parts.1)
+
+-- `BAD` is written alike for each type
+bad_text : (t u : DataType) (cell : Cell) → is_height cell ≡ false → cell_text t cell ≡ cell_text u cell
+bad_text t u Bad none = refl
+bad_text t u (Height h) none = cc
+
+bad_rest : (t u : DataType) (cells : List Cell) → list_any is_height cells ≡ false → flat_map (λ c. 32 ∷ cell_text t c) cells ≡ flat_map (λ c. 32 ∷ cell_text u c) cells
+bad_rest t u [] none = refl
+bad_rest t u (cell ∷ cells) none =
+    let parts = or_parts (is_height cell) (list_any is_height cells) none in
+    flat_map-cons (λ (c : Cell). 32 ∷ cell_text t c) cell cells
+    ∙ ap₂ (λ (a b : List ℕ). 32 ∷ a ++ b) (bad_text t u cell parts.0) (bad_rest t u cells parts.1)
+    ∙ sym (flat_map-cons (λ (c : Cell). 32 ∷ cell_text u c) cell cells)
+
+bad_spaced : (t u : DataType) (cells : List Cell) → list_any is_height cells ≡ false → spaced t cells ≡ spaced u cells
+bad_spaced t u [] none = refl
+bad_spaced t u (cell ∷ cells) none =
+    let parts = or_parts (is_height cell) (list_any is_height cells) none in
+    ap₂ (λ (a b : List ℕ). a ++ b) (bad_text t u cell parts.0) (bad_rest t u cells parts.1)
+
+bad_lines : (m : Map) (t : DataType) (y : ℕ) → list_any is_height m.cells ≡ false → profile_lines (typed t m) y ≡ profile_lines m y
+unfolding profile_lines
+bad_lines m t zero none = refl
+bad_lines m t (suc y) none =
+    let start : ℕ = y * m.size.points in
+    ap₂ (λ (a b : List ℕ). a ++ line b) (bad_lines m t y none)
+    (bad_spaced t m.data_type (profile m y) (none_in_take (start + m.size.points - start) (drop start m.cells) (none_in_drop start m.cells none)))
+
 -- masks are not written
-same_text : (f : File) → canonical (unmasked f) ≡ canonical f
-unfolding canonical name_lines scale_lines encoding_lines profile_lines
-same_text f = refl
+unmasked_lines : (m : Map) (y : ℕ) → profile_lines (unmasked m) y ≡ profile_lines m y
+unfolding profile_lines
+unmasked_lines m y = refl
 
--- a type is one of whole numbers or not
-whole_or_not : (t : DataType) → IsWholeType t ⊎ (IsWholeType t → ⊥)
-whole_or_not U8 = inl tt
-whole_or_not U16 = inl tt
-whole_or_not U32 = inl tt
-whole_or_not I8 = inl tt
-whole_or_not I16 = inl tt
-whole_or_not I32 = inl tt
-whole_or_not (Single places) = inr (λ whole. whole)
-whole_or_not (Double places) = inr (λ whole. whole)
+-- nor are the places of a type without heights
+lines_stay : (m : Map) (y : ℕ) → profile_lines (typed (type_read m) (unmasked m)) y ≡ profile_lines m y
+lines_stay m y = elim (cases_Bool (list_any is_height m.cells)) [
+  | inl some ↦
+      let type : type_read m ≡ m.data_type = rw some refl in
+      ap (λ (t : DataType). profile_lines (typed t (unmasked m)) y) type ∙ unmasked_lines m y
+  | inr none ↦ bad_lines (unmasked m) (type_read m) y none ∙ unmasked_lines m y
+]
 
--- a file of decimals is refused
-decimals_refused : (f : File) → IsMap f.map → (IsWholeType f.map.data_type → ⊥) → HasForms f → (n : ℕ) × (file_in (canonical f) ≡ Err (Unsupported n))
-decimals_refused f whole decimals forms =
-    let stops = header_stops (firsts f) [] (last_entry ∷ f.extra) (type_entry f) 2 (header_text f) (line (codes "*") ++ data_text f) refl (firsts_follow f whole forms) (type_value f.map.data_type) (type_unsupported f decimals) in
-    (stops.0, no_header (canonical f) f.version (Unsupported stops.0) (version_found f) (ap (λ (ls : List (List ℕ)). header_from 2 [] (drop 1 ls)) (canonical_lines f) ∙ stops.1))
+code_stays : (m : Map) → code_of (type_read m) ≡ code_of m.data_type
+code_stays m = elim (cases_Bool (list_any is_height m.cells)) [
+  | inl some ↦ rw some refl
+  | inr none ↦ rw none (same_code m.data_type)
+]
+
+same_text : (f : File) → canonical (as_read f) ≡ canonical f
+unfolding canonical name_lines scale_lines encoding_lines
+same_text f = ap₂ (λ (code : ℕ) (rows : List ℕ). line (version_text f.version)
+    ++ name_lines f
+    ++ scale_lines f
+    ++ (entry_line (codes "Compression") (codes "0") ++ entry_line (codes "DataType") (decimal code) ++ entry_line (codes "CheckType") (codes "0"))
+    ++ extra_lines f.extra
+    ++ line (codes "*")
+    ++ rows
+    ++ end_lines f.trailer)
+    (code_stays f.map) (lines_stay f.map f.map.size.profiles)
 
 -- a file that is saved, read and saved again
 pub text_stays : (f again : File) → IsMap f.map → HasForms f → file_in (canonical f) ≡ Ok again → canonical again ≡ canonical f
-text_stays f again whole forms read = elim (whole_or_not f.map.data_type) [
-  | inl type ↦
-      let both : Ok (unmasked f) ≡ Ok again = sym (reads_back f whole type forms) ∙ read in
-      let same : unmasked f ≡ again = cc in
-      ap canonical (sym same) ∙ same_text f
-  | inr decimals ↦
-      let refused = decimals_refused f whole decimals forms in
-      let wrong : Err (Unsupported refused.0) ≡ Ok again = sym refused.1 ∙ read in
-      cc
-]
+text_stays f again whole forms read =
+    let both : Ok (as_read f) ≡ Ok again = sym (reads_back f whole forms) ∙ read in
+    let same : as_read f ≡ again = cc in
+    ap canonical (sym same) ∙ same_text f

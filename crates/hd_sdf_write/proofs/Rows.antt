@@ -1,5 +1,5 @@
 -- The data of a profile, one after another.
-use Rattle.std.proofs.Common.{◌≡◌, ◌+◌, ◌*◌, ◌-◌, ◌<◌, ◌≤◌, ℕ, suc, List, [], ◌∷◌, ◌++◌, length, take, drop, get_or, refl, sym, ap, arith, ◌∙◌, append_assoc, append-nil, length-take, length-drop}
+use Rattle.std.proofs.Common.{◌≡◌, ◌+◌, ◌*◌, ◌-◌, ◌<◌, ◌≤◌, ℕ, suc, List, [], ◌∷◌, ◌++◌, length, take, drop, get_or, sym, ap, arith, ◌∙◌, append_assoc, append-nil, length-take, length-drop}
 use Rattle.std.specs.List.{flat_map}
 use Rattle.std.proofs.Math.Nat.{mul-le-mul_right}
 use Rattle.std.proofs.lemmas.List.{get_or-drop, get_or-take, take_more}
@@ -9,7 +9,7 @@ use Rattle.hd_map.specs.declared.types.Cell.TheVariants.{Bad}
 use Rattle.hd_map.specs.declared.types.DataType.{DataType}
 use Rattle.hd_map.specs.declared.types.Pos.{Pos}
 use Rattle.hd_map.specs.Map.{IsMap, Map, cell_at}
-use Rattle.hd_sdf_write.specs.Canonical.{cell_text, line, profile, profile_lines, spaced}
+use Rattle.hd_sdf_write.specs.Canonical.{cell_text, profile, spaced}
 
 -- one more datum behind others
 spaced_push : (data_type : DataType) (cells : List Cell) (cell : Cell) → 0 < length cells → spaced data_type (cells ++ cell ∷ []) ≡ (spaced data_type cells ++ 32 ∷ []) ++ cell_text data_type cell
@@ -48,25 +48,3 @@ row_first m y cell whole below is out after more =
     get_or-take (start + m.size.points - start) (drop start m.cells) 0 Bad (omega (arith, some)) ∙ get_or-drop start m.cells 0 Bad ∙ sym is in
     let one : take 1 (profile m y) ≡ cell ∷ [] = take_more (profile m y) 0 Bad (omega (arith, size, some)) ∙ ap (λ c. c ∷ []) here in
     more ∙ ap (λ t. out ++ t) (sym (ap (spaced m.data_type) one ∙ append-nil (cell_text m.data_type cell)))
-
--- one more profile
-pub profiles_more : (m : Map) (y : ℕ) (before out after : List ℕ) → before ≡ out ++ profile_lines m y → after ≡ (before ++ spaced m.data_type (profile m y)) ++ line [] → after ≡ out ++ profile_lines m (y + 1)
-unfolding profile_lines
-profiles_more m y before out after so_far more =
-    let step : y + 1 ≡ suc y = omega arith in
-    rw (step, more, so_far) (append_assoc (out ++ profile_lines m y) (spaced m.data_type (profile m y)) (line []) ∙ append_assoc out (profile_lines m y) (spaced m.data_type (profile m y) ++ line [])
-    ∙ ap (λ t. out ++ (profile_lines m y ++ t)) refl)
-
--- no profile yet
-pub profiles_none : (m : Map) (out : List ℕ) → out ≡ out ++ profile_lines m 0
-unfolding profile_lines
-profiles_none m out = sym (append-nil out)
-
--- one more datum of a profile, as it is written
-pub row_step : (m : Map) (x y : ℕ) (cell : Cell) → IsMap m → 0 < x → x < m.size.points → y < m.size.profiles → cell ≡ cell_at m (record { x = x; y = y })
-    → (out before middle after : List ℕ) → before ≡ out ++ spaced m.data_type (take x (profile m y)) → middle ≡ before ++ 32 ∷ [] → after ≡ middle ++ cell_text m.data_type cell → after ≡ out ++ spaced m.data_type (take (x + 1) (profile m y))
-row_step m x y cell whole some inside below is out before middle after so_far space datum =
-    let row : List ℕ = spaced m.data_type (take x (profile m y)) in
-    let more = row_more m x y (record { x = x; y = y }) cell whole some inside below refl is in
-    let text : after ≡ ((out ++ row) ++ 32 ∷ []) ++ cell_text m.data_type cell = rw (datum, space, so_far) refl in
-    text ∙ ap (λ t. t ++ cell_text m.data_type cell) (append_assoc out row (32 ∷ [])) ∙ append_assoc out (row ++ 32 ∷ []) (cell_text m.data_type cell) ∙ ap (λ t. out ++ t) (sym more)

@@ -1,17 +1,18 @@
 -- The canonical text of an SDF file.
-use Rattle.std.specs.Prelude.{◌+◌, ◌*◌, ◌==◌, ◌++◌, ℕ, zero, suc, List, [], ◌∷◌, length, slice_range, if◌then◌else◌, codes}
+use Rattle.std.specs.Prelude.{◌+◌, ◌*◌, ◌==◌, ◌++◌, ℕ, zero, suc, Bool, true, false, List, [], ◌∷◌, length, slice_range, if◌then◌else◌, codes}
 use Rattle.std.specs.Fmt.{decimal}
-use Rattle.std.specs.List.{flat_map}
+use Rattle.std.specs.List.{flat_map, list_any}
 use Rattle.hd_map.specs.declared.types.Cell.{Cell}
 use Rattle.hd_map.specs.declared.types.Cell.TheVariants.{Height, Bad}
 use Rattle.hd_map.specs.declared.types.DataType.{DataType}
 use Rattle.hd_map.specs.Map.{Map, code_of, places_of}
-use Rattle.hd_map.specs.Sets.{unmasked as unmasked_map}
+use Rattle.hd_map.specs.Sets.{unmasked}
 use Rattle.hd_num.specs.Steps.{steps_text}
 use Rattle.hd_sdf_read.specs.declared.file.Extra.{Extra}
 use Rattle.hd_sdf_read.specs.declared.file.Version.{Version}
 use Rattle.hd_sdf_read.specs.declared.file.Version.TheVariants.{Bcr, Iso}
 use Rattle.hd_sdf_read.specs.File.{File}
+use Rattle.hd_sdf_read.specs.Keys.{with_places}
 
 -- a text as a line: an LF ends it
 abbrev pub line : List ℕ → List ℕ
@@ -79,17 +80,34 @@ profile_lines m (suc y) = profile_lines m y ++ line (spaced m.data_type (profile
 unfoldable pub end_lines : List ℕ → List ℕ
 end_lines trailer = line (codes "*") ++ (if length trailer == 0 then [] else line trailer)
 
--- the canonical text of a file
-unfoldable pub canonical : File → List ℕ
-canonical f = line (version_text f.version)
+-- the header
+abbrev pub header_lines : File → List ℕ
+header_lines f = line (version_text f.version)
     ++ name_lines f
     ++ scale_lines f
     ++ encoding_lines f
     ++ extra_lines f.extra
     ++ line (codes "*")
+
+-- the canonical text of a file
+unfoldable pub canonical : File → List ℕ
+canonical f = header_lines f
     ++ profile_lines f.map f.map.size.profiles
     ++ end_lines f.trailer
 
--- the file with no mask
-abbrev pub unmasked : File → File
-unmasked f = record f { map = unmasked_map f.map }
+-- whether a cell was measured
+abbrev pub is_height : Cell → Bool
+is_height (Height h) = true
+is_height Bad = false
+
+-- the data type as the text of a map gives it: where no point is measured, decimals have no places
+abbrev pub type_read : Map → DataType
+type_read m = if list_any is_height m.cells then m.data_type else with_places m.data_type 0
+
+-- the map with another data type
+abbrev pub typed : DataType → Map → Map
+typed t m = record m { data_type = t }
+
+-- the file as its text gives it, with no mask
+abbrev pub as_read : File → File
+as_read f = record f { map = typed (type_read f.map) (unmasked f.map) }

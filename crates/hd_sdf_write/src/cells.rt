@@ -1,48 +1,54 @@
 // The data of a surface.
-ghost use Rattle.std.specs.Prelude.{◌≡◌, ◌<◌, ◌≤◌, ◌++◌, OnOk};
-ghost use Rattle.hd_map.specs.Map.{most_places, places_of};
+ghost use Rattle.std.specs.Prelude.{◌≡◌, ◌<◌, ◌≤◌, ◌++◌, IfOk, OnOk};
+ghost use Rattle.hd_map.specs.Map.{cell_count, most_places, place_of, places_of};
 ghost use Rattle.hd_map.specs.Surface.{map_of};
-ghost use Rattle.hd_sdf_write.specs.Canonical.{cell_text, line, profile, profile_lines, spaced};
+ghost use Rattle.hd_sdf_write.specs.Canonical.{cell_text};
+ghost use Rattle.hd_sdf_write.specs.Parts.{AddsData, gap_after};
 
-use crate::lines::push_line;
 use hd_list::{List, Memory};
-use hd_map::{Cell, DataType, Grid, Pos, Surface};
+use hd_map::{Cell, DataType, Grid, Pos, Size, Surface, position_after, position_of};
 use hd_num::{push_steps, push_text};
 
-/// Adds the data of a surface, a line for each profile.
-pub fn push_profiles(out: &mut List<u8>, surface: &Surface) -> Result<(), Memory>
-    ensures { OnOk result (out.new ≡ out.old ++ profile_lines (map_of surface.now) (map_of surface.now).size.profiles) }
+/// Adds data of a surface from one on, as many as a piece has room for, with a line for each profile.
+/// Tells which datum follows them.
+pub fn push_data(out: &mut List<u8>, surface: &Surface, from: u32) -> Result<u32, Memory>
+    requires { from < cell_count (map_of surface.now).size }
+    ensures { IfOk result (AddsData (map_of surface.now) from out.old out.new) }
 {
     // Each layout is a grid of its own, so that no point asks which it is.
     match surface {
-        Surface::Narrow(narrow) => push_grid(out, narrow),
-        Surface::Wide(wide) => push_grid(out, wide),
+        Surface::Narrow(narrow) => push_points(out, narrow, from),
+        Surface::Wide(wide) => push_points(out, wide, from),
     }
 }
 
-// Adds the data of a grid, a line for each profile.
-fn push_grid<G: Grid>(out: &mut List<u8>, grid: &G) -> Result<(), Memory>
-    ensures { OnOk result (out.new ≡ out.old ++ profile_lines (G.map grid.now) (G.map grid.now).size.profiles) }
+// The same of a grid.
+fn push_points<G: Grid>(out: &mut List<u8>, grid: &G, from: u32) -> Result<u32, Memory>
+    requires { from < cell_count (G.map grid.now).size }
+    ensures { IfOk result (AddsData (G.map grid.now) from out.old out.new) }
 {
-    'profiles: for y in 0..grid.size().profiles {
-        push_profile(out, grid, y)?;
-        push_line(out, b"")?;
-    }
-    Ok(())
-}
-
-// Adds the data of a profile.
-fn push_profile<G: Grid>(out: &mut List<u8>, grid: &G, y: u32) -> Result<(), Memory>
-    requires { y < (G.map grid.now).size.profiles }
-    ensures { OnOk result (out.new ≡ out.old ++ spaced (G.map grid.now).data_type (profile (G.map grid.now) y)) }
-{
+    let size = grid.size();
     let places = places_of(grid.data_type());
-    push_cell(out, grid.cell(Pos { x: 0, y }), places)?;
-    'columns: for x in 1..grid.size().points {
-        push_text(out, b" ")?;
-        push_cell(out, grid.cell(Pos { x, y }), places)?;
+    // A datum and what stands behind it take 65 bytes at most, and a piece 65,536.
+    let most = out.as_slice().len() + 65_471;
+    let mut at = position_of(size, from);
+    'points: for index in from..size.profiles * size.points {
+        if out.as_slice().len() > most {
+            return Ok(index);
+        }
+        push_cell(out, grid.cell(at), places)?;
+        out.push(gap_after(size, at))?;
+        at = position_after(size, at);
     }
-    Ok(())
+    Ok(size.profiles * size.points)
+}
+
+// What stands behind the datum of a position.
+fn gap_after(size: Size, at: Pos) -> u8
+    requires { at.x < size.points }
+    ensures { result ≡ gap_after size (place_of size at) }
+{
+    if at.x + 1 == size.points { b'\n' } else { b' ' }
 }
 
 // How many decimal places the heights of a data type have.

@@ -3,12 +3,12 @@ ghost use Rattle.std.specs.Prelude.{◌≡◌, Ok};
 ghost use Rattle.hd_map.specs.Map.{IsMap};
 ghost use Rattle.hd_sdf_read.specs.File.{File, HasForms};
 ghost use Rattle.hd_sdf_read.specs.Grammar.{file_in};
-ghost use Rattle.hd_sdf_read.specs.Keys.{IsWholeType};
-ghost use Rattle.hd_sdf_write.specs.Canonical.{canonical, unmasked};
+ghost use Rattle.hd_sdf_write.specs.Canonical.{as_read, canonical};
 
-/// The canonical text of a file whose heights are whole numbers is read as this file, with no mask.
+/// The canonical text of a file is read as this file, with no mask and with eight neighbours; where
+/// its data are decimals and no point is measured, with no decimal places.
 pub fn canonical_text_reads_back()
-    ensures { (file : File) → IsMap file.map → IsWholeType file.map.data_type → HasForms file → file_in (canonical file) ≡ Ok (unmasked file) }
+    ensures { (file : File) → IsMap file.map → HasForms file → file_in (canonical file) ≡ Ok (as_read file) }
 {}
 
 /// The file that a canonical text is read as has the same canonical text.

@@ -4,7 +4,10 @@
 mod cells;
 mod laws;
 mod lines;
+mod part;
+mod pieces;
 mod write;
 
 pub use laws::{canonical_text_reads_back, canonical_text_stays};
+pub use pieces::SdfPieces;
 pub use write::write_sdf;

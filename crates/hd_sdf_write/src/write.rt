@@ -1,10 +1,13 @@
 // A whole file.
-ghost use Rattle.std.specs.Prelude.{◌≡◌, ◌++◌, IfOk, OnOk, decimal};
+ghost use Rattle.std.specs.Prelude.{◌≡◌, ◌≤◌, ◌++◌, IfOk, OnOk, Some, decimal};
+ghost use Rattle.hd_map.specs.Map.{cell_count};
 ghost use Rattle.hd_sdf_read.specs.FileOf.{file_of};
-ghost use Rattle.hd_sdf_write.specs.Canonical.{canonical, encoding_lines, entry_line, line, name_lines, scale_lines, version_text};
+ghost use Rattle.hd_sdf_write.specs.Canonical.{canonical, encoding_lines, entry_line, header_lines, line, name_lines, scale_lines, version_text};
+ghost use Rattle.hd_sdf_write.specs.Parts.{AddsPart, IsDataOrEnd, IsPartOf};
 
-use crate::cells::push_profiles;
+use crate::cells::push_data;
 use crate::lines::{push_end, push_entry, push_extra, push_line};
+use crate::part::Part;
 use hd_list::{List, Memory};
 use hd_map::{Grid, Heights};
 use hd_num::push_unsigned;
@@ -19,20 +22,66 @@ use std::alloc::Global;
 /// decimal places, `.` and that many digits. Masks are not written.
 ///
 /// `Memory` comes where the text is refused its memory.
-#[tactic(auto, unfolding(crate::specs::Canonical::canonical))]
 pub fn write_sdf(alloc: Global, file: &SdfFile) -> Result<List<u8>, Memory>
     ensures { IfOk result (λ text. text ≡ canonical (file_of file.now)) }
 {
     let mut out = List::new(alloc);
-    push_version(&mut out, file.version)?;
-    push_names(alloc, &mut out, file)?;
-    push_scales(&mut out, file)?;
-    push_encoding(alloc, &mut out, file)?;
-    push_extra(&mut out, file.extra.as_slice())?;
-    push_line(&mut out, b"*")?;
-    push_profiles(&mut out, &file.surface)?;
-    push_end(&mut out, file.trailer.as_slice())?;
+    let mut next = Some(Part::Header);
+    'parts: while let Some(part) = next {
+        next = push_part(alloc, &mut out, file, part)?;
+    }
     Ok(out)
+}
+
+/// Adds a part of a text, and tells which one follows it.
+pub fn push_part(
+    alloc: Global,
+    out: &mut List<u8>,
+    file: &SdfFile,
+    part: Part,
+) -> Result<Option<Part>, Memory>
+    requires { IsPartOf (file_of file.now) (Some part) }
+    ensures { IfOk result (AddsPart (file_of file.now) part out.old out.new) }
+{
+    match part {
+        Part::Header => {
+            push_header(alloc, out, file)?;
+            Ok(Some(Part::Data(0)))
+        }
+        Part::Data(from) => {
+            let next = push_data(out, &file.surface, from)?;
+            Ok(Some(data_or_end(file, next)))
+        }
+        Part::End => {
+            push_end(out, file.trailer.as_slice())?;
+            Ok(None)
+        }
+    }
+}
+
+// The part of the data from this one on, or of what stands behind them.
+fn data_or_end(file: &SdfFile, next: u32) -> Part
+    requires { next ≤ cell_count (file_of file.now).map.size }
+    ensures { IsDataOrEnd (cell_count (file_of file.now).map.size) next result }
+{
+    let size = file.surface.size();
+    if next < size.profiles * size.points {
+        Part::Data(next)
+    } else {
+        Part::End
+    }
+}
+
+// Adds the header.
+fn push_header(alloc: Global, out: &mut List<u8>, file: &SdfFile) -> Result<(), Memory>
+    ensures { OnOk result (out.new ≡ out.old ++ header_lines (file_of file.now)) }
+{
+    push_version(out, file.version)?;
+    push_names(alloc, out, file)?;
+    push_scales(out, file)?;
+    push_encoding(alloc, out, file)?;
+    push_extra(out, file.extra.as_slice())?;
+    push_line(out, b"*")
 }
 
 // Adds line 1.

@@ -7,9 +7,8 @@ use Rattle.hd_map.specs.declared.types.Pass.{Pass}
 use Rattle.hd_map.specs.declared.types.Pos.{Pos}
 use Rattle.hd_map.specs.declared.types.Rank.{Rank}
 use Rattle.hd_map.specs.declared.types.SideName.{SideName}
-use Rattle.hd_map.specs.declared.types.Size.{Size}
 use Rattle.hd_map.specs.Crossings.{AreCrossingsUnder}
-use Rattle.hd_map.specs.Map.{Map, IsMap, Present, place_of, position_at, cell_count}
+use Rattle.hd_map.specs.Map.{Map, IsMap, Present}
 use Rattle.hd_map.specs.Passes.{IsMeeting, IsLabelled}
 use Rattle.hd_map.specs.Rank.{rank, below_by, IsPoint}
 use Rattle.hd_map.specs.Region.{LowerNeighbour, IsRoot, AreRegions}
@@ -17,11 +16,11 @@ use Rattle.hd_map.specs.SideLaws.{below_by-order}
 use Rattle.hd_map.specs.Walks.{HasPass, AreJoinedWithin}
 use Rattle.hd_map.proofs.Items.{Contains-none}
 use Rattle.hd_map.proofs.Nexts.{root-is_pit}
-use Rattle.hd_map.proofs.Points.{Near-from, Near-to, place_inside, position_at-of, same_index}
+use Rattle.hd_map.proofs.Points.{Near-from, Near-to, same_index}
 use Rattle.hd_map.proofs.Regions.{labelled-root, root-labelled}
 use Rattle.hd_map.proofs.Saddles.{near-sym}
 use Rattle.hd_map.proofs.Sides.{below-not_above}
-use Rattle.hd_steep.specs.Crossed.{IsPitOf, AreInOne, IsPassTo, IsCrossing, Extends, IsCrossed, AreCrossedTo, IsServed, Gathers}
+use Rattle.hd_steep.specs.Crossed.{AreInOne, IsPassTo, IsCrossing, Extends, IsCrossed, AreCrossedTo, IsServed, Gathers}
 use Rattle.hd_steep.specs.Ring.{is_marked}
 use Rattle.hd_steep.specs.Rows.{rank_in}
 use Rattle.hd_steep.proofs.Round.{same_or_below}
@@ -160,34 +159,12 @@ module _ (m : Map) (side : SideName) where
     }
 
 module _ (m : Map) (side : SideName) where
-  -- the pit with the index of a point's region
-  pub record IsAtPit (k : ℕ) (root : Rank) : Type 0 where
-    pub inside : k < cell_count m.size
-    pub present : Present m (position_at m.size k)
-    pub rank_is : rank m (position_at m.size k) ≡ root
-
-  pub pit_at : (x : Rank) (k : ℕ) (of : IsPitOf m side x k) → IsAtPit k of.root
-  pit_at x k of =
-      let point = (root-is_pit m side x of.root of.is_root).point in
-      let index : k ≡ place_of m.size point.at = of.index_is ∙ ap (λ (r : Rank). r.index) point.rank_is in
-      let at : position_at m.size k ≡ point.at = ap (λ i. position_at m.size i) index ∙ position_at-of m.size point.at point.present.in_grid in
-      record {
-        inside = rw index (place_inside m.size point.at point.present.in_grid);
-        present = subst (λ (p : Pos). Present m p) (sym at) point.present;
-        rank_is = ap (rank m) at ∙ sym point.rank_is;
-      }
-
-  -- the rank at its position
-  pub rank_of_pit : (x : Rank) (k : ℕ) (of : IsPitOf m side x k) (s : Size) (p : Pos) (r : Rank) → s ≡ m.size → p ≡ position_at s k → r ≡ rank m p → r ≡ of.root
-  rank_of_pit x k of s p r size is e = e ∙ ap (rank m) (is ∙ ap (λ (t : Size). position_at t k) size) ∙ (pit_at x k of).rank_is
-
-  -- points whose regions have one pit lie in one region
-  pub in_one : (x y : Rank) (j k : ℕ) → IsPitOf m side x j → IsPitOf m side y k → j ≡ k → AreInOne m side x y
-  in_one x y j k one other same = record {
-    root = one.root;
-    from = one.is_root;
-    to = subst (λ (r : Rank). IsRoot m side y r)
-        (same_index m other.root one.root (root-is_pit m side y other.root other.is_root).point (root-is_pit m side x one.root one.is_root).point (sym other.index_is ∙ sym same ∙ one.index_is)) other.is_root;
+  -- points whose regions have pits of one index lie in one region
+  pub in_one : (x y p q : Rank) → IsRoot m side x p → IsRoot m side y q → p.index ≡ q.index → AreInOne m side x y
+  in_one x y p q one other same = record {
+    root = p;
+    from = one;
+    to = subst (λ (r : Rank). IsRoot m side y r) (same_index m q p (root-is_pit m side y q other).point (root-is_pit m side x p one).point (sym same)) other;
   }
 
   -- of two different pits the one that is not below the other is above it

@@ -12,7 +12,8 @@ use Rattle.hd_map.specs.Rank.{rank, IsPoint}
 use Rattle.hd_map.specs.Region.{IsRoot, AreRegions}
 use Rattle.hd_map.proofs.Points.{place_inside, same_index, point_at, present_or_not}
 use Rattle.hd_steep.specs.Meetings.{LiesIn}
-use Rattle.hd_steep.specs.Links.{NoPointAt, IsLabelOf}
+use Rattle.hd_steep.specs.Links.{NoPointAt}
+use Rattle.hd_steep.specs.Numbering.{IsLabelOf}
 use Rattle.hd_steep.proofs.Following.{no_point_at}
 
 module _ (m : Map) (side : SideName) where

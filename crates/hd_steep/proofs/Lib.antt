@@ -7,7 +7,10 @@ pub mod Ways
 pub mod Round
 pub mod Linking
 pub mod Following
+pub mod Pits
+pub mod PitNumbers
 pub mod Labels
+pub mod Numbered
 pub mod Joining
 pub mod Adding
 pub mod Passing

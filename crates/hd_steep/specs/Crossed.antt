@@ -42,12 +42,6 @@ module _ (m : Map) (side : SideName) where
     pub to : LowerNeighbour m side x z
     pub near : Near m y z
 
-  -- k is the index of the pit of the region of x
-  pub record IsPitOf (x : Rank) (k : ℕ) : Type 0 where
-    pub root : Rank
-    pub is_root : IsRoot m side x root
-    pub index_is : k ≡ root.index
-
   -- x and y lie in one region
   pub record AreInOne (x y : Rank) : Type 0 where
     pub root : Rank

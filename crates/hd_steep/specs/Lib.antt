@@ -6,3 +6,4 @@ pub mod Borders
 pub mod Meetings
 pub mod Ring
 pub mod Crossed
+pub mod Numbering

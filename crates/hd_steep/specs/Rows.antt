@@ -39,10 +39,10 @@ AreLinked side row above level below links =
     (k : ℕ) → k < length links → slice_index links k ≡ link_of side (rank_in row (k + 1)) (lower_of side (lower_of side (rank_in above k) (rank_in level k)) (rank_in below k))
 
 -- a row for this many points, with an empty place on each side
-pub record IsFramed (side : SideName) (points : ℕ) (row : List Rank) : Type 0 where
-  pub whole : length row ≡ points + 2
-  pub left : rank_in row 0 ≡ missing side
-  pub right : rank_in row (points + 1) ≡ missing side
+pub record IsFramed (side : SideName) (points : ℕ) (ranks : List Rank) : Type 0 where
+  pub whole : length ranks ≡ points + 2
+  pub left : rank_in ranks 0 ≡ missing side
+  pub right : rank_in ranks (points + 1) ≡ missing side
 
 -- the row of a profile up to a column: at each place the rank of the point there
 pub record IsRowTo (m : Map) (side : SideName) (y x : ℕ) (row : List Rank) : Type 0 where

@@ -3,35 +3,36 @@ ghost use Rattle.std.specs.Prelude.{◌≡◌, ◌<◌, ◌≤◌, ◌+◌, ℕ,
 ghost use Rattle.hd_map.specs.Map.{InGrid};
 ghost use Rattle.hd_map.specs.Crossings.{AreCrossingsUnder};
 ghost use Rattle.hd_map.specs.Rank.{IsPoint};
-ghost use Rattle.hd_map.specs.Region.{LowerNeighbour, AreRegions, IsRoot};
+ghost use Rattle.hd_map.specs.Region.{LowerNeighbour, IsRoot};
+ghost use Rattle.hd_steep.specs.Numbering.{AreNumbered, roots_of};
 ghost use Rattle.hd_steep.specs.Rows.{rank_in};
 ghost use Rattle.hd_steep.specs.Ring.{is_marked};
-ghost use Rattle.hd_steep.specs.Crossed.{AreRowsRound, AreWide, ring_round, IsPitOf, AreInOne, IsPassTo, Extends, IsCrossed, AreCrossedTo, Gathers};
+ghost use Rattle.hd_steep.specs.Crossed.{AreRowsRound, AreWide, ring_round, AreInOne, IsPassTo, Extends, IsCrossed, AreCrossedTo, Gathers};
 
 use crate::lowest::is_missing;
+use crate::numbering::Regions;
 use crate::places::{are_several, lower_at, marked};
 use crate::rolling::Rows;
 use hd_list::{List, Memory};
-use hd_map::{Heights, Pass, Pos, Rank, Side, position_of, rank_of};
+use hd_map::{Heights, Pass, Pos, Rank, Side};
 use std::alloc::Global;
 
-/// Passes between the regions with these labels that are enough to tell at which heights regions
-/// are joined: where two of them meet, passes that are not above the meeting lead from one to the
-/// other.
+/// Passes between these regions that are enough to tell at which heights regions are joined: where
+/// two of them meet, passes that are not above the meeting lead from one to the other.
 ///
-/// The labels are those that `regions` gives for this grid and side. There may be several passes
-/// for two regions, or none; `passes` gives one for each two that meet. Measured, it takes time in
-/// proportion to the points, and memory for the passes, at first for one of three points, and
-/// 48 bytes a column. `Memory` comes where memory is refused.
+/// The regions are those that `find_regions` gives for this grid and side. There may be several
+/// passes for two regions, or none; `passes` gives one for each two that meet. Measured, it takes
+/// time in proportion to the points, and memory for the passes, at first for one of three points,
+/// and 48 bytes a column. `Memory` comes where memory is refused.
 pub fn crossings<S: Side, G: Heights>(
     alloc: Global,
     grid: &G,
-    labels: &List<Option<u32>>,
+    regions: &Regions,
 ) -> Result<List<Pass>, Memory>
-    requires { AreRegions (G.map grid.now) S.NAME labels.now }
-    ensures { IfOk result (AreCrossingsUnder (G.map grid.now) S.NAME labels.now) }
+    requires { AreNumbered (G.map grid.now) S.NAME regions.now }
+    ensures { IfOk result (AreCrossingsUnder (G.map grid.now) S.NAME (roots_of regions.now)) }
 {
-    let passes = gather::<S, G>(alloc, grid, labels.as_slice())?;
+    let passes = gather::<S, G>(alloc, grid, regions)?;
     Ok(List::from_vec(passes))
 }
 
@@ -39,17 +40,17 @@ pub fn crossings<S: Side, G: Heights>(
 fn gather<S: Side, G: Heights>(
     alloc: Global,
     grid: &G,
-    labels: &[Option<u32>],
+    regions: &Regions,
 ) -> Result<Vec<Pass>, Memory>
-    requires { AreRegions (G.map grid.now) S.NAME labels.now }
+    requires { AreNumbered (G.map grid.now) S.NAME regions.now }
     ensures { IfOk result (λ passes. Gathers (G.map grid.now) S.NAME (λ u. u.y < (G.map grid.now).size.profiles) [] passes.items) }
 {
     let mut rows = Rows::new::<S, G>(alloc, grid)?;
     // heights without any order have about one pass for three points
-    let mut passes = Vec::with_capacity(alloc, labels.len() / 3)?;
+    let mut passes = Vec::with_capacity(alloc, regions.len() / 3)?;
     'profiles: for y in 0..grid.size().profiles {
         rows.advance::<S, G>(grid, y);
-        gather_profile::<S, G>(grid, labels, &rows, y, &mut passes)?;
+        gather_profile::<S, G>(grid, regions, &rows, y, &mut passes)?;
     }
     Ok(passes)
 }
@@ -57,18 +58,18 @@ fn gather<S: Side, G: Heights>(
 // Adds the passes at the points of a profile.
 fn gather_profile<S: Side, G: Heights>(
     grid: &G,
-    labels: &[Option<u32>],
+    regions: &Regions,
     rows: &Rows,
     y: u32,
     passes: &mut Vec<Pass>,
 ) -> Result<(), Memory>
-    requires regions { AreRegions (G.map grid.now) S.NAME labels.now }
+    requires regions { AreNumbered (G.map grid.now) S.NAME regions.now }
     requires profile { y < (G.map grid.now).size.profiles }
     requires rows { AreRowsRound (G.map grid.now) S.NAME y rows.now }
     ensures { OnOk result (Gathers (G.map grid.now) S.NAME (λ u. u.y ≡ y) passes.old.items passes.new.items) }
 {
     for x in 0..grid.size().points {
-        gather_point::<S, G>(grid, labels, rows, Pos { x, y }, passes)?;
+        gather_point::<S, G>(grid, regions, rows, Pos { x, y }, passes)?;
     }
     Ok(())
 }
@@ -78,12 +79,12 @@ fn gather_profile<S: Side, G: Heights>(
 #[inline]
 fn gather_point<S: Side, G: Heights>(
     grid: &G,
-    labels: &[Option<u32>],
+    regions: &Regions,
     rows: &Rows,
     at: Pos,
     passes: &mut Vec<Pass>,
 ) -> Result<(), Memory>
-    requires regions { AreRegions (G.map grid.now) S.NAME labels.now }
+    requires regions { AreNumbered (G.map grid.now) S.NAME regions.now }
     requires inside { InGrid (G.map grid.now).size at }
     requires rows { AreRowsRound (G.map grid.now) S.NAME at.y rows.now }
     ensures { OnOk result (Gathers (G.map grid.now) S.NAME (λ u. u ≡ at) passes.old.items passes.new.items) }
@@ -96,7 +97,7 @@ fn gather_point<S: Side, G: Heights>(
     let lower = lower_at::<S>(&rows.above, &rows.level, &rows.below, x, own);
     let marks = marked(grid.adjacency(), &lower);
     if are_several(&marks) {
-        cross::<S, G>(grid, labels, own, rows, x, &marks, passes)?;
+        cross::<S, G>(grid, regions, own, rows, x, &marks, passes)?;
     }
     Ok(())
 }
@@ -105,23 +106,23 @@ fn gather_point<S: Side, G: Heights>(
 #[inline]
 fn cross<S: Side, G: Heights>(
     grid: &G,
-    labels: &[Option<u32>],
+    regions: &Regions,
     own: Rank,
     rows: &Rows,
     x: usize,
     marks: &[bool; 8],
     passes: &mut Vec<Pass>,
 ) -> Result<(), Memory>
-    requires regions { AreRegions (G.map grid.now) S.NAME labels.now }
+    requires regions { AreNumbered (G.map grid.now) S.NAME regions.now }
     requires point { IsPoint (G.map grid.now) own }
     requires wide { AreWide rows.now x }
     requires lower { (k : ℕ) → is_marked marks.now k ≡ true → LowerNeighbour (G.map grid.now) S.NAME own (rank_in (ring_round rows.now x) k) }
     ensures extends { OnOk result (Extends (G.map grid.now) S.NAME passes.old.items passes.new.items) }
     ensures crossed { OnOk result ((k : ℕ) → is_marked marks.now k ≡ true → IsCrossed (G.map grid.now) S.NAME passes.new.items own (rank_in (ring_round rows.now x) k)) }
 {
-    let pit = pit_rank::<S, G>(grid, own, pit_of::<S, G>(grid, labels, own));
-    cross_four::<S, G>(grid, labels, own, pit, rows, x, marks, 0, passes)?;
-    cross_four::<S, G>(grid, labels, own, pit, rows, x, marks, 4, passes)?;
+    let pit = pit_of::<S, G>(grid, regions, own);
+    cross_four::<S, G>(grid, regions, own, pit, rows, x, marks, 0, passes)?;
+    cross_four::<S, G>(grid, regions, own, pit, rows, x, marks, 4, passes)?;
     Ok(())
 }
 
@@ -131,7 +132,7 @@ fn cross<S: Side, G: Heights>(
 #[inline(always)]
 fn cross_four<S: Side, G: Heights>(
     grid: &G,
-    labels: &[Option<u32>],
+    regions: &Regions,
     own: Rank,
     pit: Rank,
     rows: &Rows,
@@ -140,17 +141,17 @@ fn cross_four<S: Side, G: Heights>(
     first: usize,
     passes: &mut Vec<Pass>,
 ) -> Result<(), Memory>
-    requires regions { AreRegions (G.map grid.now) S.NAME labels.now }
+    requires regions { AreNumbered (G.map grid.now) S.NAME regions.now }
     requires pit { IsRoot (G.map grid.now) S.NAME own pit }
     requires wide { AreWide rows.now x }
     requires lower { (k : ℕ) → is_marked marks.now k ≡ true → LowerNeighbour (G.map grid.now) S.NAME own (rank_in (ring_round rows.now x) k) }
     requires first { first ≤ 4 }
     ensures { OnOk result (AreCrossedTo (G.map grid.now) S.NAME passes.old.items passes.new.items own (ring_round rows.now x) marks.now first (first + 4)) }
 {
-    cross_if::<S, G>(grid, labels, own, pit, rows, x, marks, first, passes)?;
-    cross_if::<S, G>(grid, labels, own, pit, rows, x, marks, first + 1, passes)?;
-    cross_if::<S, G>(grid, labels, own, pit, rows, x, marks, first + 2, passes)?;
-    cross_if::<S, G>(grid, labels, own, pit, rows, x, marks, first + 3, passes)?;
+    cross_if::<S, G>(grid, regions, own, pit, rows, x, marks, first, passes)?;
+    cross_if::<S, G>(grid, regions, own, pit, rows, x, marks, first + 1, passes)?;
+    cross_if::<S, G>(grid, regions, own, pit, rows, x, marks, first + 2, passes)?;
+    cross_if::<S, G>(grid, regions, own, pit, rows, x, marks, first + 3, passes)?;
     Ok(())
 }
 
@@ -159,7 +160,7 @@ fn cross_four<S: Side, G: Heights>(
 #[inline(always)]
 fn cross_if<S: Side, G: Heights>(
     grid: &G,
-    labels: &[Option<u32>],
+    regions: &Regions,
     own: Rank,
     pit: Rank,
     rows: &Rows,
@@ -168,7 +169,7 @@ fn cross_if<S: Side, G: Heights>(
     place: usize,
     passes: &mut Vec<Pass>,
 ) -> Result<(), Memory>
-    requires regions { AreRegions (G.map grid.now) S.NAME labels.now }
+    requires regions { AreNumbered (G.map grid.now) S.NAME regions.now }
     requires pit { IsRoot (G.map grid.now) S.NAME own pit }
     requires wide { AreWide rows.now x }
     requires place { place < 8 }
@@ -177,7 +178,7 @@ fn cross_if<S: Side, G: Heights>(
     ensures crossed { OnOk result (is_marked marks.now place ≡ true → IsCrossed (G.map grid.now) S.NAME passes.new.items own (rank_in (ring_round rows.now x) place)) }
 {
     if marks[place] {
-        cross_to::<S, G>(grid, labels, own, pit, rows.around(x, place), passes)?;
+        cross_to::<S, G>(grid, regions, own, pit, rows.around(x, place), passes)?;
     }
     Ok(())
 }
@@ -185,19 +186,19 @@ fn cross_if<S: Side, G: Heights>(
 // Adds the pass at a point to one of its lower neighbours, if that lies in another region.
 fn cross_to<S: Side, G: Heights>(
     grid: &G,
-    labels: &[Option<u32>],
+    regions: &Regions,
     own: Rank,
     pit: Rank,
     other: Rank,
     passes: &mut Vec<Pass>,
 ) -> Result<(), Memory>
-    requires regions { AreRegions (G.map grid.now) S.NAME labels.now }
+    requires regions { AreNumbered (G.map grid.now) S.NAME regions.now }
     requires pit { IsRoot (G.map grid.now) S.NAME own pit }
     requires lower { LowerNeighbour (G.map grid.now) S.NAME own other }
     ensures extends { OnOk result (Extends (G.map grid.now) S.NAME passes.old.items passes.new.items) }
     ensures crossed { OnOk result (IsCrossed (G.map grid.now) S.NAME passes.new.items own other) }
 {
-    if let Some(pass) = pass_to::<S, G>(grid, labels, own, pit, other) {
+    if let Some(pass) = pass_to::<S, G>(grid, regions, own, pit, other) {
         passes.push(pass)?;
     }
     Ok(())
@@ -207,54 +208,43 @@ fn cross_to<S: Side, G: Heights>(
 // region.
 fn pass_to<S: Side, G: Heights>(
     grid: &G,
-    labels: &[Option<u32>],
+    regions: &Regions,
     own: Rank,
     pit: Rank,
     other: Rank,
 ) -> Option<Pass>
-    requires regions { AreRegions (G.map grid.now) S.NAME labels.now }
+    requires regions { AreNumbered (G.map grid.now) S.NAME regions.now }
     requires pit { IsRoot (G.map grid.now) S.NAME own pit }
     requires lower { LowerNeighbour (G.map grid.now) S.NAME own other }
     ensures { MatchOption result (AreInOne (G.map grid.now) S.NAME own other) (IsPassTo (G.map grid.now) S.NAME own other) }
 {
-    let there = pit_of::<S, G>(grid, labels, other);
-    if pit.index == there {
+    let there = pit_of::<S, G>(grid, regions, other);
+    if pit.index == there.index {
         return None;
     }
-    let two = pit_rank::<S, G>(grid, other, there);
-    if S::below(pit, two) {
+    if S::below(pit, there) {
         Some(Pass {
             a: pit,
-            b: two,
+            b: there,
             at: own,
         })
     } else {
         Some(Pass {
-            a: two,
+            a: there,
             b: pit,
             at: own,
         })
     }
 }
 
-// The pit of a point by its index.
+// The pit in whose region a point lies.
 #[inline]
-fn pit_rank<S: Side, G: Heights>(grid: &G, _point: Rank, pit: u32) -> Rank
-    requires { IsPitOf (G.map grid.now) S.NAME _point pit }
-    ensures root { IsRoot (G.map grid.now) S.NAME _point result }
-    ensures index { result.index ≡ pit }
-{
-    rank_of(grid, position_of(grid.size(), pit))
-}
-
-// The index of the pit of a point.
-#[inline]
-fn pit_of<S: Side, G: Heights>(_grid: &G, labels: &[Option<u32>], point: Rank) -> u32
-    requires regions { AreRegions (G.map _grid.now) S.NAME labels.now }
+fn pit_of<S: Side, G: Heights>(_grid: &G, regions: &Regions, point: Rank) -> Rank
+    requires regions { AreNumbered (G.map _grid.now) S.NAME regions.now }
     requires point { IsPoint (G.map _grid.now) point }
-    ensures { IsPitOf (G.map _grid.now) S.NAME point result }
+    ensures { IsRoot (G.map _grid.now) S.NAME point result }
 {
-    match labels[point.index as usize] {
+    match regions.pit(point.index as usize) {
         Some(pit) => pit,
         None => unreachable!(),
     }

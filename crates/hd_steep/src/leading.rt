@@ -1,12 +1,17 @@
 // Links led on to the roots, in place: most of them by sweeps that do not branch, the rest by walks.
-ghost use Rattle.std.specs.Prelude.{◌≡◌, ◌<◌, ◌≢◌, IfOk, length, slice_index};
-ghost use Rattle.hd_map.specs.Region.{AreRegions};
-ghost use Rattle.hd_steep.specs.Links.{no_link, AreLinks, IsRootAt, IsLabelOf};
+ghost use Rattle.std.specs.Prelude.{◌≡◌, ◌<◌, ◌≢◌, IfOk, OnOk, length, slice_index};
+ghost use Rattle.std.specs.Bool.{OnTrue, OnFalse};
+ghost use Rattle.hd_map.specs.Pruning.{ArePits};
+ghost use Rattle.hd_map.specs.Region.{IsPit};
+ghost use Rattle.hd_steep.specs.Links.{no_link, AreLinks, AreRootLinks, IsRootAt, IsRootLink, KeepRootLinks};
 
 use crate::links::NO_LINK;
-use hd_list::{List, Memory};
-use hd_map::{Heights, Side};
+use hd_list::Memory;
+use hd_map::{Heights, Rank, Side, position_of, rank_of};
 use std::alloc::Global;
+
+// Heights without any order have about one pit for nine points: memory is reserved for as many.
+const POINTS_A_PIT: usize = 8;
 
 /// Leads each link on by one link, from the first point to the last.
 pub fn sweep<S: Side, G: Heights>(grid: &G, links: &mut [u32])
@@ -44,42 +49,58 @@ fn lead_once<S: Side, G: Heights>(_grid: &G, links: &mut [u32], index: usize)
     links[index] = links[onward];
 }
 
-/// By index the index of the root of each present point, and none for the others.
+/// Leads the link of each point to its root, and lists the pits in position order.
 ///
-/// It takes 8 bytes a point. `Memory` comes where these are refused.
-pub fn labels_of<S: Side, G: Heights>(
+/// It takes 16 bytes a pit, at first for one of eight points. `Memory` comes where these are refused.
+pub fn lead_to_roots<S: Side, G: Heights>(
     alloc: Global,
     grid: &G,
     links: &mut [u32],
-) -> Result<List<Option<u32>>, Memory>
+) -> Result<Vec<Rank>, Memory>
     requires { AreLinks (G.map grid.now) S.NAME links.old }
-    ensures { IfOk result (AreRegions (G.map grid.now) S.NAME) }
+    ensures links { OnOk result (AreRootLinks (G.map grid.now) S.NAME links.new) }
+    ensures pits { IfOk result (λ pits. ArePits (G.map grid.now) S.NAME pits.items) }
 {
-    let mut labels = Vec::with_capacity(alloc, links.len())?;
+    let mut pits = Vec::with_capacity(alloc, links.len() / POINTS_A_PIT)?;
     for index in 0..links.len() {
-        labels.push(label_of::<S, G>(grid, links, index))?;
+        if lead_one::<S, G>(grid, links, index) {
+            pits.push(pit_at::<S, G>(grid, index as u32))?;
+        }
     }
-    Ok(List::from_vec(labels))
+    Ok(pits)
 }
 
-// The label of an index. The links of the points on its way are led to the root.
+// The pit of an index.
+fn pit_at<S: Side, G: Heights>(grid: &G, index: u32) -> Rank
+    requires { IsRootAt (G.map grid.now) S.NAME index index }
+    ensures pit { IsPit (G.map grid.now) S.NAME result }
+    ensures index { result.index ≡ index }
+{
+    rank_of(grid, position_of(grid.size(), index))
+}
+
+// Leads the link at an index to the root, and those of the points on its way; and tells whether it is
+// that of a pit.
 #[inline]
-fn label_of<S: Side, G: Heights>(grid: &G, links: &mut [u32], index: usize) -> Option<u32>
+fn lead_one<S: Side, G: Heights>(grid: &G, links: &mut [u32], index: usize) -> bool
     requires links { AreLinks (G.map grid.now) S.NAME links.old }
     requires inside { index < length links.old }
     ensures links { AreLinks (G.map grid.now) S.NAME links.new }
-    ensures label { IsLabelOf (G.map grid.now) S.NAME index result }
+    ensures led { IsRootLink (G.map grid.now) S.NAME index (slice_index links.new index) }
+    ensures kept { KeepRootLinks (G.map grid.now) S.NAME links.old links.new }
+    ensures pit { OnTrue result (IsRootAt (G.map grid.now) S.NAME index index) }
+    ensures other { OnFalse result (IsRootAt (G.map grid.now) S.NAME index index → ⊥) }
 {
     let link = links[index];
     if link == NO_LINK {
-        return None;
+        return false;
     }
     if links[link as usize] == link {
-        return Some(link);
+        return link as usize == index;
     }
     let root = root_from::<S, G>(grid, links, index as u32);
     lead_to::<S, G>(grid, links, index as u32, root);
-    Some(root)
+    false
 }
 
 // The index of the root of the point at an index, by walking along the links.
@@ -103,7 +124,9 @@ fn root_from<S: Side, G: Heights>(_grid: &G, links: &[u32], start: u32) -> u32
 fn lead_to<S: Side, G: Heights>(_grid: &G, links: &mut [u32], start: u32, root: u32)
     requires links { AreLinks (G.map _grid.now) S.NAME links.old }
     requires root { IsRootAt (G.map _grid.now) S.NAME start root }
-    ensures { AreLinks (G.map _grid.now) S.NAME links.new }
+    ensures links { AreLinks (G.map _grid.now) S.NAME links.new }
+    ensures led { IsRootLink (G.map _grid.now) S.NAME start (slice_index links.new start) }
+    ensures kept { KeepRootLinks (G.map _grid.now) S.NAME links.old links.new }
 {
     let mut here = start;
     'walk: while here != root {

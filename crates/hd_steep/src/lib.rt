@@ -9,6 +9,8 @@ mod leading;
 mod links;
 mod lowest;
 mod meetings;
+mod numbering;
+mod numbers;
 mod places;
 mod profile;
 mod rolling;
@@ -19,4 +21,5 @@ pub use crossing::crossings;
 pub use laws::{
     next_is_determined, pit_is_its_own_root, regions_are_determined, root_is_determined,
 };
+pub use numbering::{Regions, find_regions};
 pub use steep::{next, regions, root};

@@ -112,8 +112,13 @@ fn lowest_of_three<S: Side>(row: &[Rank], lows: &mut [Rank])
     requires { length row.now ≡ length lows.old + 2 }
     ensures { AreLowestOfThree S.NAME row.now lows.new }
 {
+    let mut left = row[0];
+    let mut middle = row[1];
     for x in 0..lows.len() {
-        lows[x] = lower::<S>(lower::<S>(row[x], row[x + 1]), row[x + 2]);
+        let right = row[x + 2];
+        lows[x] = lower::<S>(lower::<S>(left, middle), right);
+        left = middle;
+        middle = right;
     }
 }
 

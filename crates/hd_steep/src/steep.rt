@@ -4,9 +4,8 @@ ghost use Rattle.hd_map.specs.Map.{Present};
 ghost use Rattle.hd_map.specs.Rank.{rank};
 ghost use Rattle.hd_map.specs.Region.{IsPit, IsNext, IsRoot, AreRegions};
 
-use crate::leading::{labels_of, sweep, sweep_back};
-use crate::links::first_links;
 use crate::lowest::lowest_round;
+use crate::numbering::{find_regions, list_roots};
 use hd_list::{List, Memory};
 use hd_map::{Heights, Pos, Side, index_of, position_of};
 use std::alloc::Global;
@@ -48,14 +47,13 @@ pub fn root<S: Side, G: Heights>(alloc: Global, grid: &G, at: Pos) -> Pos
 /// By index the index of the pit in whose region the point lies, and none for points that are not
 /// present.
 ///
-/// Measured, it takes 12 bytes a point and 100 a column, and time in proportion to the points,
-/// however long the ways are. `Memory` comes where memory is refused. Dales and hills are those of
-/// ISO 25178-2; that each point has one steepest way is this project's own rule.
+/// Measured, it takes 12 bytes a point, 100 a column and 16 a pit, at first for one of eight points,
+/// and time in proportion to the points, however long the ways are. `Memory` comes where memory is
+/// refused. Dales and hills are those of ISO 25178-2; that each point has one steepest way is this
+/// project's own rule.
 pub fn regions<S: Side, G: Heights>(alloc: Global, grid: &G) -> Result<List<Option<u32>>, Memory>
     ensures { IfOk result (AreRegions (G.map grid.now) S.NAME) }
 {
-    let mut links = first_links::<S, G>(alloc, grid)?;
-    sweep::<S, G>(grid, &mut links);
-    sweep_back::<S, G>(grid, &mut links);
-    labels_of::<S, G>(alloc, grid, &mut links)
+    let regions = find_regions::<S, G>(alloc, grid)?;
+    list_roots(alloc, &regions)
 }

@@ -33,7 +33,7 @@ use Rattle.hd_survey.proofs.FeaturePoints.{kept_heights, kept_inside, kept_order
 use Rattle.hd_survey.proofs.Lists.{rising_few}
 use Rattle.hd_survey.proofs.Owning.{owned_whole, pruned_inside}
 use Rattle.hd_survey.proofs.OwnedTallies.{owned_few}
-use Rattle.hd_survey.proofs.Spans.{range_heights}
+use Rattle.hd_prune.proofs.Spans.{range_heights}
 
 -- what is known of the list of regions
 pub record Outcome (m : Map) (side : SideName) (thousandths : ℕ) (list : List Region) : Type 0 where

@@ -1,7 +1,7 @@
 mod Lists
 mod Inside
-mod Spans
 mod Sums
+mod Found
 mod RootedPoints
 mod Counts
 mod MapPits

@@ -1,14 +1,12 @@
 -- The pits of a map, index by index.
-use Rattle.std.proofs.Common.{◌≡◌, ◌≢◌, ◌<◌, ◌≤◌, ◌+◌, ◌++◌, ℕ, true, false, List, [], ◌∷◌, zero, suc, length, get_or, drop, map, Option, Some, None, inl, inr, refl, sym, ap, ◌∙◌, subst, nat_eq, arith, append-nil, append_assoc}
+use Rattle.std.proofs.Common.{◌≡◌, ◌≢◌, ◌<◌, ◌≤◌, ◌+◌, ◌++◌, ℕ, true, false, List, [], ◌∷◌, zero, suc, length, get_or, drop, map, Option, Some, None, refl, sym, ap, ◌∙◌, subst, nat_eq, arith, append-nil, append_assoc}
 use Rattle.std.specs.List.{Contains, AllPairs}
 use Rattle.std.specs.Prelude.{All}
-use Rattle.std.proofs.lemmas.Bool.{cases_lt}
 use Rattle.std.proofs.lemmas.Bool.Decides.{nat_tests}
 use Rattle.std.proofs.lemmas.Option.{slice_get-get_or}
 use Rattle.std.proofs.lemmas.List.{drop_all, map-id}
 use Rattle.std.proofs.lemmas.Simd.{map-map}
-use Rattle.std.proofs.lemmas.List.Elements.{Contains-push, Contains-push_cases, Contains-append_left, Contains-get_or}
-use Rattle.std.proofs.lemmas.List.Quantifiers.{all_pairs_push}
+use Rattle.std.proofs.lemmas.List.Elements.{Contains-get_or}
 use Rattle.hd_map.specs.declared.types.Pos.{Pos}
 use Rattle.hd_map.specs.declared.types.Rank.{Rank}
 use Rattle.hd_map.specs.declared.types.RegionSize.{RegionSize}
@@ -17,24 +15,20 @@ use Rattle.hd_map.specs.Map.{Map, IsMap, InGrid, Present, place_of, position_at,
 use Rattle.hd_map.specs.Pruning.{ArePits}
 use Rattle.hd_map.specs.Rank.{rank}
 use Rattle.hd_map.specs.Region.{AreRegions, IsPit}
-use Rattle.hd_map.proofs.Levels.{Contains-none}
 use Rattle.hd_map.proofs.Points.{position_at-place, position_at-inside, place_inside, same_index, point_at}
 use Rattle.hd_map.proofs.Nexts.{root-is_pit, root-of_pit}
 use Rattle.hd_graph.specs.declared.graph.Low.{Low}
 use Rattle.hd_graph.specs.Basins.{ArePitsOf}
 use Rattle.hd_prune.specs.Staying.{ranks_of}
+use Rattle.hd_map.proofs.Prunings.{pits-unique}
+use Rattle.hd_steep.specs.Numbering.{AreNumbered, Numbering, roots_of}
+use Rattle.hd_steep.proofs.Pits.{ArePitsBefore, pits_all, pits_none, pits_pass, pits_push}
 use Rattle.hd_survey.specs.PitGraph.{low_of}
 use Rattle.hd_survey.specs.Regions.{AreRegionSizes, names, pit_ranks, rank_at, region_size}
 use Rattle.hd_survey.proofs.Counts.{pits_from, pits_from-other, pits_from-own}
 use Rattle.hd_survey.proofs.Inside.{point_inside}
 use Rattle.hd_survey.proofs.Lists.{All-map, AllPairs-map, Contains-map, map-Contains}
 use Rattle.hd_survey.proofs.RootedPoints.{rooted_present}
-
--- these are the pits of lesser index
-pub record ArePitsBefore (m : Map) (side : SideName) (k : ℕ) (pits : List Rank) : Type 0 where
-  pub each : (p : Rank) → Contains pits p → IsPit m side p × (p.index < k)
-  pub all : (p : Rank) → IsPit m side p → p.index < k → Contains pits p
-  pub in_order : AllPairs (λ a b. a.index < b.index) pits
 
 -- the rank of an index is that of its position
 pub rank_at-position : (m : Map) (k : ℕ) → 1 ≤ m.size.points → rank m (position_at m.size k) ≡ rank_at m k
@@ -90,50 +84,6 @@ module _ (m : Map) (side : SideName) (roots : List (Option ℕ)) (whole : IsMap 
       let own : get_or roots p.index None ≡ Some p.index = ap (λ i. get_or roots i None) index ∙ named ∙ ap (λ (r : Rank). Some r.index) root ∙ ap Some (sym index) in
       ap (λ o. names o p.index) own ∙ (let e : nat_eq p.index p.index ≡ true = grind (arith, nat_tests) in e)
 
-  -- one more pit
-  pub pits_push : (k : ℕ) (pits new : List Rank) → k < length roots → names (get_or roots k None) k ≡ true → new ≡ pits ++ rank_at m k ∷ []
-      → ArePitsBefore m side k pits → ArePitsBefore m side (k + 1) new
-  pits_push k pits new below own is before =
-      let pit : IsPit m side (rank_at m k) = subst (IsPit m side) (rank_at-position m k whole.size.some_points) (own_pit k below own) in
-      subst (ArePitsBefore m side (k + 1)) (sym is) (record {
-        each = λ p h. elim (Contains-push_cases pits (rank_at m k) p h) [
-          | inl old ↦ let e = before.each p old in (e.0, omega (arith, e.1))
-          | inr same ↦ subst (λ (q : Rank). IsPit m side q × (q.index < k + 1)) same (pit, omega arith)
-        ];
-        all = λ p is_pit less. elim (cases_lt p.index k) [
-          | inl old ↦ Contains-append_left pits (rank_at m k ∷ []) p (before.all p is_pit old)
-          | inr not ↦
-              let e : rank_at m k ≡ p = same_index m (rank_at m k) p pit.point is_pit.point (omega (arith, not, less)) in
-              subst (λ (r : Rank). Contains (pits ++ rank_at m k ∷ []) r) e (Contains-push pits (rank_at m k))
-        ];
-        in_order = all_pairs_push (λ (a : Rank) (b : Rank). a.index < b.index) pits (rank_at m k) before.in_order (λ i d inside.
-            (before.each (get_or pits i d) (Contains-get_or pits i d inside)).1);
-      })
-
-  -- the point of the index is no pit
-  pub pits_pass : (k : ℕ) (pits : List Rank) → names (get_or roots k None) k ≡ false → ArePitsBefore m side k pits → ArePitsBefore m side (k + 1) pits
-  pits_pass k pits other before = record {
-    each = λ p h. let e = before.each p h in (e.0, omega (arith, e.1));
-    all = λ p is_pit less. elim (cases_lt p.index k) [
-      | inl old ↦ before.all p is_pit old
-      | inr not ↦
-          let same : p.index ≡ k = omega (arith, not, less) in
-          let own : names (get_or roots k None) k ≡ true = subst (λ i. names (get_or roots i None) i ≡ true) same (pit_own p is_pit) in
-          absurd (let no = other in cc)
-    ];
-    in_order = before.in_order;
-  }
-
-  -- after the last index they are the pits of the map
-  pub pits_all : (k : ℕ) (pits : List Rank) → length roots ≤ k → ArePitsBefore m side k pits → ArePits m side pits
-  pits_all k pits last before = record {
-    exactly = λ p. (
-      λ h. (before.each p h).0,
-      λ pit. before.all p pit (let inside = point_inside m p pit.point in omega (arith, inside, last, regions.whole)),
-    );
-    in_order = before.in_order;
-  }
-
 module _ (m : Map) (side : SideName) (roots : List (Option ℕ)) (whole : IsMap m) (regions : AreRegions m side roots) where
   abbrev rest_of : ℕ → List Rank
   rest_of k = map (rank_at m) (pits_from k (drop k roots))
@@ -142,25 +92,27 @@ module _ (m : Map) (side : SideName) (roots : List (Option ℕ)) (whole : IsMap 
   pits_on : (n k : ℕ) (pits : List Rank) → k + n ≡ length roots → ArePitsBefore m side k pits → ArePits m side (pits ++ rest_of k)
   pits_on zero k pits last before =
       let past : length roots ≤ k = omega (arith, last) in
-      subst (ArePits m side) (sym (ap (λ xs. pits ++ map (rank_at m) (pits_from k xs)) (drop_all k roots past) ∙ append-nil pits)) (pits_all m side roots whole regions k pits past before)
+      subst (ArePits m side) (sym (ap (λ xs. pits ++ map (rank_at m) (pits_from k xs)) (drop_all k roots past) ∙ append-nil pits)) (pits_all m side k pits (omega (arith, past, regions.whole)) before)
   pits_on (suc n) k pits last before =
       let below : k < length roots = omega (arith, last) in
       let next : (k + 1) + n ≡ length roots = omega (arith, last) in
       elim (names (get_or roots k None) k) as (λ b. names (get_or roots k None) k ≡ b → ArePits m side (pits ++ rest_of k)) [
-        | true ↦ λ own. subst (ArePits m side)
+        | true ↦ λ own.
+            let pit : IsPit m side (rank_at m k) = subst (IsPit m side) (rank_at-position m k whole.size.some_points) (own_pit m side roots whole regions k below own) in
+            subst (ArePits m side)
             (append_assoc pits (rank_at m k ∷ []) (rest_of (k + 1)) ∙ ap (λ ks. pits ++ map (rank_at m) ks) (sym (pits_from-own roots k below own)))
-            (pits_on n (k + 1) (pits ++ rank_at m k ∷ []) next (pits_push m side roots whole regions k pits (pits ++ rank_at m k ∷ []) below own refl before))
-        | false ↦ λ other. subst (ArePits m side) (ap (λ ks. pits ++ map (rank_at m) ks) (sym (pits_from-other roots k below other)))
-            (pits_on n (k + 1) pits next (pits_pass m side roots whole regions k pits other before))
+            (pits_on n (k + 1) (pits ++ rank_at m k ∷ []) next (pits_push m side k pits (rank_at m k) pit refl before))
+        | false ↦ λ other.
+            let none : (p : Rank) → IsPit m side p → p.index ≡ k → ⊥ = λ p pit same.
+            (let own : names (get_or roots k None) k ≡ true = subst (λ i. names (get_or roots i None) i ≡ true) same (pit_own m side roots whole regions p pit) in
+            let no = other in cc) in
+            subst (ArePits m side) (ap (λ ks. pits ++ map (rank_at m) ks) (sym (pits_from-other roots k below other)))
+            (pits_on n (k + 1) pits next (pits_pass m side k pits none before))
       ] refl
 
   -- the points that are their own roots are the pits of the map in position order
   pub ranks_pits : ArePits m side (pit_ranks m roots)
-  ranks_pits = pits_on (length roots) 0 [] (omega arith) (record {
-    each = λ p there. absurd (Contains-none p there);
-    all = λ p pit below. absurd (omega arith);
-    in_order = λ i j d less below. absurd (omega arith);
-  })
+  ranks_pits = pits_on (length roots) 0 [] (omega arith) (pits_none m side)
 
 -- a pit of a map is a point of the grid
 pub pits_inside : (m : Map) (side : SideName) (pits : List Rank) → ArePits m side pits → All (λ p. p.index < cell_count m.size) pits
@@ -189,3 +141,10 @@ pub sizes_inside : (m : Map) (side : SideName) (sizes : List RegionSize) → IsM
 sizes_inside m side sizes whole are =
     subst (λ (xs : List RegionSize). All (λ (size : RegionSize). size.pit.index < cell_count m.size) xs) (sym are.are)
     (All-map (region_size are.roots) (λ (size : RegionSize). size.pit.index < cell_count m.size) (pit_ranks m are.roots) (pits_inside m side (pit_ranks m are.roots) (ranks_pits m side are.roots whole are.regions)))
+
+-- the regions of the pits that are numbered are those of the map
+pub sizes_numbered : (m : Map) (side : SideName) (regions : Numbering) (sizes : List RegionSize) → IsMap m → AreNumbered m side regions
+    → sizes ≡ map (region_size (roots_of regions)) regions.pits → AreRegionSizes m side sizes
+sizes_numbered m side regions sizes whole are is =
+    let pits : regions.pits ≡ pit_ranks m (roots_of regions) = pits-unique m side regions.pits (pit_ranks m (roots_of regions)) are.pits (ranks_pits m side (roots_of regions) whole are.roots) in
+    record { roots = roots_of regions; regions = are.roots; are = is ∙ ap (λ (ps : List Rank). map (region_size (roots_of regions)) ps) pits }

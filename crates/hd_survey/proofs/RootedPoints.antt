@@ -15,8 +15,7 @@ use Rattle.hd_map.specs.Region.{AreRegions, IsPit, IsRoot}
 use Rattle.hd_map.proofs.Points.{position_at-of, position_at-place, position_at-inside, present_or_not, place_inside}
 use Rattle.hd_map.proofs.Nexts.{root-is_pit}
 use Rattle.hd_survey.specs.Edges.{HaveRoots}
-use Rattle.hd_survey.proofs.Inside.{point_inside}
-use Rattle.hd_survey.proofs.Spans.{shown_of}
+use Rattle.hd_prune.proofs.Spans.{shown_of}
 
 pub not_none : (o : Option ℕ) (n : ℕ) → o ≡ Some n → Some o ≡ Some None → ⊥
 not_none o n some none = cc
@@ -50,15 +49,6 @@ root_pit m side roots whole regions k n below is =
       root-is_pit m side (rank m p) found.0 found.1,
       sym (same_number (get_or roots (place_of m.size p) None) n (found.0).index is' (sym (slice_get-get_or roots (place_of m.size p) None there) ∙ found.2)),
     )
-
--- and so the index of a point
-pub root_inside : (m : Map) (side : SideName) (roots : List (Option ℕ)) → IsMap m → AreRegions m side roots
-    → (k n : ℕ) → k < length roots → get_or roots k None ≡ Some n → n < length roots
-root_inside m side roots whole regions k n below is =
-    let found = root_pit m side roots whole regions k n below is in
-    let point = (found.1).point in
-    let index_is : n ≡ place_of m.size point.at = sym found.2 ∙ ap (λ (r : Rank). r.index) point.rank_is in
-    rw (index_is, regions.whole) (place_inside m.size point.at point.present.in_grid)
 
 -- what is not measured or not shown has no height
 unshown : (c : Cell) (masked : Bool) → (IsMeasured c → masked ≡ false → ⊥) → shown_height c masked ≡ None
@@ -110,21 +100,11 @@ module _ (m : Map) (side : SideName) (roots : List (Option ℕ)) (regions : AreR
         ap (λ i. get_or roots i None) index ∙ some_one _ _ (sym (slice_get-get_or roots (place_of m.size point.at) None there) ∙ found.2),
       )
 
-  pub root_inside_map : (p : Rank) (n : ℕ) → IsPoint m p → get_or roots p.index None ≡ Some n → n < cell_count m.size
-  root_inside_map p n point is =
-      let found = root_entry p point in
-      let same : n ≡ (found.0).index = number_one n (found.0).index (sym is ∙ found.2) in
-      subst (λ k. k < cell_count m.size) (sym same) (point_inside m found.0 (root-is_pit m side p found.0 found.1).point)
-
-  pub root_present : (p : Rank) (n : ℕ) → IsPoint m p → get_or roots p.index None ≡ Some n → Present m (position_at m.size n) × IsRoot m side p (rank m (position_at m.size n))
-  root_present p n point is =
-      let found = root_entry p point in
-      let same : n ≡ (found.0).index = number_one n (found.0).index (sym is ∙ found.2) in
-      let pit = (root-is_pit m side p found.0 found.1).point in
-      let place : position_at m.size n ≡ pit.at = ap (position_at m.size) (same ∙ ap (λ (r : Rank). r.index) pit.rank_is) ∙ position_at-of m.size pit.at pit.present.in_grid in (
-        subst (Present m) (sym place) pit.present,
-        subst (IsRoot m side p) (pit.rank_is ∙ ap (rank m) (sym place)) found.1,
-      )
-
-  pub root_there : (p : Rank) → IsPoint m p → get_or roots p.index None ≡ None → ⊥
-  root_there p point none = none_some _ (sym none ∙ (root_entry p point).2)
+-- the root of a point, by its position
+pub root_position : (m : Map) (side : SideName) (p r : Rank) → IsRoot m side p r → Present m (position_at m.size r.index) × IsRoot m side p (rank m (position_at m.size r.index))
+root_position m side p r root =
+    let pit = (root-is_pit m side p r root).point in
+    let place : position_at m.size r.index ≡ pit.at = ap (position_at m.size) (ap (λ (x : Rank). x.index) pit.rank_is) ∙ position_at-of m.size pit.at pit.present.in_grid in (
+      subst (Present m) (sym place) pit.present,
+      subst (IsRoot m side p) (pit.rank_is ∙ ap (rank m) (sym place)) root,
+    )

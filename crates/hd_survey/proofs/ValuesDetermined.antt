@@ -7,7 +7,7 @@ use Rattle.hd_feature.specs.declared.notation.Parameter.TheVariants.{One, Sum}
 use Rattle.hd_feature.specs.declared.notation.Statistic.{Statistic}
 use Rattle.hd_feature.specs.declared.notation.Statistic.TheVariants as statistic
 use Rattle.hd_feature.specs.declared.region.Region.{Region}
-use Rattle.hd_feature.specs.Value.{IsValue, attributes, over, under}
+use Rattle.hd_feature.specs.Value.{AreSameValues, IsValue, attributes, over, under}
 use Rattle.hd_map.specs.declared.types.Rank.{Rank}
 use Rattle.hd_map.specs.declared.types.SideName.{SideName}
 use Rattle.hd_map.specs.Map.{Map, IsMap}
@@ -20,16 +20,10 @@ use Rattle.hd_num.specs.declared.frac.Frac.{Frac}
 use Rattle.hd_num.specs.Frac.{IsFraction, sum_over_product}
 use Rattle.hd_prune.specs.declared.step.Kept.{Kept}
 use Rattle.hd_prune.specs.Kept.{AreKept, pits_kept}
+use Rattle.hd_prune.specs.Staying.{AreKeptAlone}
 use Rattle.hd_survey.specs.Features.{AreFeatures, feature_of}
 use Rattle.hd_map.specs.Presence.{present_heights}
-use Rattle.hd_survey.specs.Values.{AreSameValues, IsNotationValue, IsParameterValue, IsSum, side_of}
-
--- what the layers below determine
-pub record ValueLaws : Type 0 where
-  pub regions : (m : Map) (side : SideName) (a b : List (Option ℕ)) → IsMap m → AreRegions m side a → AreRegions m side b → a ≡ b
-  pub prunings : (m : Map) (side : SideName) (thousandths : ℕ) (xs ys : List Leaving) (last end : List Rank) (mine yours : Rank → Rank)
-      → IsPruning m side thousandths xs last mine → IsPruning m side thousandths ys end yours → (xs ≡ ys) × (last ≡ end) × (mine ≡ yours)
-  pub fractions : (n : ℤ) (d : ℕ) (a : ℤ) (b : ℕ) (c : ℤ) (e : ℕ) → 0 < d → IsFraction n d a b → IsFraction n d c e → (a ≡ c) × (b ≡ e)
+use Rattle.hd_survey.specs.Values.{IsNotationValue, IsParameterValue, IsSum, side_of}
 
 module _ (m : Map) (side : SideName) (last : List Rank) where
   nearest-one : (p : Rank) (s t : Option Rank) → NearestSaddleIs m side last p s → NearestSaddleIs m side last p t → s ≡ t
@@ -60,6 +54,41 @@ module _ (m : Map) (side : SideName) (last : List Rank) where
       let one : k ≡ l = same_kept k.pit l.pit k.nearest l.nearest e.0 nearest in
       ap (λ (z : Kept). z ∷ ks) one ∙ ap (λ (zs : List Kept). l ∷ zs) (kept-same ks ls e.1 (λ z h. x z (Contains-tail k z ks h)) (λ z h. y z (Contains-tail l z ls h)))
 
+-- what is known of prunings
+abbrev pub OnePruning : Type 0
+OnePruning = (m : Map) (side : SideName) (thousandths : ℕ) (xs ys : List Leaving) (last end : List Rank) (mine yours : Rank → Rank)
+    → IsPruning m side thousandths xs last mine → IsPruning m side thousandths ys end yours → (xs ≡ ys) × (last ≡ end) × (mine ≡ yours)
+
+-- a pruning keeps one list of pits
+pub kept-one : OnePruning → (m : Map) (side : SideName) (thousandths : ℕ) (a b : List Kept) → AreKeptAlone m side thousandths a → AreKeptAlone m side thousandths b → a ≡ b
+kept-one one m side thousandths a b x y =
+    let same = one m side thousandths x.steps y.steps x.last y.last x.owner y.owner x.pruning y.pruning in
+    let mine : AreKept m side y.last a = subst (λ (last : List Rank). AreKept m side last a) same.1 x.are_kept in
+    kept-same m side y.last a b (mine.pits ∙ sym y.are_kept.pits) mine.nearest y.are_kept.nearest
+
+-- what is known of regions
+abbrev pub OneRegions : Type 0
+OneRegions = (m : Map) (side : SideName) (a b : List (Option ℕ)) → IsMap m → AreRegions m side a → AreRegions m side b → a ≡ b
+
+alone : (m : Map) (side : SideName) (thousandths : ℕ) (features : List Region) → (f : AreFeatures m side thousandths features) → AreKeptAlone m side thousandths f.kept
+alone m side thousandths features f = record { steps = f.steps; last = f.last; owner = f.owner; pruning = f.pruning; are_kept = f.are_kept }
+
+-- a pruning leaves one list of regions
+pub features-one : OneRegions → OnePruning → (m : Map) (side : SideName) (thousandths : ℕ) (a b : List Region) → IsMap m → AreFeatures m side thousandths a → AreFeatures m side thousandths b → a ≡ b
+features-one one prunings m side thousandths a b whole x y =
+    let roots : x.roots ≡ y.roots = one m side x.roots y.roots whole x.regions y.regions in
+    let same = prunings m side thousandths x.steps y.steps x.last y.last x.owner y.owner x.pruning y.pruning in
+    let kept : x.kept ≡ y.kept = kept-one prunings m side thousandths x.kept y.kept (alone m side thousandths a x) (alone m side thousandths b y) in
+    x.are ∙ ap (λ (rs : List (Option ℕ)). map (feature_of m side x.owner rs) x.kept) roots
+    ∙ ap (λ (of : Rank → Rank). map (feature_of m side of y.roots) x.kept) same.2
+    ∙ ap (λ (ks : List Kept). map (feature_of m side y.owner y.roots) ks) kept ∙ sym y.are
+
+-- what the layers below determine
+pub record ValueLaws : Type 0 where
+  pub regions : OneRegions
+  pub prunings : OnePruning
+  pub fractions : (n : ℤ) (d : ℕ) (a : ℤ) (b : ℕ) (c : ℤ) (e : ℕ) → 0 < d → IsFraction n d a b → IsFraction n d c e → (a ≡ c) × (b ≡ e)
+
 positive : (a b : ℕ) → 0 < a → 0 < b → 0 < a * b
 positive zero b x y = absurd (omega arith)
 positive (suc a) zero x y = absurd (omega arith)
@@ -89,20 +118,10 @@ module _ (laws : ValueLaws) where
   value-one n features area None None x y = tt
 
   module _ (m : Map) (whole : IsMap m) where
-    features-one : (side : SideName) (thousandths : ℕ) (a b : List Region) → AreFeatures m side thousandths a → AreFeatures m side thousandths b → a ≡ b
-    features-one side thousandths a b x y =
-        let roots : x.roots ≡ y.roots = laws.regions m side x.roots y.roots whole x.regions y.regions in
-        let same = laws.prunings m side thousandths x.steps y.steps x.last y.last x.owner y.owner x.pruning y.pruning in
-        let mine : AreKept m side y.last x.kept = subst (λ (last : List Rank). AreKept m side last x.kept) same.1 x.are_kept in
-        let kept : x.kept ≡ y.kept = kept-same m side y.last x.kept y.kept (mine.pits ∙ sym y.are_kept.pits) mine.nearest y.are_kept.nearest in
-        x.are ∙ ap (λ (rs : List (Option ℕ)). map (feature_of m side x.owner rs) x.kept) roots
-        ∙ ap (λ (of : Rank → Rank). map (feature_of m side of y.roots) x.kept) same.2
-        ∙ ap (λ (ks : List Kept). map (feature_of m side y.owner y.roots) ks) kept ∙ sym y.are
-
     -- a notation has one value
     pub notation_value-one : (n : Notation) (a b : Option Frac) → IsNotationValue m n a → IsNotationValue m n b → AreSameValues a b
     notation_value-one n a b x y =
-        let same : y.features ≡ x.features = features-one (side_of n.kind) n.percent.thousandths y.features x.features y.are x.are in
+        let same : y.features ≡ x.features = features-one laws.regions laws.prunings m (side_of n.kind) n.percent.thousandths y.features x.features whole y.are x.are in
         value-one n x.features (length (present_heights m)) a b x.is (subst (λ (rs : List Region). IsValue n rs (length (present_heights m)) b) same y.is)
 
     none_same : (c d : Option Frac) → c ≡ None → d ≡ None → AreSameValues c d

@@ -1,24 +1,9 @@
--- Heights of some data type.
-use Rattle.std.specs.Prelude.{◌≤ℤ◌, ◌^◌, ℕ, ℤ, pos, negsuc}
+-- Heights of kept pits.
 use Rattle.std.specs.Option.{ForSome}
-use Rattle.hd_map.specs.declared.presence.HeightRange.{HeightRange}
 use Rattle.hd_prune.specs.declared.step.Kept.{Kept}
-
--- a height of some data type
-pub record IsHeight (h : ℤ) : Type 0 where
-  pub least : negsuc 9007199254740991 ≤ℤ h
-  pub greatest : h ≤ℤ pos 9007199254740992
-
--- how far two heights are apart at most
-abbrev pub farthest_apart : ℕ
-farthest_apart = 2 ^ 54
+pub use Rattle.hd_prune.specs.Span.{IsHeight, IsHeightRange, farthest_apart}
 
 -- the heights of a kept pit and of its nearest saddle are heights
 pub record HasHeights (k : Kept) : Type 0 where
   pub pit : IsHeight k.pit.height
   pub nearest : ForSome k.nearest (λ s. IsHeight s.height)
-
--- both ends of a range are heights
-pub record IsHeightRange (range : HeightRange) : Type 0 where
-  pub least : IsHeight range.least
-  pub greatest : IsHeight range.greatest

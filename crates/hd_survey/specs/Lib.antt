@@ -11,3 +11,5 @@ pub mod Sums
 pub mod Values
 pub mod Saddles
 pub mod Lines
+pub mod Findings
+pub mod Survey

@@ -7,6 +7,7 @@ use Rattle.hd_map.specs.declared.types.RegionSize.{RegionSize}
 use Rattle.hd_map.specs.declared.types.SideName.{SideName}
 use Rattle.hd_map.specs.Map.{Map, height_or_zero}
 use Rattle.hd_map.specs.Region.{AreRegions}
+use Rattle.hd_steep.specs.Numbering.{Numbering}
 
 -- whether a point has this root
 abbrev pub names : Option ℕ → ℕ → Bool
@@ -21,10 +22,19 @@ pits_of roots = map (λ entry. entry.0) (filter (λ entry. names entry.1 entry.0
 abbrev pub points_of : List (Option ℕ) → ℕ → ℕ
 points_of roots pit = count_by (λ root. names root pit) roots
 
--- by index, how many points have that root
-pub record CountsPoints (roots : List (Option ℕ)) (points : List ℕ) : Type 0 where
-  pub whole : length points ≡ length roots
-  pub counted : (k : ℕ) → k < length roots → slice_index points k ≡ points_of roots k
+-- how many points have this number
+abbrev pub points_numbered : List ℕ → ℕ → ℕ
+points_numbered numbers i = count_by (λ n. nat_eq n i) numbers
+
+-- by number of a pit, how many points have that number
+pub record CountsPoints (regions : Numbering) (points : List ℕ) : Type 0 where
+  pub whole : length points ≡ length regions.pits
+  pub counted : (i : ℕ) → i < length regions.pits → slice_index points i ≡ points_numbered regions.numbers i
+
+-- by number of a pit, how many points have that pit as their root
+pub record AreCountsOf (roots : List (Option ℕ)) (pits : List Rank) (points : List ℕ) : Type 0 where
+  pub whole : length points ≡ length pits
+  pub each : (n : ℕ) (d : Rank) → n < length pits → slice_index points n ≡ points_of roots (slice_index_or pits n d).index
 
 -- the rank of the measured point of an index
 abbrev pub rank_at : Map → ℕ → Rank

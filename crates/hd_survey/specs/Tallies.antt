@@ -1,5 +1,5 @@
 -- How many points regions have, and the range of the heights of their edge points.
-use Rattle.std.specs.Prelude.{◌≡◌, ◌<◌, ◌+◌, ℕ, ℤ, Bool, true, false, List, length, map, filter, Option, Some, None, nat_eq, slice_index_or}
+use Rattle.std.specs.Prelude.{◌≡◌, ◌<◌, ◌+◌, ℕ, ℤ, Bool, true, false, List, length, map, filter, Option, Some, None, nat_eq, slice_index, slice_index_or}
 use Rattle.std.specs.Int.{int_min, int_max}
 use Rattle.std.specs.List.{range_with_len}
 use Rattle.hd_map.specs.declared.presence.HeightRange.{HeightRange}
@@ -8,6 +8,7 @@ use Rattle.hd_map.specs.declared.types.SideName.{SideName}
 use Rattle.hd_map.specs.Map.{Map, cell_count}
 use Rattle.hd_map.specs.Presence.{range_of, widened}
 use Rattle.hd_map.specs.Region.{AreRegions}
+use Rattle.hd_steep.specs.Numbering.{Numbering}
 use Rattle.hd_survey.specs.declared.tally.Tally.{Tally}
 use Rattle.hd_survey.specs.Edges.{edge_heights}
 use Rattle.hd_survey.specs.Regions.{names, pit_ranks}
@@ -58,27 +59,14 @@ joined_ranges (Some a) (Some b) = Some (record { least = int_min a.least b.least
 abbrev pub joined : Tally → Tally → Tally
 joined a b = record { points = a.points + b.points; edge = joined_ranges a.edge b.edge }
 
--- by index of a pit, its number among these
-abbrev pub AreNumbers : List Rank → List ℕ → Type 0
-AreNumbers pits numbers = (i : ℕ) (d : Rank) → i < length pits → slice_index_or numbers (slice_index_or pits i d).index 0 ≡ i
+-- of the points with an index below n, those with this number
+abbrev pub numbered_below : List ℕ → ℕ → ℕ → List ℕ
+numbered_below numbers i n = filter (λ k. nat_eq (slice_index numbers k) i) (range_with_len 0 n)
 
--- each root stands in the table, and its number is one of so many
-abbrev pub AreNumbered : List (Option ℕ) → List ℕ → ℕ → Type 0
-AreNumbered roots numbers count = (k r : ℕ) → k < length roots → slice_index_or roots k None ≡ Some r → (r < length numbers) × (slice_index_or numbers r 0 < count)
-
--- whether a root has this number
-abbrev pub has_number : List ℕ → ℕ → Option ℕ → Bool
-has_number numbers i (Some root) = nat_eq (slice_index_or numbers root 0) i
-has_number numbers i None = false
-
--- of the points with an index below n, those whose roots have this number
-abbrev pub numbered_below : List (Option ℕ) → List ℕ → ℕ → ℕ → List ℕ
-numbered_below roots numbers i n = filter (λ k. has_number numbers i (slice_index_or roots k None)) (range_with_len 0 n)
-
--- by number, the tally of the points with an index below n whose roots have that number
-pub record AreTallies (m : Map) (roots : List (Option ℕ)) (numbers : List ℕ) (count n : ℕ) (tallies : List Tally) : Type 0 where
-  pub whole : length tallies ≡ count
-  pub each : (i : ℕ) (d : Tally) → i < count → slice_index_or tallies i d ≡ tally_of m (numbered_below roots numbers i n)
+-- by number of a pit, the tally of the points with an index below n that have that number
+pub record AreTallies (m : Map) (regions : Numbering) (n : ℕ) (tallies : List Tally) : Type 0 where
+  pub whole : length tallies ≡ length regions.pits
+  pub each : (i : ℕ) (d : Tally) → i < length regions.pits → slice_index_or tallies i d ≡ tally_of m (numbered_below regions.numbers i n)
 
 -- the tally of this number gets one more point
 pub record AddsPoint (old : List Tally) (number : ℕ) (height : Option ℤ) (new : List Tally) : Type 0 where

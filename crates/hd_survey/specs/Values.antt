@@ -44,10 +44,3 @@ IsSum None b sum = sum ≡ None
 abbrev pub IsParameterValue : Map → Parameter → Option Frac → Type 0
 IsParameterValue m (One n) value = IsNotationValue m n value
 IsParameterValue m (Sum n k) value = (a : Option Frac) × (b : Option Frac) × IsNotationValue m n a × IsNotationValue m k b × IsSum a b value
-
--- the same value, by numerator and denominator
-abbrev pub AreSameValues : Option Frac → Option Frac → Type 0
-AreSameValues (Some f) (Some g) = (f.num ≡ g.num) × (f.den ≡ g.den)
-AreSameValues (Some f) None = ⊥
-AreSameValues None (Some g) = ⊥
-AreSameValues None None = Unit {0}

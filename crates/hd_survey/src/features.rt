@@ -2,9 +2,11 @@
 ghost use Rattle.std.specs.Prelude.{◌≡◌, ◌≤◌, length, All, IfOk, unsigned_abs};
 ghost use Rattle.std.specs.Option.{ForSome};
 ghost use Rattle.hd_map.specs.Presence.{present_heights, range_of};
+ghost use Rattle.hd_survey.specs.Findings.{AreFindings};
 ghost use Rattle.hd_survey.specs.Features.{AreFeatures, AreFeaturesWith, AreHeightsAlone, AreHeightsWith, feature_with};
 ghost use Rattle.hd_survey.specs.Heights.{HasHeights, IsHeightRange, farthest_apart};
 
+use crate::findings::Findings;
 use crate::lpvh::lpvh;
 use crate::owned::owned_tallies;
 use crate::pruned::{cells_of, kept_pits, pruned_pits};
@@ -18,23 +20,28 @@ use hd_prune::Kept;
 use std::alloc::Global;
 
 /// The regions of the kept pits after the pruning of a grid at a percent, in position order, by a view of
-/// one of its sides. The range is that of the heights of the grid. `Memory` comes where the pruning or the
+/// one of its sides and what was found of it, to which the flood line is added. The range is that of the heights of the grid. `Memory` comes where the pruning or the
 /// list is refused its memory.
 pub fn features<S: Side, G: Heights, V: SideView<S>>(
     alloc: Global,
     grid: &G,
     view: &V,
+    findings: &mut Findings<S>,
     percent: Percent,
     range: Option<HeightRange>,
 ) -> Result<List<Region>, Memory>
     requires view { V.map view.now ≡ G.map grid.now }
+    requires findings { AreFindings (G.map grid.now) S.NAME findings.old }
     requires range { range ≡ range_of (present_heights (G.map grid.now)) }
     ensures are { IfOk result (AreFeatures (G.map grid.now) S.NAME percent.thousandths) }
     ensures points { IfOk result (All (λ r. r.points ≤ 4194304)) }
     ensures heights { IfOk result (All (λ r. unsigned_abs r.lpvh ≤ farthest_apart)) }
     ensures few { IfOk result (λ list. length list ≤ 4194304) }
+    ensures findings { AreFindings (G.map grid.now) S.NAME findings.new }
 {
-    let pruned = pruned_pits::<S, G, V>(alloc, grid, view, percent, range)?;
+    findings.find_line_by(alloc, view)?;
+    let line = findings.line();
+    let pruned = pruned_pits::<S, G, V>(alloc, grid, view, line, percent, range)?;
     let tallies = view.tallies()?;
     let owned = owned_tallies(alloc, cells_of(grid), &pruned, tallies.as_slice())?;
     list_features(
@@ -46,21 +53,25 @@ pub fn features<S: Side, G: Heights, V: SideView<S>>(
     )
 }
 
-/// The same regions by their pits and local heights alone, as if they had no points: nothing is counted.
+/// The same regions by their pits and local heights alone, as if they had no points: nothing is counted. The
+/// merges of the pits are added to what was found.
 /// `Memory` comes where the kept pits or the list are refused their memory.
 pub fn heights_alone<S: Side, G: Heights>(
     alloc: Global,
     grid: &G,
+    findings: &mut Findings<S>,
     percent: Percent,
     range: Option<HeightRange>,
 ) -> Result<List<Region>, Memory>
-    requires { range ≡ range_of (present_heights (G.map grid.now)) }
+    requires findings { AreFindings (G.map grid.now) S.NAME findings.old }
+    requires range { range ≡ range_of (present_heights (G.map grid.now)) }
     ensures are { IfOk result (AreHeightsAlone (G.map grid.now) S.NAME percent.thousandths) }
     ensures points { IfOk result (All (λ r. r.points ≤ 4194304)) }
     ensures heights { IfOk result (All (λ r. unsigned_abs r.lpvh ≤ farthest_apart)) }
     ensures few { IfOk result (λ list. length list ≤ 4194304) }
+    ensures findings { AreFindings (G.map grid.now) S.NAME findings.new }
 {
-    let kept = kept_pits::<S, G>(alloc, grid, percent, range)?;
+    let kept = kept_pits::<S, G>(alloc, grid, findings, percent, range)?;
     list_heights(alloc, S::NAME, range, kept.as_slice())
 }
 

@@ -2,16 +2,21 @@
 ghost use Rattle.std.specs.Prelude.{◌≡◌, ℕ, List, Option};
 ghost use Rattle.hd_feature.specs.declared.notation.Notation.{Notation};
 ghost use Rattle.hd_feature.specs.declared.notation.Parameter.{Parameter};
+ghost use Rattle.hd_feature.specs.declared.region.Region.{Region};
+ghost use Rattle.hd_feature.specs.Value.{AreSameValues};
 ghost use Rattle.hd_lines.specs.declared.line.BorderLine.{BorderLine};
 ghost use Rattle.hd_map.specs.declared.types.RegionSize.{RegionSize};
 ghost use Rattle.hd_map.specs.declared.types.SideName.{SideName};
 ghost use Rattle.hd_map.specs.Map.{Map, IsMap};
 ghost use Rattle.hd_map.specs.Pruning.{Leaving};
 ghost use Rattle.hd_num.specs.declared.frac.Frac.{Frac};
+ghost use Rattle.hd_prune.specs.declared.step.Kept.{Kept};
+ghost use Rattle.hd_prune.specs.Staying.{AreKeptAlone};
+ghost use Rattle.hd_survey.specs.Features.{AreFeatures};
 ghost use Rattle.hd_survey.specs.Lines.{ArePrunedLines};
 ghost use Rattle.hd_survey.specs.Owned.{ArePrunedRegions};
 ghost use Rattle.hd_survey.specs.Regions.{AreRegionSizes};
-ghost use Rattle.hd_survey.specs.Values.{AreSameValues, IsNotationValue, IsParameterValue};
+ghost use Rattle.hd_survey.specs.Values.{IsNotationValue, IsParameterValue};
 
 use hd_lines::border_lines_are_determined;
 use hd_map::pruning_is_determined;
@@ -41,6 +46,21 @@ pub fn pruned_lines_are_determined()
 {
     pruning_is_determined();
     border_lines_are_determined();
+}
+
+/// The pruning of a map on a side at a percent keeps one list of pits.
+pub fn kept_pits_are_determined()
+    ensures { (m : Map) (side : SideName) (thousandths : ℕ) (a b : List Kept) → AreKeptAlone m side thousandths a → AreKeptAlone m side thousandths b → a ≡ b }
+{
+    pruning_is_determined();
+}
+
+/// It leaves one list of regions, by what feature parameters take of them.
+pub fn features_are_determined()
+    ensures { (m : Map) (side : SideName) (thousandths : ℕ) (a b : List Region) → IsMap m → AreFeatures m side thousandths a → AreFeatures m side thousandths b → a ≡ b }
+{
+    regions_are_determined();
+    pruning_is_determined();
 }
 
 /// A notation and a parameter have one value on a map.

@@ -5,30 +5,34 @@
 mod edges;
 mod falls;
 mod features;
+mod findings;
 mod graph;
 mod grid_view;
 mod laws;
 mod lines;
 mod lpvh;
+mod merges;
 mod owned;
 mod pits;
 mod pruned;
-mod regions;
 mod roots;
 mod saddles;
 mod sizes;
+mod survey;
 mod tallies;
 mod tally;
 mod values;
 mod view;
 
+pub use findings::Findings;
 pub use graph::change_tree;
 pub use laws::{
-    pruned_lines_are_determined, pruned_regions_are_determined, region_sizes_are_determined,
-    values_are_determined,
+    features_are_determined, kept_pits_are_determined, pruned_lines_are_determined,
+    pruned_regions_are_determined, region_sizes_are_determined, values_are_determined,
 };
 pub use lines::pruned_lines;
-pub use pruned::{PrunedRegions, pruned_regions};
-pub use regions::region_sizes;
+pub use merges::PitMerges;
+pub use pruned::{PrunedRegions, kept_pits, pruned_regions};
 pub use saddles::saddle_between;
-pub use values::{notation_value, parameter_value};
+pub use survey::Survey;
+pub use values::{notation_regions, notation_value, parameter_value};

@@ -2,24 +2,26 @@
 ghost use Rattle.std.specs.Prelude.{◌≡◌, ◌<◌, ℕ, List as Items, Option, All, IfOk};
 ghost use Rattle.hd_map.specs.Map.{IsMap, Map, cell_count};
 ghost use Rattle.hd_map.specs.Presence.{present_heights, range_of};
-ghost use Rattle.hd_map.specs.Pruning.{SzIs};
 ghost use Rattle.hd_map.specs.Region.{AreRegions};
 ghost use Rattle.hd_prune.specs.Answer.{IsPruned};
 ghost use Rattle.hd_prune.specs.Pruned.{leavings_of};
 ghost use Rattle.hd_prune.specs.Staying.{AreKeptAlone};
+ghost use Rattle.hd_survey.specs.Findings.{AreFindings, ArePitMerges, IsPitLine};
 ghost use Rattle.hd_survey.specs.Inside.{IsStepOn};
 ghost use Rattle.hd_survey.specs.Owned.{ArePrunedRegions};
+ghost use Rattle.hd_survey.specs.Regions.{AreRegionSizes};
 
 use crate::falls::Falls;
-use crate::graph::{flood_line_of, pit_graph};
+use crate::findings::Findings;
 use crate::grid_view::GridView;
+use crate::merges::PitMerges;
 use crate::owned::owned_sizes;
 use crate::view::SideView;
-use hd_graph::merges_of;
+use hd_graph::FloodLine;
 use hd_list::{List, Memory};
 use hd_map::{HeightRange, Heights, RegionSize, Side, presence_of};
 use hd_num::Percent;
-use hd_prune::{Kept, Pruned, Step, keep, prune};
+use hd_prune::{Kept, Pruned, Step, height_span, keep, prune};
 use std::alloc::Global;
 
 /// What a pruning does, and the regions that it leaves.
@@ -31,80 +33,115 @@ pub struct PrunedRegions {
     pub kept: List<RegionSize>,
 }
 
-/// The pruning of a grid on a side at a percent (Wolf pruning of ISO 25178-2). `Memory` comes where the
-/// regions or the pruning are refused their memory.
+/// The pruning of a grid on a side at a percent (Wolf pruning of ISO 25178-2), by what was found of the side,
+/// to which the flood line and the regions are added. `Memory` comes where the regions or the pruning are
+/// refused their memory.
 pub fn pruned_regions<S: Side, G: Heights>(
     alloc: Global,
     grid: &G,
+    findings: &mut Findings<S>,
     percent: Percent,
 ) -> Result<PrunedRegions, Memory>
+    requires { AreFindings (G.map grid.now) S.NAME findings.old }
     ensures are { IfOk result (λ pruned. ArePrunedRegions (G.map grid.now) S.NAME percent.thousandths (leavings_of pruned.steps) pruned.kept) }
     ensures steps { IfOk result (λ pruned. All (IsStepOn (G.map grid.now).size) pruned.steps) }
     ensures kept { IfOk result (λ pruned. All (λ region. region.pit.index < cell_count (G.map grid.now).size) pruned.kept) }
+    ensures findings { AreFindings (G.map grid.now) S.NAME findings.new }
 {
     let view = GridView::<S, G>::new(alloc, grid)?;
-    regions_left::<S, G, GridView<'_, S, G>>(alloc, grid, &view, percent)
+    findings.find_line_by(alloc, &view)?;
+    findings.find_sizes_by(&view)?;
+    let range = presence_of(grid).range;
+    let pruned = pruned_pits::<S, G, GridView<'_, S, G>>(
+        alloc,
+        grid,
+        &view,
+        findings.line(),
+        percent,
+        range,
+    )?;
+    regions_left::<S, G>(alloc, grid, pruned, findings.sizes(), percent)
 }
 
-// The same by a view of the grid.
-fn regions_left<S: Side, G: Heights, V: SideView<S>>(
+// The steps of a pruning, and the regions that it leaves of these, which are those of the grid.
+fn regions_left<S: Side, G: Heights>(
     alloc: Global,
     grid: &G,
-    view: &V,
-    percent: Percent,
+    pruned: Pruned,
+    sizes: &[RegionSize],
+    _percent: Percent,
 ) -> Result<PrunedRegions, Memory>
-    requires { V.map view.now ≡ G.map grid.now }
-    ensures are { IfOk result (λ pruned. ArePrunedRegions (G.map grid.now) S.NAME percent.thousandths (leavings_of pruned.steps) pruned.kept) }
+    requires pruned { IsPruned (G.map grid.now) S.NAME _percent.thousandths pruned.steps pruned.kept pruned.owners }
+    requires sizes { AreRegionSizes (G.map grid.now) S.NAME sizes.now }
+    ensures are { IfOk result (λ pruned. ArePrunedRegions (G.map grid.now) S.NAME _percent.thousandths (leavings_of pruned.steps) pruned.kept) }
     ensures steps { IfOk result (λ pruned. All (IsStepOn (G.map grid.now).size) pruned.steps) }
     ensures kept { IfOk result (λ pruned. All (λ region. region.pit.index < cell_count (G.map grid.now).size) pruned.kept) }
 {
-    let range = presence_of(grid).range;
-    let pruned = pruned_pits::<S, G, V>(alloc, grid, view, percent, range)?;
-    let sizes = view.sizes()?;
-    let kept = owned_sizes(alloc, cells_of(grid), &pruned, sizes.as_slice())?;
+    let kept = owned_sizes(alloc, cells_of(grid), &pruned, sizes)?;
     Ok(PrunedRegions {
         steps: pruned.steps,
         kept,
     })
 }
 
-/// The pruning of the pits of a grid by a view of one of its sides. The range is that of the heights of
-/// the grid. `Memory` comes where the flood line or the pruning is refused its memory.
+/// The pruning of the pits of a grid by a view of one of its sides and the flood line of its pits. The range is
+/// that of the heights of the grid. `Memory` comes where the pruning is refused its memory.
 pub fn pruned_pits<S: Side, G: Heights, V: SideView<S>>(
     alloc: Global,
     grid: &G,
     view: &V,
+    line: &FloodLine<S>,
     percent: Percent,
     range: Option<HeightRange>,
 ) -> Result<Pruned, Memory>
     requires view { V.map view.now ≡ G.map grid.now }
+    requires line { IsPitLine (G.map grid.now) S.NAME line.now }
     requires range { range ≡ range_of (present_heights (G.map grid.now)) }
     ensures { IfOk result (λ pruned. IsPruned (G.map grid.now) S.NAME percent.thousandths pruned.steps pruned.kept pruned.owners) }
 {
-    let line = flood_line_of::<S, V>(alloc, view)?;
     let falls = Falls::<'_, S, G, V>::new(alloc, grid, view);
-    prune::<S, Falls<'_, S, G, V>>(alloc, &line, &falls, percent, height_span(range))
+    prune::<S, Falls<'_, S, G, V>>(alloc, line, &falls, percent, height_span(range))
 }
 
-/// The pits that this pruning keeps, with their nearest saddles, in position order. Neither the steps nor
-/// the owners are found for them. `Memory` comes where the regions, the merges of the pits or the list are
-/// refused their memory.
+/// The pits that the pruning of a grid on a side at a percent keeps, with their nearest saddles, in position
+/// order, by what was found of the side, to which the merges of the pits are added. Neither the steps nor the
+/// owners are found for them. The range is that of the heights of the grid. `Memory` comes where the regions,
+/// the merges or the list are refused their memory.
 pub fn kept_pits<S: Side, G: Heights>(
     alloc: Global,
     grid: &G,
+    findings: &mut Findings<S>,
     percent: Percent,
     range: Option<HeightRange>,
 ) -> Result<List<Kept>, Memory>
-    requires { range ≡ range_of (present_heights (G.map grid.now)) }
+    requires findings { AreFindings (G.map grid.now) S.NAME findings.old }
+    requires range { range ≡ range_of (present_heights (G.map grid.now)) }
     ensures kept { IfOk result (AreKeptAlone (G.map grid.now) S.NAME percent.thousandths) }
+    ensures inside { IfOk result (All (λ k. k.pit.index < cell_count (G.map grid.now).size)) }
     ensures regions { IfOk result (λ _. (roots : Items (Option ℕ)) × AreRegions (G.map grid.now) S.NAME roots) }
+    ensures findings { AreFindings (G.map grid.now) S.NAME findings.new }
 {
-    let graph = pit_graph::<S, G>(alloc, grid)?;
-    let merges = merges_of::<S>(alloc, &graph)?;
+    findings.find_merges(alloc, grid)?;
+    keep_pits::<S, G>(alloc, grid, findings.merges(), percent, range)
+}
+
+// The same by the merges of the pits.
+fn keep_pits<S: Side, G: Heights>(
+    alloc: Global,
+    _grid: &G,
+    merges: &PitMerges,
+    percent: Percent,
+    range: Option<HeightRange>,
+) -> Result<List<Kept>, Memory>
+    requires merges { ArePitMerges (G.map _grid.now) S.NAME merges.now }
+    requires range { range ≡ range_of (present_heights (G.map _grid.now)) }
+    ensures kept { IfOk result (AreKeptAlone (G.map _grid.now) S.NAME percent.thousandths) }
+    ensures inside { IfOk result (All (λ k. k.pit.index < cell_count (G.map _grid.now).size)) }
+{
     keep::<S>(
         alloc,
-        graph.lows(),
-        merges.as_slice(),
+        merges.lows.as_slice(),
+        merges.merges.as_slice(),
         percent,
         height_span(range),
     )
@@ -116,15 +153,4 @@ pub fn cells_of<G: Heights>(grid: &G) -> usize
 {
     let size = grid.size();
     (size.profiles * size.points) as usize
-}
-
-// The greatest height of a present point less the least, and 0 where no point is present.
-fn height_span(range: Option<HeightRange>) -> i64
-    requires { (m : Map) × IsMap m × (range ≡ range_of (present_heights m)) }
-    ensures { (m : Map) → IsMap m → range ≡ range_of (present_heights m) → SzIs m result }
-{
-    match range {
-        Some(range) => range.greatest - range.least,
-        None => 0,
-    }
 }

@@ -1,44 +1,59 @@
 // How many points the regions of a map have.
-ghost use Rattle.std.specs.Prelude.{◌≡◌, ◌<◌, ◌^◌, ℕ, length, map, Some, None, All, IfOk, slice_index_or};
-ghost use Rattle.hd_survey.specs.Regions.{CountsPoints, region_size};
+ghost use Rattle.std.specs.Prelude.{◌≡◌, ◌<◌, ◌^◌, ℕ, List as Items, Option, length, map, AllPairs, IfOk};
+ghost use Rattle.hd_steep.specs.Numbering.{roots_of};
+ghost use Rattle.hd_survey.specs.Regions.{AreCountsOf, CountsPoints, region_size};
 
 use hd_list::{List, Memory};
 use hd_map::{Rank, RegionSize};
+use hd_steep::Regions;
 use std::alloc::Global;
 
-/// The regions of these pits, with the numbers of the points that have them as their roots. `Memory`
-/// comes where the counts or the list are refused their memory.
-pub fn list_sizes(
-    alloc: Global,
-    roots: &[Option<u32>],
-    pits: &[Rank],
-) -> Result<List<RegionSize>, Memory>
-    requires few { length roots.now < 2 ^ 32 }
-    requires inside { (k n : ℕ) → k < length roots.now → slice_index_or roots.now k None ≡ Some n → n < length roots.now }
-    requires pits { All (λ pit. pit.index < length roots.now) pits.now }
-    ensures { IfOk result (λ sizes. sizes ≡ map (region_size roots.now) pits.now) }
+/// The regions with the numbers of their points, in position order of their pits. `Memory` comes where the
+/// counts or the list are refused their memory.
+pub fn list_sizes(alloc: Global, regions: &Regions) -> Result<List<RegionSize>, Memory>
+    requires few { length regions.now.numbers < 2 ^ 32 }
+    requires ordered { AllPairs (λ a b. a.index < b.index) regions.now.pits }
+    ensures { IfOk result (λ sizes. sizes ≡ map (region_size (roots_of regions.now)) regions.now.pits) }
 {
-    let points = count_points(alloc, roots)?;
+    let points = count_points(alloc, regions)?;
+    size_pits(alloc, regions.pits(), &points)
+}
+
+/// The same, where the numbers of the points are given up once they are counted.
+pub fn into_sizes(alloc: Global, regions: Regions) -> Result<List<RegionSize>, Memory>
+    requires few { length regions.numbers < 2 ^ 32 }
+    requires ordered { AllPairs (λ a b. a.index < b.index) regions.pits }
+    ensures { IfOk result (λ sizes. sizes ≡ map (region_size (roots_of regions)) regions.pits) }
+{
+    let points = count_points(alloc, &regions)?;
+    let pits = regions.into_pits();
+    size_pits(alloc, pits.as_slice(), &points)
+}
+
+// The regions of these pits, with these numbers of points.
+fn size_pits(alloc: Global, pits: &[Rank], points: &[u32]) -> Result<List<RegionSize>, Memory>
+    requires { length points.now ≡ length pits.now }
+    ensures { (roots : Items (Option ℕ)) → AreCountsOf roots pits.now points.now → IfOk result (λ sizes. sizes ≡ map (region_size roots) pits.now) }
+{
     let mut sizes = List::with_capacity(alloc, pits.len())?;
-    'pits: for pit in pits {
+    'pits: for (number, pit) in pits.iter().enumerate() {
         sizes.push(RegionSize {
             pit: *pit,
-            points: points[pit.index as usize],
+            points: points[number],
         })?;
     }
     Ok(sizes)
 }
 
-// By index, how many points have that root.
-fn count_points(alloc: Global, roots: &[Option<u32>]) -> Result<Vec<u32>, Memory>
-    requires few { length roots.now < 2 ^ 32 }
-    requires inside { (k n : ℕ) → k < length roots.now → slice_index_or roots.now k None ≡ Some n → n < length roots.now }
-    ensures { IfOk result (λ points. CountsPoints roots.now points.items) }
+// By number of a pit, how many points lie in its region.
+fn count_points(alloc: Global, regions: &Regions) -> Result<Vec<u32>, Memory>
+    requires { length regions.now.numbers < 2 ^ 32 }
+    ensures { IfOk result (λ points. CountsPoints regions.now points.items) }
 {
-    let mut points = vec![in alloc; 0u32; roots.len()]?;
-    'roots: for root in roots {
-        if let Some(pit) = root {
-            points[*pit as usize] += 1;
+    let mut points = vec![in alloc; 0u32; regions.pits().len()]?;
+    'indexes: for index in 0..regions.len() {
+        if let Some(number) = regions.number(index) {
+            points[number as usize] += 1;
         }
     }
     Ok(points)

@@ -1,70 +1,49 @@
 // The tallies of the regions of a grid.
-ghost use Rattle.std.specs.Prelude.{◌≡◌, ◌<◌, ◌^◌, length, map, replicate, All, AllPairs, IfOk};
+ghost use Rattle.std.specs.Prelude.{◌≡◌, ◌<◌, ◌^◌, length, map, replicate, All, IfOk};
 ghost use Rattle.hd_map.specs.Map.{cell_count};
-ghost use Rattle.hd_map.specs.Pruning.{ArePits};
-ghost use Rattle.hd_map.specs.Region.{AreRegions};
+ghost use Rattle.hd_steep.specs.Numbering.{AreNumbered, roots_of};
 ghost use Rattle.hd_survey.specs.Edges.{HaveRoots};
-ghost use Rattle.hd_survey.specs.Tallies.{AddsPoint, AreNumbered, AreNumbers, AreTallies, no_tally, region_tally};
+ghost use Rattle.hd_survey.specs.Tallies.{AddsPoint, AreTallies, no_tally, region_tally};
 
 use crate::edges::edge_height;
 use crate::tally::{NO_TALLY, Tally, count_point};
 use hd_list::{List, Memory};
-use hd_map::{Heights, Pos, Rank, Side, position_after};
+use hd_map::{Heights, Pos, Side, position_after};
+use hd_steep::Regions;
 use std::alloc::Global;
 
-/// The tallies of the regions of these pits, where the roots of the points are known. `Memory` comes
-/// where the tallies are refused their memory.
+/// The tallies of the regions of a grid, in position order of their pits. `Memory` comes where the tallies
+/// are refused their memory.
 pub fn region_tallies<S: Side, G: Heights>(
     alloc: Global,
     grid: &G,
-    roots: &[Option<u32>],
-    pits: &[Rank],
+    regions: &Regions,
 ) -> Result<List<Tally>, Memory>
-    requires regions { AreRegions (G.map grid.now) S.NAME roots.now }
-    requires pits { ArePits (G.map grid.now) S.NAME pits.now }
-    ensures { IfOk result (λ tallies. tallies ≡ map (region_tally (G.map grid.now) roots.now) pits.now) }
+    requires { AreNumbered (G.map grid.now) S.NAME regions.now }
+    ensures { IfOk result (λ tallies. tallies ≡ map (region_tally (G.map grid.now) (roots_of regions.now)) regions.now.pits) }
 {
-    let numbers = number_pits(alloc, roots.len(), pits)?;
-    let tallies = tally_points(alloc, grid, roots, numbers.as_slice(), pits.len())?;
+    let tallies = tally_points(alloc, grid, regions)?;
     Ok(List::from_vec(tallies))
 }
 
-// By index of a pit, its number among these pits, on a grid of `count` cells.
-fn number_pits(alloc: Global, count: usize, pits: &[Rank]) -> Result<Vec<u32>, Memory>
-    requires few { length pits.now < 2 ^ 32 }
-    requires inside { All (λ pit. pit.index < count) pits.now }
-    requires ordered { AllPairs (λ a b. a.index < b.index) pits.now }
-    ensures whole { IfOk result (λ numbers. length numbers.items ≡ count) }
-    ensures are { IfOk result (λ numbers. AreNumbers pits.now numbers.items) }
-{
-    let mut numbers = vec![in alloc; 0u32; count]?;
-    'pits: for (number, pit) in pits.iter().enumerate() {
-        numbers[pit.index as usize] = number as u32;
-    }
-    Ok(numbers)
-}
-
-// By number, the tallies of the points whose roots have these numbers. Exactly the present points
-// have roots.
+// By number of a pit, the tally of the points that lie in its region. Exactly the present points lie in
+// regions.
 fn tally_points<G: Heights>(
     alloc: Global,
     grid: &G,
-    roots: &[Option<u32>],
-    numbers: &[u32],
-    count: usize,
+    regions: &Regions,
 ) -> Result<Vec<Tally>, Memory>
-    requires whole { length roots.now ≡ cell_count (G.map grid.now).size }
-    requires present { HaveRoots (G.map grid.now) roots.now }
-    requires numbered { AreNumbered roots.now numbers.now count }
-    ensures { IfOk result (λ tallies. AreTallies (G.map grid.now) roots.now numbers.now count (cell_count (G.map grid.now).size) tallies.items) }
+    requires whole { length regions.now.numbers ≡ cell_count (G.map grid.now).size }
+    requires present { HaveRoots (G.map grid.now) (roots_of regions.now) }
+    ensures { IfOk result (λ tallies. AreTallies (G.map grid.now) regions.now (cell_count (G.map grid.now).size) tallies.items) }
 {
-    let mut tallies = no_tallies(alloc, count)?;
+    let mut tallies = no_tallies(alloc, regions.pits().len())?;
     let size = grid.size();
     let mut at = Pos { x: 0, y: 0 };
-    'points: for root in roots {
-        if let Some(pit) = root {
-            let height = edge_height(grid, roots, at);
-            add_point(&mut tallies, numbers[*pit as usize], height);
+    'points: for index in 0..regions.len() {
+        if let Some(number) = regions.number(index) {
+            let height = edge_height(grid, regions, at);
+            add_point(&mut tallies, number, height);
         }
         at = position_after(size, at);
     }

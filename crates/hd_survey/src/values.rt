@@ -5,11 +5,15 @@ ghost use Rattle.hd_feature.specs.declared.notation.Attribute.TheVariants.{Lpvh}
 ghost use Rattle.hd_feature.specs.declared.notation.Statistic.TheVariants.{Mean};
 ghost use Rattle.hd_map.specs.Presence.{IsPresence, present_heights, range_of};
 ghost use Rattle.hd_survey.specs.Heights.{farthest_apart};
+ghost use Rattle.hd_survey.specs.Findings.{AreFindings};
+ghost use Rattle.hd_survey.specs.Survey.{IsSurvey};
 ghost use Rattle.hd_survey.specs.Sums.{IsSmall, IsSumOfMeans};
 ghost use Rattle.hd_survey.specs.Values.{AreServing, IsNotationValue, IsParameterValue, IsSum, side_of};
 
 use crate::features::{features, heights_alone};
+use crate::findings::Findings;
 use crate::grid_view::GridView;
+use crate::survey::Survey;
 use hd_feature::{
     Kind, Notation, Parameter, Region, evaluate, heights_alone_serve, heights_serve,
     mean_height_is_small,
@@ -25,17 +29,20 @@ use std::alloc::Global;
 pub fn parameter_value<G: Heights>(
     alloc: Global,
     grid: &G,
+    survey: &mut Survey,
     parameter: &Parameter,
 ) -> Result<Option<Frac>, Memory>
-    requires { IsSumOfMeans parameter.now }
-    ensures { IfOk result (IsParameterValue (G.map grid.now) parameter.now) }
+    requires survey { IsSurvey (G.map grid.now) survey.old }
+    requires sum { IsSumOfMeans parameter.now }
+    ensures value { IfOk result (IsParameterValue (G.map grid.now) parameter.now) }
+    ensures survey { IsSurvey (G.map grid.now) survey.new }
 {
     let presence = presence_of(grid);
     match parameter {
-        Parameter::One(notation) => value_among(alloc, grid, notation, presence),
+        Parameter::One(notation) => value_among(alloc, grid, survey, notation, presence),
         Parameter::Sum(first, second) => {
-            let first = value_among(alloc, grid, first, presence)?;
-            let second = value_among(alloc, grid, second, presence)?;
+            let first = value_among(alloc, grid, survey, first, presence)?;
+            let second = value_among(alloc, grid, survey, second, presence)?;
             Ok(sum_of(first, second))
         }
     }
@@ -46,11 +53,33 @@ pub fn parameter_value<G: Heights>(
 pub fn notation_value<G: Heights>(
     alloc: Global,
     grid: &G,
+    survey: &mut Survey,
     notation: &Notation,
 ) -> Result<Option<Frac>, Memory>
-    ensures { IfOk result (IsNotationValue (G.map grid.now) notation.now) }
+    requires { IsSurvey (G.map grid.now) survey.old }
+    ensures value { IfOk result (IsNotationValue (G.map grid.now) notation.now) }
+    ensures survey { IsSurvey (G.map grid.now) survey.new }
 {
-    value_among(alloc, grid, notation, presence_of(grid))
+    value_among(alloc, grid, survey, notation, presence_of(grid))
+}
+
+/// The regions of the notation's type after its pruning, in position order; where its significance and its
+/// attribute ask for neither points nor edges, these may be as if the regions had no points. `Memory` comes
+/// where the pruning or the list is refused its memory.
+pub fn notation_regions<G: Heights>(
+    alloc: Global,
+    grid: &G,
+    survey: &mut Survey,
+    notation: &Notation,
+) -> Result<List<Region>, Memory>
+    requires { IsSurvey (G.map grid.now) survey.old }
+    ensures survey { IsSurvey (G.map grid.now) survey.new }
+    ensures are { IfOk result (AreServing (G.map grid.now) notation.now) }
+    ensures points { IfOk result (All (λ r. r.points ≤ 4194304)) }
+    ensures heights { IfOk result (All (λ r. unsigned_abs r.lpvh ≤ farthest_apart)) }
+    ensures few { IfOk result (λ list. length list ≤ 4194304) }
+{
+    kind_features(alloc, grid, survey, notation, presence_of(grid).range)
 }
 
 // The sum of two values, and none where one of them is none.
@@ -69,16 +98,19 @@ fn sum_of(first: Option<Frac>, second: Option<Frac>) -> Option<Frac>
 fn value_among<G: Heights>(
     alloc: Global,
     grid: &G,
+    survey: &mut Survey,
     notation: &Notation,
     presence: Presence,
 ) -> Result<Option<Frac>, Memory>
-    requires { IsPresence (present_heights (G.map grid.now)) presence }
+    requires survey { IsSurvey (G.map grid.now) survey.old }
+    requires presence { IsPresence (present_heights (G.map grid.now)) presence }
+    ensures survey { IsSurvey (G.map grid.now) survey.new }
     ensures is { IfOk result (IsNotationValue (G.map grid.now) notation.now) }
     ensures small { notation.now.attribute ≡ Lpvh → notation.now.statistic ≡ Mean → IfOk result (λ value. ForSome value IsSmall) }
 {
     mean_height_is_small();
     heights_alone_serve();
-    let regions = kind_features(alloc, grid, notation, presence.range)?;
+    let regions = kind_features(alloc, grid, survey, notation, presence.range)?;
     evaluate(alloc, notation, &regions, u64::from(presence.count))
 }
 
@@ -86,18 +118,27 @@ fn value_among<G: Heights>(
 fn kind_features<G: Heights>(
     alloc: Global,
     grid: &G,
+    survey: &mut Survey,
     notation: &Notation,
     range: Option<HeightRange>,
 ) -> Result<List<Region>, Memory>
-    requires { range ≡ range_of (present_heights (G.map grid.now)) }
+    requires survey { IsSurvey (G.map grid.now) survey.old }
+    requires range { range ≡ range_of (present_heights (G.map grid.now)) }
+    ensures survey { IsSurvey (G.map grid.now) survey.new }
     ensures are { IfOk result (AreServing (G.map grid.now) notation.now) }
     ensures points { IfOk result (All (λ r. r.points ≤ 4194304)) }
     ensures heights { IfOk result (All (λ r. unsigned_abs r.lpvh ≤ farthest_apart)) }
     ensures few { IfOk result (λ list. length list ≤ 4194304) }
 {
     match notation.kind {
-        Kind::Hill | Kind::Peak => side_features::<Up, G>(alloc, grid, notation, range),
-        Kind::Dale | Kind::Pit => side_features::<Down, G>(alloc, grid, notation, range),
+        Kind::Hill | Kind::Peak => {
+            let hills = &mut survey.hills;
+            side_features::<Up, G>(alloc, grid, hills, notation, range)
+        }
+        Kind::Dale | Kind::Pit => {
+            let dales = &mut survey.dales;
+            side_features::<Down, G>(alloc, grid, dales, notation, range)
+        }
     }
 }
 
@@ -105,19 +146,22 @@ fn kind_features<G: Heights>(
 fn side_features<S: Side, G: Heights>(
     alloc: Global,
     grid: &G,
+    findings: &mut Findings<S>,
     notation: &Notation,
     range: Option<HeightRange>,
 ) -> Result<List<Region>, Memory>
+    requires findings { AreFindings (G.map grid.now) S.NAME findings.old }
     requires side { S.NAME ≡ side_of notation.now.kind }
     requires range { range ≡ range_of (present_heights (G.map grid.now)) }
     ensures are { IfOk result (AreServing (G.map grid.now) notation.now) }
     ensures points { IfOk result (All (λ r. r.points ≤ 4194304)) }
     ensures heights { IfOk result (All (λ r. unsigned_abs r.lpvh ≤ farthest_apart)) }
     ensures few { IfOk result (λ list. length list ≤ 4194304) }
+    ensures findings { AreFindings (G.map grid.now) S.NAME findings.new }
 {
     if heights_serve(notation) {
-        return heights_alone::<S, G>(alloc, grid, notation.percent, range);
+        return heights_alone::<S, G>(alloc, grid, findings, notation.percent, range);
     }
     let view = GridView::<S, G>::new(alloc, grid)?;
-    features::<S, G, GridView<'_, S, G>>(alloc, grid, &view, notation.percent, range)
+    features::<S, G, GridView<'_, S, G>>(alloc, grid, &view, findings, notation.percent, range)
 }

@@ -1,2 +1,3 @@
 -- Lemmas of the proofs.
 mod Literals
+mod Following

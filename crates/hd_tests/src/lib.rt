@@ -4,11 +4,17 @@
 #[cfg(test)]
 mod adapters;
 #[cfg(test)]
+mod audit;
+#[cfg(test)]
 mod base;
+#[cfg(test)]
+mod basin;
 #[cfg(test)]
 mod check;
 #[cfg(test)]
 mod corridor;
+#[cfg(test)]
+mod decimals;
 #[cfg(test)]
 mod dot;
 #[cfg(test)]
@@ -17,6 +23,8 @@ mod edit;
 mod engine;
 #[cfg(test)]
 mod feature;
+#[cfg(test)]
+mod followed;
 #[cfg(test)]
 mod graph;
 #[cfg(test)]
@@ -40,7 +48,13 @@ mod sdf;
 #[cfg(test)]
 mod shared;
 #[cfg(test)]
+mod stats;
+#[cfg(test)]
 mod steep;
 mod surfaces;
+#[cfg(test)]
+mod tiles;
+#[cfg(test)]
+mod told;
 
 pub use surfaces::surface_of;

@@ -4,7 +4,7 @@ use hd_lines::BorderLine;
 use hd_list::List;
 use hd_map::{Adjacency, DataType, Down, Heights, Side, Under, Up};
 use hd_num::{Percent, push_text, push_unsigned};
-use hd_survey::pruned_lines;
+use hd_survey::{Findings, pruned_lines};
 use std::process::Abort;
 
 // Adds a border line: the indexes of its pits, how many pairs lie across it, and the index of its pass, with
@@ -30,7 +30,9 @@ fn push_lines<S: Side, G: Heights>(
     thousandths: u32,
 ) {
     let percent = Percent { thousandths };
-    let lines = pruned_lines::<S, G>(rt.alloc(), grid, percent).expect(rt, "memory");
+    let lines = pruned_lines::<S, G>(rt.alloc(), grid, &mut Findings::new(), percent).expect(
+        rt, "memory",
+    );
     for line in lines.as_slice() {
         push_line(rt, text, line);
     }
@@ -71,7 +73,9 @@ const OF_EIGHT: &str = "0 5 1 => ridges 0-2 1 1+ courses
 BAD BAD => ridges courses
 7 BAD 7 BAD 7/7 7 7 7 7 => ridges 0-2 2 6+ 2-4 2 8+ courses
 0 3 1 8 2 9 0 5 4 => ridges 0-2 1 1+ 2-4 1 3+ 4-6 1 5+ 6-8 1 7+ courses 1-3 1 2+ 3-5 1 4+ 5-7 1 6+
-0 7 1/7 7 7/2 7 3 => ridges 0-2 4 1+ 0-6 4 3+ 0-8 1 4+ 2-6 1 7- 2-8 1 5- 6-8 1 7- courses";
+0 7 1/7 7 7/2 7 3 => ridges 0-2 4 1+ 0-6 4 3+ 0-8 1 4+ 2-6 1 7- 2-8 1 5- 6-8 1 7- courses
+0 9 1/2 BAD 3/4 BAD 5/6 BAD 7/8 10 9 => ridges 0-2 4 1+ courses 1-13 2 5+
+0 0 0 0 9 1 1 1 1/0 0 0 0 9 1 1 1 1/0 0 0 0 9 1 1 1 1/0 0 0 0 9 1 1 1 1/0 0 0 0 9 1 1 1 1 => ridges 0-5 13 4+ courses";
 
 // At 45%, where some pits leave.
 struct AtMore;
@@ -83,6 +87,7 @@ impl Outcome for AtMore {
 }
 
 const AT_MORE: &str = "0 9 0/4 6 5/9 0 9 => ridges 0-2 6 5+ courses
+0 2 1 9 => ridges courses
 0 3 1 8 2 9 0 5 4 => ridges 0-4 1 3+ 4-6 1 5+ courses 3-5 1 4+ 5-7 1 6+
 0 9 1/6 9 6/9 3 9/2 9 4 => ridges 0-2 6 5+ courses";
 
@@ -97,7 +102,8 @@ impl Outcome for OfFour {
 
 const OF_FOUR: &str =
     "0 9 0/4 6 5/9 0 9 => ridges 0-2 1 1- 0-7 3 4+ 2-7 2 4+ courses 1-6 2 3+ 1-8 3 5+ 6-8 1 7-
-9 1 9/1 9 1/9 1 9 => ridges 1-3 2 0+ 1-5 2 2+ 1-7 1 4+ 3-7 1 6- 5-7 1 8- courses 0-4 1 1- 0-6 1 3+ 2-4 1 1- 2-8 1 5+ 4-6 1 3- 4-8 2 7+ 6-8 1 7+";
+9 1 9/1 9 1/9 1 9 => ridges 1-3 2 0+ 1-5 2 2+ 1-7 1 4+ 3-7 1 6- 5-7 1 8- courses 0-4 1 1- 0-6 1 3+ 2-4 1 1- 2-8 1 5+ 4-6 1 3- 4-8 2 7+ 6-8 1 7+
+0 7 1/7 7 7/2 7 3 => ridges 0-2 2 1+ 0-6 2 3+ 2-8 1 5+ 6-8 1 7- courses";
 
 // Under six.
 struct OfSix;

@@ -3,8 +3,8 @@ use crate::shared::{Outcome, expect_bytes, expect_heights, expect_rows, file_of,
 use hd_list::List;
 use hd_map::{Heights, Size};
 use hd_num::{Decimal, push_text, push_unsigned};
-use hd_sdf_read::{SdfError, SdfFile, Version, read_sdf};
-use hd_sdf_write::write_sdf;
+use hd_sdf_read::{SdfError, SdfFile, SdfReader, Version, read_sdf};
+use hd_sdf_write::{SdfPieces, write_sdf};
 use std::process::Abort;
 
 const NAMES: &[u8] = b"aBCR-1.0
@@ -112,7 +112,8 @@ const HEADERS: &str = "noise/ => Some(BadHeaderLine(5))
 NumPoints = 3/numpoints = 3/ => Some(KeyTwice(6))
 NumPoints = 0/ => Some(BadValue(5))
 Compression = 1/ => Some(Unsupported(5))
-DataType = 7/ => Some(Unsupported(5))
+CheckType = -3/ => Some(Unsupported(5))
+DataType = 8/ => Some(BadValue(5))
 NumPoints = 3/NumProfiles = 1/*/ => Some(MissingKey(3))
  => Some(HeaderEnds)";
 
@@ -247,9 +248,22 @@ Objective = 50x
 Operator: A. N.
 ";
 
-// Compares the text of a file.
+// Compares the text of a file, as a whole and in pieces.
 fn expect_written(rt: &(impl Abort + AllocGlobal), file: &SdfFile, wanted: &[u8]) {
     let text = write_sdf(rt.alloc(), file).expect(rt, "memory");
+    expect_bytes(rt, text.as_slice(), wanted);
+    let mut pieces = SdfPieces::new(file);
+    let mut piece = List::new(rt.alloc());
+    let mut text = List::new(rt.alloc());
+    'pieces: for _ in 0..8 {
+        if !pieces
+            .next_piece(rt.alloc(), &mut piece)
+            .expect(rt, "memory")
+        {
+            break;
+        }
+        push_text(&mut text, piece.as_slice()).expect(rt, "memory");
+    }
     expect_bytes(rt, text.as_slice(), wanted);
 }
 
@@ -258,4 +272,71 @@ fn a_measured_file_and_its_canonical_text_are_written_alike(rt: HostRuntime) {
     for text in [MEASURED, CANONICAL] {
         expect_written(&rt, &file_of(&rt, text), CANONICAL);
     }
+}
+
+// What a reader answers that is fed a text in pieces of so many bytes.
+fn read_in_pieces(
+    rt: &(impl Abort + AllocGlobal),
+    text: &[u8],
+    size: usize,
+) -> Result<SdfFile, SdfError> {
+    let mut reader = SdfReader::new(rt.alloc())?;
+    let mut rest = text;
+    'pieces: while !rest.is_empty() {
+        let (piece, more) = rest.split_at(size.min(rest.len()).max(1));
+        if let Err(refusal) = reader.feed(rt.alloc(), piece) {
+            return Err(refusal);
+        }
+        rest = more;
+    }
+    reader.finish(rt.alloc())
+}
+
+#[test]
+fn a_measured_file_is_read_in_pieces(rt: HostRuntime) {
+    for size in [1, 2, 3, 7] {
+        let file = read_in_pieces(&rt, MEASURED, size).expect(&rt, "read");
+        expect_written(&rt, &file, CANONICAL);
+    }
+}
+
+#[test]
+fn a_measured_file_is_read_cut_at_any_byte(rt: HostRuntime) {
+    for at in 0..MEASURED.len() {
+        let (first, second) = MEASURED.split_at(at);
+        let mut reader = SdfReader::new(rt.alloc()).expect(&rt, "memory");
+        reader.feed(rt.alloc(), first).expect(&rt, "read");
+        reader.feed(rt.alloc(), second).expect(&rt, "read");
+        let file = reader.finish(rt.alloc()).expect(&rt, "read");
+        expect_written(&rt, &file, CANONICAL);
+    }
+}
+
+// Why a file with these data is refused that comes in pieces of one byte.
+struct DataInPieces;
+
+impl Outcome for DataInPieces {
+    fn of<R: Abort + AllocGlobal>(rt: &R, input: &str) -> String {
+        let text = joined(
+            rt,
+            &[NAMES, SIZE, REST, b"*\n", lines_of(rt, input).as_bytes()],
+        );
+        shown(rt, &read_in_pieces(rt, text.as_slice(), 1).err())
+    }
+}
+
+// The same with these lines of the header.
+struct HeaderInPieces;
+
+impl Outcome for HeaderInPieces {
+    fn of<R: Abort + AllocGlobal>(rt: &R, input: &str) -> String {
+        let text = joined(rt, &[NAMES, lines_of(rt, input).as_bytes()]);
+        shown(rt, &read_in_pieces(rt, text.as_slice(), 1).err())
+    }
+}
+
+#[test]
+fn pieces_are_refused_as_the_whole_text_is(rt: HostRuntime) {
+    expect_rows::<HeaderInPieces>(&rt, HEADERS);
+    expect_rows::<DataInPieces>(&rt, ANY_DATA);
 }

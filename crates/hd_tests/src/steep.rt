@@ -6,7 +6,7 @@ use hd_map::{
     position_of,
 };
 use hd_num::{push_text, push_unsigned};
-use hd_steep::{crossings, next, passes, regions, root};
+use hd_steep::{crossings, find_regions, next, passes, regions, root};
 use std::process::Abort;
 
 // The labels of a side, each printed after a blank, and `-` for none.
@@ -91,6 +91,29 @@ fn the_next_point_is_the_lowest_lower_neighbour(rt: HostRuntime) {
     assert!(rt; lower == Some(Pos { x: 2, y: 2 }));
 }
 
+// The number of the pit of each point, printed as the labels are, after the indexes of the pits.
+fn numbers_text<S: Side>(rt: &(impl Abort + AllocGlobal), surface: &Surface) -> List<u8> {
+    let regions = find_regions::<S, _>(rt.alloc(), surface).expect(rt, "memory");
+    let mut text = List::new(rt.alloc());
+    for pit in regions.pits() {
+        push_label(rt, &mut text, Some(pit.index));
+    }
+    push_text(&mut text, b":").expect(rt, "memory");
+    for index in 0..regions.len() {
+        push_label(rt, &mut text, regions.number(index));
+    }
+    text
+}
+
+#[test]
+fn points_have_the_numbers_of_their_pits(rt: HostRuntime) {
+    let surface = surface(&rt, DataType::I32, "0 3 1 BAD 2 5");
+    let dales = numbers_text::<Down>(&rt, &surface);
+    expect_bytes(&rt, dales.as_slice(), b" 0 2 4: 0 0 1 - 2 2");
+    let hills = numbers_text::<Up>(&rt, &surface);
+    expect_bytes(&rt, hills.as_slice(), b" 1 5: 0 0 0 - 1 1");
+}
+
 // The indexes of the two pits and of the point of each pass.
 fn indexes_of(rt: &(impl Abort + AllocGlobal), all: &[Pass]) -> Vec<(u32, u32, u32)> {
     let mut indexes = Vec::new(rt.alloc());
@@ -125,8 +148,8 @@ fn expect_crossings<S: Side>(
     surface: &Surface,
     wanted: &[(u32, u32, u32)],
 ) {
-    let labels = regions::<S, _>(rt.alloc(), surface).expect(rt, "memory");
-    let found = crossings::<S, _>(rt.alloc(), surface, &labels).expect(rt, "memory");
+    let regions = find_regions::<S, _>(rt.alloc(), surface).expect(rt, "memory");
+    let found = crossings::<S, _>(rt.alloc(), surface, &regions).expect(rt, "memory");
     assert!(rt; indexes_of(rt, found.as_slice()).as_slice() == wanted);
 }
 

@@ -74,6 +74,50 @@ fn each_printed_certificate_is_accepted(rt: HostRuntime) -> Result<(), Fail> {
     Ok(())
 }
 
+// The certificates of the prunings of a profile of three points at 90% and 80%.
+const AT_90: &str = "pruning D 90% 8\npoints 3\n0 - 0\n1 0 -\n2 1 -\nend\n";
+
+const AT_80: &str = "pruning D 80% 8\npoints 3\n0 - 0\n2 - 2\n1 0 -\nend\n";
+
+#[test]
+fn a_pruning_certificate_is_printed_and_accepted_or_refused(rt: HostRuntime) -> Result<(), Fail> {
+    let surface = file(rt.alloc(), 3, 1, 5, "0 5 1")?;
+    let both = format!(in rt.alloc(); "{AT_90}{AT_80}")?;
+    let feed = whole(surface.as_str(), "audit D 90%\naudit D 80%\n");
+    expect(&rt, &["run", "A", "B"], &feed, Status::Done, both.as_str())?;
+    let refused = Status::CertificateRefused;
+    let cases = [
+        (AT_90, Status::Done, ACCEPTED),
+        (AT_80, Status::Done, ACCEPTED),
+        (
+            "pruning D 90% 8\npoints 3\n0 - 0\n2 - 2\n1 0 -\nend\n",
+            refused,
+            "certificate refused: rule 17 at 1 0\n",
+        ),
+        (
+            "pruning D 80% 8\npoints 3\n0 - 0\n1 0 -\n2 1 -\nend\n",
+            refused,
+            "certificate refused: rule 18 at 2 0\n",
+        ),
+        (
+            "pruning D 90% 8\npoints 2\n0 - 0\n1 0 -\nend\n",
+            refused,
+            "certificate refused: rule 13 at 2 0\n",
+        ),
+        (" pruning\tD\n", refused, "certificate unreadable: line 1\n"),
+        (
+            "\npruning D 90% 8\n",
+            refused,
+            "certificate unreadable: line 1\n",
+        ),
+    ];
+    for (text, wanted, output) in cases {
+        let feed = whole(surface.as_str(), text);
+        expect(&rt, &["check", "A", "B"], &feed, wanted, output)?;
+    }
+    Ok(())
+}
+
 #[test]
 fn each_call_of_a_check_that_fails_is_a_fault_of_its_kind(rt: HostRuntime) -> Result<(), Fail> {
     let surface = file(rt.alloc(), 3, 3, 5, SQUARE)?;

@@ -114,3 +114,42 @@ fn parameters_are_fractions_in_lowest_terms(rt: HostRuntime) -> Result<(), Fail>
     ];
     expect_all(&rt, &cases)
 }
+
+#[test]
+fn heights_distributions_and_volumes_are_told(rt: HostRuntime) -> Result<(), Fail> {
+    let cases = [
+        Case {
+            points: 3,
+            profiles: 1,
+            data: "0 5 1",
+            script: "height Sp\nheight Sv\nheight Sa\nheight Smr 1\nheight Smr\n",
+            status: Status::LineRefused,
+            printed: "height Sp 3/1\nheight Sv 2/1\nheight Sa 2/1\nheight Smr 1 2/3\nline 5 refused: the parameter needs a height\n",
+        },
+        Case {
+            points: 3,
+            profiles: 1,
+            data: "0 5 1",
+            script: "hist 2 FC;D;Wolfprune:5%;All;lpvh\nperc 4 FC;D;Wolfprune:5%;All;lpvh\n",
+            status: Status::Done,
+            printed: "hist 2 FC;D;Wolfprune:5%;All;lpvh 1 1\nperc 4 FC;D;Wolfprune:5%;All;lpvh 1/2\n",
+        },
+        Case {
+            points: 3,
+            profiles: 1,
+            data: "0 5 1",
+            script: "fill D 5%\nfill D 90%\n",
+            status: Status::Done,
+            printed: "fill D 5% 2\nvolume 0 0 5/1\nvolume 2 0 4/1\nfill D 90% 1\nvolume 0 0 none\n",
+        },
+        Case {
+            points: 3,
+            profiles: 1,
+            data: "0 5 1",
+            script: "hist 0 FC;D;Wolfprune:5%;All;lpvh\nperc 1 FC;D;Wolfprune:5%;All;lpvh;Mean\n",
+            status: Status::LineRefused,
+            printed: "line 1 refused: word 2 has not its form\nline 2 refused: part 7 has not its form\n",
+        },
+    ];
+    expect_all(&rt, &cases)
+}

@@ -8,8 +8,8 @@ use Rattle.std.proofs.lemmas.Result.{IfOk-weaker}
 use Rattle.hd_engine.proofs.Positions.{found_same, found_apart}
 use Rattle.hd_engine.proofs.saddles.show_pair.Goals as goal
 
-pub returns-then-eq : goal.returns-then-eq
-returns-then-eq g c =
+pub returns-then-eq-clause-answer : goal.returns-then-eq-clause-answer
+returns-then-eq-clause-answer g c =
     let m = g.G.Heights.map c.args.grid.now in
     let side = g.S.Side.NAME in
     let same : c.root-from.result ≡ c.root-to.result = found_same c.root-from.result c.root-to.result c.if-eq.ensures in
@@ -18,8 +18,8 @@ returns-then-eq g c =
     (λ r is. inl (record { pit = rank m c.root-from.result; first = c.root-from.ensures.root; second = second }, is ∙ ap (λ t. refused_for c.args.number t) c.one_region_cause.ensures))
     c.refused.ensures
 
-pub tell_saddle-requires : goal.tell_saddle-requires
-tell_saddle-requires g c =
+pub tell_saddle-requires-clause-pits : goal.tell_saddle-requires-clause-pits
+tell_saddle-requires-clause-pits g c =
     let m = g.G.Heights.map c.args.grid.now in
     let side = g.S.Side.NAME in
     record {
@@ -30,9 +30,9 @@ tell_saddle-requires g c =
       apart = found_apart c.root-from.result c.root-to.result c.if-eq.ensures;
     }
 
-pub returns : goal.returns
-returns g c =
-    let told = c.in_ok-text.ensures in
+pub returns-clause-answer : goal.returns-clause-answer
+returns-clause-answer g c =
+    let told = c.in_ok-text.ensures.text in
     inr (record {
       from = c.root-from.result;
       to = c.root-to.result;

@@ -1,6 +1,7 @@
 use Rattle.std.proofs.Common.{◌≡◌, ◌∙◌, List, Bool, sym, refl, arith}
 use Rattle.std.proofs.lemmas.Bool.{OnFalse_at}
 use Rattle.hd_steep.specs.Crossed.{ring_round}
+use Rattle.hd_steep.specs.Numbering.{roots_of}
 use Rattle.hd_steep.specs.Ring.{marks_of}
 use Rattle.hd_steep.proofs.Served.{IsLooked, read_middle, gathers_absent, present_in_middle, looked_lower, point_in_middle, gathers_crossed, gathers_alone, firsts_at}
 use Rattle.hd_steep.proofs.crossing.gather_point.Given.{Over}
@@ -61,4 +62,4 @@ returns-in_ok-cross g c =
 pub returns-else-are_several : goal.returns-else-are_several
 returns-else-are_several g c =
     let before = (goal.at.returns-else-are_several g c).After-lower_at-lower in
-    gathers_alone _ _ _ _ _ _ _ _ _ _ (looked g before c.marked-marks.result (rw c.adjacency.ensures at c.marked-marks.ensures)) c.args.labels.now c.requires.regions c.args.passes.now.items (OnFalse_at c.if-are_several.false c.are_several.ensures)
+    gathers_alone _ _ _ _ _ _ _ _ _ _ (looked g before c.marked-marks.result (rw c.adjacency.ensures at c.marked-marks.ensures)) (roots_of c.args.regions.now) c.requires.regions.roots c.args.passes.now.items (OnFalse_at c.if-are_several.false c.are_several.ensures)

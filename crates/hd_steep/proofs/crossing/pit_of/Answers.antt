@@ -1,22 +1,26 @@
-use Rattle.std.proofs.Common.{arith}
+use Rattle.std.proofs.Common.{◌≡◌, sym, subst, ◌∙◌}
+use Rattle.hd_map.specs.declared.types.Rank.{Rank}
+use Rattle.hd_map.specs.Region.{IsRoot}
+use Rattle.std.proofs.lemmas.Option.{same_Some}
 use Rattle.hd_steep.proofs.Following.{point_inside}
-use Rattle.hd_steep.proofs.Labels.{label_of_point}
+use Rattle.hd_steep.proofs.Numbered.{numbers_whole, pit_of_point}
 use Rattle.hd_steep.proofs.crossing.pit_of.Goals as goal
 
-pub bounds-labels-point : goal.bounds-labels-point
-bounds-labels-point g c =
-    let inside = point_inside (g.G.Heights.map c.args._grid.now) c.args.point c.requires.point in
-    let long = c.requires.regions.whole in
-    omega (arith, inside, long)
+pub pit-requires : goal.pit-requires
+pit-requires g c =
+    let m = g.G.Heights.map c.args._grid.now in
+    rw (numbers_whole m g.S.Side.NAME c.args.regions.now c.requires.regions) (point_inside m c.args.point c.requires.point)
 
 pub returns : goal.returns
 returns g c =
-    let found = label_of_point (g.G.Heights.map c.args._grid.now) g.S.Side.NAME c.args.labels.now c.args.point c.requires.regions c.requires.point in
-    let is = found.2 in
-    record { root = found.0; is_root = found.1; index_is = cc }
+    let m = g.G.Heights.map c.args._grid.now in
+    let found = pit_of_point m g.S.Side.NAME c.args.regions.now c.requires.regions c.args.point c.requires.point in
+    let same : found.0 ≡ c.in-Some.pit = same_Some found.0 c.in-Some.pit (sym found.2 ∙ sym c.pit.ensures ∙ c.in-Some.is) in
+    subst (λ (r : Rank). IsRoot m g.S.Side.NAME c.args.point r) same found.1
 
 pub unreachable-requires : goal.unreachable-requires
 unreachable-requires g c =
-    let found = label_of_point (g.G.Heights.map c.args._grid.now) g.S.Side.NAME c.args.labels.now c.args.point c.requires.regions c.requires.point in
-    let is = found.2 in
+    let m = g.G.Heights.map c.args._grid.now in
+    let found = pit_of_point m g.S.Side.NAME c.args.regions.now c.requires.regions c.args.point c.requires.point in
+    let none = sym found.2 ∙ sym c.pit.ensures ∙ c.in-None.is in
     cc

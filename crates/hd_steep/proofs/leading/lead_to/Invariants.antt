@@ -1,4 +1,5 @@
-use Rattle.hd_steep.specs.Links.{AreLinks, IsRootAt}
+use Rattle.std.proofs.Common.{◌≡◌, ◌⊎◌, slice_index}
+use Rattle.hd_steep.specs.Links.{AreLinks, IsRootAt, IsRootLink, KeepRootLinks}
 use Rattle.hd_steep.proofs.Ways.{depth_at}
 use Rattle.hd_steep.proofs.leading.lead_to.Given as goal
 
@@ -6,6 +7,8 @@ abbrev pub invariant-walk : goal.invariant-walk
 invariant-walk g l = let m = g.G.Heights.map l._grid in record {
   links : AreLinks m g.S.Side.NAME l.links;
   root : IsRootAt m g.S.Side.NAME l.here l.root;
+  kept : KeepRootLinks m g.S.Side.NAME l.fn.links l.links;
+  led : (l.here ≡ l.start) ⊎ IsRootLink m g.S.Side.NAME l.start (slice_index l.links l.start);
 }
 
 abbrev pub decreases-walk : goal.decreases-walk

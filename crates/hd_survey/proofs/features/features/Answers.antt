@@ -8,7 +8,7 @@ use Rattle.hd_survey.specs.Features.{AreFeaturesWith}
 use Rattle.hd_survey.specs.Heights.{HasHeights}
 use Rattle.hd_survey.specs.Tallies.{AreRegionTallies}
 use Rattle.hd_survey.proofs.FeatureNeeds.{Outcome, outcome, pruned_heights}
-use Rattle.hd_survey.proofs.Spans.{range_heights}
+use Rattle.hd_prune.proofs.Spans.{range_heights}
 use Rattle.hd_survey.proofs.Owning.{tallies_have}
 use Rattle.hd_survey.proofs.features.features.Given.{Over}
 use Rattle.hd_survey.proofs.features.features.Goals as goal

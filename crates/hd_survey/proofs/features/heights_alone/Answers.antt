@@ -4,7 +4,7 @@ use Rattle.hd_prune.specs.declared.step.Kept.{Kept}
 use Rattle.hd_survey.specs.Heights.{HasHeights}
 use Rattle.std.proofs.lemmas.Result.{IfOk-weaker}
 use Rattle.hd_survey.proofs.FeatureNeeds.{HeightOutcome, height_outcome, heights_known}
-use Rattle.hd_survey.proofs.Spans.{range_heights}
+use Rattle.hd_prune.proofs.Spans.{range_heights}
 use Rattle.hd_survey.proofs.features.heights_alone.Given.{Over}
 use Rattle.hd_survey.proofs.features.heights_alone.Goals as goal
 use Rattle.hd_survey.proofs.features.heights_alone.Goals.{After-list_heights}
@@ -15,7 +15,7 @@ listed g c =
     let found = c.in_ok-kept.ensures in
     IfOk-weaker c.list_heights.result _ _ (λ list is.
     height_outcome (g.G.Heights.map c.args.grid.now) g.S.Side.NAME c.args.percent.thousandths (g.met.G.Heights.whole c.args.grid.now) found.regions.0 c.in_ok-kept.kept found.regions.1 found.kept
-    c.as_slice.result.now c.NAME.result c.args.range list c.as_slice.ensures c.NAME.ensures c.requires is) c.list_heights.ensures
+    c.as_slice.result.now c.NAME.result c.args.range list c.as_slice.ensures c.NAME.ensures c.requires.range is) c.list_heights.ensures
 
 pub list_heights-requires-clause-heights : goal.list_heights-requires-clause-heights
 list_heights-requires-clause-heights g c =
@@ -24,7 +24,7 @@ list_heights-requires-clause-heights g c =
     (heights_known (g.G.Heights.map c.args.grid.now) g.S.Side.NAME c.args.percent.thousandths (g.met.G.Heights.whole c.args.grid.now) found.regions.0 c.in_ok-kept.kept found.regions.1 found.kept)
 
 pub list_heights-requires-clause-range : goal.list_heights-requires-clause-range
-list_heights-requires-clause-range g c = λ r is. range_heights (g.G.Heights.map c.args.grid.now) r (g.met.G.Heights.whole c.args.grid.now) (sym c.requires ∙ is)
+list_heights-requires-clause-range g c = λ r is. range_heights (g.G.Heights.map c.args.grid.now) r (g.met.G.Heights.whole c.args.grid.now) (sym c.requires.range ∙ is)
 
 pub returns-clause-are : goal.returns-clause-are
 returns-clause-are g c = IfOk-weaker c.list_heights.result _ _ (λ list o. o.are) (listed g (goal.at.returns-clause-are g c).After-list_heights)

@@ -11,6 +11,7 @@ use Rattle.hd_graph.specs.Line.{IsFloodLine}
 use Rattle.hd_graph.specs.Merges.{AreMerges}
 use Rattle.hd_graph.specs.Walks.{LeastHighestIs}
 use Rattle.hd_prune.specs.Staying.{ranks_of}
+use Rattle.hd_steep.specs.Numbering.{roots_of}
 use Rattle.hd_survey.specs.PitGraph.{low_of}
 use Rattle.hd_survey.proofs.MapPits.{lows_apart, lows_pits, lows_ranks}
 use Rattle.hd_survey.proofs.StopCounts.{few_stops}
@@ -20,13 +21,13 @@ pub new-requires : goal.new-requires
 new-requires g c =
     let m = g.G.Heights.map c.args.grid.now in
     let side = g.S.Side.NAME in
-    let roots = c.args.roots.now in
-    let pits = c.args.pits.now in
+    let roots = roots_of c.args.regions.now in
+    let pits : List Rank = c.args.regions.now.pits in
     let lows = map low_of pits in
     let passes = c.in_ok-passes.passes in
     let laws = c.regions_are_basins.ensures in
-    let regions = c.requires.regions in
-    subst (λ (xs : List Low). IsGraph (below_by side) xs passes) (sym c.in_ok-lows.ensures)
+    let regions = c.requires.roots in
+    subst (λ (xs : List Low). IsGraph (below_by side) xs passes) (sym (c.in_ok-lows.ensures ∙ ap (map low_of) c.pits.ensures))
     (c.passes_of_basins_are_a_graph.ensures m side roots lows passes (g.met.G.Heights.whole c.args.grid.now) (laws.basins m side roots regions) c.in_ok-passes.ensures
     (laws.lows m side roots lows regions (lows_pits m side pits c.requires.pits)) (lows_apart m side pits c.requires.pits))
 
@@ -34,17 +35,17 @@ pub returns : goal.returns
 returns g c =
     let m = g.G.Heights.map c.args.grid.now in
     let side = g.S.Side.NAME in
-    let roots = c.args.roots.now in
-    let pits : List Rank = c.args.pits.now in
+    let roots = roots_of c.args.regions.now in
+    let pits : List Rank = c.args.regions.now.pits in
     let lows : List Low = map low_of pits in
     let passes = c.in_ok-passes.passes in
     let laws = c.regions_are_basins.ensures in
-    let regions = c.requires.regions in
+    let regions = c.requires.roots in
     let crossings = c.in_ok-passes.ensures in
     let are_pits = lows_pits m side pits c.requires.pits in
     let are_lows = laws.lows m side roots lows regions are_pits in
     let basins = laws.basins m side roots regions in
-    let same = c.new.ensures.lows ∙ c.in_ok-lows.ensures in
+    let same = c.new.ensures.lows ∙ c.in_ok-lows.ensures ∙ ap (map low_of) c.pits.ensures in
     let over : (line : List Stop) → IsFloodLine (below_by side) c.new.result.lows c.new.result.passes line → IsFloodLine (below_by side) lows passes line = λ line is.
     subst (λ (ps : List Pass). IsFloodLine (below_by side) lows ps line) c.new.ensures.passes (subst (λ (xs : List Low). IsFloodLine (below_by side) xs c.new.result.passes line) same is) in
     record {

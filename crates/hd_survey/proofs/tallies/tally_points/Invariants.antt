@@ -5,6 +5,6 @@ use Rattle.hd_survey.proofs.tallies.tally_points.Given as goal
 -- the tallies of the points so far
 abbrev pub invariant-points : goal.invariant-points
 invariant-points g l = let m = g.G.Heights.map l.grid in record {
-  tallies : AreTallies m l.roots l.fn.numbers l.fn.count l.root-index l.tallies.items;
-  at : IsAt m.size l.root-index l.at;
+  tallies : AreTallies m l.regions l.index l.tallies.items;
+  at : IsAt m.size l.index l.at;
 }

@@ -1,0 +1,163 @@
+-- The highest points of the chains of parents of the first lines.
+use Rattle.std.proofs.Common.{◌≡◌, ◌<◌, ◌+◌, ℕ, ℤ, Bool, true, false, List, [], ◌∷◌, ◌++◌, length, map, Some, None, inl, inr, refl, sym, ap, ap₂, ◌∙◌, subst, arith, get_or, if◌then◌else◌}
+use Rattle.std.specs.List.{Contains}
+use Rattle.std.proofs.lemmas.List.Elements.{All-nil, All-cons}
+use Rattle.std.proofs.lemmas.Bool.{cases_lt, false≢true}
+use Rattle.std.proofs.lemmas.List.{get_or_append_left, get_or_default, get_or_push, length-append}
+use Rattle.hd_map.specs.declared.types.Rank.{Rank}
+use Rattle.hd_map.specs.declared.types.SideName.{SideName}
+use Rattle.hd_map.specs.Map.{Map, Present, position_at}
+use Rattle.hd_map.specs.Order.{IsNotAbove}
+use Rattle.hd_map.specs.Passes.{higher_by}
+use Rattle.hd_map.specs.Path.{IsTop}
+use Rattle.hd_map.specs.Rank.{IsPoint, below_by}
+use Rattle.hd_map.specs.Region.{IsPit}
+use Rattle.hd_map.specs.SideLaws.{below_by-order}
+use Rattle.hd_map.proofs.Levels.{Contains-cases, Contains-head, Contains-none, Contains-tail, none_above-higher, top-not_above}
+use Rattle.hd_map.proofs.Points.{point_at}
+use Rattle.hd_map.proofs.Sides.{below-not_above, not_above-refl}
+use Rattle.hd_num.specs.Percent.{is_percent_less}
+use Rattle.hd_audit.specs.declared.types.AuditLine.{AuditLine}
+use Rattle.hd_audit.specs.Chains.{AreTops, IsChainTop}
+use Rattle.hd_audit.specs.Lines.{line_at, rank_at, AreParents, IsLineOf, SaysKept}
+use Rattle.hd_audit.specs.Rules.{IsChainWithin, IsNewPoint, IsWithin, rise_over}
+use Rattle.hd_audit.proofs.Tests.{none_some, some_same}
+
+module _ (m : Map) (side : SideName) (thousandths : ℕ) (sz : ℤ) (lines : List AuditLine) where
+  -- the chain of the line is within its point, where this is a pit with a parent
+  abbrev pub IsRightAt : ℕ → Type 0
+  IsRightAt k = ((line_at lines k).parent ≡ None → ⊥) → IsPit m side (rank_at m (line_at lines k).index) → IsChainWithin m side thousandths sz lines (line_at lines k).index
+
+  -- these are the tops of the first n lines, and the chains of these lines are right
+  pub record AreChainsTo (tops : List Rank) (n : ℕ) : Type 0 where
+    pub count : length tops ≡ n
+    pub are_tops : AreTops m side lines tops n
+    pub right : (k : ℕ) → k < n → IsRightAt k
+
+  -- none at first
+  pub chains_none : (tops : List Rank) → length tops ≡ 0 → AreChainsTo tops 0
+  chains_none tops none = record { count = none; are_tops = λ k below. absurd (omega arith); right = λ k below. absurd (omega arith) }
+
+  -- one more
+  pub chains_more : (tops : List Rank) (n : ℕ) (top : Rank) → AreChainsTo tops n → IsChainTop m side lines (line_at lines n).index top → IsRightAt n → AreChainsTo (tops ++ top ∷ []) (n + 1)
+  chains_more tops n top before is right =
+      let count = before.count in
+      record {
+        count = omega (arith, count, length-append {A = Rank} tops (top ∷ []));
+        are_tops = λ k below d. elim (cases_lt k n) [
+          | inl old ↦ subst (IsChainTop m side lines (line_at lines k).index) (sym (get_or_append_left tops (top ∷ []) d k (omega (arith, old, count)))) (before.are_tops k old d)
+          | inr last ↦
+              let same : n ≡ k = omega (arith, below, last) in
+              let at : get_or (tops ++ top ∷ []) k d ≡ top = get_or_push tops top d k (count ∙ same) in
+              subst (IsChainTop m side lines (line_at lines k).index) (sym at) (subst (λ (i : ℕ). IsChainTop m side lines (line_at lines i).index top) same is)
+        ];
+        right = λ k below. elim (cases_lt k n) [
+          | inl old ↦ before.right k old
+          | inr last ↦ (let same : n ≡ k = omega (arith, below, last) in subst IsRightAt same right)
+        ];
+      }
+
+  -- a chain with its highest point
+  pub chain_within : (i : ℕ) (top : Rank) → IsChainTop m side lines i top → IsWithin side thousandths sz (rank_at m i) top → IsChainWithin m side thousandths sz lines i
+  chain_within i top is within = record { chain = is.chain; are_parents = is.are_parents; top = top; is_top = is.is_top; within = within }
+
+  -- the chain of a line that is not far is right
+  pub right_where : (n : ℕ) (top : Rank) → IsChainTop m side lines (line_at lines n).index top
+      → (((line_at lines n).parent ≡ None → ⊥) × IsPit m side (rank_at m (line_at lines n).index) × (IsWithin side thousandths sz (rank_at m (line_at lines n).index) top → ⊥) → ⊥) → IsRightAt n
+  right_where n top is near = λ parent pit.
+      (let own : Rank = rank_at m (line_at lines n).index in
+      elim (is_percent_less (rise_over side own top) thousandths sz) as (λ (b : Bool). is_percent_less (rise_over side own top) thousandths sz ≡ b → IsChainWithin m side thousandths sz lines (line_at lines n).index) [
+        | true ↦ λ e. chain_within (line_at lines n).index top is e
+        | false ↦ λ e. absurd (near (parent, pit, λ w. false≢true (sym e ∙ w)))
+      ] refl)
+
+module _ (m : Map) (side : SideName) (lines : List AuditLine) where
+  -- a line without a parent is a chain of its own
+  pub top_alone : (i : ℕ) → SaysKept lines i → IsChainTop m side lines i (rank_at m i)
+  top_alone i kept = record {
+    chain = [];
+    are_parents = kept;
+    is_top = record { one_of = Contains-head (rank_at m i) []; none_above = All-cons (λ x. IsNotAbove (below_by side) x (rank_at m i)) (rank_at m i) [] (not_above-refl (below_by side) (below_by-order side) (rank_at m i)) (All-nil (λ x. IsNotAbove (below_by side) x (rank_at m i))) };
+  }
+
+  -- a point before a chain
+  pub top_higher : (i p : ℕ) (x : AuditLine) (top : Rank) → IsLineOf lines i x → x.parent ≡ Some p → IsChainTop m side lines p top → IsChainTop m side lines i (higher_by side (rank_at m i) top)
+  top_higher i p x top is parent up =
+      let own : Rank = rank_at m i in
+      let ranks : List Rank = map (rank_at m) (p ∷ up.chain) in
+      record {
+        chain = p ∷ up.chain;
+        are_parents = (x, is, parent, up.are_parents);
+        is_top = elim (below_by side own top) as (λ (b : Bool). below_by side own top ≡ b → IsTop (below_by side) (if b then top else own) (own ∷ ranks)) [
+          | true ↦ λ e. record {
+            one_of = Contains-tail own top ranks up.is_top.one_of;
+            none_above = All-cons (λ y. IsNotAbove (below_by side) y top) own ranks (below-not_above (below_by side) (below_by-order side) own top e) up.is_top.none_above;
+          }
+          | false ↦ λ e. record {
+            one_of = Contains-head own ranks;
+            none_above = All-cons (λ y. IsNotAbove (below_by side) y own) own ranks (not_above-refl (below_by side) (below_by-order side) own) (none_above-higher (below_by side) (below_by-order side) top own ranks e up.is_top.none_above);
+          }
+        ] refl;
+      }
+
+  module _ (new : (k : ℕ) → k < length lines → IsNewPoint m lines k) where
+    -- the point of a line is present
+    pub line_present : (i : ℕ) (x : AuditLine) → IsLineOf lines i x → Present m (position_at m.size i)
+    line_present i x is =
+        let at = is.listed in
+        let same : line_at lines at.0 ≡ x = get_or_default lines at.0 (record { index = 0; parent = None; cut = None }) x at.1 ∙ at.2 in
+        subst (λ (j : ℕ). Present m (position_at m.size j)) (ap (λ (y : AuditLine). y.index) same ∙ is.index) (new at.0 at.1).present
+
+    -- a point has one line
+    pub one_line : (i : ℕ) (x y : AuditLine) → IsLineOf lines i x → IsLineOf lines i y → x ≡ y
+    one_line i x y is is' =
+        let at = is.listed in
+        let at' = is'.listed in
+        let d : AuditLine = record { index = 0; parent = None; cut = None } in
+        let same : line_at lines at.0 ≡ x = get_or_default lines at.0 d x at.1 ∙ at.2 in
+        let same' : line_at lines at'.0 ≡ y = get_or_default lines at'.0 d y at'.1 ∙ at'.2 in
+        let index : (line_at lines at.0).index ≡ (line_at lines at'.0).index = ap (λ (z : AuditLine). z.index) same ∙ is.index ∙ sym is'.index ∙ sym (ap (λ (z : AuditLine). z.index) same') in
+        elim (cases_lt at.0 at'.0) [
+          | inl less ↦ absurd ((new at'.0 at'.1).new at.0 less index)
+          | inr le ↦ elim (cases_lt at'.0 at.0) [
+            | inl less ↦ absurd ((new at.0 at.1).new at'.0 less (sym index))
+            | inr ge ↦ (let e : at.0 ≡ at'.0 = omega (arith, le, ge) in sym same ∙ ap (line_at lines) e ∙ same')
+          ]
+        ]
+
+    -- each point of a chain is present
+    pub chain_points : (i : ℕ) (chain : List ℕ) → AreParents lines i chain → (r : Rank) → Contains (map (rank_at m) (i ∷ chain)) r → IsPoint m r
+    chain_points i [] kept r at = elim (Contains-cases (rank_at m i) r [] at) [
+      | inl same ↦ subst (IsPoint m) (sym same) (point_at m (position_at m.size i) (line_present i kept.0 kept.1))
+      | inr later ↦ absurd (Contains-none r later)
+    ]
+    chain_points i (p ∷ ps) up r at = elim (Contains-cases (rank_at m i) r (map (rank_at m) (p ∷ ps)) at) [
+      | inl same ↦ subst (IsPoint m) (sym same) (point_at m (position_at m.size i) (line_present i up.0 up.1))
+      | inr later ↦ chain_points p ps up.3 r later
+    ]
+
+    pub top_point : (i : ℕ) (top : Rank) → IsChainTop m side lines i top → IsPoint m top
+    top_point i top is = chain_points i is.chain is.are_parents top is.is_top.one_of
+
+    -- a point has one chain
+    one_chain : (i : ℕ) (ps qs : List ℕ) → AreParents lines i ps → AreParents lines i qs → ps ≡ qs
+    one_chain i [] [] a b = refl
+    one_chain i [] (q ∷ qs) a b = absurd (none_some q (sym a.2 ∙ ap (λ (z : AuditLine). z.parent) (one_line i a.0 b.0 a.1 b.1) ∙ b.2))
+    one_chain i (p ∷ ps) [] a b = absurd (none_some p (sym b.2 ∙ ap (λ (z : AuditLine). z.parent) (one_line i b.0 a.0 b.1 a.1) ∙ a.2))
+    one_chain i (p ∷ ps) (q ∷ qs) a b =
+        let same : p ≡ q = some_same p q (sym a.2 ∙ ap (λ (z : AuditLine). z.parent) (one_line i a.0 b.0 a.1 b.1) ∙ b.2) in
+        ap₂ (λ (x : ℕ) (xs : List ℕ). x ∷ xs) same (one_chain q ps qs (subst (λ (j : ℕ). AreParents lines j ps) same a.3) b.3)
+
+    one_top : (t u : Rank) (xs : List Rank) → IsTop (below_by side) t xs → IsTop (below_by side) u xs → t ≡ u
+    one_top t u xs a b = (below_by-order side).total t u (top-not_above (below_by side) (below_by-order side) u t xs b a.none_above) (top-not_above (below_by side) (below_by-order side) t u xs a b.none_above)
+
+    -- and one highest point on it
+    pub top_unique : (i : ℕ) (t u : Rank) → IsChainTop m side lines i t → IsChainTop m side lines i u → t ≡ u
+    top_unique i t u a b =
+        let same = one_chain i a.chain b.chain a.are_parents b.are_parents in
+        one_top t u (map (rank_at m) (i ∷ b.chain)) (subst (λ (ps : List ℕ). IsTop (below_by side) t (map (rank_at m) (i ∷ ps))) same a.is_top) b.is_top
+
+    -- the chain is not within its point where the highest point is not
+    pub not_within : (thousandths : ℕ) (sz : ℤ) (i : ℕ) (top : Rank) → IsChainTop m side lines i top → (IsWithin side thousandths sz (rank_at m i) top → ⊥) → IsChainWithin m side thousandths sz lines i → ⊥
+    not_within thousandths sz i top is far chain =
+        far (subst (IsWithin side thousandths sz (rank_at m i)) (top_unique i chain.top top (record { chain = chain.chain; are_parents = chain.are_parents; is_top = chain.is_top }) is) chain.within)

@@ -1,0 +1,168 @@
+-- The lowest point that waits is the next line of a shown certificate.
+use Rattle.std.proofs.Common.{◌≡◌, ◌∙◌, ◌<◌, ℕ, ℤ, Bool, true, false, cond, List, [], ◌∷◌, ◌++◌, length, get_or, Option, Some, None, inl, inr, refl, sym, ap, subst, arith}
+use Rattle.std.specs.Prelude.{Contains, if◌then◌else◌}
+use Rattle.std.specs.BinaryHeap.{IsUpperBound}
+use Rattle.std.specs.List.Sorted.{IsPermutation}
+use Rattle.std.specs.Ordering.{is_lt}
+use Rattle.std.specs.declared.cmp.Ordering.TheVariants.{Less, Equal, Greater}
+use Rattle.std.proofs.lemmas.Bool.{cases_lt}
+use Rattle.std.proofs.lemmas.List.{get_or_default, length_push}
+use Rattle.std.proofs.lemmas.List.Elements.{All-contains, All-from_recursion}
+use Rattle.hd_map.specs.declared.types.Pos.{Pos}
+use Rattle.hd_map.specs.declared.types.Rank.{Rank}
+use Rattle.hd_map.specs.declared.types.SideName.{SideName}
+use Rattle.hd_map.specs.Map.{Map, IsMap, Present, cell_count, place_of, position_at}
+use Rattle.hd_map.specs.Neighbour.{Neighbour}
+use Rattle.hd_map.specs.Order.{IsNotAbove}
+use Rattle.hd_map.specs.Rank.{IsPoint, rank, below_by}
+use Rattle.hd_map.proofs.Points.{neighbour-sym, place_inside, position_at-of, same_place}
+use Rattle.hd_num.specs.Percent.{is_percent_less}
+use Rattle.hd_audit.specs.declared.types.AuditLine.{AuditLine}
+use Rattle.hd_audit.specs.declared.waiting.Waiting.{Waiting}
+use Rattle.hd_audit.specs.Flooding.{IsFlooding, IsPointAt, IsWaiting, rank_of_waiting, next_cut, next_line}
+use Rattle.hd_audit.specs.Lines.{line_at, point_at, rank_at}
+use Rattle.hd_audit.specs.Listing.{AreShownTo}
+use Rattle.hd_audit.specs.LowestFirst.{lowest_first}
+use Rattle.hd_audit.specs.Rules.{IsWithin, rise_over}
+use Rattle.hd_audit.specs.Shown.{AreShownLines, CutIs, IsNextTo, IsReachedLine}
+use Rattle.hd_audit.proofs.Firm.{AreFirm}
+use Rattle.hd_audit.proofs.Flooded.{popped-in}
+use Rattle.hd_audit.proofs.Listed.{kept-moved, next_to-moved, rank_of_index, reached-moved}
+use Rattle.hd_audit.proofs.Marks.{line-old, line-new}
+use Rattle.hd_audit.proofs.NextCuts.{cut-same, cut-left, cut-none}
+
+not_lower : (a b : Bool) → is_lt (cond a Less (cond b Greater Equal)) ≡ false → a ≡ false
+not_lower true b e = cc
+not_lower false b e = refl
+
+-- none that waits is below the top of the heap
+pub top-lowest : {S : Type 0} (side : SideName) (heap : List (Waiting S)) (w v : Waiting S) → IsUpperBound (λ (x : Waiting S) (y : Waiting S). lowest_first (below_by side) (rank_of_waiting x) (rank_of_waiting y)) w heap → Contains heap v
+    → IsNotAbove (below_by side) (rank_of_waiting w) (rank_of_waiting v)
+top-lowest {S} side heap w v upper at =
+    let a = All-contains (λ (y : Waiting S). is_lt (lowest_first (below_by side) (rank_of_waiting w) (rank_of_waiting y)) ≡ false) heap v (All-from_recursion _ heap upper) at in
+    not_lower (below_by side (rank_of_waiting v) (rank_of_waiting w)) (below_by side (rank_of_waiting w) (rank_of_waiting v)) a
+
+-- the cut of a point that is reached, by whether it is within that of the line
+next_cut-cases : (m : Map) (side : SideName) (thousandths : ℕ) (sz : ℤ) (kept : List Rank) (x : Rank) (c : ℕ) (b : Bool) → is_percent_less (rise_over side (rank_at m c) x) thousandths sz ≡ b
+    → (IsWithin side thousandths sz (rank_at m c) x → CutIs m side thousandths sz kept x (Some c)) → ((IsWithin side thousandths sz (rank_at m c) x → ⊥) → CutIs m side thousandths sz kept x None)
+    → CutIs m side thousandths sz kept x (if b then Some c else None)
+next_cut-cases m side thousandths sz kept x c true e within outside = within e
+next_cut-cases m side thousandths sz kept x c false e within outside = outside (λ h. (let f = e in cc))
+
+module _ {S : Type 0} (m : Map) (whole : IsMap m) (side : SideName) (thousandths : ℕ) (sz : ℤ) (kept : List Rank) (firm : AreFirm m side thousandths sz kept)
+    (lines : List AuditLine) (seen : List Bool) (heap : List (Waiting S)) (f : IsFlooding m lines seen heap (length lines)) (so : AreShownTo m side thousandths sz kept lines (length lines)) where
+  -- the index of a cut is that of a present point
+  pub cut-point : (j c : ℕ) → j < length lines → (line_at lines j).cut ≡ Some c → IsPointAt m c
+  cut-point j c before e =
+      let h : CutIs m side thousandths sz kept (rank_at m (line_at lines j).index) (Some c) = subst (λ o. CutIs m side thousandths sz kept (rank_at m (line_at lines j).index) o) e (so.cuts j before) in
+      let point = ((firm h.0).0 h.1).0.point in
+      let place : place_of m.size point.at ≡ c = ap (λ (r : Rank). r.index) (sym point.rank_is) ∙ h.2 in
+      record {
+        inside = subst (λ i. i < cell_count m.size) place (place_inside m.size point.at point.present.in_grid);
+        present = subst (Present m) (sym (position_at-of m.size point.at point.present.in_grid) ∙ ap (position_at m.size) place) point.present;
+      }
+
+  -- where none waits all is listed
+  pub all-shown : ((w : Waiting S) → Contains heap w → ⊥) → AreShownLines m side thousandths sz kept lines
+  all-shown none = record {
+    enough = so.enough;
+    pits = so.pits;
+    others = so.others;
+    all = λ q next. elim (f.found (place_of m.size q) (f.closed next.listed next.before q (neighbour-sym m q (point_at m lines next.listed) next.neighbour))) [
+      | inl l ↦ next.unlisted l.0 l.1 l.2
+      | inr v ↦ none v.0 v.1
+    ];
+    cuts = so.cuts;
+  }
+
+  module _ (w : Waiting S) (rest : List (Waiting S)) (popped : IsPermutation heap (w ∷ rest))
+      (least : (v : Waiting S) → Contains heap v → IsNotAbove (below_by side) (rank_of_waiting w) (rank_of_waiting v)) where
+    abbrev line : AuditLine
+    line = next_line m side thousandths sz (line_at lines w.from) (rank_of_waiting w)
+
+    pub top-waits : IsWaiting m lines w
+    top-waits = f.waiting w (popped-in m lines seen heap rest w line f popped refl)
+
+    pub top-point : IsPoint m (rank_of_waiting w)
+    top-point = let t = top-waits in record { at = t.point; present = t.neighbour.from; rank_is = t.rank_is }
+
+    same : (i : ℕ) → i < length lines → line_at (lines ++ line ∷ []) i ≡ line_at lines i
+    same i less = line-old lines line i less
+
+    back : (i : ℕ) → i < length lines → line_at lines i ≡ line_at (lines ++ line ∷ []) i
+    back i less = sym (same i less)
+
+    here : line_at (lines ++ line ∷ []) (length lines) ≡ line
+    here = line-new lines line (length lines) refl
+
+    -- the top of the heap is the lowest unlisted point with a listed neighbour
+    lowest : (t : IsWaiting m lines w) → (q : Pos) → IsNextTo m side thousandths sz kept lines (length lines) q → IsNotAbove (below_by side) (rank m t.point) (rank m q)
+    lowest t q next = elim (f.found (place_of m.size q) (f.closed next.listed next.before q (neighbour-sym m q (point_at m lines next.listed) next.neighbour))) [
+      | inl l ↦ absurd (next.unlisted l.0 l.1 l.2)
+      | inr v ↦
+          let u = f.waiting v.0 v.1 in
+          let places : place_of m.size u.point ≡ place_of m.size q = ap (λ (r : Rank). r.index) (sym u.rank_is) ∙ v.2 in
+          let points : u.point ≡ q = same_place m.size u.point q u.neighbour.from.in_grid next.neighbour.from.in_grid places in
+          let low = least v.0 v.1 in
+          subst (λ (r : Rank). IsNotAbove (below_by side) r (rank m q)) t.rank_is (subst (λ (r : Rank). IsNotAbove (below_by side) (rank_of_waiting w) r) (u.rank_is ∙ ap (rank m) points) low)
+    ]
+
+    reached : IsReachedLine m side thousandths sz kept (lines ++ line ∷ []) (length lines)
+    reached =
+        let t = top-waits in
+        let parent : point_at m (lines ++ line ∷ []) w.from ≡ point_at m lines w.from = ap (λ (x : AuditLine). position_at m.size x.index) (same w.from t.before) in
+        record {
+          point = t.point;
+          index = ap (λ (x : AuditLine). x.index) here ∙ ap (λ (r : Rank). r.index) t.rank_is;
+          next_to = record {
+            unlisted = λ i less e. t.unlisted i less (ap (λ (x : AuditLine). x.index) (sym (same i less)) ∙ e ∙ ap (λ (r : Rank). r.index) (sym t.rank_is));
+            listed = w.from;
+            before = t.before;
+            neighbour = subst (λ (p : Pos). Neighbour m t.point p) (sym parent) t.neighbour;
+          };
+          lowest = λ q next. lowest t q (next_to-moved m side thousandths sz kept (lines ++ line ∷ []) lines (length lines) back (length lines) q (omega arith) next);
+          parent = ap (λ (x : AuditLine). x.parent) here ∙ ap (λ (x : AuditLine). Some x.index) (sym (same w.from t.before));
+          first = λ i less near. t.first i less (subst (λ (p : Pos). Neighbour m t.point p) (ap (λ (x : AuditLine). position_at m.size x.index) (same i (let before = t.before in omega arith))) near);
+        }
+
+    -- its cut is right
+    cut-right : (t : IsWaiting m lines w) (o : Option ℕ) → CutIs m side thousandths sz kept (rank_at m (line_at lines w.from).index) o → CutIs m side thousandths sz kept (rank m t.point) (next_cut m side thousandths sz o (rank m t.point))
+    cut-right t None h = cut-none m whole side thousandths sz kept firm lines (length lines) so t.point w.from t.before t.neighbour
+        (λ i less e. t.unlisted i less (e ∙ ap (λ (r : Rank). r.index) (sym t.rank_is))) h
+    cut-right t (Some c) h =
+        let unlisted : (i : ℕ) → i < length lines → (line_at lines i).index ≡ place_of m.size t.point → ⊥ = λ i less e. t.unlisted i less (e ∙ ap (λ (r : Rank). r.index) (sym t.rank_is)) in
+        next_cut-cases m side thousandths sz kept (rank m t.point) c (is_percent_less (rise_over side (rank_at m c) (rank m t.point)) thousandths sz) refl
+        (cut-same m whole side thousandths sz kept firm lines (length lines) so t.point w.from t.before t.neighbour unlisted c h)
+        (cut-left m whole side thousandths sz kept firm lines (length lines) so t.point w.from t.before t.neighbour unlisted c h)
+
+    -- with its line the lines are as they are shown
+    pub shown-more : AreShownTo m side thousandths sz kept (lines ++ line ∷ []) (length (lines ++ line ∷ []))
+    shown-more =
+        let longer = length_push lines line in
+        let enough = so.enough in
+        let t = top-waits in
+        record {
+          enough = omega (arith, longer, enough);
+          pits = λ k less. kept-moved m side thousandths sz kept lines (lines ++ line ∷ []) (length lines) same k (omega (arith, less, enough)) (so.pits k less);
+          others = λ k above less. elim (cases_lt k (length lines)) [
+            | inl old ↦ reached-moved m side thousandths sz kept lines (lines ++ line ∷ []) (length lines) same k old
+                (λ q next. next_to-moved m side thousandths sz kept (lines ++ line ∷ []) lines (length lines) back k q (omega (arith, old)) next) (so.others k above old)
+            | inr last ↦ subst (λ i. IsReachedLine m side thousandths sz kept (lines ++ line ∷ []) i) (let e : length lines ≡ k = omega (arith, less, last, longer) in e) reached
+          ];
+          cuts = λ k less. elim (cases_lt k (length lines)) [
+            | inl old ↦ subst (λ (x : AuditLine). CutIs m side thousandths sz kept (rank_at m x.index) x.cut) (sym (same k old)) (so.cuts k old)
+            | inr last ↦
+                let e : length lines ≡ k = omega (arith, less, last, longer) in
+                let cut = cut-right t (line_at lines w.from).cut (so.cuts w.from t.before) in
+                let own : CutIs m side thousandths sz kept (rank_of_waiting w) line.cut = subst (λ (r : Rank). CutIs m side thousandths sz kept r (next_cut m side thousandths sz (line_at lines w.from).cut r)) (sym t.rank_is) cut in
+                let there : CutIs m side thousandths sz kept (rank_at m line.index) line.cut = subst (λ (r : Rank). CutIs m side thousandths sz kept r line.cut) (sym (rank_of_index m (rank_of_waiting w) top-point)) own in
+                subst (λ (x : AuditLine). CutIs m side thousandths sz kept (rank_at m x.index) x.cut) (sym (ap (line_at (lines ++ line ∷ [])) (sym e) ∙ here)) there
+          ];
+        }
+
+-- the line that is made of these is the next line
+pub next-line_is : (m : Map) (side other : SideName) (thousandths : ℕ) (sz : ℤ) (lines : List AuditLine) (from : ℕ) (parent made : AuditLine) (point r : Rank) → other ≡ side → from < length lines → parent ≡ get_or lines from parent → point ≡ r
+    → made ≡ next_line m other thousandths sz parent point → made ≡ next_line m side thousandths sz (line_at lines from) r
+next-line_is m side other thousandths sz lines from parent made point r s inside read p e =
+    let is : parent ≡ line_at lines from = read ∙ get_or_default lines from parent (record { index = 0; parent = None; cut = None }) inside in
+    e ∙ ap (λ (z : SideName). next_line m z thousandths sz parent point) s ∙ ap (λ (x : AuditLine). next_line m side thousandths sz x point) is ∙ ap (λ (z : Rank). next_line m side thousandths sz (line_at lines from) z) p

@@ -1,0 +1,30 @@
+use Rattle.std.proofs.Common.{sym, ap, ◌∙◌}
+use Rattle.hd_map.specs.declared.types.SideName.{SideName}
+use Rattle.hd_prune.proofs.Spans.{point_height}
+use Rattle.hd_audit.specs.Rules.{rise_over}
+use Rattle.hd_audit.proofs.Heights.{difference_fits, difference_kept, height_kept}
+use Rattle.hd_audit.proofs.limit.rise_over.Goals as goal
+
+pub overflow_sub-result : goal.overflow_sub-result
+overflow_sub-result c =
+    let low = point_height c.requires.0 c.args.c c.requires.1 c.requires.2 in
+    let high = point_height c.requires.0 c.args.x c.requires.1 c.requires.3 in
+    rw (height_kept c.args.x.height high, height_kept c.args.c.height low) (difference_fits c.args.x.height c.args.c.height high low)
+
+pub overflow_sub-result-in-Hills : goal.overflow_sub-result-in-Hills
+overflow_sub-result-in-Hills c =
+    let low = point_height c.requires.0 c.args.c c.requires.1 c.requires.2 in
+    let high = point_height c.requires.0 c.args.x c.requires.1 c.requires.3 in
+    rw (height_kept c.args.x.height high, height_kept c.args.c.height low) (difference_fits c.args.c.height c.args.x.height low high)
+
+pub returns-in-Dales : goal.returns-in-Dales
+returns-in-Dales c =
+    let low = point_height c.requires.0 c.args.c c.requires.1 c.requires.2 in
+    let high = point_height c.requires.0 c.args.x c.requires.1 c.requires.3 in
+    difference_kept c.args.x.height c.args.c.height high low ∙ sym (ap (λ (side : SideName). rise_over side c.args.c c.args.x) c.in-Dales.is)
+
+pub returns-in-Hills : goal.returns-in-Hills
+returns-in-Hills c =
+    let low = point_height c.requires.0 c.args.c c.requires.1 c.requires.2 in
+    let high = point_height c.requires.0 c.args.x c.requires.1 c.requires.3 in
+    difference_kept c.args.c.height c.args.x.height low high ∙ sym (ap (λ (side : SideName). rise_over side c.args.c c.args.x) c.in-Hills.is)

@@ -1,0 +1,14 @@
+pub mod Lines
+pub mod Rules
+pub mod Shown
+pub mod Listing
+pub mod LowestFirst
+pub mod Flooding
+pub mod Text
+pub mod Reading
+pub mod Writable
+pub mod Places
+pub mod Chains
+pub mod Leaks
+pub mod ByKey
+pub mod HeightKeys

@@ -1,0 +1,174 @@
+// The points that wait to be listed, and how the unlisted neighbours of a listed point come to wait.
+ghost use Rattle.std.specs.Prelude.{◌≡◌, ◌<◌, ◌≤◌, ◌+◌, MatchOption, OnOk, length};
+ghost use Rattle.std.specs.BinaryHeap.{heap_items};
+ghost use Rattle.hd_map.specs.Map.{InGrid, Present, cell_count};
+ghost use Rattle.hd_map.specs.Neighbour.{AreBesideUnder};
+ghost use Rattle.hd_map.specs.Rank.{below_by};
+ghost use Rattle.hd_audit.specs.Flooding.{IsLowestFirst, OffersAt, OffersIfPresent, Spreads, SpreadsRound, is_under};
+ghost use Rattle.hd_audit.specs.Lines.{line_at};
+
+use crate::AuditLine;
+use crate::place_table::PlaceTable;
+use crate::waiting::Waiting;
+use hd_list::Memory;
+use hd_map::{
+    Heights, Pos, Rank, Side, are_beside, contains, index_of, is_present, position_of, rank_of,
+};
+use std::collections::BinaryHeap;
+
+/// The points that are listed or wait. Those that wait and are not below a level, which rises, are noted by
+/// index; the few below it, which the flood reaches from above, are in a heap.
+#[derive(Drop)]
+pub struct Front<S: Side> {
+    /// By index, whether the point is listed or waits.
+    pub seen: Vec<bool>,
+    /// By index, of a point that waits and is not below the level, the place of the line of its neighbour
+    /// that was listed first.
+    pub ahead: PlaceTable,
+    /// The points that wait below the level, the lowest first.
+    pub low: BinaryHeap<Waiting<S>>,
+}
+
+/// Lets the unlisted neighbours of the point of a line wait.
+pub fn spread<S: Side, G: Heights>(
+    grid: &G,
+    lines: &[AuditLine],
+    place: usize,
+    level: Option<Rank>,
+    front: &mut Front<S>,
+) -> Result<(), Memory>
+    requires inside { place < length lines.now }
+    requires few { length lines.now ≤ cell_count (G.map grid.now).size }
+    requires point { (line_at lines.now place).index < cell_count (G.map grid.now).size }
+    requires seen { length front.old.seen.items ≡ cell_count (G.map grid.now).size }
+    requires ahead { length front.old.ahead ≡ cell_count (G.map grid.now).size }
+    requires heap { IsLowestFirst S.NAME (heap_items front.old.low) }
+    ensures spreads { OnOk result (Spreads (G.map grid.now) S.NAME lines.now place level front.old.seen.items front.old.ahead (heap_items front.old.low) front.new.seen.items front.new.ahead (heap_items front.new.low)) }
+    ensures seen { OnOk result (length front.new.seen.items ≡ cell_count (G.map grid.now).size) }
+    ensures ahead { OnOk result (length front.new.ahead ≡ cell_count (G.map grid.now).size) }
+    ensures heap { OnOk result (IsLowestFirst S.NAME (heap_items front.new.low)) }
+{
+    let at = position_of(grid.size(), lines[place].index);
+    if is_present(grid, at) {
+        spread_round(grid, at, place as u32, level, front)?;
+    }
+    Ok(())
+}
+
+// Lets the neighbours of a present point wait, as far as they are not seen, behind the line at a place.
+fn spread_round<S: Side, G: Heights>(
+    grid: &G,
+    at: Pos,
+    from: u32,
+    level: Option<Rank>,
+    front: &mut Front<S>,
+) -> Result<(), Memory>
+    requires present { Present (G.map grid.now) at }
+    requires seen { length front.old.seen.items ≡ cell_count (G.map grid.now).size }
+    requires ahead { length front.old.ahead ≡ cell_count (G.map grid.now).size }
+    requires few { from < 4294967295 }
+    requires heap { IsLowestFirst S.NAME (heap_items front.old.low) }
+    ensures spreads { OnOk result (SpreadsRound (G.map grid.now) S.NAME at from level front.old.seen.items front.old.ahead (heap_items front.old.low) front.new.seen.items front.new.ahead (heap_items front.new.low)) }
+    ensures seen { OnOk result (length front.new.seen.items ≡ cell_count (G.map grid.now).size) }
+    ensures ahead { OnOk result (length front.new.ahead ≡ cell_count (G.map grid.now).size) }
+    ensures heap { OnOk result (IsLowestFirst S.NAME (heap_items front.new.low)) }
+{
+    'steps: for step in 0..9u32 {
+        if step != 4 {
+            offer_at(grid, at, step % 3, step / 3, from, level, front)?;
+        }
+    }
+    Ok(())
+}
+
+// Lets the position at a step from a present point wait behind the line at a place, if it is a neighbour and
+// not yet seen.
+fn offer_at<S: Side, G: Heights>(
+    grid: &G,
+    at: Pos,
+    x: u32,
+    y: u32,
+    from: u32,
+    level: Option<Rank>,
+    front: &mut Front<S>,
+) -> Result<(), Memory>
+    requires x { x ≤ 2 }
+    requires y { y ≤ 2 }
+    requires apart { x ≡ 1 → y ≡ 1 → ⊥ }
+    requires present { Present (G.map grid.now) at }
+    requires seen { length front.old.seen.items ≡ cell_count (G.map grid.now).size }
+    requires ahead { length front.old.ahead ≡ cell_count (G.map grid.now).size }
+    requires few { from < 4294967295 }
+    requires heap { IsLowestFirst S.NAME (heap_items front.old.low) }
+    ensures offers { OnOk result (OffersAt (G.map grid.now) S.NAME at x y from level front.old.seen.items front.old.ahead (heap_items front.old.low) front.new.seen.items front.new.ahead (heap_items front.new.low)) }
+    ensures heap { OnOk result (IsLowestFirst S.NAME (heap_items front.new.low)) }
+{
+    match beside_at(grid, at, x, y) {
+        Some(q) => offer(grid, q, from, level, front),
+        None => Ok(()),
+    }
+}
+
+// The position at a step from a point, if it is in the grid and beside the point.
+#[inline]
+fn beside_at<G: Heights>(grid: &G, at: Pos, x: u32, y: u32) -> Option<Pos>
+    requires at { InGrid (G.map grid.now).size at }
+    requires x { x ≤ 2 }
+    requires y { y ≤ 2 }
+    ensures { MatchOption result ((q : _) → q.x + 1 ≡ at.x + x → q.y + 1 ≡ at.y + y → InGrid (G.map grid.now).size q → AreBesideUnder (G.map grid.now).adjacency at q → ⊥)
+        (λ q. (q.x + 1 ≡ at.x + x) × (q.y + 1 ≡ at.y + y) × InGrid (G.map grid.now).size q × AreBesideUnder (G.map grid.now).adjacency at q) }
+{
+    if at.x + x == 0 || at.y + y == 0 {
+        return None;
+    }
+    let q = Pos {
+        x: at.x + x - 1,
+        y: at.y + y - 1,
+    };
+    if contains(grid.size(), q) && are_beside(grid.adjacency(), at, q) {
+        Some(q)
+    } else {
+        None
+    }
+}
+
+// Lets a position wait behind the line at a place, if it is present and not yet seen.
+fn offer<S: Side, G: Heights>(
+    grid: &G,
+    at: Pos,
+    from: u32,
+    level: Option<Rank>,
+    front: &mut Front<S>,
+) -> Result<(), Memory>
+    requires in_grid { InGrid (G.map grid.now).size at }
+    requires seen { length front.old.seen.items ≡ cell_count (G.map grid.now).size }
+    requires ahead { length front.old.ahead ≡ cell_count (G.map grid.now).size }
+    requires few { from < 4294967295 }
+    requires heap { IsLowestFirst S.NAME (heap_items front.old.low) }
+    ensures offers { OnOk result (OffersIfPresent (G.map grid.now) S.NAME at from level front.old.seen.items front.old.ahead (heap_items front.old.low) front.new.seen.items front.new.ahead (heap_items front.new.low)) }
+    ensures heap { OnOk result (IsLowestFirst S.NAME (heap_items front.new.low)) }
+{
+    let index = index_of(grid.size(), at);
+    if front.seen[index as usize] || !is_present(grid, at) {
+        return Ok(());
+    }
+    front.seen[index as usize] = true;
+    let point = rank_of(grid, at);
+    if !is_under::<S>(level, point) {
+        front.ahead.put(index, from);
+        return Ok(());
+    }
+    front.low.push(Waiting::new(point, from))?;
+    Ok(())
+}
+
+// Whether a point is below the level.
+#[inline]
+fn is_under<S: Side>(level: Option<Rank>, point: Rank) -> bool
+    ensures { result ≡ is_under (below_by S.NAME) level point }
+{
+    match level {
+        Some(level) => S::below(point, level),
+        None => false,
+    }
+}

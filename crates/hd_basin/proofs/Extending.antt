@@ -1,0 +1,254 @@
+-- The regions of pits, gathered basin by basin.
+use Rattle.std.proofs.Common.{◌≡◌, ◌<◌, ◌+◌, ◌++◌, ◌^◌, ◌∙◌, ℕ, true, false, List, [], ◌∷◌, length, get_or, take, map, Option, Some, None, inl, inr, refl, sym, ap, subst, arith}
+use Rattle.std.specs.Prelude.{◌↔◌, ◌≢◌, Contains, AllPairs}
+use Rattle.std.specs.BTreeMap.{BTreeMap, get, is_at}
+use Rattle.std.specs.Cmp.{nat_cmp_is}
+use Rattle.std.specs.List.{flat_map}
+use Rattle.std.specs.declared.cmp.Ordering.TheVariants.{Less, Equal, Greater}
+use Rattle.std.specs.Map.{keys_of, lookup}
+use Rattle.std.specs.Ordering.{is_eq, nat_cmp}
+use Rattle.std.proofs.lemmas.Bool.{cases_eq}
+use Rattle.std.proofs.lemmas.Cmp.{nat_cmp_total}
+use Rattle.std.proofs.lemmas.List.{take_more, get_or-take, length-take-le, get_or-map, get_or_default, length-map}
+use Rattle.std.proofs.lemmas.List.Elements.{Contains-append_left, Contains-append_right, Contains-append_cases, Contains-get_or}
+use Rattle.std.proofs.lemmas.Map.Keys.{Less-from_sorted}
+use Rattle.std.proofs.lemmas.Map.Lookups.{exact_unsigned}
+use Rattle.std.proofs.lemmas.Map.Views.{btree_map_get_iff, tells_apart}
+use Rattle.hd_map.specs.declared.types.Rank.{Rank}
+use Rattle.hd_map.specs.declared.types.SideName.{SideName}
+use Rattle.hd_map.specs.Map.{Map, IsMap}
+use Rattle.hd_map.specs.Rank.{IsPoint}
+use Rattle.hd_map.specs.Region.{AreNexts, IsPit, IsRoot}
+use Rattle.hd_map.proofs.Items.{Contains-map, map-Contains, Contains-cases, Contains-none, Contains-head}
+use Rattle.hd_map.proofs.Nexts.{root-is_pit, root-unique, root-pit}
+use Rattle.hd_map.proofs.Points.{same_index, Near-from}
+use Rattle.hd_graph.proofs.Places.{less_same_more}
+use Rattle.hd_basin.specs.declared.extent.Extent.{Extent}
+use Rattle.hd_basin.specs.declared.node.Node.{Node}
+use Rattle.hd_basin.specs.Basin.{IsNode, IsSinkOf, tile_at}
+use Rattle.hd_basin.specs.Edge.{IsEdge}
+use Rattle.hd_basin.specs.Extents.{AddsBasin, AreGathered, AreListed, InBasins, IsExtentWith, IsGathered, nodes_in}
+use Rattle.hd_basin.specs.InStep.{IsPoolOf}
+use Rattle.hd_basin.specs.Parts.{Pool, HasNode}
+use Rattle.hd_basin.specs.Reading.{AreExtents, IsExtent}
+use Rattle.hd_basin.specs.Sums.{AreSums}
+use Rattle.hd_basin.proofs.Listed.{Contains-flat, flat-Contains, pairs-flat}
+use Rattle.hd_basin.proofs.Merging.{Either}
+use Rattle.hd_basin.proofs.Netted.{has_sink, node-tile, sink_of-point}
+use Rattle.hd_basin.proofs.SinkLaws.{sink-is_sink, sink-root, sink-unique}
+use Rattle.hd_basin.proofs.Together.{count-few, sums-both, sums-by}
+
+-- another key is not at this one
+pub key-apart : (k i : ℕ) → (i ≡ k → ⊥) → is_at (nat_cmp k) i ≡ false
+key-apart k i ne = elim (is_eq (nat_cmp k i)) as (λ v. is_eq (nat_cmp k i) ≡ v → v ≡ false) [
+  | true ↦ λ e. absurd (ne (sym (tells_apart exact_unsigned k i e)))
+  | false ↦ λ e. refl
+] refl
+
+-- what a list of one item has
+pub only : {X : Type 0} → (x y : X) → Contains (x ∷ []) y → y ≡ x
+only x y h = elim (Contains-cases x y [] h) [ inl same ↦ same | inr none ↦ absurd (Contains-none y none) ]
+
+-- a point that has a root is one
+nexts-point : (m : Map) (side : SideName) (p r : Rank) (xs : List Rank) → AreNexts m side p xs r → IsPoint m p
+nexts-point m side p r [] h = h.1.point
+nexts-point m side p r (q ∷ qs) h = Near-from m p q h.0.lower.near
+
+-- of two numbers that compare as less the first is less
+less-from_cmp : (a b : ℕ) → nat_cmp a b ≡ Less → a < b
+less-from_cmp a b e = elim (less_same_more a b) [
+  | inl less ↦ less
+  | inr o ↦ elim o [
+    | inl same ↦ absurd (let f : Equal ≡ Less = nat_cmp_is a b Equal same ∙ e in cc)
+    | inr more ↦ absurd (let f : Greater ≡ Less = nat_cmp_is a b Greater more ∙ e in cc)
+  ]
+]
+
+-- of different items, one of the first k is not that at place k
+before-apart : {X : Type 0} → (R : X → X → Type 0) (xs : List X) (k : ℕ) (d : X) → k < length xs → AllPairs R xs → (x : X) → Contains (take k xs) x → R x (get_or xs k d)
+before-apart {X} R xs k d inside pairs x at =
+    let long : length (take k xs) ≡ k = length-take-le k xs (omega arith) in
+    let place = at.1 in
+    let early : at.0 < k = omega (arith, long, place) in
+    let is : get_or xs at.0 d ≡ x = sym (get_or-take k xs at.0 d early) ∙ read (take k xs) at.0 d x place at.2 in
+    subst (λ (y : X). R y (get_or xs k d)) is (pairs at.0 k d early inside)
+  where
+    read : (ys : List X) (i : ℕ) (d x : X) → i < length ys → get_or ys i x ≡ x → get_or ys i d ≡ x
+    read ys i d x inside e = get_or_default ys i d x inside ∙ e
+
+module _ (m : Map) (side : SideName) (t : ℕ) where
+  -- the basins of some nodes and of one more, in the region of that one's pit
+  basins-more : (nodes : List Node) (n : Node) (pit : Rank) → IsRoot m side n.low pit → (p : Rank) → Either (InBasins m side t nodes pit) (λ x. IsSinkOf m side t x n.low) p ↔ InBasins m side t (nodes ++ n ∷ []) pit p
+  basins-more nodes n pit root p = (
+    λ h. elim h [
+      | inl old ↦ record { node = old.node; among = Contains-append_left nodes (n ∷ []) old.node old.among; root = old.root; sink = old.sink }
+      | inr new ↦ record { node = n; among = Contains-append_right nodes (n ∷ []) n (Contains-head n []); root = root; sink = new }
+    ],
+    λ h. elim (Contains-append_cases nodes (n ∷ []) h.node h.among) [
+      | inl old ↦ inl (record { node = h.node; among = old; root = h.root; sink = h.sink })
+      | inr new ↦ inr (subst (λ (u : Node). IsSinkOf m side t p u.low) (only n h.node new) h.sink)
+    ],
+  )
+
+  -- and in other regions
+  basins-other : (nodes : List Node) (n : Node) (pit : Rank) → (IsRoot m side n.low pit → ⊥) → (p : Rank) → InBasins m side t nodes pit p ↔ InBasins m side t (nodes ++ n ∷ []) pit p
+  basins-other nodes n pit other p = (
+    λ old. record { node = old.node; among = Contains-append_left nodes (n ∷ []) old.node old.among; root = old.root; sink = old.sink },
+    λ h. elim (Contains-append_cases nodes (n ∷ []) h.node h.among) [
+      | inl old ↦ record { node = h.node; among = old; root = h.root; sink = h.sink }
+      | inr new ↦ absurd (other (subst (λ (u : Node). IsRoot m side u.low pit) (only n h.node new) h.root))
+    ],
+  )
+
+  -- one more basin is gathered
+  module _ (nodes : List Node) (n : Node) (is : IsNode m side t n) (fresh : (u : Node) → Contains nodes u → u.low ≢ n.low) (pit : Rank) (root : IsRoot m side n.low pit) where
+    is_pit : IsPit m side pit
+    is_pit = root-is_pit m side n.low pit root
+
+    pit-gathered : (o : Option Extent) (e : Extent) → IsExtentWith o pit n e → IsGathered m side t nodes pit.index o → IsGathered m side t (nodes ++ n ∷ []) pit.index (Some e)
+    pit-gathered None e with none = subst (λ (x : Extent). IsGathered m side t (nodes ++ n ∷ []) pit.index (Some x)) (sym with) (
+      refl,
+      is_pit,
+      sums-by (λ x. IsSinkOf m side t x n.low) (InBasins m side t (nodes ++ n ∷ []) pit) (IsEdge m) (λ p. (
+        λ s. (basins-more nodes n pit root p).0 (inr s),
+        λ h. elim ((basins-more nodes n pit root p).1 h) [ inl old ↦ absurd (none old.node pit old.among old.root refl) | inr s ↦ s ],
+      )) n.points n.high n.least n.edge_low n.edge_high is.sums,
+    )
+    pit-gathered (Some o) e with old =
+        let same : o.pit ≡ pit = same_index m o.pit pit old.1.point is_pit.point old.0 in
+        let here : AreSums (InBasins m side t nodes pit) (IsEdge m) o.points o.high o.least o.edge_low o.edge_high = subst (λ (x : Rank). AreSums (InBasins m side t nodes x) (IsEdge m) o.points o.high o.least o.edge_low o.edge_high) same old.2 in
+        let at : e.pit ≡ pit = with.pit ∙ same in (
+          ap (λ (x : Rank). x.index) at,
+          subst (IsPit m side) (sym at) is_pit,
+          subst (λ (x : Rank). AreSums (InBasins m side t (nodes ++ n ∷ []) x) (IsEdge m) e.points e.high e.least e.edge_low e.edge_high) (sym at)
+              (sums-by (Either (InBasins m side t nodes pit) (λ x. IsSinkOf m side t x n.low)) (InBasins m side t (nodes ++ n ∷ []) pit) (IsEdge m) (basins-more nodes n pit root) e.points e.high e.least e.edge_low e.edge_high
+              (sums-both (InBasins m side t nodes pit) (λ x. IsSinkOf m side t x n.low) (IsEdge m) (λ p a b. fresh a.node a.among (sink-unique m side t p a.node.low n.low a.sink b)) o e n with here is.sums)),
+        )
+
+    other-gathered : (i : ℕ) (o : Option Extent) → (i ≡ pit.index → ⊥) → IsGathered m side t nodes i o → IsGathered m side t (nodes ++ n ∷ []) i o
+    other-gathered i None other none = λ u r at ur. elim (Contains-append_cases nodes (n ∷ []) u at) [
+      | inl old ↦ none u r old ur
+      | inr new ↦ λ e. other (sym e ∙ ap (λ (x : Rank). x.index) (root-unique m side n.low r pit (subst (λ (v : Node). IsRoot m side v.low r) (only n u new) ur) root))
+    ]
+    other-gathered i (Some e) other old = (
+      old.0,
+      old.1,
+      sums-by (InBasins m side t nodes e.pit) (InBasins m side t (nodes ++ n ∷ []) e.pit) (IsEdge m)
+          (basins-other nodes n e.pit (λ r. other (sym old.0 ∙ ap (λ (x : Rank). x.index) (root-unique m side n.low e.pit pit r root)))) e.points e.high e.least e.edge_low e.edge_high old.2,
+    )
+
+    gathered-more : (old new : BTreeMap ℕ Extent) → AddsBasin old new pit n → AreGathered m side t nodes old → AreGathered m side t (nodes ++ n ∷ []) new
+    gathered-more old new adds before i = elim (cases_eq i pit.index) [
+      | inl e ↦ subst (λ k. IsGathered m side t (nodes ++ n ∷ []) k (get nat_cmp new k)) (sym e)
+          (subst (IsGathered m side t (nodes ++ n ∷ []) pit.index) (sym adds.updates.1) (pit-gathered (get nat_cmp old pit.index) adds.extent adds.with (before pit.index)))
+      | inr ne ↦ subst (IsGathered m side t (nodes ++ n ∷ []) i) (sym (adds.updates.2 i (key-apart pit.index i ne))) (other-gathered i (get nat_cmp old i) ne (before i))
+    ]
+
+-- nothing is gathered of no basins
+pub gathered-none : (m : Map) (side : SideName) (t : ℕ) (extents : BTreeMap ℕ Extent) → extents.entries ≡ [] → AreGathered m side t [] extents
+gathered-none m side t extents none i = subst (λ (es : List (ℕ × Extent)). IsGathered m side t [] i (lookup (is_at (nat_cmp i)) es)) (sym none) (λ n r at root e. Contains-none n at)
+
+module _ (side : SideName) (pool : Pool) (nodes : List Node) (are : nodes ≡ flat_map nodes_in pool.parts) where
+  -- what is listed are the nodes of the pool
+  pub node-had : (n : Node) → Contains nodes n → (tile : ℕ) × HasNode pool.parts tile n
+  node-had n at =
+      let f = Contains-flat nodes_in pool.parts n (subst (λ (ns : List Node). Contains ns n) are at) in
+      (f.0, record { part = f.1; at = f.2; has = f.3 })
+
+  pub node-listed : (tile : ℕ) (n : Node) → HasNode pool.parts tile n → Contains nodes n
+  node-listed tile n h = subst (λ (ns : List Node). Contains ns n) (sym are) (flat-Contains nodes_in pool.parts tile h.part n h.at h.has)
+
+  module _ (m : Map) (whole : IsMap m) (of : IsPoolOf m side pool) where
+    node-is : (n : Node) → Contains nodes n → IsNode m side pool.side n
+    node-is n at = (let h = node-had n at in (of.has.right.nodes h.0 n tt h.1).0)
+
+    nodes-different : AllPairs (λ (n u : Node). n.low ≢ u.low) nodes
+    nodes-different = subst (AllPairs (λ (n u : Node). n.low ≢ u.low)) (sym are)
+        (pairs-flat (λ (n u : Node). n.low ≢ u.low) nodes_in pool.parts (λ k part at. of.has.once k part tt at)
+        (λ j k part other less at at' n u hn hu same. (
+        let tile : j ≡ k = sym (node-tile m side pool of j n (record { part = part; at = at; has = hn })) ∙ ap (tile_at m.size pool.side) same ∙ node-tile m side pool of k u (record { part = other; at = at'; has = hu }) in
+        omega (arith, tile, less))))
+
+    -- one node more is gathered
+    pub gathered-step : (k : ℕ) (d : Node) → k < length nodes → (pit : Rank) → IsRoot m side (get_or nodes k d).low pit → (old new : BTreeMap ℕ Extent) → AddsBasin old new pit (get_or nodes k d)
+        → AreGathered m side pool.side (take k nodes) old → AreGathered m side pool.side (take (k + 1) nodes) new
+    gathered-step k d inside pit root old new adds before =
+        let n : Node = get_or nodes k d in
+        subst (λ (ns : List Node). AreGathered m side pool.side ns new) (sym (take_more nodes k d inside))
+        (gathered-more m side pool.side (take k nodes) n (node-is n (Contains-get_or nodes k d inside)) (λ u at. before-apart (λ (v w : Node). v.low ≢ w.low) nodes k d inside nodes-different u at) pit root old new adds before)
+
+    -- a region has few points
+    pub gathered-few : (k : ℕ) (n : Node) → Contains nodes n → (extents : BTreeMap ℕ Extent) → AreGathered m side pool.side (take k nodes) extents → (i : ℕ) (e : Extent) → get nat_cmp extents i ≡ Some e → e.points + n.points < 2 ^ 64
+    gathered-few k n at extents gathered i e is =
+        let g = subst (IsGathered m side pool.side (take k nodes) i) is (gathered i) in
+        let one = count-few m (InBasins m side pool.side (take k nodes) e.pit) e.points whole (λ r h. sink_of-point m side pool.side r h.node.low h.sink) g.2.counted in
+        let other = count-few m (λ r. IsSinkOf m side pool.side r n.low) n.points whole (λ r h. sink_of-point m side pool.side r n.low h) (node-is n at).sums.counted in
+        omega (arith, one, other)
+
+    -- the node of a point's sink, among all
+    sunk : (p : Rank) → IsPoint m p → (n : Node) × Contains nodes n × IsSinkOf m side pool.side p n.low
+    sunk p point =
+        let s = has_sink m side pool of p point in
+        let h = of.has.right.sinks s.0 tt (sink-is_sink m side pool.side p s.0 s.1) in
+        (h.node, node-listed _ h.node h.has, subst (λ (r : Rank). IsSinkOf m side pool.side p r) (sym h.low) s.1)
+
+    -- all basins of a region are the region
+    basins-all : (pit p : Rank) → InBasins m side pool.side nodes pit p ↔ IsRoot m side p pit
+    basins-all pit p = (
+      λ h. (sink-root m side pool.side p h.node.low pit h.sink).1 h.root,
+      λ root.
+          let s = sunk p (nexts-point m side p pit root.0 root.1) in
+          record { node = s.0; among = s.1; root = (sink-root m side pool.side p (s.0).low pit s.2).0 root; sink = s.2 },
+    )
+
+    -- the extents of all nodes are those of the regions
+    module _ (extents : BTreeMap ℕ Extent) (gathered : AreGathered m side pool.side nodes extents) (list : List Extent) (listed : AreListed extents list) where
+      abbrev value : ℕ × Extent → Extent
+      value entry = entry.1
+
+      entry : (k : ℕ) (e : Extent) → (get nat_cmp extents k ≡ Some e) ↔ Contains extents.entries (k, e)
+      entry = btree_map_get_iff nat_cmp_total exact_unsigned extents listed.ordered
+
+      known : (k : ℕ) (e : Extent) → Contains extents.entries (k, e) → IsGathered m side pool.side nodes k (Some e)
+      known k e at = subst (IsGathered m side pool.side nodes k) ((entry k e).1 at) (gathered k)
+
+      each-extent : (e : Extent) → Contains list e → IsExtent m side e
+      each-extent e at =
+          let h = Contains-map value extents.entries e (subst (λ (es : List Extent). Contains es e) listed.listed at) in
+          let g = known (h.0).0 (h.0).1 h.1 in
+          subst (IsExtent m side) h.2 (record {
+            is_pit = g.1;
+            sums = sums-by (InBasins m side pool.side nodes (h.0).1.pit) (λ p. IsRoot m side p (h.0).1.pit) (IsEdge m) (basins-all (h.0).1.pit) _ _ _ _ _ g.2;
+          })
+
+      found : (p : Rank) → IsPit m side p → (o : Option Extent) → get nat_cmp extents p.index ≡ o → (e : Extent) × Contains list e × (e.pit ≡ p)
+      found p pit None is =
+          let s = sunk p pit.point in
+          absurd (subst (IsGathered m side pool.side nodes p.index) is (gathered p.index) s.0 p s.1 ((sink-root m side pool.side p (s.0).low p s.2).0 (root-pit m side p pit)) refl)
+      found p pit (Some e) is =
+          let g = subst (IsGathered m side pool.side nodes p.index) is (gathered p.index) in
+          (e, subst (λ (es : List Extent). Contains es e) (sym listed.listed) (map-Contains value extents.entries (p.index, e) ((entry p.index e).0 is)), same_index m e.pit p g.1.point pit.point g.0)
+
+      pub extents-right : AreExtents m side list
+      extents-right = record {
+        each = each-extent;
+        all = λ p pit. found p pit (get nat_cmp extents p.index) refl;
+        in_order = subst (AllPairs (λ (e f : Extent). e.pit.index < f.pit.index)) (sym listed.listed) rises;
+      }
+        where
+          rises : AllPairs (λ (e f : Extent). e.pit.index < f.pit.index) (map value extents.entries)
+          rises i j d less inside =
+              let es : List (ℕ × Extent) = extents.entries in
+              let none : ℕ × Extent = (0, d) in
+              let x : ℕ × Extent = get_or es i none in
+              let y : ℕ × Extent = get_or es j none in
+              let key : ℕ × Extent → ℕ = λ e. e.0 in
+              let long : length (map value es) ≡ length es = length-map es value in
+              let last : j < length es = omega (arith, inside, long) in
+              let first : i < length es = omega (arith, less, last) in
+              let below : x.0 < y.0 = less-from_cmp x.0 y.0 (subst (λ q. nat_cmp x.0 q ≡ Less) (get_or-map key es j none 0 last) (subst (λ p. nat_cmp p (get_or (keys_of es) j 0) ≡ Less) (get_or-map key es i none 0 first)
+              (Less-from_sorted nat_cmp (keys_of es) i j 0 listed.ordered less (subst (λ n. j < n) (sym (length-map es key)) last)))) in
+              let a : x.1.pit.index ≡ x.0 = (known x.0 x.1 (Contains-get_or es i none first)).0 in
+              let b : y.1.pit.index ≡ y.0 = (known y.0 y.1 (Contains-get_or es j none last)).0 in
+              subst (λ (e : Extent). e.pit.index < (get_or (map value es) j d).pit.index) (sym (get_or-map value es i none d first))
+              (subst (λ (e : Extent). x.1.pit.index < e.pit.index) (sym (get_or-map value es j none d last)) (omega (arith, below, a, b)))

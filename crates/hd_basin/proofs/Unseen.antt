@@ -1,0 +1,50 @@
+-- A pool that has seen no tile is in step with every map of its size.
+use Rattle.std.proofs.Common.{◌≡◌, ℕ, List, [], Some, None, subst, slice_get}
+use Rattle.std.specs.Prelude.{All, Contains}
+use Rattle.hd_map.proofs.Items.{Contains-none}
+use Rattle.hd_map.specs.declared.types.Pass.{Pass}
+use Rattle.hd_basin.specs.declared.part.Seam.{Seam}
+use Rattle.std.proofs.lemmas.List.Elements.{All-contains}
+use Rattle.hd_map.specs.declared.types.SideName.{SideName}
+use Rattle.hd_map.specs.Map.{Map}
+use Rattle.hd_basin.specs.declared.part.Part.{Part}
+use Rattle.hd_basin.specs.InStep.{IsInStep}
+use Rattle.hd_basin.specs.Parts.{Pool, IsFresh}
+use Rattle.hd_basin.proofs.Rooting.{read-contains}
+
+-- a tile that was not seen has no passes
+pub record IsUnseen (part : Part) : Type 0 where
+  pub seen : part.seen ≡ None
+  pub passes : part.passes ≡ []
+  pub seams : part.seams ≡ []
+
+module _ (pool : Pool) (unseen : All IsUnseen pool.parts) where
+  none_at : (tile : ℕ) (part : Part) → slice_get pool.parts tile ≡ Some part → IsUnseen part
+  none_at tile part at = All-contains IsUnseen pool.parts part unseen (read-contains pool.parts tile part at)
+
+  none_seen : (tile seen : ℕ) (part : Part) → slice_get pool.parts tile ≡ Some part → part.seen ≡ Some seen → ⊥
+  none_seen tile seen part at is = let e = (none_at tile part at).seen in cc
+
+  none_fresh : (stamps : List ℕ) (tile : ℕ) → IsFresh stamps pool.parts tile → ⊥
+  none_fresh stamps tile fresh = none_seen tile fresh.stamp fresh.part fresh.at fresh.seen
+
+  pub unseen-in_step : (m : Map) (side : SideName) (stamps : List ℕ) → pool.size ≡ m.size → IsInStep m side stamps pool
+  unseen-in_step m side stamps size = record {
+    size = size;
+    sound = record {
+      inside = λ tile part pass at has. absurd (Contains-none pass (subst (λ (xs : List Pass). Contains xs pass) (none_at tile part at).passes has));
+      across = λ tile part seam at has. absurd (Contains-none seam (subst (λ (xs : List Seam). Contains xs seam) (none_at tile part at).seams has));
+      since = λ tile part seam at has. absurd (Contains-none seam (subst (λ (xs : List Seam). Contains xs seam) (none_at tile part at).seams has));
+    };
+    not_ahead = λ tile seen now part at is there. absurd (none_seen tile seen part at is);
+    has = record {
+      right = record {
+        nodes = λ tile n fresh has. absurd (none_fresh stamps tile fresh);
+        sinks = λ s fresh sink. absurd (none_fresh stamps _ fresh);
+        labels = λ p inside fresh. absurd (none_fresh stamps _ fresh);
+        passes = λ a b w one other has. absurd (none_fresh stamps _ one);
+        meetings = λ a b u one other apart meet. absurd (none_fresh stamps _ one);
+      };
+      once = λ tile part fresh at. absurd (none_fresh stamps tile fresh);
+    };
+  }

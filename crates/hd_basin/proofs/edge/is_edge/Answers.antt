@@ -1,0 +1,24 @@
+use Rattle.std.proofs.Common.{inl, inr, ◌∙◌, ap, sym}
+use Rattle.hd_map.specs.declared.types.Size.{Size}
+use Rattle.hd_map.specs.Map.{Map}
+use Rattle.hd_basin.specs.Edge.{OnBorder}
+use Rattle.hd_basin.proofs.Edges.{edge-gap, no_edge}
+use Rattle.hd_basin.proofs.edge.is_edge.Goals as goal
+
+pub returns : goal.returns
+returns g c =
+    let m : Map = g.G.Heights.map c.args.grid.now in
+    let inner : OnBorder m.size c.args.at → ⊥ = λ border. elim border [
+      | inl left ↦ c.if-at-eq0.false left
+      | inr rest ↦ elim rest [
+        | inl top ↦ c.if-at-eq0-2.false top
+        | inr rest2 ↦ elim rest2 [
+          | inl right ↦ c.if-at-size.false (right ∙ ap (λ (s : Size). s.points) (sym c.size-size.ensures))
+          | inr bottom ↦ c.if-at-size-2.false (bottom ∙ ap (λ (s : Size). s.profiles) (sym c.size-size.ensures))
+        ]
+      ]
+    ] in
+    record {
+      edge = λ e. edge-gap m c.args.at c.requires (c.has_gap.ensures.gap e);
+      inner = λ e edge. no_edge m c.args.at c.requires inner (c.has_gap.ensures.none e) edge;
+    }

@@ -1,0 +1,7 @@
+use Rattle.std.proofs.Common.{◌≡◌, take}
+use Rattle.std.specs.List.{flat_map}
+use Rattle.hd_basin.specs.Listing.{passes_in}
+use Rattle.hd_basin.proofs.graph.passes_of.Given as goal
+
+abbrev pub invariant-parts : goal.invariant-parts
+invariant-parts g l = l.passes ≡ flat_map (passes_in g.S.Side.NAME l.parts) (take l.part-index l.parts)

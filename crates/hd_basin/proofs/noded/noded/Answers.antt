@@ -1,0 +1,19 @@
+use Rattle.std.proofs.Common.{ℕ, refl, subst, arith}
+use Rattle.hd_map.specs.declared.types.Size.{Size}
+use Rattle.hd_map.specs.Map.{Map}
+use Rattle.hd_basin.specs.declared.frame.Frame.{Frame}
+use Rattle.hd_basin.specs.Sinks.{IsArea}
+use Rattle.hd_basin.proofs.Areas.{area-small}
+use Rattle.hd_basin.proofs.Noding.{gathered-noded}
+use Rattle.hd_basin.proofs.noded.noded.Goals as goal
+
+pub returns-clause-noded : goal.returns-clause-noded
+returns-clause-noded g c =
+    let m : Map = g.G.Heights.map c.args.grid.now in
+    let t : ℕ = c.args.tiling.side in
+    let least = c.args.tiling.tile_side.least in
+    let f : Frame = c.area_of-area.result in
+    let area : IsArea m.size t c.args.tile f = subst (λ (s : Size). IsArea s t c.args.tile f) c.requires.size c.area_of-area.ensures in
+    let of = c.in_ok-nodes.field-0 in
+    gathered-noded m g.S.Side.NAME t c.args.tile f (omega (arith, least)) area (area-small m.size t c.args.tile f c.args.tiling.tile_side.greatest area)
+    of.nodes.items of.numbers.items of.labels.items c.in_ok-nodes.ensures _ c.from_vec.ensures refl

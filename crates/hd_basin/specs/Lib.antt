@@ -1,0 +1,21 @@
+-- Definitions that the contracts cite.
+pub mod Edge
+pub mod Sums
+pub mod Adding
+pub mod Basin
+pub mod Pool
+pub mod Parts
+pub mod Views
+pub mod InStep
+pub mod Built
+pub mod Reading
+pub mod Frames
+pub mod WindowLaws
+pub mod WindowMap
+pub mod Sinks
+pub mod Gathering
+pub mod Candidates
+pub mod Lowest
+pub mod Split
+pub mod Listing
+pub mod Extents

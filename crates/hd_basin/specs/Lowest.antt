@@ -1,0 +1,26 @@
+-- The lowest seam of each two basins, by the indexes of their sinks.
+use Rattle.std.specs.Prelude.{◌≡◌, ℕ, List, Option, Some, None, Contains, if◌then◌else◌}
+use Rattle.std.specs.declared.cmp.Ordering.{Ordering}
+use Rattle.std.specs.Ordering.{nat_cmp, ordering_then}
+use Rattle.hd_map.specs.declared.types.SideName.{SideName}
+use Rattle.hd_map.specs.Order.{IsNotAbove}
+use Rattle.hd_map.specs.Rank.{below_by}
+use Rattle.hd_basin.specs.declared.part.Seam.{Seam}
+
+-- pairs of indexes, by the first and then by the second
+abbrev pub pair_cmp : ℕ × ℕ → ℕ × ℕ → Ordering
+pair_cmp x y = ordering_then (nat_cmp x.0 y.0) (nat_cmp x.1 y.1)
+
+abbrev pub key_of : Seam → ℕ × ℕ
+key_of s = (s.pass.a.index, s.pass.b.index)
+
+-- the lower of what is known and one more seam
+abbrev pub lower_of : SideName → Option Seam → Seam → Seam
+lower_of side (Some known) s = if below_by side s.pass.at known.pass.at then s else known
+lower_of side None s = s
+
+-- under the key of each of the seams is the lowest of those with that key
+pub record HasLowest (side : SideName) (all : List Seam) (table : ℕ × ℕ → Option Seam) : Type 0 where
+  pub found : (key : ℕ × ℕ) (s : Seam) → table key ≡ Some s → Contains all s × (key_of s ≡ key)
+  pub lowest : (key : ℕ × ℕ) (s u : Seam) → table key ≡ Some s → Contains all u → key_of u ≡ key → IsNotAbove (below_by side) s.pass.at u.pass.at
+  pub each : (u : Seam) → Contains all u → (s : Seam) × (table (key_of u) ≡ Some s)

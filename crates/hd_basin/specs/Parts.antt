@@ -1,0 +1,113 @@
+-- What a pool keeps, tile by tile.
+use Rattle.std.specs.Prelude.{◌≡◌, ◌≢◌, ◌≤◌, ◌⊎◌, ◌+◌, ◌-◌, ◌*◌, ◌/◌, ◌%◌, ℕ, Bool, false, List, [], ◌∷◌, length, min, nat_eq, Option, Some, None, Contains, slice_get, slice_index_or, if◌then◌else◌}
+use Rattle.hd_map.specs.declared.types.Pos.{Pos}
+use Rattle.hd_map.specs.declared.types.Rank.{Rank}
+use Rattle.hd_map.specs.declared.types.Size.{Size}
+use Rattle.hd_map.specs.declared.types.Pass.{Pass}
+use Rattle.hd_basin.specs.declared.part.Seam.{Seam}
+use Rattle.hd_tiles.specs.Tile.{tile_of}
+use Rattle.hd_basin.specs.Basin.{tile_at}
+use Rattle.hd_basin.specs.declared.node.Node.{Node}
+use Rattle.hd_basin.specs.declared.part.Part.{Part}
+
+-- the pool of a grid of this size in tiles of this side
+pub record Pool : Type 0 where
+  pub size : Size
+  pub side : ℕ
+  pub parts : List Part
+
+-- how many columns of a tile there are, beginning at this one
+abbrev pub columns_from : Size → ℕ → ℕ → ℕ
+columns_from s t left = min t (s.points - left)
+
+-- the place of a position in the lists of its tile: profile by profile of the tile
+abbrev pub place_in_tile : Size → ℕ → Pos → ℕ
+place_in_tile s t p = p.y % t * columns_from s t (p.x / t * t) + p.x % t
+
+-- the node that the label at a place of the tile names, and none where there is no label
+abbrev pub node_at : Option Part → ℕ → Option Node
+node_at None place = None
+node_at (Some part) place = slice_get part.nodes (slice_index_or part.labels.items place (length part.nodes))
+
+-- the node that the pool has for a position
+abbrev pub node_of : Size → ℕ → List Part → Pos → Option Node
+node_of s t parts p = node_at (slice_get parts (tile_of s t p)) (place_in_tile s t p)
+
+-- the sink of a node
+abbrev pub low_of : Option Node → Option Rank
+low_of None = None
+low_of (Some n) = Some n.low
+
+-- the sink that the pool has for a position
+abbrev pub label_of : Size → ℕ → List Part → Pos → Option Rank
+label_of s t parts p = low_of (node_of s t parts p)
+
+-- the node is one of those of the tile
+pub record HasNode (parts : List Part) (tile : ℕ) (n : Node) : Type 0 where
+  pub part : Part
+  pub at : slice_get parts tile ≡ Some part
+  pub has : Contains part.nodes n
+
+-- a pass joins a and b, whichever of them it names first
+abbrev pub IsBetween : Pass → Rank → Rank → Rank → Type 0
+IsBetween p a b w = (p ≡ record { a = a; b = b; at = w }) ⊎ (p ≡ record { a = b; b = a; at = w })
+
+-- a pass of the tile joins a and b
+pub record IsInside (parts : List Part) (a b w : Rank) : Type 0 where
+  pub tile : ℕ
+  pub part : Part
+  pub pass : Pass
+  pub at : slice_get parts tile ≡ Some part
+  pub has : Contains part.passes pass
+  pub between : IsBetween pass a b w
+
+-- one end of the seam lies in the tile, and the other in another one
+pub record IsSeamOf (s : Size) (t tile : ℕ) (seam : Seam) : Type 0 where
+  pub apart : seam.with ≢ tile
+  pub ends : ((tile_at s t seam.pass.a ≡ tile) × (tile_at s t seam.pass.b ≡ seam.with))
+      ⊎ ((tile_at s t seam.pass.b ≡ tile) × (tile_at s t seam.pass.a ≡ seam.with))
+
+-- a seam of a tile joins a and b, and the other tile was not seen again since
+pub record IsAcross (parts : List Part) (a b w : Rank) : Type 0 where
+  pub tile : ℕ
+  pub part : Part
+  pub seam : Seam
+  pub other : Part
+  pub at : slice_get parts tile ≡ Some part
+  pub has : Contains part.seams seam
+  pub between : IsBetween seam.pass a b w
+  pub with_at : slice_get parts seam.with ≡ Some other
+  pub since : other.seen ≡ Some seam.stamp
+
+-- a pass or a seam of the pool joins a and b
+abbrev pub IsLinked : List Part → Rank → Rank → Rank → Type 0
+IsLinked parts a b w = IsInside parts a b w ⊎ IsAcross parts a b w
+
+-- the pool has seen the tile with its present stamp
+pub record IsFresh (stamps : List ℕ) (parts : List Part) (tile : ℕ) : Type 0 where
+  pub stamp : ℕ
+  pub part : Part
+  pub now : slice_get stamps tile ≡ Some stamp
+  pub at : slice_get parts tile ≡ Some part
+  pub seen : part.seen ≡ Some stamp
+
+-- whether a tile was seen with this stamp
+abbrev pub is_seen_with : Option ℕ → ℕ → Bool
+is_seen_with None stamp = false
+is_seen_with (Some seen) stamp = nat_eq seen stamp
+
+-- how many tiles have another stamp than the one that they were seen with
+abbrev pub stale_count : List ℕ → List Part → ℕ
+stale_count [] parts = 0
+stale_count (stamp ∷ stamps) [] = 0
+stale_count (stamp ∷ stamps) (part ∷ parts) = (if is_seen_with part.seen stamp then 0 else 1) + stale_count stamps parts
+
+-- the passes of each tile join two of its basins, and its seams one of them and one of another tile, whose seen
+-- stamp has not fallen since
+pub record AreSound (pool : Pool) : Type 0 where
+  pub inside : (tile : ℕ) (part : Part) (pass : Pass) → slice_get pool.parts tile ≡ Some part → Contains part.passes pass
+      → (tile_at pool.size pool.side pass.a ≡ tile) × (tile_at pool.size pool.side pass.b ≡ tile)
+  pub across : (tile : ℕ) (part : Part) (seam : Seam) → slice_get pool.parts tile ≡ Some part → Contains part.seams seam
+      → IsSeamOf pool.size pool.side tile seam
+  pub since : (tile : ℕ) (part : Part) (seam : Seam) → slice_get pool.parts tile ≡ Some part → Contains part.seams seam
+      → (other : Part) × (seen : ℕ) × (slice_get pool.parts seam.with ≡ Some other) × (other.seen ≡ Some seen) × (seam.stamp ≤ seen)

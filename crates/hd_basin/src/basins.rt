@@ -1,0 +1,288 @@
+// The pool of the local basins of a map.
+ghost use Rattle.std.specs.Prelude.{◌≡◌, ◌<◌, ◌≤◌, ◌+◌, ◌*◌, ◌^◌, ◌-◌, ℕ, List, IfOk, OnOk, OnErr, Some, true, slice_get, length};
+ghost use Rattle.std.specs.List.{flat_map};
+ghost use Rattle.std.specs.List.Sorted.{IsPermutation, IsSortedBy};
+ghost use Rattle.hd_map.specs.declared.types.Pos.{Pos};
+ghost use Rattle.hd_map.specs.Map.{Map, IsMap, IsSize, InGrid, place_of};
+ghost use Rattle.hd_map.specs.Rank.{below_by};
+ghost use Rattle.hd_map.specs.Region.{IsRoot};
+ghost use Rattle.hd_tiles.specs.Tile.{IsTileSide, IsRound, tile_count};
+ghost use Rattle.hd_basin.specs.InStep.{IsInStep, IsPoolOf, HasMap, HasSeenAll, KeepsSeen, IsBesideStale};
+ghost use Rattle.hd_basin.specs.Parts.{HasNode, IsFresh, node_of, stale_count};
+ghost use Rattle.hd_basin.specs.Built.{IsBuilt};
+ghost use Rattle.hd_basin.specs.Extents.{AreGathered, HaveRoots, KnowsNext, is_lower, nodes_in};
+ghost use Rattle.hd_basin.specs.Reading.{RootIs, NodeIs, IsGraphOf, AreExtents};
+
+use crate::extents::{add_basin, listed, lowest_first, nodes_of, root_in};
+use crate::graph::{lows_of, passes_of};
+use crate::made::made;
+use crate::part::Part;
+use crate::place::place_in_tile;
+use crate::{Extent, Node, NodeKey};
+use hd_graph::Graph;
+use hd_list::{List, Memory};
+use hd_map::{Pos, Rank, Side, Size, position_of};
+use hd_tiles::{Looked, Steps, Tiling};
+use std::alloc::Global;
+use std::collections::BTreeMap;
+use std::marker::{Model, PhantomData};
+use std::sync::ledger::Ledger;
+
+/// A pool of the local basins of a map in tiles, with the passes between them. Contracts see it as the
+/// size, the side of the tiles and what is kept of each tile.
+#[derive(Drop)]
+pub struct Basins<S: Side> {
+    alloc: Global,
+    tiling: Tiling,
+    parts: Vec<Part>,
+    side: PhantomData<S>,
+}
+
+impl<S: Side> Model for Basins<S> {
+    ghost use Rattle.std.specs.Prelude.{◌≡◌, length};
+    ghost use Rattle.hd_map.specs.Map.{IsSize};
+    ghost use Rattle.hd_tiles.specs.Tile.{IsTileSide, IsRound, tile_count};
+    ghost use Rattle.hd_basin.specs.Parts.{Pool};
+
+    ghost Value = { Pool };
+
+    ghost view = { λ b. record { size = b.tiling.size; side = b.tiling.side; parts = b.parts.items } };
+
+    ghost invariant = { λ b. length b.parts.items ≡ tile_count b.tiling.size b.tiling.side };
+}
+
+impl<S: Side> Basins<S> {
+    /// A pool of a grid of this size in tiles of this side, from 8 to 256 points, that has seen no tile.
+    /// `Memory` comes where it is refused its memory.
+    pub fn new(alloc: Global, size: Size, side: u32) -> Result<Basins<S>, Memory>
+        requires limits { IsSize size }
+        requires side { IsTileSide side }
+        ensures size { IfOk result (λ pool. pool.size ≡ size) }
+        ensures side { IfOk result (λ pool. pool.side ≡ side) }
+        ensures in_step { IfOk result (λ pool. (m : Map) (stamps : List ℕ) → m.size ≡ size → IsInStep m S.NAME stamps pool) }
+    {
+        let tiling = Tiling::new(size, side);
+        let mut parts = Vec::new(alloc);
+        for _tile in 0..tiling.count() {
+            parts.push(Part::unseen(alloc))?;
+        }
+        Ok(Basins {
+            alloc,
+            tiling,
+            parts,
+            side: PhantomData,
+        })
+    }
+
+    /// Brings the pool up to the present map. It looks at no more than (t + 2)² positions for each tile of
+    /// side t whose stamp is not the one that it was seen with, all of them in that tile or beside it.
+    ///
+    /// `Memory` comes where memory is refused. The pool is in step then too, what was seen with its
+    /// present stamp stays seen, and the next refresh does what is missing.
+    pub fn refresh<T: Looked, L: Ledger>(
+        &mut self,
+        tiles: &T,
+        looks: &mut Steps<L>,
+    ) -> Result<(), Memory>
+        requires side { self.old.side ≡ T.tile_side tiles.now }
+        requires in_step { IsInStep (T.map tiles.now) S.NAME (T.stamps tiles.now) self.old }
+        requires leave { (p : Pos) → IsBesideStale (T.map tiles.now) (T.stamps tiles.now) self.old p → slice_get (T.leave tiles.now) (place_of (T.map tiles.now).size p) ≡ Some true }
+        ensures pool { OnOk result (IsPoolOf (T.map tiles.now) S.NAME self.new) }
+        ensures seen { OnOk result (HasSeenAll (T.stamps tiles.now) self.new) }
+        ensures in_step { IsInStep (T.map tiles.now) S.NAME (T.stamps tiles.now) self.new }
+        ensures kept { OnErr result (KeepsSeen (T.stamps tiles.now) self.old self.new) }
+        ensures side { self.new.side ≡ self.old.side }
+        ensures looks { looks.new ≤ looks.old + stale_count (T.stamps tiles.now) self.old.parts * ((self.old.side + 2) * (self.old.side + 2)) }
+    {
+        'each: for tile in 0..self.tiling.count() {
+            self.refresh_tile(tiles, looks, tile)?;
+        }
+        Ok(())
+    }
+
+    // Brings one tile up to the present map.
+    fn refresh_tile<T: Looked, L: Ledger>(
+        &mut self,
+        tiles: &T,
+        looks: &mut Steps<L>,
+        tile: u32,
+    ) -> Result<(), Memory>
+        requires side { self.old.side ≡ T.tile_side tiles.now }
+        requires in_step { IsInStep (T.map tiles.now) S.NAME (T.stamps tiles.now) self.old }
+        requires tile { tile < length self.old.parts }
+        requires leave { (p : Pos) → IsBesideStale (T.map tiles.now) (T.stamps tiles.now) self.old p → slice_get (T.leave tiles.now) (place_of (T.map tiles.now).size p) ≡ Some true }
+        ensures fresh { OnOk result (IsFresh (T.stamps tiles.now) self.new.parts tile) }
+        ensures in_step { IsInStep (T.map tiles.now) S.NAME (T.stamps tiles.now) self.new }
+        ensures kept { KeepsSeen (T.stamps tiles.now) self.old self.new }
+        ensures side { self.new.side ≡ self.old.side }
+        ensures whole { length self.new.parts ≡ length self.old.parts }
+        ensures looks { OnOk result (looks.new + stale_count (T.stamps tiles.now) self.new.parts * ((self.old.side + 2) * (self.old.side + 2)) ≤ looks.old + stale_count (T.stamps tiles.now) self.old.parts * ((self.old.side + 2) * (self.old.side + 2))) }
+        ensures in_vain { OnErr result (looks.new ≤ looks.old + stale_count (T.stamps tiles.now) self.old.parts * ((self.old.side + 2) * (self.old.side + 2))) }
+    {
+        let seen = self.parts[tile as usize].seen;
+        let stamp = tiles.stamp(tile);
+        if seen == Some(stamp) {
+            return Ok(());
+        }
+        let part = self.build(tiles, looks, tile, stamp)?;
+        self.parts[tile as usize] = part;
+        Ok(())
+    }
+
+    // What is to be kept of a tile whose stamp differs.
+    fn build<T: Looked, L: Ledger>(
+        &self,
+        tiles: &T,
+        looks: &mut Steps<L>,
+        tile: u32,
+        stamp: u64,
+    ) -> Result<Part, Memory>
+        requires side { self.now.side ≡ T.tile_side tiles.now }
+        requires in_step { IsInStep (T.map tiles.now) S.NAME (T.stamps tiles.now) self.now }
+        requires tile { tile < length self.now.parts }
+        requires stamp { slice_get (T.stamps tiles.now) tile ≡ Some stamp }
+        requires stale { IsFresh (T.stamps tiles.now) self.now.parts tile → ⊥ }
+        requires leave { (p : Pos) → InGrid self.now.size p → IsRound self.now.size self.now.side tile p → slice_get (T.leave tiles.now) (place_of (T.map tiles.now).size p) ≡ Some true }
+        ensures built { IfOk result (λ part. IsBuilt (T.map tiles.now) S.NAME self.now.side (T.stamps tiles.now) self.now.parts tile part) }
+        ensures seen { IfOk result (λ part. part.seen ≡ Some stamp) }
+        ensures looks { looks.new ≤ looks.old + (self.now.side + 2) * (self.now.side + 2) }
+    {
+        made::<S, T, L>(
+            self.alloc,
+            self.tiling,
+            self.parts.as_slice(),
+            tiles,
+            looks,
+            tile,
+            stamp,
+        )
+    }
+
+    /// The node of a key, and none where no node has it. The pool is that of a whole map.
+    pub fn node(&self, key: NodeKey) -> Option<Node>
+        requires { HasMap S.NAME self.now }
+        ensures { NodeIs self.now key.key result }
+    {
+        let size = self.tiling.size();
+        if key.key >= size.points as usize * size.profiles as usize {
+            return None;
+        }
+        let node = self.node_at(position_of(size, key.key as u32))?;
+        if node.low.index as usize == key.key {
+            Some(node)
+        } else {
+            None
+        }
+    }
+
+    /// The root of the point at a position, and none where no point is present. The pool is that of a
+    /// whole map.
+    pub fn label(&self, at: Pos) -> Option<Pos>
+        requires pool { HasMap S.NAME self.now }
+        requires in_grid { InGrid self.now.size at }
+        ensures { (m : Map) → IsMap m → IsPoolOf m S.NAME self.now → RootIs m S.NAME at result }
+    {
+        let mut node = self.node_at(at)?;
+        'walk: loop {
+            let Some(onward) = node.flows else {
+                return Some(position_of(self.tiling.size(), node.low.index));
+            };
+            match self.node_at(onward) {
+                Some(next) => node = next,
+                None => unreachable!(),
+            }
+        }
+    }
+
+    // The node of the basin in which the point at a position lies, and none where no point is present.
+    fn node_at(&self, at: Pos) -> Option<Node>
+        requires { InGrid self.now.size at }
+        ensures { result ≡ node_of self.now.size self.now.side self.now.parts at }
+    {
+        let part = &self.parts[self.tiling.tile_of(at) as usize];
+        part.node_at(place_in_tile(self.tiling, at))
+    }
+
+    /// The graph of the local basins: their sinks as lows, which are pits exactly where they have no
+    /// next, and the passes between them. The pool is that of a whole map. `Memory` comes where the
+    /// lists are refused their memory.
+    pub fn as_graph(&self) -> Result<Graph<S>, Memory>
+        requires { HasMap S.NAME self.now }
+        ensures { IfOk result (λ graph. (m : Map) → IsMap m → IsPoolOf m S.NAME self.now → IsGraphOf m S.NAME self.now.side graph) }
+    {
+        let lows = lows_of(self.alloc, &self.parts)?;
+        let passes = passes_of::<S>(self.alloc, &self.parts)?;
+        Ok(Graph::new(lows, passes))
+    }
+
+    /// The regions of all pits, by what their points sum up to, in position order. The pool is that of a
+    /// whole map. `Memory` comes where the list, or what it is made from, is refused its memory.
+    pub fn extents(&self) -> Result<List<Extent>, Memory>
+        requires { HasMap S.NAME self.now }
+        ensures { IfOk result (λ extents. (m : Map) → IsMap m → IsPoolOf m S.NAME self.now → AreExtents m S.NAME extents) }
+    {
+        let roots = self.roots()?;
+        let nodes = nodes_of(self.alloc, &self.parts)?;
+        let extents = self.gather(nodes.as_slice(), &roots)?;
+        listed(self.alloc, &extents)
+    }
+
+    // By the index of its sink, the root of each node.
+    fn roots(&self) -> Result<BTreeMap<u32, Rank>, Memory>
+        requires { HasMap S.NAME self.now }
+        ensures { IfOk result (λ roots. (m : Map) → IsMap m → IsPoolOf m S.NAME self.now → HaveRoots m S.NAME (flat_map nodes_in self.now.parts) roots) }
+    {
+        let sorted = lowest_first::<S>(nodes_of(self.alloc, &self.parts)?);
+        self.roots_of(&sorted)
+    }
+
+    // By the index of its sink, the root of each of these nodes, which are all, the lowest first.
+    fn roots_of(&self, nodes: &[Node]) -> Result<BTreeMap<u32, Rank>, Memory>
+        requires map { HasMap S.NAME self.now }
+        requires sorted { IsSortedBy (is_lower (below_by S.NAME)) nodes.now }
+        requires nodes { IsPermutation (flat_map nodes_in self.now.parts) nodes.now }
+        ensures { IfOk result (λ roots. (m : Map) → IsMap m → IsPoolOf m S.NAME self.now → HaveRoots m S.NAME nodes.now roots) }
+    {
+        let mut roots = BTreeMap::new(self.alloc);
+        'nodes: for node in nodes {
+            let root = self.root_of(&roots, *node);
+            roots.insert(node.low.index, root)?;
+        }
+        Ok(roots)
+    }
+
+    // The root of a node, where that of the node to which it flows is known.
+    fn root_of(&self, roots: &BTreeMap<u32, Rank>, node: Node) -> Rank
+        requires map { HasMap S.NAME self.now }
+        requires node { (tile : ℕ) × HasNode self.now.parts tile node }
+        requires known { (m : Map) → IsMap m → IsPoolOf m S.NAME self.now → KnowsNext m S.NAME self.now.side self.now.parts node roots.now }
+        ensures { (m : Map) → IsMap m → IsPoolOf m S.NAME self.now → IsRoot m S.NAME node.low result }
+    {
+        let Some(onward) = node.flows else {
+            return node.low;
+        };
+        match self.node_at(onward) {
+            Some(next) => root_in(roots, next.low),
+            None => unreachable!(),
+        }
+    }
+
+    // By the index of the pit, what the basins of these nodes sum up to.
+    fn gather(
+        &self,
+        nodes: &[Node],
+        roots: &BTreeMap<u32, Rank>,
+    ) -> Result<BTreeMap<u32, Extent>, Memory>
+        requires map { HasMap S.NAME self.now }
+        requires nodes { nodes.now ≡ flat_map nodes_in self.now.parts }
+        requires roots { (m : Map) → IsMap m → IsPoolOf m S.NAME self.now → HaveRoots m S.NAME nodes.now roots.now }
+        ensures { IfOk result (λ extents. (m : Map) → IsMap m → IsPoolOf m S.NAME self.now → AreGathered m S.NAME self.now.side nodes.now extents) }
+    {
+        let mut extents = BTreeMap::new(self.alloc);
+        'nodes: for node in nodes {
+            let pit = root_in(roots, node.low);
+            add_basin(&mut extents, pit, *node)?;
+        }
+        Ok(extents)
+    }
+}

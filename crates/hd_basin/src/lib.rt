@@ -1,0 +1,29 @@
+//! A pool of the local basins of a map in tiles, which follows the changes of the map tile by tile.
+#![tactic(auto)]
+
+mod adding;
+mod basins;
+mod edge;
+mod ends;
+mod extent;
+mod extents;
+mod flows;
+mod frame;
+mod gather;
+mod graph;
+mod joined;
+mod laws;
+mod lowest;
+mod made;
+mod node;
+mod noded;
+mod pairs;
+mod part;
+mod place;
+mod sinks;
+mod window;
+
+pub use basins::Basins;
+pub use extent::Extent;
+pub use laws::{graph_of_basins_tells_the_saddles, pool_stays_in_step};
+pub use node::{Node, NodeKey};

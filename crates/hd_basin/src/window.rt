@@ -1,0 +1,82 @@
+// A window on a tile and what is beside it, seen as a map of which nothing else is measured.
+ghost use Rattle.std.specs.Prelude.{◌≡◌, ◌<◌, ◌≤◌, ◌+◌, ◌*◌, IfOk, true, Some, slice_get};
+ghost use Rattle.hd_map.specs.declared.types.Pos.{Pos};
+ghost use Rattle.hd_map.specs.Map.{InGrid, place_of};
+ghost use Rattle.hd_basin.specs.Frames.{InFrame, FitsGrid, IsWindow, ShowsFrame};
+
+use crate::frame::{Frame, is_in_frame};
+use hd_list::Memory;
+use hd_map::{Adjacency, Heights, Pos, Size};
+use hd_tiles::{Looked, Steps};
+use std::alloc::Global;
+use std::sync::ledger::Ledger;
+
+/// The heights of a part of a grid.
+#[derive(Debug, Drop)]
+pub struct Window {
+    size: Size,
+    adjacency: Adjacency,
+    frame: Frame,
+    heights: Vec<Option<i64>>,
+    ghost whole: { IsWindow size frame heights.items },
+}
+
+impl Heights for Window {
+    ghost use Rattle.hd_basin.specs.WindowMap.{map_of_window};
+    ghost use Rattle.hd_basin.specs.WindowLaws.{framed_map-whole};
+
+    ghost map = { map_of_window };
+
+    ghost whole = { λ w. framed_map-whole w.size w.adjacency w.frame w.heights.items w.whole };
+
+    fn size(&self) -> Size {
+        self.size
+    }
+
+    fn adjacency(&self) -> Adjacency {
+        self.adjacency
+    }
+
+    fn height(&self, at: Pos) -> Option<i64> {
+        if is_in_frame(self.frame, at) {
+            let frame = self.frame;
+            self.heights[((at.y - frame.top) * frame.columns + (at.x - frame.left)) as usize]
+        } else {
+            None
+        }
+    }
+}
+
+impl Window {
+    ghost use Rattle.hd_basin.specs.WindowMap.{map_of_window};
+
+    /// Looks once at each position of a part of the grid. `Memory` comes where the heights are refused
+    /// their memory.
+    pub fn look<T: Looked, L: Ledger>(
+        alloc: Global,
+        tiles: &T,
+        frame: Frame,
+        looks: &mut Steps<L>,
+    ) -> Result<Window, Memory>
+        requires fits { FitsGrid (T.map tiles.now).size frame }
+        requires allowed { (p : Pos) → InFrame frame p → slice_get (T.leave tiles.now) (place_of (T.map tiles.now).size p) ≡ Some true }
+        ensures shows { IfOk result (λ w. ShowsFrame (T.map tiles.now) frame (map_of_window w)) }
+        ensures counted { looks.new ≤ looks.old + frame.columns * frame.rows }
+    {
+        let mut heights = Vec::new(alloc);
+        for index in 0..frame.columns * frame.rows {
+            let at = Pos {
+                x: frame.left + index % frame.columns,
+                y: frame.top + index / frame.columns,
+            };
+            let height = tiles.look(at, looks);
+            heights.push(height)?;
+        }
+        Ok(Window {
+            size: tiles.size(),
+            adjacency: tiles.adjacency(),
+            frame,
+            heights,
+        })
+    }
+}

@@ -1,0 +1,40 @@
+use Rattle.std.proofs.Common.{◌≡◌, ◌∷◌, ◌++◌, [], ap, ◌∙◌, ◌+◌, rules}
+use mir.Syntax.{w64}
+use Rattle.std.proofs.lemmas.Int.{to_z-of_z}
+use Rattle.hd_map.specs.Packing.{as_it_is}
+use Rattle.hd_map.proofs.Packed.{cells_push, of_type_push, paired_push, popped, unmasked_push}
+use Rattle.hd_map.proofs.wide_cells.WideCells.push_packed.Goals as goal
+
+pub invariant_of-self : goal.invariant_of-self
+invariant_of-self c =
+    let s = c.args.self.now in
+    let same = c.in_err-push.ensures.items in
+    record { places = s.places; paired = rw same s.paired; unmasked = s.unmasked; of_type = rw same s.of_type }
+
+pub invariant_of-self-then-is_err : goal.invariant_of-self-then-is_err
+invariant_of-self-then-is_err c =
+    let s = c.args.self.now in
+    let height : c.push.new.self.items ≡ s.heights.items ++ c.args.height ∷ [] = c.in_ok-push.ensures.items ∙ ap (λ h. s.heights.items ++ h ∷ []) (to_z-of_z w64 c.args.height c.ranges.height) in
+    let count = c.in_ok-push.ensures.len ∙ ap (λ n. n + 1) s.heights.ok.0 in
+    let same = popped s.heights.items c.pop.new.self.items c.args.height c.push.new.self.len count (rw height at c.pop.ensures.rest) in
+    let same_marks : c.push-2.new.self.items ≡ s.marks.items = search rules in
+    record { places = s.places; paired = rw (same, same_marks) s.paired; unmasked = rw same_marks s.unmasked; of_type = rw (same, same_marks) s.of_type }
+
+pub invariant_of-self-else-is_err : goal.invariant_of-self-else-is_err
+invariant_of-self-else-is_err c =
+    let s = c.args.self.now in
+    let height : c.push.new.self.items ≡ s.heights.items ++ c.args.height ∷ [] = c.in_ok-push.ensures.items ∙ ap (λ h. s.heights.items ++ h ∷ []) (to_z-of_z w64 c.args.height c.ranges.height) in
+    let pushed : c.push-2.new.self.items ≡ s.marks.items ++ c.args.mark ∷ [] = search rules in
+    record {
+      places = s.places;
+      paired = rw (height, pushed) (paired_push as_it_is s.heights.items s.marks.items s.paired c.args.height c.args.mark);
+      unmasked = rw pushed (unmasked_push s.marks.items c.args.mark s.unmasked c.requires.unmasked);
+      of_type = rw (height, pushed) (of_type_push as_it_is s.heights.items s.marks.items s.paired c.args.height c.args.mark s.data_type s.of_type c.requires.of_type);
+    }
+
+pub returns-clause-ok : goal.returns-clause-ok
+returns-clause-ok c =
+    let s = c.args.self.now in
+    let height : c.push.new.self.items ≡ s.heights.items ++ c.args.height ∷ [] = c.in_ok-push.ensures.items ∙ ap (λ h. s.heights.items ++ h ∷ []) (to_z-of_z w64 c.args.height c.ranges.height) in
+    let pushed : c.push-2.new.self.items ≡ s.marks.items ++ c.args.mark ∷ [] = search rules in
+    rw (height, pushed) (cells_push as_it_is s.heights.items s.marks.items s.paired c.args.height c.args.mark)

@@ -1,0 +1,330 @@
+-- A flood from several starts, entry by entry.
+use Rattle.std.proofs.Common.{◌≡◌, ◌<◌, ◌≤◌, ◌+◌, ℕ, zero, suc, pos, Bool, true, false, List, [], ◌∷◌, ◌++◌, length, get_or, set, replicate, slice_get, Option, Some, None, IsSome, ◌⊎◌, inl, inr, ap, ◌∙◌, refl, sym, subst, arith}
+use Rattle.std.specs.Prelude.{All, Contains}
+use Rattle.std.specs.List.{sum_by}
+use Rattle.std.proofs.Math.ListN.{length-set}
+use Rattle.std.proofs.lemmas.List.{get_or-set_same, get_or-set_other, get_or_append_left, get_or_push, length_push, get_or-replicate, length-replicate, get_or_default}
+use Rattle.std.proofs.lemmas.List.Elements.{All-head, All-tail, Contains-push_cases}
+use Rattle.std.proofs.lemmas.List.Sums.{sum_by-set}
+use Rattle.std.proofs.lemmas.List.Folds.{sum_by-replicate}
+use Rattle.std.proofs.lemmas.Bool.{cases_lt, cases_eq, false≢true}
+use Rattle.std.proofs.lemmas.Option.{get_or_from_slice_get, same_Some, slice_get-get_or, slice_get_within}
+use Rattle.hd_map.specs.declared.types.Pos.{Pos}
+use Rattle.hd_map.specs.declared.types.Rank.{Rank}
+use Rattle.hd_map.specs.Map.{InGrid, Map, Present, cell_count, place_of}
+use Rattle.hd_map.specs.Neighbour.{Neighbour}
+use Rattle.hd_map.specs.Path.{Leads}
+use Rattle.hd_map.specs.Rank.{IsPoint, Near, rank}
+use Rattle.hd_map.proofs.Items.{Contains-none}
+use Rattle.hd_map.proofs.Points.{Near-at, place_inside, point_at, same_index, same_place}
+use Rattle.hd_reach.specs.declared.flood.Reached.{Reached}
+use Rattle.hd_reach.specs.Flood.{AreBegun, IsEntry, IsFlood, IsRound, Reaches, entry_of, is_free, noted_at}
+use Rattle.hd_reach.specs.Reached.{AreReached, IsReachedBy, ReachApart}
+use Rattle.hd_reach.proofs.Reaching.{by-point, by-start, by-step, start-point}
+
+-- an option that is something is something
+some_of : (o : Option ℕ) → IsSome o → (n : ℕ) × (o ≡ Some n)
+some_of (Some n) h = (n, refl)
+some_of None h = absurd (false≢true h)
+
+-- what an option is is one
+same_of : {X : Type 0} (o : Option X) (a b : X) → o ≡ Some a → o ≡ Some b → a ≡ b
+same_of o a b e f = same_Some a b (sym e ∙ f)
+
+not_none : (o : Option ℕ) (a : ℕ) → o ≡ Some a → o ≡ None → ⊥
+not_none o a e f = cc
+
+-- what is noted stands inside the list
+pub noted-inside : (reached : List (Option ℕ)) (k n : ℕ) → noted_at reached k ≡ Some n → k < length reached
+noted-inside [] k n h = absurd (let e : None ≡ Some n = h in cc)
+noted-inside (x ∷ xs) zero n h = omega arith
+noted-inside (x ∷ xs) (suc k) n h = (let rest = noted-inside xs k n h in omega arith)
+
+-- what is noted after a point is noted
+noted-kept : (reached : List (Option ℕ)) (i k n j : ℕ) → noted_at reached i ≡ None → noted_at reached k ≡ Some n → noted_at (set reached i (Some j)) k ≡ Some n
+noted-kept reached i k n j free noted = elim (cases_eq k i) [
+  | inl same ↦ absurd (not_none (noted_at reached k) n noted (ap (noted_at reached) same ∙ free))
+  | inr other ↦ get_or-set_other reached i k (Some j) None other ∙ noted
+]
+
+noted-here : (reached : List (Option ℕ)) (i j : ℕ) → i < length reached → noted_at (set reached i (Some j)) i ≡ Some j
+noted-here reached i j inside = get_or-set_same reached i (Some j) None inside
+
+-- what is noted then was noted before, or is that point
+noted-cases : (reached : List (Option ℕ)) (i k n j : ℕ) → i < length reached → noted_at (set reached i (Some j)) k ≡ Some n → (noted_at reached k ≡ Some n) ⊎ ((i ≡ k) × (j ≡ n))
+noted-cases reached i k n j inside noted = elim (cases_eq k i) [
+  | inl same ↦ inr (sym same, same_of (noted_at (set reached i (Some j)) k) j n (ap (noted_at (set reached i (Some j))) same ∙ noted-here reached i j inside) noted)
+  | inr other ↦ inl (sym (get_or-set_other reached i k (Some j) None other) ∙ noted)
+]
+
+-- one more point is noted: there is one free less
+room-less : (reached : List (Option ℕ)) (queue : List Reached) (e : Reached) (cells i j : ℕ) → i < length reached → noted_at reached i ≡ None
+    → length queue + sum_by is_free reached ≡ cells → length (queue ++ e ∷ []) + sum_by is_free (set reached i (Some j)) ≡ cells
+room-less reached queue e cells i j inside free room =
+    let sum = sum_by-set is_free reached i (Some j) None inside in
+    let one : is_free (get_or reached i None) ≡ 1 = ap is_free free in
+    let longer = length_push queue e in
+    omega (arith, sum, one, longer, room)
+
+entry-old : (queue : List Reached) (e : Reached) (k : ℕ) → k < length queue → entry_of (queue ++ e ∷ []) k ≡ entry_of queue k
+entry-old queue e k inside = get_or_append_left queue (e ∷ []) (record { index = 0; by = 0 }) k inside
+
+entry-new : (queue : List Reached) (e : Reached) (k : ℕ) → length queue ≡ k → entry_of (queue ++ e ∷ []) k ≡ e
+entry-new queue e k last = get_or_push queue e (record { index = 0; by = 0 }) k last
+
+-- the entry that is read at the head
+pub head-entry : (queue : List Reached) (head : ℕ) (e : Reached) → head < length queue → e ≡ get_or queue head e → entry_of queue head ≡ e
+head-entry queue head e inside is = get_or_default queue head (record { index = 0; by = 0 }) e inside ∙ sym is
+
+abbrev pub entry_is : ℕ → ℕ → Reached
+entry_is k n = record { index = k; by = n }
+
+-- reaching a point leaves the length of the list
+pub reaches-whole : (m : Map) (allows : ℕ → Rank → Bool) (at : Pos) (by : ℕ) (reached : List (Option ℕ)) (queue : List Reached) (reached' : List (Option ℕ)) (queue' : List Reached)
+    → Reaches m allows at by reached queue reached' queue' → length reached' ≡ length reached
+reaches-whole m allows at by reached queue reached' queue' reaches = elim reaches [
+  | inl left ↦ ap length left.1
+  | inr new ↦ ap length new.2 ∙ length-set reached (place_of m.size at) (Some by)
+]
+
+none_or_some : (o : Option ℕ) → (o ≡ None) ⊎ ((n : ℕ) × (o ≡ Some n))
+none_or_some None = inl refl
+none_or_some (Some n) = inr (n, refl)
+
+-- no start is queued yet
+pub begun-none : (m : Map) (starts : List Rank) → AreBegun m starts 0 (replicate (cell_count m.size) None) []
+begun-none m starts =
+    let blank : List (Option ℕ) = replicate (cell_count m.size) None in
+    record {
+      whole = length-replicate {A = Option ℕ} (cell_count m.size) None;
+      room = (let all = sum_by-replicate is_free (cell_count m.size) None in omega (arith, all));
+      many = refl;
+      queued = λ i start before. absurd (omega arith);
+      noted = λ i start before. absurd (omega arith);
+      only = λ k i noted. absurd (let inside = noted-inside blank k i noted in
+          let free = get_or-replicate (cell_count m.size) k None None (let long = length-replicate {A = Option ℕ} (cell_count m.size) None in omega (arith, inside, long)) in
+          not_none (noted_at blank k) i noted free);
+    }
+
+-- one more start
+pub begun-more : (m : Map) (starts : List Rank) (n : ℕ) (start : Rank) (reached : List (Option ℕ)) (queue : List Reached)
+    → ((i j : ℕ) (s : Rank) → slice_get starts i ≡ Some s → slice_get starts j ≡ Some s → i ≡ j) → All (IsPoint m) starts → slice_get starts n ≡ Some start → AreBegun m starts n reached queue
+    → AreBegun m starts (n + 1) (set reached start.index (Some n)) (queue ++ record { index = start.index; by = n } ∷ [])
+begun-more m starts n start reached queue different points is b =
+    let point = start-point m starts n start points is in
+    let cell : start.index < cell_count m.size = rw point.rank_is (place_inside m.size point.at point.present.in_grid) in
+    let whole = b.whole in
+    let many = b.many in
+    let inside : start.index < length reached = omega (arith, cell, whole) in
+    let e : Reached = entry_is start.index n in
+    let free : noted_at reached start.index ≡ None = elim (none_or_some (noted_at reached start.index)) [
+      | inl none ↦ none
+      | inr some ↦ absurd (let o = b.only start.index some.0 some.1 in
+          let one : o.1.0 ≡ start = same_index m o.1.0 start (start-point m starts some.0 o.1.0 points o.1.1) point o.1.2 in
+          let number : some.0 ≡ n = different some.0 n start (o.1.1 ∙ ap Some one) is in
+          let less = o.0 in
+          omega (arith, less, number))
+    ] in
+    let longer = length_push queue e in
+    let at_n : (i : ℕ) (s : Rank) → n ≡ i → slice_get starts i ≡ Some s → start ≡ s = λ i s last is'. same_of (slice_get starts i) start s (ap (slice_get starts) (sym last) ∙ is) is' in
+    record {
+      whole = length-set reached start.index (Some n) ∙ whole;
+      room = room-less reached queue e (cell_count m.size) start.index n inside free b.room;
+      many = omega (arith, longer, many);
+      queued = λ i s before is'. elim (cases_lt i n) [
+        | inl old ↦ entry-old queue e i (omega (arith, old, many)) ∙ b.queued i s old is'
+        | inr new ↦
+            let last : n ≡ i = omega (arith, before, new) in
+            entry-new queue e i (omega (arith, many, last)) ∙ ap (λ (r : Rank). entry_is r.index n) (at_n i s last is') ∙ ap (entry_is s.index) last
+      ];
+      noted = λ i s before is'. elim (cases_lt i n) [
+        | inl old ↦ noted-kept reached start.index s.index i n free (b.noted i s old is')
+        | inr new ↦
+            let last : n ≡ i = omega (arith, before, new) in
+            subst (λ (r : Rank). noted_at (set reached start.index (Some n)) r.index ≡ Some i) (at_n i s last is') (noted-here reached start.index n inside ∙ ap Some last)
+      ];
+      only = λ k i noted. elim (noted-cases reached start.index k i n inside noted) [
+        | inl was ↦ let o = b.only k i was in (let less = o.0 in omega (arith, less), o.1)
+        | inr new ↦ (let last = new.1 in omega (arith, last), (start, ap (slice_get starts) (sym new.1) ∙ is, new.0))
+      ];
+    }
+
+module _ (m : Map) (starts : List Rank) (allows : ℕ → Rank → Bool) (apart : ReachApart m starts allows) where
+  -- all starts are queued
+  pub flood-begin : (reached : List (Option ℕ)) (queue : List Reached) → AreBegun m starts (length starts) reached queue → IsFlood m starts allows reached queue 0
+  flood-begin reached queue b = record {
+    whole = b.whole;
+    room = b.room;
+    begun = λ i start is. b.noted i start (slice_get_within starts i start is) is;
+    entries = λ k inside.
+        (let many = b.many in
+        let before : k < length starts = omega (arith, inside, many) in
+        let start : Rank = get_or starts k (record { height = pos 0; index = 0 }) in
+        let is : slice_get starts k ≡ Some start = slice_get-get_or starts k (record { height = pos 0; index = 0 }) before in
+        subst (λ e. IsEntry m starts allows reached e) (sym (b.queued k start before is))
+        (record { point = start; index_is = refl; reached_by = by-start m starts allows apart.points k start is; noted = b.noted k start before is }));
+    queued = λ k n noted.
+        (let o = b.only k n noted in
+        let many = b.many in
+        record { place = n; inside = omega (arith, o.0, many); is = b.queued n o.1.0 o.0 o.1.1 ∙ ap (λ i. entry_is i n) o.1.2 });
+    closed = λ k before. absurd (omega arith);
+  }
+
+  module _ (reached : List (Option ℕ)) (queue : List Reached) (head : ℕ) where
+    -- what is noted is reached
+    noted-reached : IsFlood m starts allows reached queue head → (k n : ℕ) → noted_at reached k ≡ Some n → (x : Rank) × (x.index ≡ k) × IsReachedBy m starts allows n x
+    noted-reached f k n noted =
+        let h = f.queued k n noted in
+        let e = f.entries h.place h.inside in (
+          e.point,
+          e.index_is ∙ ap (λ (r : Reached). r.index) h.is,
+          subst (λ (r : Reached). IsReachedBy m starts allows r.by e.point) h.is e.reached_by,
+        )
+
+    -- an entry is of a cell
+    pub entry-inside : IsFlood m starts allows reached queue head → (k : ℕ) → k < length queue → (entry_of queue k).index < cell_count m.size
+    entry-inside f k inside =
+        let e = f.entries k inside in
+        let cell = noted-inside reached (entry_of queue k).index (entry_of queue k).by e.noted in
+        let whole = f.whole in
+        omega (arith, cell, whole)
+
+    -- a point that the start of the head's entry is allowed to step to is queued
+    flood-push : IsFlood m starts allows reached queue head → head < length queue → (y : Rank) (n : ℕ) → IsReachedBy m starts allows n y → noted_at reached y.index ≡ None
+        → IsFlood m starts allows (set reached y.index (Some n)) (queue ++ record { index = y.index; by = n } ∷ []) head
+    flood-push f begun y n by free =
+        let e : Reached = entry_is y.index n in
+        let point : IsPoint m y = by-point m starts allows n y by in
+        let cell : y.index < cell_count m.size = rw point.rank_is (place_inside m.size point.at point.present.in_grid) in
+        let whole = f.whole in
+        let inside : y.index < length reached = omega (arith, cell, whole) in
+        let longer = length_push queue e in
+        record {
+          whole = length-set reached y.index (Some n) ∙ f.whole;
+          room = room-less reached queue e (cell_count m.size) y.index n inside free f.room;
+          begun = λ i start is. noted-kept reached y.index start.index i n free (f.begun i start is);
+          entries = λ k h. elim (cases_lt k (length queue)) [
+            | inl old ↦
+                let was = f.entries k old in
+                subst (λ (r : Reached). IsEntry m starts allows (set reached y.index (Some n)) r) (sym (entry-old queue e k old)) (record {
+                  point = was.point;
+                  index_is = was.index_is;
+                  reached_by = was.reached_by;
+                  noted = noted-kept reached y.index (entry_of queue k).index (entry_of queue k).by n free was.noted;
+                })
+            | inr new ↦
+                let last : length queue ≡ k = omega (arith, longer, h, new) in
+                subst (λ (r : Reached). IsEntry m starts allows (set reached y.index (Some n)) r) (sym (entry-new queue e k last))
+                (record { point = y; index_is = refl; reached_by = by; noted = noted-here reached y.index n inside })
+          ];
+          queued = λ k j noted. elim (noted-cases reached y.index k j n inside noted) [
+            | inl was ↦ let h = f.queued k j was in let inside = h.inside in record { place = h.place; inside = omega (arith, longer, inside); is = entry-old queue e h.place h.inside ∙ h.is }
+            | inr is ↦ record { place = length queue; inside = omega (arith, longer); is = entry-new queue e (length queue) refl ∙ ap (λ i. entry_is i n) is.0 ∙ ap (entry_is k) is.1 }
+          ];
+          closed = λ k before h x z at near allowed.
+              (let old : k < length queue = omega (arith, before, begun) in
+              let same = entry-old queue e k old in
+              let was = f.closed k before old x z (at ∙ ap (λ (r : Reached). r.index) same) near (subst (λ (r : Reached). allows r.by z ≡ true) same allowed) in
+              subst (λ (r : Reached). noted_at (set reached y.index (Some n)) z.index ≡ Some r.by) (sym same) (noted-kept reached y.index z.index (entry_of queue k).by n free was));
+        }
+
+  -- a flood stands at the point with this entry
+  module _ (at : Pos) (by : ℕ) where
+    abbrev here : Reached
+    here = entry_is (place_of m.size at) by
+
+    -- the point at the head is reached by its start
+    head-reached : (reached : List (Option ℕ)) (queue : List Reached) (head : ℕ) → IsFlood m starts allows reached queue head → head < length queue → entry_of queue head ≡ here
+        → Present m at → IsReachedBy m starts allows by (rank m at)
+    head-reached reached queue head f begun is present =
+        let e = subst (λ (r : Reached). IsEntry m starts allows reached r) is (f.entries head begun) in
+        subst (λ x. IsReachedBy m starts allows by x) (same_index m e.point (rank m at) (by-point m starts allows by e.point e.reached_by) (point_at m at present) e.index_is) e.reached_by
+
+    pub round-begin : (reached : List (Option ℕ)) (queue : List Reached) (head : ℕ) → IsFlood m starts allows reached queue head → head < length queue → entry_of queue head ≡ here → IsRound m starts allows here [] reached queue head
+    round-begin reached queue head f begun is = record { flood = f; inside = begun; here_is = is; found = λ q h. absurd (Contains-none q h) }
+
+    -- one more neighbour
+    pub round-more : (reached : List (Option ℕ)) (queue : List Reached) (head : ℕ) (done : List Pos) (q : Pos) (reached' : List (Option ℕ)) (queue' : List Reached) → Neighbour m at q
+        → Reaches m allows q by reached queue reached' queue' → IsRound m starts allows here done reached queue head → IsRound m starts allows here (done ++ q ∷ []) reached' queue' head
+    round-more reached queue head done q reached' queue' near reaches r =
+        let f = r.flood in
+        let start = head-reached reached queue head f r.inside r.here_is near.from in
+        let to : allows by (rank m q) ≡ true → IsReachedBy m starts allows by (rank m q) = λ allowed. by-step m starts allows by (rank m at) (rank m q) start (Near-at m at q near) allowed in
+        elim reaches [
+          | inl left ↦ rw (left.1, left.2) (record {
+            flood = f;
+            inside = r.inside;
+            here_is = r.here_is;
+            found = λ p listed allowed. elim (Contains-push_cases done q p listed) [
+              | inl old ↦ r.found p old allowed
+              | inr same ↦ subst (λ (p : Pos). allows by (rank m p) ≡ true → noted_at reached (place_of m.size p) ≡ Some by) same (λ allowed. elim left.0 [
+                | inl some ↦
+                    let n = some_of (noted_at reached (place_of m.size q)) some in
+                    let x = noted-reached reached queue head f (place_of m.size q) n.0 n.1 in
+                    let one : x.0 ≡ rank m q = same_index m x.0 (rank m q) (by-point m starts allows n.0 x.0 x.2) (point_at m q near.to) x.1 in
+                    let number : n.0 ≡ by = apart.apart n.0 by (rank m q) (subst (λ z. IsReachedBy m starts allows n.0 z) one x.2) (to allowed) in
+                    n.1 ∙ ap Some number
+                | inr refused ↦ absurd (let e : false ≡ true = sym refused ∙ allowed in false≢true e)
+              ]) allowed
+            ];
+          })
+          | inr new ↦ rw (new.2, new.3)
+              (let f' = flood-push reached queue head f r.inside (rank m q) by (to new.1) new.0 in
+              record {
+                flood = f';
+                inside = (let longer = length_push queue (entry_is (place_of m.size q) by) in let begun = r.inside in omega (arith, longer, begun));
+                here_is = entry-old queue (entry_is (place_of m.size q) by) head r.inside ∙ r.here_is;
+                found = λ p listed allowed. elim (Contains-push_cases done q p listed) [
+                  | inl old ↦ noted-kept reached (place_of m.size q) (place_of m.size p) by by new.0 (r.found p old allowed)
+                  | inr same ↦ subst (λ (p : Pos). noted_at (set reached (place_of m.size q) (Some by)) (place_of m.size p) ≡ Some by) same
+                      (noted-here reached (place_of m.size q) by (let inside = place_inside m.size q near.to.in_grid in let whole = f.whole in omega (arith, inside, whole)))
+                ];
+              })
+        ]
+
+    -- all neighbours are done
+    pub round-end : (reached : List (Option ℕ)) (queue : List Reached) (head : ℕ) (done : List Pos) → InGrid m.size at → ((q : Pos) → Neighbour m at q → Contains done q) → IsRound m starts allows here done reached queue head
+        → IsFlood m starts allows reached queue (head + 1)
+    round-end reached queue head done in_grid all r =
+        let f = r.flood in
+        record {
+          whole = f.whole;
+          room = f.room;
+          begun = f.begun;
+          entries = f.entries;
+          queued = f.queued;
+          closed = λ k before inside x y is near allowed. elim (cases_lt k head) [
+            | inl less ↦ f.closed k less inside x y is near allowed
+            | inr last ↦
+                let e : entry_of queue k ≡ here = ap (entry_of queue) (let same : k ≡ head = omega arith in same) ∙ r.here_is in
+                let places : place_of m.size near.from ≡ place_of m.size at = ap (λ (z : Rank). z.index) (sym near.from_rank) ∙ is ∙ ap (λ (r : Reached). r.index) e in
+                let from : near.from ≡ at = same_place m.size near.from at near.neighbour.from.in_grid in_grid places in
+                let allowed' : allows by y ≡ true = subst (λ (r : Reached). allows r.by y ≡ true) e allowed in
+                let found = r.found near.to (all near.to (subst (λ (p : Pos). Neighbour m p near.to) from near.neighbour)) (subst (λ z. allows by z ≡ true) near.to_rank allowed') in
+                subst (λ (r : Reached). noted_at reached y.index ≡ Some r.by) (sym e) (subst (λ (z : Rank). noted_at reached z.index ≡ Some by) (sym near.to_rank) found)
+          ];
+        }
+
+  -- where all entries were at the head, all that is reached is noted
+  module _ (reached : List (Option ℕ)) (queue : List Reached) (head : ℕ) (f : IsFlood m starts allows reached queue head) (done : length queue ≤ head) where
+    noted-along : (n : ℕ) (a : Rank) (xs : List Rank) (x : Rank) → noted_at reached a.index ≡ Some n → Leads (Near m) a xs x → All (λ p. allows n p ≡ true) xs → noted_at reached x.index ≡ Some n
+    noted-along n a [] x noted l allowed = subst (λ (z : Rank). noted_at reached z.index ≡ Some n) l noted
+    noted-along n a (y ∷ ys) x noted l allowed =
+        let h = f.queued a.index n noted in
+        let inside = h.inside in
+        let next = f.closed h.place (omega (arith, inside, done)) h.inside a y (sym (ap (λ (r : Reached). r.index) h.is)) l.0
+        (subst (λ (r : Reached). allows r.by y ≡ true) (sym h.is) (All-head (λ p. allows n p ≡ true) y ys allowed)) in
+        noted-along n y ys x (next ∙ ap (λ (r : Reached). Some r.by) h.is) l.1 (All-tail (λ p. allows n p ≡ true) y ys allowed)
+
+    pub flood-end : AreReached m starts allows reached
+    flood-end = record {
+      whole = f.whole;
+      exactly = λ k n. (
+        λ is. noted-reached reached queue head f k n (get_or_from_slice_get reached k (Some n) None is),
+        λ x.
+            (let by = x.2 in
+            let noted = noted-along n by.start by.within.points x.0 (f.begun n by.start by.is_start) by.within.path.leads by.within.allowed in
+            let here : noted_at reached k ≡ Some n = ap (noted_at reached) (sym x.1) ∙ noted in
+            slice_get-get_or reached k None (noted-inside reached k n here) ∙ ap Some here),
+      );
+    }

@@ -1,0 +1,46 @@
+-- A surface file that is fed to a reader piece by piece.
+use Rattle.std.proofs.Common.{◌≡◌, ◌+◌, ◌<◌, ◌≤◌, ℕ, List, [], ◌++◌, length, take, drop, Option, Some, None, Result, Ok, Err, false, refl, sym, ◌∙◌, ap, subst, arith, append-nil, length-append, length-take, length-take-le}
+use Rattle.std.specs.Prelude.{OnOk}
+use Rattle.std.specs.Result.{is_err}
+use Rattle.std.specs.Io.KnownBytes.{Consumes, IsAtEnd, Keeps}
+use Rattle.std.proofs.KnownBytes.{Consumes-kept, Consumes-trans}
+use Rattle.hd_base.specs.Told.{TakesFew}
+use Rattle.hd_base.proofs.Pieces.{few_kept, few_taken, past_limit, whole_read}
+use Rattle.hd_sdf_read.specs.declared.reader.SdfReader.{SdfReader}
+use Rattle.hd_sdf_read.specs.Reader.{StandsFor}
+use Rattle.hd_run.specs.Limits.{surface_limit}
+
+-- so many bytes of what was left are fed
+pub record HasFed (before left : Option (List ℕ)) (reader : SdfReader) (count : ℕ) : Type 0 where
+  pub got : List ℕ
+  pub size : length got ≡ count
+  pub taken : Consumes before left got
+  pub stands : StandsFor reader got
+
+-- nothing is fed yet
+pub fed_none : (left : Option (List ℕ)) (reader : SdfReader) → StandsFor reader [] → HasFed left left reader 0
+fed_none left reader stands = record { got = []; size = refl; taken = nothing left; stands = stands } where
+  nothing : (told : Option (List ℕ)) → Consumes told told []
+  nothing None = tt
+  nothing (Some bytes) = refl
+
+-- one more piece is fed
+pub fed_more : (before mid left : Option (List ℕ)) (old new : SdfReader) (count n : ℕ) (piece : List ℕ) → (fed : HasFed before mid old count) → Consumes mid left (take n piece) → n ≤ length piece
+    → StandsFor new (fed.got ++ take n piece) → HasFed before left new (count + n)
+fed_more before mid left old new count n piece fed more fits stands = record {
+  got = fed.got ++ take n piece;
+  size = omega (arith, length-append fed.got (take n piece), length-take-le n piece fits, fed.size);
+  taken = Consumes-trans before mid left fed.got (take n piece) fed.taken more;
+  stands = stands;
+}
+
+-- few bytes are taken with one more piece
+pub fed_few : (bytes : List ℕ) (before mid left : Option (List ℕ)) (reader : SdfReader) (count n : ℕ) (piece : List ℕ) → before ≡ Some bytes → HasFed before mid reader count → Consumes mid left (take n piece)
+    → count + length piece ≤ surface_limit + 1 → TakesFew bytes surface_limit left
+fed_few bytes before mid left reader count n piece told fed more fits =
+    few_taken bytes fed.got piece surface_limit n before mid left told fed.taken more (omega (arith, fits, fed.size))
+
+-- a call that is no error was accepted
+pub on_ok : {T E P : Type 0} (result : Result T E) → is_err result ≡ false → OnOk result P → P
+on_ok (Ok x) ok holds = holds
+on_ok (Err e) ok holds = cc

@@ -1,0 +1,11 @@
+use Rattle.std.proofs.Common.{◌≡◌, true, take}
+use Rattle.std.specs.Char.{is_ascii_digit}
+use Rattle.std.specs.List.{list_all}
+use Rattle.std.specs.Str.Parse.{digits_value}
+use Rattle.hd_sdf_read.proofs.datum.few_digits.Given as goal
+
+abbrev pub invariant-digits : goal.invariant-digits
+invariant-digits l = record {
+  digits : list_all is_ascii_digit (take l.place l.text) ≡ true;
+  value : l.number ≡ digits_value 10 (take l.place l.text);
+}

@@ -1,0 +1,117 @@
+-- How decimals that were read are kept.
+use Rattle.std.specs.Prelude.{◌≡◌, ◌<◌, ◌≤◌, ◌+◌, ◌-◌, ◌*◌, ◌^◌, ◌++◌, ℕ, pos, max, Bool, true, false, List, [], ◌∷◌, length, map, take, drop, Some, Result, Ok, Err}
+use Rattle.std.specs.Char.{is_ascii_digit}
+use Rattle.std.specs.List.{list_all, position_or_len}
+use Rattle.std.specs.Str.Parse.{digits_value}
+use denote.Bor.{Bor}
+use Rattle.hd_num.specs.Decimal.{decimal_of}
+use Rattle.hd_num.specs.declared.decimal.Decimal.{Decimal}
+use Rattle.hd_map.specs.declared.wide_cells.WideCells.{WideCells}
+use Rattle.hd_map.specs.declared.types.DataType.{DataType}
+use Rattle.hd_map.specs.Cells.{wide_cells_in}
+use Rattle.hd_map.specs.Packing.{multiplied}
+use Rattle.hd_sdf_read.specs.declared.error.SdfError.{SdfError}
+use Rattle.hd_sdf_read.specs.declared.error.SdfError.TheVariants.{Memory}
+use Rattle.hd_sdf_read.specs.declared.scaled.Datum.{Datum}
+use Rattle.hd_sdf_read.specs.declared.scaled.Scaled.{Scaled}
+use Rattle.hd_sdf_read.specs.Decimals.{IsSmall, cells_at, data_with, datum_of, decimals_from, greatest_in, measured, most_places_in, most_steps, ranged}
+use Rattle.hd_sdf_read.specs.File.{is_gap}
+use Rattle.hd_sdf_read.specs.Keys.{with_places}
+use Rattle.hd_sdf_read.specs.Reads.{◌>>=◌}
+use Rattle.hd_sdf_read.specs.Tokens.{after_token, is_absent, is_star, token_of}
+
+-- the data are kept as cells at the most places among them
+pub record Scales (s : Scaled) (t : DataType) (ds : List Datum) : Type 0 where
+  pub cells : wide_cells_in s.cells ≡ cells_at s.places ds
+  pub places : s.places ≡ most_places_in ds
+  pub data_type : s.cells.data_type ≡ with_places t s.places
+
+-- the same, where steps of at least so many places are taken
+pub record Refined (s : Scaled) (t : DataType) (ds : List Datum) (places : ℕ) : Type 0 where
+  pub cells : wide_cells_in s.cells ≡ cells_at s.places ds
+  pub places_are : s.places ≡ max (most_places_in ds) places
+  pub data_type : s.cells.data_type ≡ with_places t s.places
+
+-- the data in steps of so many places, more than before, are out of range
+pub record IsBeyond (ds : List Datum) (places : ℕ) : Type 0 where
+  pub more : most_places_in ds < places
+  pub great : most_steps < greatest_in (cells_at places ds)
+
+-- steps of at least so many places are taken, or the data would be out of range
+abbrev pub Refines : Scaled → Scaled → ℕ → Bool → Type 0
+Refines old new places true = (t : DataType) (before : List Datum) → Scales old t before → Refined new t before places
+Refines old new places false = (t : DataType) (before : List Datum) → Scales old t before → IsBeyond before places
+
+-- one more datum, of this number, is kept, or why it is not
+abbrev pub Pushes : Scaled → Scaled → ℕ → Datum → Result (Unit {0}) SdfError → Type 0
+Pushes old new number d (Ok done) = (t : DataType) (before : List Datum) → Scales old t before
+    → (ranged (before ++ d ∷ []) ≡ Ok (before ++ d ∷ [])) × Scales new t (before ++ d ∷ [])
+Pushes old new number d (Err e) = (t : DataType) (before : List Datum) → Scales old t before → number ≡ length before + 1 → (e ≡ Memory → ⊥)
+    → ranged (before ++ d ∷ []) ≡ Err e
+
+-- the cells are kept at more places, or one would be out of range
+abbrev pub Grows : Scaled → Scaled → ℕ → Bool → Type 0
+Grows old new places true = (wide_cells_in new.cells ≡ map (multiplied (pos (10 ^ (places - old.places)))) (wide_cells_in old.cells))
+    × (new.places ≡ places) × (new.cells.data_type ≡ with_places old.cells.data_type places)
+Grows old new places false = most_steps < greatest_in (wide_cells_in old.cells) * 10 ^ (places - old.places)
+
+-- a token gives this datum, which alone is in range, or the first offence behind any data
+abbrev pub TokenGiven : ℕ → List ℕ → Result Datum SdfError → Type 0
+TokenGiven number token (Ok d) = (datum_of number token ≡ Ok d) × IsSmall d
+TokenGiven number token (Err e) = (e ≡ Memory → ⊥) → (before : List Datum) → number ≡ length before + 1
+    → (datum_of number token >>= (λ datum. ranged (before ++ datum ∷ []))) ≡ Err e
+
+-- the next token is this datum, after so many
+pub record IsNext (read : ℕ) (text : List ℕ) (d : Datum) : Type 0 where
+  pub some : is_absent (token_of text) ≡ false
+  pub other : is_star (token_of text) ≡ false
+  pub datum : datum_of (read + 1) (token_of text) ≡ Ok d
+  pub small : IsSmall d
+
+-- the next datum, after so many, and the text after it, or why there is none
+abbrev pub DecimalGiven : ℕ → List ℕ → Result (Datum × Bor (List ℕ)) SdfError → Type 0
+DecimalGiven read text (Ok (d, rest)) = IsNext read text d × (rest.now ≡ after_token text)
+DecimalGiven read text (Err e) = (e ≡ Memory → ⊥) → (before : List Datum) → length before ≡ read → data_with before (token_of text) ≡ Err e
+
+-- a point and these digits, or nothing
+abbrev pub pointed : Bool → List ℕ → List ℕ
+pointed true fraction = 46 ∷ fraction
+pointed false fraction = []
+
+-- the digits at the front of a text, with a point or none, make so many units of the last of so many places
+pub record AreUnits (text : List ℕ) (units places : ℕ) (rest : List ℕ) : Type 0 where
+  pub whole : List ℕ
+  pub fraction : List ℕ
+  pub point : Bool
+  pub bare : point ≡ false → fraction ≡ []
+  pub text_is : text ≡ (whole ++ pointed point fraction) ++ rest
+  pub whole_digits : list_all is_ascii_digit whole ≡ true
+  pub fraction_digits : list_all is_ascii_digit fraction ≡ true
+  pub some : 1 ≤ length whole + length fraction
+  pub few : length whole + length fraction ≤ 18
+  pub places_are : length fraction ≡ places
+  pub units_are : units ≡ digits_value 10 (whole ++ fraction)
+
+-- a token at the front is a decimal of this datum, which alone is in range, and the rest follows it
+pub record TakesDecimal (text rest : List ℕ) (d : Datum) : Type 0 where
+  pub token : List ℕ
+  pub place : take (position_or_len is_gap text) text ≡ token
+  pub after : drop (position_or_len is_gap text) text ≡ rest
+  pub filled : is_absent token ≡ false
+  pub decimal : Decimal
+  pub is_decimal : decimal_of token ≡ Some decimal
+  pub is_measured : measured decimal ≡ d
+  pub small : IsSmall d
+
+-- data of decimals that were read at the front of a text, as cells at the most places among them
+pub record AreDecimals (t : DataType) (count : ℕ) (text : List ℕ) (cells : WideCells) (rest : List ℕ) : Type 0 where
+  pub items : List Datum
+  pub read : decimals_from [] count text ≡ Ok (record { items = items; rest = rest })
+  pub whole : length items ≡ count
+  pub cells_are : wide_cells_in cells ≡ cells_at (most_places_in items) items
+  pub data_type : cells.data_type ≡ with_places t (most_places_in items)
+
+-- the cells of so many data at the front of a text, and the text after them, or why there are none
+abbrev pub DecimalsGiven : DataType → ℕ → List ℕ → Result (WideCells × Bor (List ℕ)) SdfError → Type 0
+DecimalsGiven t count text (Ok (cells, rest)) = AreDecimals t count text cells rest.now
+DecimalsGiven t count text (Err e) = (e ≡ Memory → ⊥) → decimals_from [] count text ≡ Err e

@@ -1,0 +1,175 @@
+-- The data of a map, one after another.
+use Rattle.std.proofs.Common.{◌≡◌, ◌+◌, ◌*◌, ◌-◌, ◌%◌, ◌<◌, ◌≤◌, Bool, ℕ, zero, suc, List, [], ◌∷◌, ◌++◌, length, take, eqb, leb, cond, inl, inr, refl, sym, ap, ap₂, arith, ◌∙◌, append_assoc, append-nil, length-append}
+use Rattle.std.specs.Prelude.{slice_index_or}
+use Rattle.std.proofs.lemmas.Bool.{and_parts, cases_eq, eq-eqb, leb-true, ne_eqb}
+use Rattle.std.proofs.lemmas.List.{take_all}
+use Rattle.std.proofs.lemmas.Nat.{mod-mul-add}
+use Rattle.std.specs.Str.Parse.{without_leading_sign}
+use Rattle.hd_map.specs.declared.types.Cell.{Cell}
+use Rattle.hd_map.specs.declared.types.Cell.TheVariants.{Bad, Height}
+use Rattle.hd_map.specs.declared.types.DataType.{DataType}
+use Rattle.hd_map.specs.declared.types.Pos.{Pos}
+use Rattle.hd_map.specs.declared.types.Size.{Size}
+use Rattle.hd_map.specs.Map.{IsCellOf, IsMap, Map, cell_at, cell_count, most_places, place_of, places_of}
+use Rattle.hd_num.specs.Decimal.{is_unsigned_decimal}
+use Rattle.hd_num.specs.Steps.{steps_decimal}
+use Rattle.hd_sdf_read.proofs.Gapless.{decimal_form}
+use Rattle.hd_sdf_write.specs.Canonical.{cell_text, line, profile, profile_lines, spaced}
+use Rattle.hd_sdf_write.specs.Parts.{AddsData, data_from, data_text, datum_text, gap_after}
+use Rattle.hd_sdf_write.proofs.Laid.{height_decimal}
+use Rattle.hd_sdf_write.proofs.Rows.{length-profile, row_first, row_more}
+
+-- one more datum
+pub data_more : (m : Map) (k : ℕ) → k < cell_count m.size → data_from m k ≡ datum_text m k ++ data_from m (k + 1)
+unfolding data_text
+data_more m k inside = let step : cell_count m.size - k ≡ suc (cell_count m.size - (k + 1)) = omega arith in rw step refl
+
+pub data_none : (m : Map) → data_from m (cell_count m.size) ≡ []
+unfolding data_text
+data_none m = let none : cell_count m.size - cell_count m.size ≡ 0 = omega arith in rw none refl
+
+-- data behind one another
+data_append : (m : Map) (k a b : ℕ) → data_text m k (a + b) ≡ data_text m k a ++ data_text m (k + a) b
+unfolding data_text
+data_append m k zero b =
+    let here : k ≡ k + 0 = omega arith in
+    let none : 0 + b ≡ b = omega arith in
+    ap₂ (data_text m) here none
+data_append m k (suc a) b =
+    let place : k + 1 + a ≡ k + suc a = omega arith in
+    let next : suc a + b ≡ suc (a + b) = omega arith in
+    ap (data_text m k) next ∙ ap (λ (t : List ℕ). datum_text m k ++ t) (data_append m (k + 1) a b ∙ ap (λ n. data_text m (k + 1) a ++ data_text m n b) place)
+    ∙ sym (append_assoc (datum_text m k) (data_text m (k + 1) a) (data_text m (k + suc a) b))
+
+data_one : (m : Map) (k : ℕ) → data_text m k 1 ≡ datum_text m k
+unfolding data_text
+data_one m k = append-nil (datum_text m k)
+
+-- what stands behind the datum of a position
+last_rest : (p x y : ℕ) → x < p → x + 1 ≡ p → (y * p + x + 1) % p ≡ 0
+last_rest p x y column last =
+    let place : y * p + x + 1 ≡ (y + 1) * p + 0 = omega (arith, last) in
+    ap (λ n. n % p) place ∙ mod-mul-add (y + 1) p 0 (omega arith)
+
+other_rest : (p x y : ℕ) → x + 1 < p → (y * p + x + 1) % p ≡ x + 1
+other_rest p x y before =
+    let place : y * p + x + 1 ≡ y * p + (x + 1) = omega arith in
+    ap (λ n. n % p) place ∙ mod-mul-add y p (x + 1) before
+
+gap_test : (rest : ℕ) (test : Bool) → eqb rest 0 ≡ test → cond {A = ℕ} (eqb rest 0) 10 32 ≡ cond {A = ℕ} test 10 32
+gap_test rest test is = ap (λ b. cond b 10 32) is
+
+pub gap_at : (size : Size) (x y : ℕ) → x < size.points → gap_after size (y * size.points + x) ≡ cond (eqb (x + 1) size.points) 10 32
+gap_at size x y column = elim (cases_eq (x + 1) size.points) [
+  | inl last ↦ gap_test ((y * size.points + x + 1) % size.points) (eqb (x + 1) size.points) (rw (last_rest size.points x y column last, eq-eqb (x + 1) size.points last) refl)
+  | inr before ↦ gap_test ((y * size.points + x + 1) % size.points) (eqb (x + 1) size.points) (rw (other_rest size.points x y (omega (arith, before, column)), ne_eqb (x + 1) size.points before)
+      (ne_eqb (x + 1) 0 (λ none. omega (arith, none))))
+]
+
+-- a datum takes at most 64 bytes
+pub cell_short : (t : DataType) (cell : Cell) → places_of t ≤ most_places → IsCellOf t cell → length (cell_text t cell) ≤ 64
+cell_short t Bad few fits = omega arith
+cell_short t (Height h) few fits =
+    let right = decimal_form (cell_text t (Height h)) (steps_decimal h (places_of t)) (height_decimal t h few fits) in
+    leb-true (length (cell_text t (Height h))) 64 (and_parts (leb (length (cell_text t (Height h))) 64) (is_unsigned_decimal (without_leading_sign (cell_text t (Height h)))) right).0
+
+-- the data of a profile are its line
+module _ (m : Map) (y : ℕ) (whole : IsMap m) (below : y < m.size.profiles) where
+  abbrev cell_of_row : ℕ → Cell
+  cell_of_row x = cell_at m (record { x = x; y = y })
+
+  abbrev gap_of_row : ℕ → ℕ
+  gap_of_row x = cond (eqb (x + 1) m.size.points) 10 32
+
+  datum_of_row : (x : ℕ) → x < m.size.points → datum_text m (y * m.size.points + x) ≡ cell_text m.data_type (cell_of_row x) ++ gap_of_row x ∷ []
+  datum_of_row x column = ap (λ g. cell_text m.data_type (cell_of_row x) ++ g ∷ []) (gap_at m.size x y column)
+
+  front_of_row : (x : ℕ) → x < m.size.points → data_text m (y * m.size.points) (suc x) ≡ spaced m.data_type (take (x + 1) (profile m y)) ++ gap_of_row x ∷ []
+  front_of_row zero column =
+      let here : y * m.size.points + 0 ≡ y * m.size.points = omega arith in
+      data_one m (y * m.size.points) ∙ ap (datum_text m) (sym here) ∙ datum_of_row 0 column
+      ∙ ap (λ (t : List ℕ). t ++ gap_of_row 0 ∷ []) (row_first m y (cell_of_row 0) whole below refl [] (cell_text m.data_type (cell_of_row 0)) refl)
+  front_of_row (suc x) column =
+      let start : ℕ = y * m.size.points in
+      let t : DataType = m.data_type in
+      let front : List ℕ = spaced t (take (suc x) (profile m y)) in
+      let next : x + 1 ≡ suc x = omega arith in
+      let more : suc x + 1 ≡ suc (suc x) = omega arith in
+      let middle : gap_of_row x ≡ 32 = ap (λ b. cond b 10 32) (ne_eqb (x + 1) m.size.points (λ last. omega (arith, last, column))) in
+      let before : data_text m start (suc x) ≡ front ++ 32 ∷ [] =
+      front_of_row x (omega (arith, column)) ∙ ap₂ (λ (n g : ℕ). spaced t (take n (profile m y)) ++ g ∷ []) next middle in
+      ap (data_text m start) (sym more) ∙ data_append m start (suc x) 1
+      ∙ ap₂ (λ (a b : List ℕ). a ++ b) before (data_one m (start + suc x) ∙ datum_of_row (suc x) column)
+      ∙ sym (append_assoc (front ++ 32 ∷ []) (cell_text t (cell_of_row (suc x))) (gap_of_row (suc x) ∷ []))
+      ∙ ap (λ (a : List ℕ). a ++ gap_of_row (suc x) ∷ []) (sym (row_more m (suc x) y (record { x = suc x; y = y }) (cell_of_row (suc x)) whole (omega arith) column below refl refl))
+
+  pub row_is : data_text m (y * m.size.points) m.size.points ≡ line (spaced m.data_type (profile m y))
+  row_is =
+      let some = whole.size.some_points in
+      let t : DataType = m.data_type in
+      let last : ℕ = m.size.points - 1 in
+      let count : last + 1 ≡ m.size.points = omega (arith, some) in
+      let next : suc last ≡ m.size.points = omega (arith, some) in
+      let ends : gap_of_row last ≡ 10 = ap (λ b. cond b 10 32) (eq-eqb (last + 1) m.size.points count) in
+      ap (data_text m (y * m.size.points)) (sym next) ∙ front_of_row last (omega (arith, some))
+      ∙ ap₂ (λ (n g : ℕ). spaced t (take n (profile m y)) ++ g ∷ []) count ends
+      ∙ ap (λ (row : List Cell). line (spaced t row)) (take_all m.size.points (profile m y) (omega (arith, length-profile m y whole below)))
+
+-- the data of so many profiles are their lines
+pub profiles_are : (m : Map) (y : ℕ) → IsMap m → y ≤ m.size.profiles → data_text m 0 (y * m.size.points) ≡ profile_lines m y
+unfolding data_text profile_lines
+profiles_are m zero whole below = let none : 0 * m.size.points ≡ 0 = omega arith in ap (data_text m 0) none
+profiles_are m (suc y) whole below =
+    let place : suc y * m.size.points ≡ y * m.size.points + m.size.points = omega arith in
+    let start : 0 + y * m.size.points ≡ y * m.size.points = omega arith in
+    ap (data_text m 0) place ∙ data_append m 0 (y * m.size.points) m.size.points ∙ ap (λ k. data_text m 0 (y * m.size.points) ++ data_text m k m.size.points) start
+    ∙ ap₂ (λ (a b : List ℕ). a ++ b) (profiles_are m y whole (omega (arith, below))) (row_is m y whole (omega (arith, below)))
+
+-- the data of a map are the lines of its profiles
+pub data_are : (m : Map) → IsMap m → data_from m 0 ≡ profile_lines m m.size.profiles
+data_are m whole = let all : cell_count m.size - 0 ≡ cell_count m.size = omega arith in ap (data_text m 0) all ∙ profiles_are m m.size.profiles whole (omega arith)
+
+-- data are added up to one
+pub record HasAdded (m : Map) (from : ℕ) (old new : List ℕ) (index : ℕ) : Type 0 where
+  pub text : old ++ data_from m from ≡ new ++ data_from m index
+  pub short : length new ≤ length old + 65536
+  pub none : index ≡ from → length new ≡ length old
+  pub some : from < index → length old < length new
+
+pub none_added : (m : Map) (from : ℕ) (out : List ℕ) → HasAdded m from out out from
+none_added m from out = record { text = refl; short = omega arith; none = λ _. refl; some = λ more. absurd (omega (arith, more)) }
+
+-- one more
+pub more_added : (m : Map) (from index : ℕ) (old before middle after : List ℕ) (cell : Cell) (gap : ℕ) (at : Pos) → IsMap m → index < cell_count m.size → place_of m.size at ≡ index → HasAdded m from old before index → from ≤ index
+    → length before ≤ length old + 65471 → cell ≡ cell_at m at → gap ≡ gap_after m.size index → middle ≡ before ++ cell_text m.data_type cell → after ≡ middle ++ gap ∷ [] → HasAdded m from old after (index + 1)
+more_added m from index old before middle after cell gap at whole inside place has onward few is gap_is middle_is after_is =
+    let t : DataType = m.data_type in
+    let here : cell ≡ slice_index_or m.cells index Bad = is ∙ ap (λ k. slice_index_or m.cells k Bad) place in
+    let cells = whole.cells in
+    let fits : IsCellOf t (slice_index_or m.cells index Bad) = whole.heights index (omega (arith, inside, cells)) in
+    let size = cell_short t (slice_index_or m.cells index Bad) whole.places fits in
+    let datum : after ≡ before ++ datum_text m index =
+    after_is ∙ ap₂ (λ (a : List ℕ) (g : ℕ). a ++ g ∷ []) (middle_is ∙ ap (λ c. before ++ cell_text t c) here) gap_is
+    ∙ append_assoc before (cell_text t (slice_index_or m.cells index Bad)) (gap_after m.size index ∷ []) in
+    let long : length after ≡ length before + (length (cell_text t (slice_index_or m.cells index Bad)) + 1) =
+    ap length datum ∙ length-append before (datum_text m index) ∙ ap (λ n. length before + n) (length-append (cell_text t (slice_index_or m.cells index Bad)) (gap_after m.size index ∷ [])) in
+    let start = has.none in
+    let longer = has.some in
+    record {
+      text = has.text ∙ ap (λ (a : List ℕ). before ++ a) (data_more m index inside) ∙ sym (append_assoc before (datum_text m index) (data_from m (index + 1))) ∙ ap (λ (a : List ℕ). a ++ data_from m (index + 1)) (sym datum);
+      short = omega (arith, long, size, few);
+      none = λ same. absurd (omega (arith, same, onward));
+      some = λ _. elim (cases_eq index from) [
+        | inl first ↦ (let same = start first in omega (arith, long, same))
+        | inr other ↦ (let more = longer (omega (arith, onward, other)) in omega (arith, long, more))
+      ];
+    }
+
+pub some_added : (m : Map) (from index : ℕ) (old new : List ℕ) → HasAdded m from old new index → from ≤ index → length old < length new → from < index
+some_added m from index old new has onward more = elim (cases_eq index from) [
+  | inl first ↦ (let same = has.none first in absurd (omega (arith, same, more)))
+  | inr other ↦ omega (arith, onward, other)
+]
+
+pub added : (m : Map) (from index : ℕ) (old new : List ℕ) → HasAdded m from old new index → from < index → index ≤ cell_count m.size → AddsData m from old new index
+added m from index old new has some within = record { text = has.text; within = within; some = some; longer = has.some some; short = has.short }

@@ -1,0 +1,7 @@
+pub mod Passing
+pub mod Binning
+pub mod Filling
+pub mod Adding
+pub mod Filled
+pub mod Totals
+pub mod Determined

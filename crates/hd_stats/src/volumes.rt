@@ -1,0 +1,134 @@
+// The fill of the kept pits of a pruning.
+ghost use Rattle.std.specs.Prelude.{◌≡◌, ◌<◌, ◌≤◌, ◌^◌, IfOk, Some, None, ℕ, length, slice_index_or};
+ghost use Rattle.std.specs.Option.{ForSome};
+ghost use Rattle.hd_map.specs.Map.{cell_count};
+ghost use Rattle.hd_prune.specs.Kept.{pits_kept};
+ghost use Rattle.hd_prune.specs.Staying.{AreKeptAlone};
+ghost use Rattle.hd_reach.specs.Reached.{AreReached};
+ghost use Rattle.hd_stats.specs.Fill.{AreFills};
+ghost use Rattle.hd_stats.specs.Volumes.{AddsPoint, AreValues, AreVolumes, IsValueOf, difference, is_below_nearest};
+
+use crate::below::BelowNearest;
+use hd_list::{List, Memory};
+use hd_map::{Heights, Pos, Rank, Side, position_after};
+use hd_num::Frac;
+use hd_prune::Kept;
+use hd_reach::reached_from;
+use std::alloc::Global;
+
+/// The fill of each kept pit of a pruning of the grid on the side, in their order: the sum, over all
+/// points that are reached from the pit by paths wholly below its nearest saddle, of the height
+/// difference between the saddle and the point, taken positive, in steps. It is none exactly where the
+/// pit has no nearest saddle. It takes time in proportion to the points of the grid. `Memory` comes
+/// where memory is refused.
+pub fn fill<S: Side, G: Heights>(
+    alloc: Global,
+    grid: &G,
+    kept: &List<Kept>,
+) -> Result<List<Option<Frac>>, Memory>
+    requires { (thousandths : ℕ) × AreKeptAlone (G.map grid.now) S.NAME thousandths kept.now }
+    ensures { IfOk result (AreFills (G.map grid.now) S.NAME kept.now) }
+{
+    let kept = kept.as_slice();
+    let reached = reached_below::<S, G>(alloc, grid, kept)?;
+    let volumes = add_up(alloc, grid, kept, &reached)?;
+    let values = list_values(alloc, kept, &volumes)?;
+    Ok(values)
+}
+
+// By index the number of the kept pit that reaches the point below its nearest saddle.
+fn reached_below<S: Side, G: Heights>(
+    alloc: Global,
+    grid: &G,
+    kept: &[Kept],
+) -> Result<Vec<Option<u32>>, Memory>
+    requires { (thousandths : ℕ) × AreKeptAlone (G.map grid.now) S.NAME thousandths kept.now }
+    ensures { IfOk result (λ reached. AreReached (G.map grid.now) (pits_kept kept.now) (is_below_nearest S.NAME kept.now) reached.items) }
+{
+    let starts = pits_of(alloc, kept)?;
+    let bounds = BelowNearest {
+        side: S::NAME,
+        kept,
+    };
+    let reached = reached_from(alloc, grid, &starts, &bounds)?;
+    Ok(reached)
+}
+
+// The pits of these.
+fn pits_of(alloc: Global, kept: &[Kept]) -> Result<Vec<Rank>, Memory>
+    ensures { IfOk result (λ pits. pits.items ≡ pits_kept kept.now) }
+{
+    let mut pits = Vec::with_capacity(alloc, kept.len())?;
+    'kept: for one in kept {
+        pits.push(one.pit)?;
+    }
+    Ok(pits)
+}
+
+// By kept pit the sum, over the points that it reaches, of the height differences to its nearest saddle.
+fn add_up<G: Heights>(
+    alloc: Global,
+    grid: &G,
+    kept: &[Kept],
+    reached: &[Option<u32>],
+) -> Result<Vec<u128>, Memory>
+    requires whole { length reached.now ≡ cell_count (G.map grid.now).size }
+    requires numbers { (k : ℕ) → ForSome (slice_index_or reached.now k None) (λ n. n < length kept.now) }
+    ensures { IfOk result (λ volumes. AreVolumes (G.map grid.now) kept.now reached.now (length reached.now) volumes.items) }
+{
+    let size = grid.size();
+    let mut volumes = vec![in alloc; 0u128; kept.len()]?;
+    let mut at = Pos { x: 0, y: 0 };
+    'points: for by in reached {
+        add_point(&mut volumes, kept, *by, grid.height(at));
+        at = position_after(size, at);
+    }
+    Ok(volumes)
+}
+
+// Adds a point, by the number of the kept pit that reaches it and by its height.
+fn add_point(volumes: &mut Vec<u128>, kept: &[Kept], by: Option<u32>, height: Option<i64>)
+    requires whole { length volumes.old.items ≡ length kept.now }
+    requires number { ForSome by (λ n. n < length kept.now) }
+    requires room { (i : ℕ) → i < length kept.now → slice_index_or volumes.old.items i 0 ≤ 2 ^ 100 }
+    ensures { AddsPoint kept.now by height volumes.old.items volumes.new.items }
+{
+    if let Some(number) = by {
+        volumes[number as usize] += difference(kept[number as usize].nearest, height);
+    }
+}
+
+// The height difference between a saddle and a point, taken positive, where both are.
+fn difference(saddle: Option<Rank>, height: Option<i64>) -> u128
+    ensures value { result ≡ difference saddle height }
+    ensures small { result ≤ 2 ^ 64 }
+{
+    match (saddle, height) {
+        (Some(saddle), Some(height)) => u128::from(saddle.height.abs_diff(height)),
+        _ => 0,
+    }
+}
+
+// The volumes of the kept pits that have a nearest saddle.
+fn list_values(alloc: Global, kept: &[Kept], volumes: &[u128]) -> Result<List<Option<Frac>>, Memory>
+    requires whole { length volumes.now ≡ length kept.now }
+    requires small { (i : ℕ) → i < length kept.now → slice_index_or volumes.now i 0 ≤ 2 ^ 100 }
+    ensures { IfOk result (AreValues kept.now volumes.now (length kept.now)) }
+{
+    let mut values = List::with_capacity(alloc, kept.len())?;
+    'kept: for (number, one) in kept.iter().enumerate() {
+        values.push(value_of(one.nearest, volumes[number]))?;
+    }
+    Ok(values)
+}
+
+// A volume, where there is a nearest saddle.
+fn value_of(nearest: Option<Rank>, volume: u128) -> Option<Frac>
+    requires { volume ≤ 2 ^ 100 }
+    ensures { IsValueOf nearest volume result }
+{
+    match nearest {
+        Some(_) => Some(Frac::new(volume as i128, 1)),
+        None => None,
+    }
+}

@@ -1,0 +1,47 @@
+-- What reports find of a side of a map.
+use Rattle.std.specs.Prelude.{◌<◌, ◌^◌, ℕ, List, length, Option, All}
+use Rattle.std.specs.Option.{ForSome}
+use Rattle.hd_graph.specs.declared.line.Stop.{Stop}
+use Rattle.hd_graph.specs.Merges.{AreMerges}
+use Rattle.hd_graph.specs.Tells.{TellsSaddles}
+use Rattle.hd_map.specs.declared.types.RegionSize.{RegionSize}
+use Rattle.hd_map.specs.declared.types.SideName.{SideName}
+use Rattle.hd_map.specs.Map.{Map, cell_count}
+use Rattle.hd_map.specs.Pruning.{ArePits}
+use Rattle.hd_map.specs.Rank.{below_by}
+use Rattle.hd_map.specs.Region.{AreRegions}
+use Rattle.hd_map.specs.Saddle.{SaddleIs}
+use Rattle.hd_prune.specs.Staying.{ranks_of}
+use Rattle.hd_survey.specs.declared.merges.PitMerges.{PitMerges}
+use Rattle.hd_survey.specs.Regions.{AreRegionSizes}
+
+-- a flood line that tells the pits of the map and their saddles; a u32 counts its stops
+pub record IsPitLine (m : Map) (side : SideName) (line : List Stop) : Type 0 where
+  pub roots : List (Option ℕ)
+  pub regions : AreRegions m side roots
+  pub tells : TellsSaddles m side line
+  pub few : length line < 2 ^ 32
+
+-- the pits of the map in position order, and their merges
+pub record ArePitMerges (m : Map) (side : SideName) (x : PitMerges) : Type 0 where
+  pub roots : List (Option ℕ)
+  pub regions : AreRegions m side roots
+  pub pits : ArePits m side (ranks_of x.lows)
+  pub merges : AreMerges (below_by side) (SaddleIs m side) x.lows x.merges
+
+-- the regions of the map, whose pits are points of it
+pub record AreSizes (m : Map) (side : SideName) (sizes : List RegionSize) : Type 0 where
+  pub are : AreRegionSizes m side sizes
+  pub inside : All (λ size. size.pit.index < cell_count m.size) sizes
+
+-- the regions with the numbers of their points, the flood line of the pits and their merges, each where it was found
+pub record Found : Type 0 where
+  pub sizes : Option (List RegionSize)
+  pub line : Option (List Stop)
+  pub merges : Option PitMerges
+
+-- what was found is that of the map on the side
+pub record AreFindings (m : Map) (side : SideName) (found : Found) : Type 0 where
+  pub sizes : ForSome found.sizes (AreSizes m side)
+  pub line : ForSome found.line (IsPitLine m side)
+  pub merges : ForSome found.merges (ArePitMerges m side)

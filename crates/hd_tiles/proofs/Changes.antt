@@ -1,0 +1,148 @@
+-- What a change of a map in tiles leaves.
+use Rattle.std.proofs.Common.{◌≡◌, ◌≢◌, ℕ, ◌+◌, inl, inr, Bool, false, List, set, refl, sym, ◌∙◌, ap, subst, arith}
+use Rattle.std.proofs.lemmas.List.{get_or-set_same, get_or-set_other, set-get_or}
+use Rattle.std.proofs.lemmas.Option.{same_Some}
+use Rattle.hd_map.specs.declared.types.Adjacency.{Adjacency}
+use Rattle.hd_map.specs.declared.types.Pos.{Pos}
+use Rattle.hd_map.specs.declared.types.Size.{Size}
+use Rattle.hd_map.specs.declared.types.Cell.{Cell}
+use Rattle.hd_map.specs.declared.types.Cell.TheVariants.{Bad}
+use Rattle.hd_map.specs.Map.{Map, IsMap, IsCellOf, InGrid, cell_at, mask_at, place_of}
+use Rattle.hd_map.specs.Sets.{with_cell, with_mask, under, CountsChange}
+use Rattle.hd_map.proofs.Points.{same_place, place_inside}
+use Rattle.hd_tiles.specs.Tile.{IsRound, Agree}
+use Rattle.hd_tiles.specs.Stamps.{ComesFrom, AreUpTo, Rise, Touches, TouchesRound, TouchesAll, AreStamped}
+
+-- a map in a tile that neither holds the position nor one round it is left by a change at the position
+module _ (m : Map) (t tile : ℕ) (p : Pos) (inside : InGrid m.size p) (far : IsRound m.size t tile p → ⊥) where
+  other_place : (q : Pos) → InGrid m.size q → IsRound m.size t tile q → place_of m.size q ≢ place_of m.size p
+  other_place q within round e = far (let same : q ≡ p = same_place m.size q p within inside e in rw (← same) round)
+
+  pub cell_leaves : (c : Cell) → Agree m (with_cell m p c) t tile
+  cell_leaves c = record {
+    size = refl;
+    adjacency = refl;
+    cells = λ q within round. sym (get_or-set_other m.cells (place_of m.size p) (place_of m.size q) c Bad (other_place q within round));
+    masks = λ q within round. refl;
+  }
+
+  pub mask_leaves : (b : Bool) → Agree m (with_mask m p b) t tile
+  mask_leaves b = record {
+    size = refl;
+    adjacency = refl;
+    cells = λ q within round. refl;
+    masks = λ q within round. sym (get_or-set_other m.masks (place_of m.size p) (place_of m.size q) b false (other_place q within round));
+  }
+
+-- to set what stands there leaves the map
+pub cell_stands : (m : Map) (p : Pos) (c : Cell) → IsMap m → InGrid m.size p → c ≡ cell_at m p → InGrid m.size p × IsCellOf m.data_type c × (m ≡ with_cell m p c)
+cell_stands m p c whole inside same =
+    let place = place_of m.size p in
+    let below = place_inside m.size p inside in
+    let cells : set m.cells place c ≡ m.cells = ap (λ (x : Cell). set m.cells place x) same ∙ set-get_or m.cells place Bad in
+    (inside, subst (IsCellOf m.data_type) (sym same) (whole.heights place (rw whole.cells below)), ap (λ (xs : List Cell). record m { cells = xs }) (sym cells))
+
+pub mask_stands : (m : Map) (p : Pos) (b : Bool) → InGrid m.size p → b ≡ mask_at m p → InGrid m.size p × (m ≡ with_mask m p b)
+mask_stands m p b inside same =
+    let place = place_of m.size p in
+    let masks : set m.masks place b ≡ m.masks = ap (λ (x : Bool). set m.masks place x) same ∙ set-get_or m.masks place false in
+    (inside, ap (λ (xs : List Bool). record m { masks = xs }) (sym masks))
+
+pub setting_stands : (m : Map) (a : Adjacency) → a ≡ m.adjacency → m ≡ under a m
+setting_stands m a same = ap (λ (x : Adjacency). under x m) (sym same)
+
+-- the stamps of touched tiles were not above the count, and are one above it now
+module _ (Touched : ℕ → Type 0) (count : ℕ) (before after : List ℕ) (low : AreUpTo count before) (stamped : AreStamped Touched (count + 1) before after) where
+  pub up_to : AreUpTo (count + 1) after
+  up_to tile stamp read = elim (stamped.either tile) [
+    | inl new ↦ (let e = same_Some stamp (count + 1) (sym read ∙ new) in omega (arith, e))
+    | inr old ↦ (let below = low tile stamp (sym old ∙ read) in omega (arith, below))
+  ]
+
+  rise : Rise Touched before after
+  rise = record {
+    whole = stamped.whole;
+    touched = λ tile was now here had has. (let e = stamped.touched tile now here has in let below = low tile was had in omega (arith, e, below));
+    others = stamped.others;
+  }
+
+  -- a change of the map touches them
+  pub touches-changed : (old new : Map) → (new ≡ old → ⊥) → Touches Touched old new before after
+  touches-changed old new differs = record { same = λ e. absurd (differs e); changed = λ _. rise }
+
+  -- it comes from the map before where the tiles that are not touched are left
+  pub changed-comes : (old new : Map) (t : ℕ) → old.size ≡ new.size → ((tile : ℕ) → (Touched tile → ⊥) → Agree old new t tile) → ComesFrom old t before new t after
+  changed-comes old new t size leaves = record {
+    size = size;
+    same_side = refl;
+    not_less = λ tile was now had has. (
+        let below = low tile was had in
+        elim (stamped.either tile) [
+          | inl new ↦ (let e = same_Some now (count + 1) (sym has ∙ new) in omega (arith, e, below))
+          | inr same ↦ (let e = same_Some now was (sym has ∙ same ∙ had) in omega (arith, e))
+        ]);
+    stays = λ tile stamp had has. leaves tile (λ here. (
+        let e = stamped.touched tile stamp here has in
+        let below = low tile stamp had in
+        absurd (omega (arith, e, below))));
+  }
+
+-- where the map and the stamps stay, no tile is touched
+pub touches-same : (Touched : ℕ → Type 0) (old new : Map) (stamps : List ℕ) → new ≡ old → Touches Touched old new stamps stamps
+touches-same Touched old new stamps same = record { same = λ e. refl; changed = λ differs. absurd (differs same) }
+
+-- a change counts once
+pub counts-change : (old new : Map) (count : ℕ) → (new ≡ old → ⊥) → CountsChange old new count (count + 1)
+counts-change old new count differs = record { later = omega arith; once = omega arith; unchanged = λ e. absurd (differs e) }
+
+-- a cell or a mask is set to another one, or the setting, and the tiles that this touches are stamped
+module _ (old new : Map) (t count : ℕ) (before after : List ℕ) (low : AreUpTo count before) where
+  module _ (s : Size) (p : Pos) (same : s ≡ old.size) (whole : IsMap old) (inside : InGrid old.size p) (stamped : AreStamped (λ tile. IsRound s t tile p) (count + 1) before after) where
+    abbrev Here : ℕ → Type 0
+    Here tile = IsRound old.size t tile p
+
+    here : AreStamped Here (count + 1) before after
+    here = subst (λ (z : Size). AreStamped (λ tile. IsRound z t tile p) (count + 1) before after) same stamped
+
+    module _ (c : Cell) (is : new ≡ with_cell old p c) (other : c ≡ cell_at old p → ⊥) where
+      cell_differs : new ≡ old → ⊥
+      cell_differs e =
+          let there : cell_at (with_cell old p c) p ≡ c = get_or-set_same old.cells (place_of old.size p) c Bad (rw whole.cells (place_inside old.size p inside)) in
+          other (sym there ∙ ap (λ (m : Map). cell_at m p) (sym is ∙ e))
+
+      pub cell-comes : ComesFrom old t before new t after
+      cell-comes = changed-comes Here count before after low here old new t (ap (λ (m : Map). m.size) (sym is)) (λ tile far. subst (λ (m : Map). Agree old m t tile) (sym is) (cell_leaves old t tile p inside far c))
+
+      pub cell-touches : TouchesRound t p old new before after
+      cell-touches = touches-changed Here count before after low here old new cell_differs
+
+      pub cell-counts : CountsChange old new count (count + 1)
+      cell-counts = counts-change old new count cell_differs
+
+    module _ (b : Bool) (is : new ≡ with_mask old p b) (other : b ≡ mask_at old p → ⊥) where
+      mask_differs : new ≡ old → ⊥
+      mask_differs e =
+          let there : mask_at (with_mask old p b) p ≡ b = get_or-set_same old.masks (place_of old.size p) b false (rw whole.masks (place_inside old.size p inside)) in
+          other (sym there ∙ ap (λ (m : Map). mask_at m p) (sym is ∙ e))
+
+      pub mask-comes : ComesFrom old t before new t after
+      mask-comes = changed-comes Here count before after low here old new t (ap (λ (m : Map). m.size) (sym is)) (λ tile far. subst (λ (m : Map). Agree old m t tile) (sym is) (mask_leaves old t tile p inside far b))
+
+      pub mask-touches : TouchesRound t p old new before after
+      mask-touches = touches-changed Here count before after low here old new mask_differs
+
+      pub mask-counts : CountsChange old new count (count + 1)
+      mask-counts = counts-change old new count mask_differs
+
+  module _ (stamped : AreStamped (λ tile. Unit {0}) (count + 1) before after) (a : Adjacency) (is : new ≡ under a old) (other : a ≡ old.adjacency → ⊥) where
+    setting_differs : new ≡ old → ⊥
+    setting_differs e = other (ap (λ (m : Map). m.adjacency) (sym is ∙ e))
+
+    pub setting-comes : ComesFrom old t before new t after
+    setting-comes = changed-comes (λ tile. Unit {0}) count before after low stamped old new t (ap (λ (m : Map). m.size) (sym is)) (λ tile far. absurd (far tt))
+
+    pub setting-touches : TouchesAll old new before after
+    setting-touches = touches-changed (λ tile. Unit {0}) count before after low stamped old new setting_differs
+
+    pub setting-counts : CountsChange old new count (count + 1)
+    setting-counts = counts-change old new count setting_differs

@@ -1,0 +1,4 @@
+pub mod Parts
+pub mod Corners
+pub mod Stamping
+pub mod Changes

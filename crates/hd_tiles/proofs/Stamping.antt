@@ -1,0 +1,63 @@
+-- Tiles that are stamped one after the other.
+use Rattle.std.proofs.Common.{ℕ, zero, suc, ◌≡◌, ◌<◌, ◌⊎◌, inl, inr, List, [], ◌∷◌, length, set, Some, slice_get, refl, sym, ◌∙◌, ap}
+use Rattle.std.proofs.lemmas.Bool.{cases_eq}
+use Rattle.std.proofs.lemmas.List.{get_or-set_same}
+use Rattle.std.proofs.lemmas.Option.{slice_get_within, slice_get-get_or, same_Some}
+use Rattle.std.proofs.Math.ListN.{length-set}
+use Rattle.hd_tiles.specs.Stamps.{AreStamped}
+
+module _ {X : Type 0} where
+  -- what was set is read
+  pub get-set_same : (xs : List X) (i : ℕ) (v : X) → i < length xs → slice_get (set xs i v) i ≡ Some v
+  get-set_same xs i v below = slice_get-get_or (set xs i v) i v (rw (length-set xs i v) below) ∙ ap Some (get_or-set_same xs i v v below)
+
+  -- at another place what was there is read
+  pub get-set_other : (xs : List X) (i k : ℕ) (v : X) → (k ≡ i → ⊥) → slice_get (set xs i v) k ≡ slice_get xs k
+  get-set_other [] i k v apart = refl
+  get-set_other (x ∷ xs) zero zero v apart = absurd (apart refl)
+  get-set_other (x ∷ xs) zero (suc k) v apart = refl
+  get-set_other (x ∷ xs) (suc i) zero v apart = refl
+  get-set_other (x ∷ xs) (suc i) (suc k) v apart = get-set_other xs i k v (λ e. apart (ap suc e))
+
+module _ (stamp : ℕ) where
+  -- none is stamped yet
+  pub stamped-none : (xs : List ℕ) → AreStamped (λ tile. ⊥) stamp xs xs
+  stamped-none xs = record {
+    whole = refl;
+    touched = λ tile now no read. absurd no;
+    either = λ tile. inr refl;
+    others = λ tile no. refl;
+  }
+
+  module _ (Done : ℕ → Type 0) (xs ys : List ℕ) (so : AreStamped Done stamp xs ys) where
+    -- one more is stamped
+    pub stamped-more : (i : ℕ) → i < length xs → AreStamped (λ tile. Done tile ⊎ (tile ≡ i)) stamp xs (set ys i stamp)
+    stamped-more i below =
+        let inside : i < length ys = rw so.whole below in
+        record {
+          whole = length-set ys i stamp ∙ so.whole;
+          touched = λ tile now done read. elim (cases_eq tile i) [
+            | inl here ↦ (let new : slice_get (set ys i stamp) tile ≡ Some stamp = ap (slice_get (set ys i stamp)) here ∙ get-set_same ys i stamp inside in same_Some now stamp (sym read ∙ new))
+            | inr away ↦ elim done [
+              | inl before ↦ so.touched tile now before (sym (get-set_other ys i tile stamp away) ∙ read)
+              | inr here ↦ absurd (away here)
+            ]
+          ];
+          either = λ tile. elim (cases_eq tile i) [
+            | inl here ↦ inl (ap (slice_get (set ys i stamp)) here ∙ get-set_same ys i stamp inside)
+            | inr away ↦ elim (so.either tile) [
+              | inl new ↦ inl (get-set_other ys i tile stamp away ∙ new)
+              | inr old ↦ inr (get-set_other ys i tile stamp away ∙ old)
+            ]
+          ];
+          others = λ tile not. get-set_other ys i tile stamp (λ e. not (inr e)) ∙ so.others tile (λ done. not (inl done));
+        }
+
+    -- the same tiles, told in another way
+    pub stamped-as : (Touched : ℕ → Type 0) → ((tile : ℕ) → tile < length ys → Touched tile → Done tile) → ((tile : ℕ) → Done tile → Touched tile) → AreStamped Touched stamp xs ys
+    stamped-as Touched to from = record {
+      whole = so.whole;
+      touched = λ tile now here read. so.touched tile now (to tile (slice_get_within ys tile now read) here) read;
+      either = so.either;
+      others = λ tile not. so.others tile (λ done. not (from tile done));
+    }

@@ -1,0 +1,14 @@
+//! A grid in square tiles. Each tile has a stamp that rises with every change in it or beside it, and
+//! looks at the points are counted.
+#![tactic(auto)]
+
+mod looked;
+mod steps;
+mod tiles;
+mod tiling;
+mod touch;
+
+pub use looked::Looked;
+pub use steps::Steps;
+pub use tiles::Tiles;
+pub use tiling::Tiling;

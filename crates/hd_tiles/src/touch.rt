@@ -1,0 +1,72 @@
+// The tiles that a change touches.
+ghost use Rattle.std.specs.Prelude.{◌≡◌, ◌<◌, ◌≤◌, ◌+◌, ◌-◌, ◌/◌, length, min};
+ghost use Rattle.hd_map.specs.Map.{InGrid};
+ghost use Rattle.hd_tiles.specs.Tile.{IsTileSide, IsRound, tile_count};
+ghost use Rattle.hd_tiles.specs.Stamps.{AreStamped};
+
+use crate::Tiling;
+use hd_map::Pos;
+
+// Of parts of this side along a line, the one that holds the place before this one, or this one where it
+// is the first.
+#[inline]
+fn part_before(place: u32, side: u32) -> u32
+    requires { IsTileSide side }
+    ensures { result ≡ (place - 1) / side }
+{
+    let part = place / side;
+    if place % side == 0 {
+        part.saturating_sub(1)
+    } else {
+        part
+    }
+}
+
+// The part that holds the place after this one, or this one where it is the last of the line.
+#[inline]
+fn part_after(place: u32, length: u32, side: u32) -> u32
+    requires side { IsTileSide side }
+    requires place { place < length }
+    requires length { length ≤ 65535 }
+    ensures { result ≡ min (place + 1) (length - 1) / side }
+{
+    let part = place / side;
+    if place + 1 == length {
+        return part;
+    }
+    if place % side + 1 == side {
+        part + 1
+    } else {
+        part
+    }
+}
+
+/// Puts a stamp on each tile that holds the position or one of the eight positions round it. These are
+/// the tiles at four corners, some of which may be one.
+#[inline]
+pub fn touch_round(stamps: &mut Vec<u64>, tiling: Tiling, at: Pos, stamp: u64)
+    requires in_grid { InGrid tiling.size at }
+    requires tiles { length stamps.old.items ≡ tile_count tiling.size tiling.side }
+    ensures { AreStamped (λ tile. IsRound tiling.size tiling.side tile at) stamp stamps.old.items stamps.new.items }
+{
+    let size = tiling.size();
+    let side = tiling.side();
+    let across = tiling.across();
+    let left = part_before(at.x, side);
+    let right = part_after(at.x, size.points, side);
+    let top = part_before(at.y, side) * across;
+    let bottom = part_after(at.y, size.profiles, side) * across;
+    stamps[(top + left) as usize] = stamp;
+    stamps[(top + right) as usize] = stamp;
+    stamps[(bottom + left) as usize] = stamp;
+    stamps[(bottom + right) as usize] = stamp;
+}
+
+/// Puts a stamp on every tile.
+pub fn touch_all(stamps: &mut Vec<u64>, stamp: u64)
+    ensures { AreStamped (λ tile. Unit {0}) stamp stamps.old.items stamps.new.items }
+{
+    for tile in 0..stamps.len() {
+        stamps[tile] = stamp;
+    }
+}
