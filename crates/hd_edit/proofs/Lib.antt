@@ -2,6 +2,7 @@ pub mod DataTypes
 pub mod Rectangles
 pub mod Strokes
 pub mod Changes
+pub mod HeightNotes
 pub mod Touches
 pub mod Walks
 pub mod Draws

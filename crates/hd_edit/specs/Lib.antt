@@ -5,5 +5,6 @@ pub mod Board
 pub mod Stroke
 pub mod Over
 pub mod Change
+pub mod Notes
 pub mod Filtered
 pub mod Log

@@ -4,9 +4,10 @@ ghost use Rattle.hd_map.specs.Sets.{under};
 ghost use Rattle.hd_edit.specs.Elements.{elements_with, line_of};
 ghost use Rattle.hd_edit.specs.Board.{BoardState, IsEdited, Applies, kept_after, Undoes, RisesUpTo};
 
-use crate::change::{Change, put_back};
+use crate::change::put_back;
 use crate::elements::Elements;
 use crate::make::make;
+use crate::notes::Notes;
 use crate::{Edit, EditError, ElementLine, LogEnds};
 use circular_buffer::HeapCircularBuffer;
 use hd_list::{List, Memory};
@@ -25,7 +26,7 @@ pub struct Board<G: Grid> {
     alloc: Global,
     grid: G,
     elements: Elements,
-    log: HeapCircularBuffer<List<Change>>,
+    log: HeapCircularBuffer<Notes>,
 }
 
 impl<G: Grid> Model for Board<G> {
@@ -120,7 +121,7 @@ impl<G: Grid> Board<G> {
         ensures count { RisesUpTo (2 ^ 27) (G.changes self.old.grid) (G.changes self.new.grid) }
     {
         let changes = make(self.alloc, &mut self.grid, &self.elements, edit)?;
-        self.log.push_back(changes);
+        self.log.push_back(Notes::of(self.alloc, changes));
         Ok(())
     }
 

@@ -6,8 +6,8 @@ ghost use Rattle.hd_map.specs.Sets.{with_cell, with_mask};
 ghost use Rattle.hd_edit.specs.Board.{RisesUpTo};
 ghost use Rattle.hd_edit.specs.Change.{height_over, IsCellThatWas, IsChange, AreChanges, with_was, before_changes};
 
+use crate::notes::Notes;
 use crate::over::OverLeast;
-use hd_list::List;
 use hd_map::{Cell, DataType, Grid, Heights, Pos, index_of, least_of, position_of};
 
 /// What stood at a point before it was changed.
@@ -148,14 +148,14 @@ fn put_was<G: Grid>(grid: &mut G, change: Change)
 }
 
 /// Undoes the changes of an edit, the last first.
-pub fn put_back<G: Grid>(grid: &mut G, changes: List<Change>)
+pub fn put_back<G: Grid>(grid: &mut G, changes: Notes)
     requires changes { AreChanges (G.map grid.old) changes }
     requires count { G.changes grid.old + length changes < 2 ^ 63 }
     ensures map { G.map grid.new ≡ before_changes changes (G.map grid.old) }
     ensures origin { G.comes_from grid.old grid.new }
     ensures count { RisesUpTo (length changes) (G.changes grid.old) (G.changes grid.new) }
 {
-    let mut left = changes.into_vec();
+    let mut left = changes;
     while let Some(change) = left.pop() {
         put_was(grid, change);
     }

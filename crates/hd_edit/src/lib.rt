@@ -8,6 +8,7 @@ mod elements;
 mod filter;
 mod laws;
 mod make;
+mod notes;
 mod over;
 mod paint;
 mod stroke;

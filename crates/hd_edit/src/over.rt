@@ -10,7 +10,8 @@ pub struct OverLeast {
 }
 
 impl OverLeast {
-    ghost use Rattle.hd_edit.specs.Over.{number_of};
+    ghost use Rattle.std.specs.Prelude.{MatchOption};
+    ghost use Rattle.hd_edit.specs.Over.{number_of, widened};
 
     /// The bytes of a number.
     #[inline]
@@ -32,5 +33,29 @@ impl OverLeast {
     {
         let [a, b, c, d, e, f, g] = self.bytes;
         u64::from_le_bytes([a, b, c, d, e, f, g, 0])
+    }
+
+    /// The lowest four of the bytes, where the others are 0.
+    #[inline]
+    pub fn low(self) -> Option<[u8; 4]>
+        ensures { MatchOption result (Unit {0}) (λ low. widened low ≡ self) }
+    {
+        let [a, b, c, d, e, f, g] = self.bytes;
+        if e == 0 && f == 0 && g == 0 {
+            Some([a, b, c, d])
+        } else {
+            None
+        }
+    }
+
+    /// The number of which these are the lowest four bytes, and the others 0.
+    #[inline]
+    pub fn of_low(low: [u8; 4]) -> OverLeast
+        ensures { result ≡ widened low }
+    {
+        let [a, b, c, d] = low;
+        OverLeast {
+            bytes: [a, b, c, d, 0, 0, 0],
+        }
     }
 }

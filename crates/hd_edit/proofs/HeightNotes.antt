@@ -1,0 +1,35 @@
+-- Notes of heights, one more or one less.
+use Rattle.std.proofs.Common.{◌≡◌, ◌+◌, ◌++◌, ◌∷◌, [], ◌∙◌, ℕ, List, All, length, append-nil, refl, sym, ap, subst, arith}
+use Rattle.std.proofs.lemmas.List.{get_or_append_left, length_push}
+use Rattle.hd_edit.specs.declared.change.Change.{Change}
+use Rattle.hd_edit.specs.declared.change.Was.TheVariants as was
+use Rattle.hd_edit.specs.declared.notes.HeightNote.{HeightNote}
+use Rattle.hd_edit.specs.Notes.{changes_after, last_after, note_at}
+use Rattle.hd_edit.specs.Over.{widened}
+
+-- one more is told from the last
+pub changes-push : (i : ℕ) (notes : List HeightNote) (note : HeightNote) → changes_after i (notes ++ note ∷ []) ≡ changes_after i notes ++ note_at (last_after i notes) note ∷ []
+changes-push i [] note = refl
+changes-push i (n ∷ notes) note = ap (λ (cs : List Change). note_at i n ∷ cs) (changes-push (i + n.gap) notes note)
+
+pub last-push : (i : ℕ) (notes : List HeightNote) (note : HeightNote) → last_after i (notes ++ note ∷ []) ≡ last_after i notes + note.gap
+last-push i [] note = refl
+last-push i (n ∷ notes) note = last-push (i + n.gap) notes note
+
+-- what holds of a list and one more item holds of the list
+pub all-before : {X : Type 0} (P : X → Type 0) (xs : List X) (x : X) → All P (xs ++ x ∷ []) → All P xs
+all-before P xs x h k d below = subst P (get_or_append_left xs (x ∷ []) d k below) (h k d (omega (arith, below, length_push xs x)))
+
+pub no-items : {X : Type 0} (xs : List X) → length xs ≡ 0 → xs ≡ []
+no-items [] e = refl
+no-items (x ∷ xs) e = absurd (omega (arith, e))
+
+-- the last note tells the last change
+pub notes-popped : (first last : ℕ) (old new : List HeightNote) (others left : List Change) (note : HeightNote) → last ≡ last_after first old → old ≡ new ++ note ∷ [] → others ≡ [] → left ≡ []
+    → changes_after first old ++ others ≡ (changes_after first new ++ left) ++ record { index = last; was = was.Height (widened note.over) } ∷ []
+notes-popped first last old new others left note at is none none' =
+    let same : last ≡ last_after first new + note.gap = at ∙ ap (last_after first) is ∙ last-push first new note in
+    ap (λ (cs : List Change). changes_after first old ++ cs) none ∙ append-nil (changes_after first old)
+    ∙ ap (changes_after first) is ∙ changes-push first new note
+    ∙ ap (λ (i : ℕ). changes_after first new ++ record { index = i; was = was.Height (widened note.over) } ∷ []) (sym same)
+    ∙ ap (λ (cs : List Change). cs ++ record { index = last; was = was.Height (widened note.over) } ∷ []) (sym (append-nil (changes_after first new)) ∙ ap (λ (cs : List Change). changes_after first new ++ cs) (sym none'))
