@@ -1,10 +1,10 @@
-mod Lists
+pub mod Lists
 mod Inside
 mod Sums
 mod Found
-mod RootedPoints
+pub mod RootedPoints
 mod Counts
-mod MapPits
+pub mod MapPits
 mod StopCounts
 mod LowerRanks
 mod PitSaddles
@@ -14,7 +14,7 @@ mod Numbers
 mod Tallying
 mod RegionTallies
 mod Joining
-mod OwnedTallies
+pub mod OwnedTallies
 mod KeptPlaces
 mod Owning
 mod FeatureLists

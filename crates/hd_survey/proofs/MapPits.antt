@@ -35,7 +35,7 @@ pub rank_at-position : (m : Map) (k : ℕ) → 1 ≤ m.size.points → rank m (p
 rank_at-position m k some = ap (rank_at m) (position_at-place m.size k some)
 
 -- what is named is the root
-name_is : (root : Option ℕ) (k : ℕ) → names root k ≡ true → root ≡ Some k
+pub name_is : (root : Option ℕ) (k : ℕ) → names root k ≡ true → root ≡ Some k
 name_is None k h = cc
 name_is (Some n) k h = let e : n ≡ k = grind (arith, nat_tests) in ap Some e
 

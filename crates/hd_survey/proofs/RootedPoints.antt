@@ -51,7 +51,7 @@ root_pit m side roots whole regions k n below is =
     )
 
 -- what is not measured or not shown has no height
-unshown : (c : Cell) (masked : Bool) → (IsMeasured c → masked ≡ false → ⊥) → shown_height c masked ≡ None
+pub unshown : (c : Cell) (masked : Bool) → (IsMeasured c → masked ≡ false → ⊥) → shown_height c masked ≡ None
 unshown (Height h) false gone = absurd (gone tt refl)
 unshown (Height h) true gone = refl
 unshown Bad masked gone = refl

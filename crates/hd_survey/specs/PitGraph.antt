@@ -8,8 +8,10 @@ use Rattle.hd_graph.specs.Line.{IsFloodLine}
 use Rattle.hd_graph.specs.Merges.{AreMerges}
 use Rattle.hd_graph.specs.Tells.{TellsSaddles}
 use Rattle.hd_graph.specs.Walks.{LeastHighestIs}
+use Rattle.hd_map.specs.declared.types.Pass.{Pass}
 use Rattle.hd_map.specs.declared.types.Rank.{Rank}
 use Rattle.hd_map.specs.declared.types.SideName.{SideName}
+use Rattle.hd_map.specs.Crossings.{AreCrossingsUnder}
 use Rattle.hd_map.specs.Map.{Map}
 use Rattle.hd_map.specs.Pruning.{ArePits}
 use Rattle.hd_map.specs.Rank.{below_by}
@@ -31,3 +33,7 @@ pub record IsPitGraph (m : Map) (side : SideName) (graph : Net) : Type 0 where
   pub few : (line : List Stop) → IsFloodLine (below_by side) graph.lows graph.passes line → length line < 2 ^ 32
   pub merges : (xs : List Merge) → AreMerges (below_by side) (LeastHighestIs (below_by side) graph.passes) graph.lows xs
       → AreMerges (below_by side) (SaddleIs m side) graph.lows xs
+
+-- they are enough to tell at which heights the regions of the map are joined
+abbrev pub AreRegionCrossings : Map → SideName → List Pass → Type 0
+AreRegionCrossings m side passes = (roots : List (Option ℕ)) × AreRegions m side roots × AreCrossingsUnder m side roots passes

@@ -33,6 +33,9 @@ pub use laws::{
 pub use lines::pruned_lines;
 pub use merges::PitMerges;
 pub use pruned::{PrunedRegions, kept_pits, pruned_regions};
+pub use roots::graph_of_pits;
 pub use saddles::saddle_between;
 pub use survey::Survey;
+pub use tally::Tally;
 pub use values::{notation_regions, notation_value, parameter_value};
+pub use view::SideView;

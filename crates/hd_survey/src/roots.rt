@@ -1,18 +1,19 @@
 // The pits in whose regions the points of a grid lie, and their graph.
 ghost use Rattle.std.specs.Prelude.{◌≡◌, IfOk};
 ghost use Rattle.hd_map.specs.Map.{Present};
+ghost use Rattle.hd_map.specs.Pruning.{ArePits};
 ghost use Rattle.hd_map.specs.Rank.{rank};
 ghost use Rattle.hd_map.specs.Region.{IsRoot};
 ghost use Rattle.hd_steep.specs.Numbering.{AreNumbered};
-ghost use Rattle.hd_survey.specs.PitGraph.{IsPitGraph};
+ghost use Rattle.hd_survey.specs.PitGraph.{AreRegionCrossings, IsPitGraph};
 
 use crate::pits::lows_of;
 use hd_graph::{
     Graph, flood_line_tells_the_saddles, merges_tell_the_saddles, passes_of_basins_are_a_graph,
     regions_are_basins,
 };
-use hd_list::Memory;
-use hd_map::{Heights, Pos, Side, index_of, position_of};
+use hd_list::{List, Memory};
+use hd_map::{Heights, Pass, Pos, Rank, Side, index_of, position_of};
 use hd_steep::{Regions, crossings};
 use std::alloc::Global;
 
@@ -41,7 +42,22 @@ pub fn graph_of<S: Side, G: Heights>(
     ensures { IfOk result (IsPitGraph (G.map grid.now) S.NAME) }
 {
     let passes = crossings::<S, G>(alloc, grid, regions)?;
-    let lows = lows_of(alloc, regions.pits())?;
+    graph_of_pits::<S, G>(alloc, grid, regions.pits(), passes)
+}
+
+/// The graph of the pits of a map, in position order, and of these crossings between their regions. `Memory`
+/// comes where the lows are refused their memory.
+pub fn graph_of_pits<S: Side, G: Heights>(
+    alloc: Global,
+    _grid: &G,
+    pits: &[Rank],
+    passes: List<Pass>,
+) -> Result<Graph<S>, Memory>
+    requires pits { ArePits (G.map _grid.now) S.NAME pits.now }
+    requires passes { AreRegionCrossings (G.map _grid.now) S.NAME passes }
+    ensures { IfOk result (IsPitGraph (G.map _grid.now) S.NAME) }
+{
+    let lows = lows_of(alloc, pits)?;
     regions_are_basins();
     passes_of_basins_are_a_graph();
     flood_line_tells_the_saddles();
