@@ -26,3 +26,5 @@ mod Determined
 mod Keyed
 mod Blank
 mod HeightOrder
+mod LineList
+mod PlainLines

@@ -12,3 +12,5 @@ pub mod Chains
 pub mod Leaks
 pub mod ByKey
 pub mod HeightKeys
+pub mod LineList
+pub mod Plain

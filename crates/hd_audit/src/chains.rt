@@ -9,10 +9,10 @@ ghost use Rattle.hd_audit.specs.Lines.{line_at, rank_at};
 ghost use Rattle.hd_audit.specs.Places.{AreAllPlaces, place_at};
 ghost use Rattle.hd_audit.specs.Rules.{ChainsWithin, IsWithin, NewPoints, ParentsEarlier};
 
-use crate::AuditLine;
 use crate::limit::{Limit, is_within};
 use crate::place_table::PlaceTable;
 use crate::places::position_in;
+use crate::{AuditLine, AuditLines};
 use hd_check::{is_below, is_pit};
 use hd_list::Memory;
 use hd_map::{Heights, Pos, Rank, SideName, rank_of};
@@ -24,7 +24,7 @@ pub fn first_far<G: Heights>(
     alloc: Global,
     surface: &G,
     limit: &Limit,
-    lines: &[AuditLine],
+    lines: &AuditLines,
     places: &PlaceTable,
 ) -> Result<Option<Pos>, Memory>
     requires new { NewPoints (G.map surface.now) lines.now None }
@@ -34,9 +34,10 @@ pub fn first_far<G: Heights>(
 {
     let mut tops = Vec::with_capacity(alloc, lines.len())?;
     for k in 0..lines.len() {
+        let line = lines.at(k);
         let top = top_of(surface, limit.side, lines, places, &tops, k);
-        if is_far(alloc, surface, limit, lines[k], top) {
-            return Ok(Some(position_in(surface, lines[k].index)));
+        if is_far(alloc, surface, limit, line, top) {
+            return Ok(Some(position_in(surface, line.index)));
         }
         tops.push(top.index)?;
     }
@@ -62,7 +63,7 @@ fn is_far<G: Heights>(alloc: Global, surface: &G, limit: &Limit, line: AuditLine
 fn top_of<G: Heights>(
     surface: &G,
     side: SideName,
-    lines: &[AuditLine],
+    lines: &AuditLines,
     places: &PlaceTable,
     tops: &[u32],
     k: usize,
@@ -75,8 +76,9 @@ fn top_of<G: Heights>(
     requires tops { AreTops (G.map surface.now) side lines.now (map (rank_at (G.map surface.now)) tops.now) k }
     ensures { IsChainTop (G.map surface.now) side lines.now (line_at lines.now k).index result }
 {
-    let own = rank_of(surface, position_in(surface, lines[k].index));
-    match lines[k].parent {
+    let line = lines.at(k);
+    let own = rank_of(surface, position_in(surface, line.index));
+    match line.parent {
         Some(parent) => higher(side, own, top_at(surface, places, tops, parent)),
         None => own,
     }

@@ -9,7 +9,7 @@ use crate::limit::Limit;
 use crate::parents::{first_no_pit, first_stray, first_wrong_cut};
 use crate::place_table::PlaceTable;
 use crate::places::{cells_of, first_not_new, first_unlisted};
-use crate::{Audit, AuditLine};
+use crate::{Audit, AuditLines};
 use hd_check::Verdict;
 use hd_list::Memory;
 use hd_map::{Heights, Under, presence_of};
@@ -36,7 +36,7 @@ fn check_under<G: Heights>(alloc: Global, surface: &G, audit: &Audit) -> Result<
         percent: audit.percent,
         sz: height_span(presence_of(surface).range),
     };
-    try_rules(alloc, surface, &limit, audit.lines.as_slice())
+    try_rules(alloc, surface, &limit, &audit.lines)
 }
 
 // The rules in order.
@@ -44,7 +44,7 @@ fn try_rules<G: Heights>(
     alloc: Global,
     surface: &G,
     limit: &Limit,
-    lines: &[AuditLine],
+    lines: &AuditLines,
 ) -> Result<Verdict, Memory>
     ensures { IfOk result (TriedFrom 12 (rules_of (G.map surface.now) limit.now.side limit.now.percent.thousandths limit.now.sz lines.now)) }
 {

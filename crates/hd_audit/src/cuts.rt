@@ -7,7 +7,7 @@ ghost use Rattle.hd_audit.specs.Lines.{HasCut, rank_at};
 ghost use Rattle.hd_audit.specs.Places.{AreAllPlaces};
 ghost use Rattle.hd_audit.specs.Rules.{CutsClosed, CutsOfKept, FirstLeak, NewPoints};
 
-use crate::AuditLine;
+use crate::AuditLines;
 use crate::limit::{Limit, is_within};
 use crate::place_table::PlaceTable;
 use crate::places::position_in;
@@ -20,7 +20,7 @@ pub fn first_leak<G: Heights>(
     alloc: Global,
     surface: &G,
     limit: &Limit,
-    lines: &[AuditLine],
+    lines: &AuditLines,
     places: &PlaceTable,
 ) -> Option<Pos>
     requires new { NewPoints (G.map surface.now) lines.now None }
@@ -41,7 +41,7 @@ fn leak_of<G: Heights>(
     alloc: Global,
     surface: &G,
     limit: &Limit,
-    lines: &[AuditLine],
+    lines: &AuditLines,
     places: &PlaceTable,
     k: usize,
 ) -> Option<Pos>
@@ -51,8 +51,9 @@ fn leak_of<G: Heights>(
     requires cuts { CutsOfKept (G.map surface.now) limit.now.side lines.now None }
     ensures { FirstLeak (G.map surface.now) limit.now.side limit.now.percent.thousandths limit.now.sz lines.now k result }
 {
-    match lines[k].cut {
-        Some(cut) => leak_round(alloc, surface, limit, lines, places, cut, lines[k].index),
+    let line = lines.at(k);
+    match line.cut {
+        Some(cut) => leak_round(alloc, surface, limit, lines, places, cut, line.index),
         None => None,
     }
 }
@@ -62,7 +63,7 @@ fn leak_round<G: Heights>(
     alloc: Global,
     surface: &G,
     limit: &Limit,
-    lines: &[AuditLine],
+    lines: &AuditLines,
     places: &PlaceTable,
     cut: u32,
     index: u32,
@@ -83,7 +84,7 @@ fn leak_round<G: Heights>(
 fn first_leaking<G: Heights>(
     surface: &G,
     limit: &Limit,
-    lines: &[AuditLine],
+    lines: &AuditLines,
     places: &PlaceTable,
     cut: u32,
     pit: Rank,
@@ -107,7 +108,7 @@ fn first_leaking<G: Heights>(
 fn leaks_to<G: Heights>(
     surface: &G,
     limit: &Limit,
-    lines: &[AuditLine],
+    lines: &AuditLines,
     places: &PlaceTable,
     cut: u32,
     pit: Rank,
@@ -129,7 +130,7 @@ fn leaks_to<G: Heights>(
 // Whether the point of an index has this cut.
 fn has_cut<G: Heights>(
     _surface: &G,
-    lines: &[AuditLine],
+    lines: &AuditLines,
     places: &PlaceTable,
     index: u32,
     cut: u32,
@@ -138,7 +139,7 @@ fn has_cut<G: Heights>(
     ensures { IsTrue result ↔ HasCut lines.now index cut }
 {
     match places.place_at(index) {
-        Some(place) => lines[place as usize].cut == Some(cut),
+        Some(place) => lines.at(place as usize).cut == Some(cut),
         None => false,
     }
 }

@@ -7,7 +7,7 @@ ghost use Rattle.hd_map.specs.Rank.{below_by};
 ghost use Rattle.hd_audit.specs.Flooding.{IsLowestFirst, OffersAt, OffersIfPresent, Spreads, SpreadsRound, is_under};
 ghost use Rattle.hd_audit.specs.Lines.{line_at};
 
-use crate::AuditLine;
+use crate::AuditLines;
 use crate::place_table::PlaceTable;
 use crate::waiting::Waiting;
 use hd_list::Memory;
@@ -32,7 +32,7 @@ pub struct Front<S: Side> {
 /// Lets the unlisted neighbours of the point of a line wait.
 pub fn spread<S: Side, G: Heights>(
     grid: &G,
-    lines: &[AuditLine],
+    lines: &AuditLines,
     place: usize,
     level: Option<Rank>,
     front: &mut Front<S>,
@@ -48,7 +48,7 @@ pub fn spread<S: Side, G: Heights>(
     ensures ahead { OnOk result (length front.new.ahead ≡ cell_count (G.map grid.now).size) }
     ensures heap { OnOk result (IsLowestFirst S.NAME (heap_items front.new.low)) }
 {
-    let at = position_of(grid.size(), lines[place].index);
+    let at = position_of(grid.size(), lines.at(place).index);
     if is_present(grid, at) {
         spread_round(grid, at, place as u32, level, front)?;
     }

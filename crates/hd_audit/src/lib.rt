@@ -11,12 +11,14 @@ mod front;
 mod height_keys;
 mod laws;
 mod limit;
+mod line_list;
 mod listing;
 mod making;
 mod order;
 mod parents;
 mod place_table;
 mod places;
+mod plain;
 mod reading;
 mod types;
 mod waiting;
@@ -29,6 +31,7 @@ pub use laws::{
     shown_pruning_certificate_is_determined, shown_pruning_certificate_is_right,
     written_pruning_certificate_reads_back,
 };
+pub use line_list::AuditLines;
 pub use making::make_audit;
 pub use reading::read_audit;
 pub use types::{Audit, AuditLine};

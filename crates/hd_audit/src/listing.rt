@@ -11,13 +11,13 @@ ghost use Rattle.hd_audit.specs.Lines.{line_at};
 ghost use Rattle.hd_audit.specs.Listing.{AreShownTo, IsFirmSet};
 ghost use Rattle.hd_audit.specs.Shown.{AreShownLines};
 
-use crate::AuditLine;
 use crate::front::{Front, spread};
 use crate::limit::{Limit, is_within};
 use crate::order::points_in_order;
 use crate::place_table::PlaceTable;
 use crate::waiting::Waiting;
-use hd_list::{List, Memory};
+use crate::{AuditLine, AuditLines};
+use hd_list::Memory;
 use hd_map::{Heights, Rank, Side, position_of, rank_of};
 use hd_prune::Kept;
 use std::alloc::Global;
@@ -31,7 +31,7 @@ pub fn shown_lines<S: Side, G: Heights>(
     grid: &G,
     limit: &Limit,
     kept: &[Kept],
-) -> Result<List<AuditLine>, Memory>
+) -> Result<AuditLines, Memory>
     requires side { limit.now.side ≡ S.NAME }
     requires sz { SzIs (G.map grid.now) limit.now.sz }
     requires kept { AreKeptAlone (G.map grid.now) S.NAME limit.now.percent.thousandths kept.now }
@@ -44,11 +44,11 @@ pub fn shown_lines<S: Side, G: Heights>(
         ahead: PlaceTable::new(alloc, count)?,
         low: BinaryHeap::new(alloc),
     };
-    let mut lines = Vec::with_capacity(alloc, count)?;
+    let mut lines = AuditLines::with_capacity(alloc, count)?;
     list_kept(grid, kept, &mut front.seen, &mut lines)?;
     spread_kept(grid, &lines, &mut front)?;
     list_others(alloc, grid, limit, kept, &mut lines, &mut front)?;
-    Ok(List::from_vec(lines))
+    Ok(lines)
 }
 
 // Lists the kept pits.
@@ -56,13 +56,13 @@ fn list_kept<G: Heights>(
     grid: &G,
     kept: &[Kept],
     seen: &mut Vec<bool>,
-    lines: &mut Vec<AuditLine>,
+    lines: &mut AuditLines,
 ) -> Result<(), Memory>
     requires points { All (λ k. IsPoint (G.map grid.now) k.pit) kept.now }
     requires in_order { AllPairs (λ a b. a.pit.index < b.pit.index) kept.now }
     requires blank { seen.old.items ≡ replicate (cell_count (G.map grid.now).size) false }
-    requires empty { lines.old.items ≡ [] }
-    ensures { OnOk result (AreBegun (G.map grid.now) kept.now (length kept.now) seen.new.items lines.new.items) }
+    requires empty { lines.old ≡ [] }
+    ensures { OnOk result (AreBegun (G.map grid.now) kept.now (length kept.now) seen.new.items lines.new) }
 {
     for k in kept {
         let index = k.pit.index;
@@ -79,7 +79,7 @@ fn list_kept<G: Heights>(
 // Lets all unlisted neighbours of the listed pits wait.
 fn spread_kept<S: Side, G: Heights>(
     grid: &G,
-    lines: &[AuditLine],
+    lines: &AuditLines,
     front: &mut Front<S>,
 ) -> Result<(), Memory>
     requires front { IsFront (G.map grid.now) S.NAME lines.now None front.old.seen.items front.old.ahead (heap_items front.old.low) 0 }
@@ -101,15 +101,15 @@ fn list_others<S: Side, G: Heights>(
     grid: &G,
     limit: &Limit,
     kept: &[Kept],
-    lines: &mut Vec<AuditLine>,
+    lines: &mut AuditLines,
     front: &mut Front<S>,
 ) -> Result<(), Memory>
     requires side { limit.now.side ≡ S.NAME }
     requires firm { IsFirmSet (G.map grid.now) S.NAME limit.now.percent.thousandths limit.now.sz (pits_kept kept.now) }
-    requires shown { AreShownTo (G.map grid.now) S.NAME limit.now.percent.thousandths limit.now.sz (pits_kept kept.now) lines.old.items (length lines.old.items) }
-    requires front { IsFrontAt (G.map grid.now) S.NAME lines.old.items front.old.seen.items front.old.ahead (heap_items front.old.low) }
+    requires shown { AreShownTo (G.map grid.now) S.NAME limit.now.percent.thousandths limit.now.sz (pits_kept kept.now) lines.old (length lines.old) }
+    requires front { IsFrontAt (G.map grid.now) S.NAME lines.old front.old.seen.items front.old.ahead (heap_items front.old.low) }
     requires heap { IsLowestFirst S.NAME (heap_items front.old.low) }
-    ensures { OnOk result (AreShownLines (G.map grid.now) S.NAME limit.now.percent.thousandths limit.now.sz (pits_kept kept.now) lines.new.items) }
+    ensures { OnOk result (AreShownLines (G.map grid.now) S.NAME limit.now.percent.thousandths limit.now.sz (pits_kept kept.now) lines.new) }
 {
     let points = points_in_order::<S, G>(alloc, grid)?;
     for place in 0..points.len() {
@@ -126,18 +126,18 @@ fn list_from<S: Side, G: Heights>(
     limit: &Limit,
     kept: &[Kept],
     point: Rank,
-    lines: &mut Vec<AuditLine>,
+    lines: &mut AuditLines,
     front: &mut Front<S>,
 ) -> Result<(), Memory>
     requires side { limit.now.side ≡ S.NAME }
     requires firm { IsFirmSet (G.map grid.now) S.NAME limit.now.percent.thousandths limit.now.sz (pits_kept kept.now) }
-    requires shown { AreShownTo (G.map grid.now) S.NAME limit.now.percent.thousandths limit.now.sz (pits_kept kept.now) lines.old.items (length lines.old.items) }
-    requires front { IsFrontAt (G.map grid.now) S.NAME lines.old.items front.old.seen.items front.old.ahead (heap_items front.old.low) }
+    requires shown { AreShownTo (G.map grid.now) S.NAME limit.now.percent.thousandths limit.now.sz (pits_kept kept.now) lines.old (length lines.old) }
+    requires front { IsFrontAt (G.map grid.now) S.NAME lines.old front.old.seen.items front.old.ahead (heap_items front.old.low) }
     requires point { IsPoint (G.map grid.now) point }
     requires lowest { AreNotBelow (G.map grid.now) S.NAME front.old.ahead point }
     requires heap { IsLowestFirst S.NAME (heap_items front.old.low) }
-    ensures shown { OnOk result (AreShownTo (G.map grid.now) S.NAME limit.now.percent.thousandths limit.now.sz (pits_kept kept.now) lines.new.items (length lines.new.items)) }
-    ensures front { OnOk result (IsFrontAt (G.map grid.now) S.NAME lines.new.items front.new.seen.items front.new.ahead (heap_items front.new.low)) }
+    ensures shown { OnOk result (AreShownTo (G.map grid.now) S.NAME limit.now.percent.thousandths limit.now.sz (pits_kept kept.now) lines.new (length lines.new)) }
+    ensures front { OnOk result (IsFrontAt (G.map grid.now) S.NAME lines.new front.new.seen.items front.new.ahead (heap_items front.new.low)) }
     ensures passed { OnOk result (ArePassed (G.map grid.now) S.NAME front.new.ahead point) }
     ensures heap { OnOk result (IsLowestFirst S.NAME (heap_items front.new.low)) }
 {
@@ -157,16 +157,16 @@ fn list_low<S: Side, G: Heights>(
     limit: &Limit,
     kept: &[Kept],
     level: Rank,
-    lines: &mut Vec<AuditLine>,
+    lines: &mut AuditLines,
     front: &mut Front<S>,
 ) -> Result<(), Memory>
     requires side { limit.now.side ≡ S.NAME }
     requires firm { IsFirmSet (G.map grid.now) S.NAME limit.now.percent.thousandths limit.now.sz (pits_kept kept.now) }
-    requires shown { AreShownTo (G.map grid.now) S.NAME limit.now.percent.thousandths limit.now.sz (pits_kept kept.now) lines.old.items (length lines.old.items) }
-    requires front { IsFront (G.map grid.now) S.NAME lines.old.items (Some level) front.old.seen.items front.old.ahead (heap_items front.old.low) (length lines.old.items) }
+    requires shown { AreShownTo (G.map grid.now) S.NAME limit.now.percent.thousandths limit.now.sz (pits_kept kept.now) lines.old (length lines.old) }
+    requires front { IsFront (G.map grid.now) S.NAME lines.old (Some level) front.old.seen.items front.old.ahead (heap_items front.old.low) (length lines.old) }
     requires heap { IsLowestFirst S.NAME (heap_items front.old.low) }
-    ensures shown { OnOk result (AreShownTo (G.map grid.now) S.NAME limit.now.percent.thousandths limit.now.sz (pits_kept kept.now) lines.new.items (length lines.new.items)) }
-    ensures front { OnOk result (IsFront (G.map grid.now) S.NAME lines.new.items (Some level) front.new.seen.items front.new.ahead (heap_items front.new.low) (length lines.new.items)) }
+    ensures shown { OnOk result (AreShownTo (G.map grid.now) S.NAME limit.now.percent.thousandths limit.now.sz (pits_kept kept.now) lines.new (length lines.new)) }
+    ensures front { OnOk result (IsFront (G.map grid.now) S.NAME lines.new (Some level) front.new.seen.items front.new.ahead (heap_items front.new.low) (length lines.new)) }
     ensures empty { OnOk result (length (heap_items front.new.low) ≡ 0) }
     ensures heap { OnOk result (IsLowestFirst S.NAME (heap_items front.new.low)) }
 {
@@ -182,25 +182,25 @@ fn list_point<S: Side, G: Heights>(
     limit: &Limit,
     level: Rank,
     next: Waiting<S>,
-    lines: &mut Vec<AuditLine>,
+    lines: &mut AuditLines,
     front: &mut Front<S>,
 ) -> Result<(), Memory>
     requires side { limit.now.side ≡ S.NAME }
-    requires from { next.from < length lines.old.items }
-    requires few { length lines.old.items < cell_count (G.map grid.now).size }
+    requires from { next.from < length lines.old }
+    requires few { length lines.old < cell_count (G.map grid.now).size }
     requires point { IsPoint (G.map grid.now) (rank_of_waiting next) }
-    requires cut { (c : ℕ) → (line_at lines.old.items next.from).cut ≡ Some c → IsPointAt (G.map grid.now) c }
+    requires cut { (c : ℕ) → (line_at lines.old next.from).cut ≡ Some c → IsPointAt (G.map grid.now) c }
     requires seen { length front.old.seen.items ≡ cell_count (G.map grid.now).size }
     requires ahead { length front.old.ahead ≡ cell_count (G.map grid.now).size }
     requires heap { IsLowestFirst S.NAME (heap_items front.old.low) }
-    ensures lines { OnOk result (lines.new.items ≡ lines.old.items ++ next_line (G.map grid.now) S.NAME limit.now.percent.thousandths limit.now.sz (line_at lines.old.items next.from) (rank_of_waiting next) ∷ []) }
-    ensures spreads { OnOk result (Spreads (G.map grid.now) S.NAME lines.new.items (length lines.old.items) (Some level) front.old.seen.items front.old.ahead (heap_items front.old.low) front.new.seen.items front.new.ahead (heap_items front.new.low)) }
+    ensures lines { OnOk result (lines.new ≡ lines.old ++ next_line (G.map grid.now) S.NAME limit.now.percent.thousandths limit.now.sz (line_at lines.old next.from) (rank_of_waiting next) ∷ []) }
+    ensures spreads { OnOk result (Spreads (G.map grid.now) S.NAME lines.new (length lines.old) (Some level) front.old.seen.items front.old.ahead (heap_items front.old.low) front.new.seen.items front.new.ahead (heap_items front.new.low)) }
     ensures seen { OnOk result (length front.new.seen.items ≡ cell_count (G.map grid.now).size) }
     ensures ahead { OnOk result (length front.new.ahead ≡ cell_count (G.map grid.now).size) }
     ensures heap { OnOk result (IsLowestFirst S.NAME (heap_items front.new.low)) }
 {
     let place = lines.len();
-    let line = line_of(grid, limit, lines[next.from as usize], next.rank());
+    let line = line_of(grid, limit, lines.at(next.from as usize), next.rank());
     lines.push(line)?;
     spread(grid, lines, place, Some(level), front)?;
     Ok(())

@@ -5,22 +5,22 @@ ghost use Rattle.hd_audit.specs.Lines.{line_at};
 ghost use Rattle.hd_audit.specs.Places.{AreAllPlaces};
 ghost use Rattle.hd_audit.specs.Rules.{CutsOfKept, IsCutOf, IsEarlierNeighbour, IsKeptPit, NewPoints, ParentsEarlier, KeptArePits};
 
-use crate::AuditLine;
 use crate::place_table::PlaceTable;
 use crate::places::position_in;
+use crate::{AuditLine, AuditLines};
 use hd_check::{are_neighbours, is_lower, is_pit};
 use hd_map::{Heights, Pos, SideName};
 use std::alloc::Global;
 
 /// Rule 14: the point of the first line whose parent is no neighbour on an earlier line.
-pub fn first_stray<G: Heights>(surface: &G, lines: &[AuditLine], places: &PlaceTable) -> Option<Pos>
+pub fn first_stray<G: Heights>(surface: &G, lines: &AuditLines, places: &PlaceTable) -> Option<Pos>
     requires new { NewPoints (G.map surface.now) lines.now None }
     requires places { AreAllPlaces (G.map surface.now) lines.now places.now }
     ensures { ParentsEarlier (G.map surface.now) lines.now result }
 {
     for k in 0..lines.len() {
         if !has_earlier_parent(surface, lines, places, k) {
-            return Some(position_in(surface, lines[k].index));
+            return Some(position_in(surface, lines.at(k).index));
         }
     }
     None
@@ -29,7 +29,7 @@ pub fn first_stray<G: Heights>(surface: &G, lines: &[AuditLine], places: &PlaceT
 // Whether a line has no parent or one that is a neighbour on an earlier line.
 fn has_earlier_parent<G: Heights>(
     surface: &G,
-    lines: &[AuditLine],
+    lines: &AuditLines,
     places: &PlaceTable,
     k: usize,
 ) -> bool
@@ -38,7 +38,8 @@ fn has_earlier_parent<G: Heights>(
     requires places { AreAllPlaces (G.map surface.now) lines.now places.now }
     ensures { IsTrue result ↔ MatchOption (line_at lines.now k).parent (Unit {0}) (IsEarlierNeighbour (G.map surface.now) lines.now k) }
 {
-    let Some(parent) = lines[k].parent else {
+    let line = lines.at(k);
+    let Some(parent) = line.parent else {
         return true;
     };
     let Some(place) = places.place_at(parent) else {
@@ -47,7 +48,7 @@ fn has_earlier_parent<G: Heights>(
     if !stands_before(place, k) {
         return false;
     }
-    let from = position_in(surface, lines[k].index);
+    let from = position_in(surface, line.index);
     let to = position_in(surface, parent);
     are_neighbours(surface, from, to)
 }
@@ -64,14 +65,15 @@ pub fn first_no_pit<G: Heights>(
     alloc: Global,
     surface: &G,
     side: SideName,
-    lines: &[AuditLine],
+    lines: &AuditLines,
 ) -> Option<Pos>
     requires { NewPoints (G.map surface.now) lines.now None }
     ensures { KeptArePits (G.map surface.now) side lines.now result }
 {
     for k in 0..lines.len() {
-        if !is_right_without_parent(alloc, surface, side, lines[k]) {
-            return Some(position_in(surface, lines[k].index));
+        let line = lines.at(k);
+        if !is_right_without_parent(alloc, surface, side, line) {
+            return Some(position_in(surface, line.index));
         }
     }
     None
@@ -112,7 +114,7 @@ fn is_kept_pit<G: Heights>(alloc: Global, surface: &G, side: SideName, line: Aud
 pub fn first_wrong_cut<G: Heights>(
     surface: &G,
     side: SideName,
-    lines: &[AuditLine],
+    lines: &AuditLines,
     places: &PlaceTable,
 ) -> Option<Pos>
     requires new { NewPoints (G.map surface.now) lines.now None }
@@ -121,7 +123,7 @@ pub fn first_wrong_cut<G: Heights>(
 {
     for k in 0..lines.len() {
         if !has_kept_cut(surface, side, lines, places, k) {
-            return Some(position_in(surface, lines[k].index));
+            return Some(position_in(surface, lines.at(k).index));
         }
     }
     None
@@ -131,7 +133,7 @@ pub fn first_wrong_cut<G: Heights>(
 fn has_kept_cut<G: Heights>(
     surface: &G,
     side: SideName,
-    lines: &[AuditLine],
+    lines: &AuditLines,
     places: &PlaceTable,
     k: usize,
 ) -> bool
@@ -140,16 +142,17 @@ fn has_kept_cut<G: Heights>(
     requires places { AreAllPlaces (G.map surface.now) lines.now places.now }
     ensures { IsTrue result ↔ MatchOption (line_at lines.now k).cut (Unit {0}) (IsCutOf (G.map surface.now) side lines.now (line_at lines.now k)) }
 {
-    let Some(cut) = lines[k].cut else {
+    let line = lines.at(k);
+    let Some(cut) = line.cut else {
         return true;
     };
     let Some(place) = places.place_at(cut) else {
         return false;
     };
-    if lines[place as usize].parent.is_some() {
+    if lines.at(place as usize).parent.is_some() {
         return false;
     }
-    let at = position_in(surface, lines[k].index);
+    let at = position_in(surface, line.index);
     let pit = position_in(surface, cut);
     !is_lower(surface, side, at, pit)
 }

@@ -5,7 +5,7 @@ ghost use Rattle.hd_audit.specs.Lines.{IsListed};
 ghost use Rattle.hd_audit.specs.Places.{AreAllPlaces, place_at};
 ghost use Rattle.hd_audit.specs.Rules.{AllListed, NewPoints};
 
-use crate::AuditLine;
+use crate::AuditLines;
 use crate::place_table::PlaceTable;
 use hd_map::{Heights, Pos, Size, is_present, position_of};
 
@@ -40,7 +40,7 @@ pub fn cells_of<G: Heights>(surface: &G) -> u32
 /// of the lines are noted.
 pub fn first_not_new<G: Heights>(
     surface: &G,
-    lines: &[AuditLine],
+    lines: &AuditLines,
     places: &mut PlaceTable,
 ) -> Option<Pos>
     requires { places.old ≡ replicate (cell_count (G.map surface.now).size) None }
@@ -49,7 +49,7 @@ pub fn first_not_new<G: Heights>(
 {
     let size = surface.size();
     for k in 0..lines.len() {
-        let index = lines[k].index;
+        let index = lines.at(k).index;
         if !is_new(surface, places, index) {
             return Some(position_named(size, index));
         }
@@ -71,7 +71,7 @@ fn is_new<G: Heights>(surface: &G, places: &PlaceTable, index: u32) -> bool
 /// Rule 13: the first present point without a line.
 pub fn first_unlisted<G: Heights>(
     surface: &G,
-    lines: &[AuditLine],
+    lines: &AuditLines,
     places: &PlaceTable,
 ) -> Option<Pos>
     requires { AreAllPlaces (G.map surface.now) lines.now places.now }
@@ -88,7 +88,7 @@ pub fn first_unlisted<G: Heights>(
 // Whether the point of an index has a line or is not present.
 fn has_line_if_present<G: Heights>(
     surface: &G,
-    _lines: &[AuditLine],
+    _lines: &AuditLines,
     places: &PlaceTable,
     index: u32,
 ) -> bool

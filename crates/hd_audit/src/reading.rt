@@ -1,13 +1,13 @@
 // Reading a pruning certificate, line by line.
-ghost use Rattle.std.specs.Prelude.{◌≡◌, ◌⊎◌, codes, Err};
+ghost use Rattle.std.specs.Prelude.{◌≡◌, ◌⊎◌, Err};
 ghost use Rattle.hd_check.specs.Places.{Gives, IsPlace, lines_at};
-ghost use Rattle.hd_check.specs.Reading.{count_form, line_as};
+ghost use Rattle.hd_check.specs.Reading.{line_as};
 ghost use Rattle.hd_audit.specs.Reading.{audit_of, counted_in, head_form, point_form, points_in};
 
+use crate::plain::plain_line;
 use crate::words::{Head, head_words, point_in};
-use crate::{Audit, AuditLine};
-use hd_check::{CertificateError, Place, count_words, last_lines, line_at, part, take_line};
-use hd_list::List;
+use crate::{Audit, AuditLine, AuditLines};
+use hd_check::{CertificateError, Place, count_line, last_lines, line_at, part, take_line};
 use std::alloc::Global;
 
 /// The pruning certificate that a text holds: `pruning S P N`, then `points M` and M lines
@@ -48,24 +48,12 @@ fn counted_lines(
     alloc: Global,
     bytes: &[u8],
     place: Place,
-) -> Result<(List<AuditLine>, Place), CertificateError>
+) -> Result<(AuditLines, Place), CertificateError>
     requires { IsPlace bytes.now place }
     ensures { Gives bytes.now result (counted_in (lines_at bytes.now place)) }
 {
-    let (count, place) = count_line(alloc, bytes, place)?;
+    let (count, place) = count_line(alloc, bytes, b"points", place)?;
     point_lines(alloc, bytes, count, place)
-}
-
-// Reads `points M`.
-fn count_line(alloc: Global, bytes: &[u8], place: Place) -> Result<(u32, Place), CertificateError>
-    requires { IsPlace bytes.now place }
-    ensures { Gives bytes.now result (line_as (count_form (codes "points")) (lines_at bytes.now place)) }
-{
-    let line = take_line(alloc, bytes, place)?;
-    match count_words(b"points", part(bytes, line.span), line.words.as_slice()) {
-        Some(count) => Ok((count, line.next)),
-        None => Err(CertificateError::BadLine(place.number)),
-    }
 }
 
 // How many bytes a line of a point has at least: those of `0 - -` and its end.
@@ -77,11 +65,14 @@ fn point_lines(
     bytes: &[u8],
     count: u32,
     start: Place,
-) -> Result<(List<AuditLine>, Place), CertificateError>
+) -> Result<(AuditLines, Place), CertificateError>
     requires { IsPlace bytes.now start }
     ensures { Gives bytes.now result (points_in count (lines_at bytes.now start)) }
 {
-    let mut points = List::with_capacity(alloc, (count as usize).min(bytes.len() / SHORTEST_LINE))?;
+    let mut points = AuditLines::with_capacity(
+        alloc,
+        (count as usize).min(bytes.len() / SHORTEST_LINE),
+    )?;
     let mut place = start;
     'points: for k in 0..count {
         let (point, next) = point_line(bytes, place)?;
@@ -93,6 +84,21 @@ fn point_lines(
 
 // Reads `INDEX PARENT CUT`. It takes no memory.
 fn point_line(bytes: &[u8], place: Place) -> Result<(AuditLine, Place), CertificateError>
+    requires { IsPlace bytes.now place }
+    ensures { Gives bytes.now result (line_as point_form (lines_at bytes.now place)) }
+{
+    let Some((line, rest)) = plain_line(&bytes[place.from..]) else {
+        return line_by_words(bytes, place);
+    };
+    let next = Place {
+        from: bytes.len() - rest.len(),
+        number: place.number + 1,
+    };
+    Ok((line, next))
+}
+
+// The same, by the words of the line.
+fn line_by_words(bytes: &[u8], place: Place) -> Result<(AuditLine, Place), CertificateError>
     requires { IsPlace bytes.now place }
     ensures { Gives bytes.now result (line_as point_form (lines_at bytes.now place)) }
 {

@@ -1,5 +1,5 @@
 // A pruning certificate.
-use hd_list::List;
+use crate::AuditLines;
 use hd_map::{Adjacency, SideName};
 use hd_num::Percent;
 
@@ -24,5 +24,5 @@ pub struct Audit {
     /// The setting of the neighbours that is meant.
     pub adjacency: Adjacency,
     /// What is said of each present point.
-    pub lines: List<AuditLine>,
+    pub lines: AuditLines,
 }

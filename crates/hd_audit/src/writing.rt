@@ -5,7 +5,7 @@ ghost use Rattle.hd_num.specs.Percent.{percent_text};
 ghost use Rattle.hd_check.specs.Text.{Adds, adjacency_word, line_text, side_word};
 ghost use Rattle.hd_audit.specs.Text.{audit_text, count_word, point_line};
 
-use crate::{Audit, AuditLine};
+use crate::{Audit, AuditLine, AuditLines};
 use hd_check::push_count;
 use hd_list::{List, Memory};
 use hd_map::{Adjacency, SideName};
@@ -20,7 +20,7 @@ const LONGEST_LINE: usize = 24;
 pub fn text_of_audit(alloc: Global, audit: &Audit) -> Result<List<u8>, Memory>
     ensures { IfOk result (λ text. text ≡ audit_text audit.now) }
 {
-    let room = LONGEST_LINE * (audit.lines.as_slice().len() + 2);
+    let room = LONGEST_LINE.saturating_mul(audit.lines.len().saturating_add(2));
     let mut text = List::with_capacity(alloc, room)?;
     write_audit(&mut text, audit)?;
     Ok(text)
@@ -32,7 +32,7 @@ pub fn write_audit(out: &mut List<u8>, audit: &Audit) -> Result<(), Memory>
     ensures { Adds out.old out.new result (audit_text audit.now) }
 {
     push_head(out, audit)?;
-    push_points(out, audit.lines.as_slice())?;
+    push_points(out, &audit.lines)?;
     push_text(out, b"end\n")?;
     Ok(())
 }
@@ -70,7 +70,7 @@ fn push_setting(out: &mut List<u8>, adjacency: Adjacency) -> Result<(), Memory>
 }
 
 // Adds `points M` and the lines of the points.
-fn push_points(out: &mut List<u8>, points: &[AuditLine]) -> Result<(), Memory>
+fn push_points(out: &mut List<u8>, points: &AuditLines) -> Result<(), Memory>
     ensures { Adds out.old out.new result (codes "points " ++ (decimal (length points.now) ++ 10 ∷ flat_map point_line points.now)) }
 {
     push_text(out, b"points ")?;
@@ -81,11 +81,11 @@ fn push_points(out: &mut List<u8>, points: &[AuditLine]) -> Result<(), Memory>
 }
 
 // Adds the lines of points.
-fn push_lines(out: &mut List<u8>, points: &[AuditLine]) -> Result<(), Memory>
+fn push_lines(out: &mut List<u8>, points: &AuditLines) -> Result<(), Memory>
     ensures { Adds out.old out.new result (flat_map point_line points.now) }
 {
     for k in 0..points.len() {
-        push_line(out, points[k])?;
+        push_line(out, points.at(k))?;
     }
     Ok(())
 }

@@ -11,7 +11,7 @@ use Rattle.std.proofs.lemmas.Bool.Decides.{nat_tests}
 use Rattle.std.proofs.lemmas.List.Elements.{All-head, All-tail}
 use Rattle.std.specs.Str.{bytes_eq}
 use Rattle.std.proofs.lemmas.Fmt.{decimal_nonempty, digits_decimal}
-use Rattle.std.proofs.lemmas.List.Splits.{slice_split-cons_yes, slice_split-cons_no}
+use Rattle.std.proofs.lemmas.List.Splits.{length-slice_split, slice_split-cons_yes, slice_split-cons_no}
 use Rattle.hd_map.specs.declared.types.Adjacency.{Adjacency}
 use Rattle.hd_map.specs.declared.types.Adjacency.TheVariants.{Four, Six, Eight}
 use Rattle.hd_map.specs.declared.types.Pos.{Pos}
@@ -123,6 +123,18 @@ map_words ((w ∷ ws) ∷ lines) are = ap₂ (λ (us : List (List ℕ)) (uss : L
 -- the lines of the text, by their words
 pub lines_back : (lines : List (List (List ℕ))) → AreLines lines → map words_of (lines_of (flat_map line_text lines)) ≡ lines
 lines_back lines are = ap (λ (ps : List (List ℕ)). map words_of (without_empty_last ps)) (split_text lines are) ∙ ap (map words_of) (empty_last (map joined lines)) ∙ map_words lines are
+
+-- a line before more text is its first line
+pub first_line : (w : List ℕ) (ws : List (List ℕ)) (rest : List ℕ) → AreWords (w ∷ ws) → map words_of (lines_of (line_text (w ∷ ws) ++ rest)) ≡ (w ∷ ws) ∷ map words_of (lines_of rest)
+first_line w ws rest are =
+    ap (λ (t : List ℕ). map words_of (lines_of t)) (line_joined (w ∷ ws) rest)
+    ∙ ap (λ (ps : List (List ℕ)). map words_of (without_empty_last ps)) (split_line w ws rest are)
+    ∙ ap (map words_of) (not_last (joined (w ∷ ws)) (slice_split is_line_feed rest) (omega (arith, length-slice_split is_line_feed rest)))
+    ∙ ap (λ (us : List (List ℕ)). us ∷ map words_of (lines_of rest)) (words_joined w ws are)
+  where
+    not_last : (p : List ℕ) (ps : List (List ℕ)) → 0 < length ps → without_empty_last (p ∷ ps) ≡ p ∷ without_empty_last ps
+    not_last p [] some = absurd (omega arith)
+    not_last p (q ∷ ps) some = refl
 
 -- digits are a word
 pub clear_digit : (b : ℕ) → is_ascii_digit b ≡ true → is_clear b ≡ true

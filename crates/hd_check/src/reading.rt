@@ -116,8 +116,8 @@ fn counted_lines(
     point_lines(alloc, bytes, count, place)
 }
 
-// Reads `KEY N`.
-fn count_line(
+/// Reads `KEY N`, and gives N and the place of the line after it.
+pub fn count_line(
     alloc: Global,
     bytes: &[u8],
     key: &[u8],

@@ -1,6 +1,8 @@
 use Rattle.std.proofs.Common.{◌≡◌, ◌<◌, ℕ, None, refl, sym, subst, ap, ◌∙◌, arith, get_or, map}
 use Rattle.std.proofs.lemmas.List.Elements.{Contains-get_or}
 use Rattle.hd_map.specs.declared.types.Rank.{Rank}
+use Rattle.hd_audit.specs.declared.types.AuditLine.{AuditLine}
+use Rattle.hd_map.specs.Map.{position_at}
 use Rattle.hd_map.specs.Passes.{higher_by}
 use Rattle.hd_map.specs.Rank.{rank}
 use Rattle.hd_audit.specs.Chains.{IsChainTop}
@@ -26,12 +28,14 @@ returns-in-Some g c =
     let i : ℕ = (line_at lines k).index in
     let p = c.in-Some.parent in
     let is : IsLineOf lines i (line_at lines k) = record { listed = Contains-get_or lines k (record { index = 0; parent = None; cut = None }) c.requires.line; index = refl } in
-    let own : c.rank_of-own.result ≡ rank_at m i = c.rank_of-own.ensures ∙ ap (rank m) c.position_in.ensures in
-    let before = parent_noted m lines c.args.places.now c.requires.places k p c.requires.line c.in-Some.is c.requires.parents in
+    let line = sym c.at-line.ensures in
+    let own : c.rank_of-own.result ≡ rank_at m i = c.rank_of-own.ensures ∙ ap (rank m) (c.position_in.ensures ∙ ap (λ (x : AuditLine). position_at m.size x.index) c.at-line.ensures) in
+    let parent = ap (λ (x : AuditLine). x.parent) line ∙ c.in-Some.is in
+    let before = parent_noted m lines c.args.places.now c.requires.places k p c.requires.line parent c.requires.parents in
     let up : IsChainTop m c.args.side lines p (get_or (map (rank_at m) c.args.tops.now) before.0 c.top_at.result) =
     subst (λ (j : ℕ). IsChainTop m c.args.side lines j (get_or (map (rank_at m) c.args.tops.now) before.0 c.top_at.result)) before.2 (c.requires.tops before.0 before.1 c.top_at.result) in
     let top : IsChainTop m c.args.side lines p c.top_at.result = subst (IsChainTop m c.args.side lines p) (sym (c.top_at.ensures before.0 before.3 c.top_at.result)) up in
-    subst (IsChainTop m c.args.side lines i) (ap (λ (r : Rank). higher_by c.args.side r c.top_at.result) (sym own) ∙ sym c.higher.ensures) (top_higher m c.args.side lines i p (line_at lines k) c.top_at.result is c.in-Some.is top)
+    subst (IsChainTop m c.args.side lines i) (ap (λ (r : Rank). higher_by c.args.side r c.top_at.result) (sym own) ∙ sym c.higher.ensures) (top_higher m c.args.side lines i p (line_at lines k) c.top_at.result is parent top)
 
 pub returns-in-None : goal.returns-in-None
 returns-in-None g c =
@@ -40,5 +44,6 @@ returns-in-None g c =
     let k = c.args.k in
     let i : ℕ = (line_at lines k).index in
     let is : IsLineOf lines i (line_at lines k) = record { listed = Contains-get_or lines k (record { index = 0; parent = None; cut = None }) c.requires.line; index = refl } in
-    let own : c.rank_of-own.result ≡ rank_at m i = c.rank_of-own.ensures ∙ ap (rank m) c.position_in.ensures in
-    subst (IsChainTop m c.args.side lines i) (sym own) (top_alone m c.args.side lines i (line_at lines k, is, c.in-None.is))
+    let line = sym c.at-line.ensures in
+    let own : c.rank_of-own.result ≡ rank_at m i = c.rank_of-own.ensures ∙ ap (rank m) (c.position_in.ensures ∙ ap (λ (x : AuditLine). position_at m.size x.index) c.at-line.ensures) in
+    subst (IsChainTop m c.args.side lines i) (sym own) (top_alone m c.args.side lines i (line_at lines k, is, ap (λ (x : AuditLine). x.parent) line ∙ c.in-None.is))

@@ -1,12 +1,12 @@
-use Rattle.std.proofs.Common.{sym, ◌∙◌}
+use Rattle.std.proofs.Common.{ap, sym, ◌∙◌}
 use Rattle.std.proofs.lemmas.Bool.{false≢true}
-use Rattle.hd_audit.specs.Lines.{line_at}
+use Rattle.hd_audit.specs.declared.types.AuditLine.{AuditLine}
 use Rattle.hd_audit.proofs.Tests.{is_some_of}
 use Rattle.hd_audit.proofs.Noted.{cut_at, has_cut_at, no_cut_at}
 use Rattle.hd_audit.proofs.cuts.has_cut.Goals as goal
 
-pub bounds-lines-place : goal.bounds-lines-place
-bounds-lines-place g c = (c.requires.noted.only c.args.index c.in-Some.place (sym c.in-Some.ensures)).0
+pub at-requires : goal.at-requires
+at-requires g c = (c.requires.noted.only c.args.index c.in-Some.place (sym c.in-Some.ensures)).0
 
 pub returns-in-Some : goal.returns-in-Some
 returns-in-Some g c =
@@ -14,8 +14,9 @@ returns-in-Some g c =
     let at = sym c.in-Some.ensures in
     let there = has_cut_at m c.args.lines.now c.args.places.now c.requires c.args.index c.in-Some.place c.args.cut at in
     let back = cut_at m c.args.lines.now c.args.places.now c.requires c.args.index c.in-Some.place c.args.cut at in
-    let is = is_some_of (line_at c.args.lines.now c.in-Some.place).cut c.args.cut in
-    (λ t. there (is.0 (sym c.eq.ensures ∙ t)), λ h. c.eq.ensures ∙ is.1 (back h))
+    let is = is_some_of c.at.result.cut c.args.cut in
+    let same = ap (λ (x : AuditLine). x.cut) c.at.ensures in
+    (λ t. there (sym same ∙ is.0 (sym c.eq.ensures ∙ t)), λ h. c.eq.ensures ∙ is.1 (same ∙ back h))
 
 pub returns-in-None : goal.returns-in-None
 returns-in-None g c = (λ e. absurd (false≢true e), λ h. absurd (no_cut_at (g.G.Heights.map c.args._surface.now) c.args.lines.now c.args.places.now c.requires c.args.index c.args.cut (sym c.in-None.ensures) h))

@@ -12,25 +12,25 @@ use Rattle.hd_audit.proofs.listing.list_low.Goals as goal
 pub list_point-requires-clause-from : goal.list_point-requires-clause-from
 list_point-requires-clause-from g c =
     (list-low (g.G.Heights.map c.args.grid.now) (g.met.G.Heights.whole c.args.grid.now) g.S.Side.NAME c.args.limit.now.percent.thousandths c.args.limit.now.sz (pits_kept c.args.kept.now) c.requires.firm.exactly
-    c.loop-next.lines.items c.loop-next.front.seen.items c.loop-next.front.ahead c.loop-next.invariant.shown c.args.level (heap_items c.loop-next.front.low) (heap_items c.pop.new.self) c.in-Some.next
+    c.loop-next.lines c.loop-next.front.seen.items c.loop-next.front.ahead c.loop-next.invariant.shown c.args.level (heap_items c.loop-next.front.low) (heap_items c.pop.new.self) c.in-Some.next
     c.loop-next.invariant.front c.in-Some.ensures.permutation (c.in-Some.ensures.heap_order c.loop-next.invariant.heap).1).before
 
 pub list_point-requires-clause-few : goal.list_point-requires-clause-few
 list_point-requires-clause-few g c =
     (list-low (g.G.Heights.map c.args.grid.now) (g.met.G.Heights.whole c.args.grid.now) g.S.Side.NAME c.args.limit.now.percent.thousandths c.args.limit.now.sz (pits_kept c.args.kept.now) c.requires.firm.exactly
-    c.loop-next.lines.items c.loop-next.front.seen.items c.loop-next.front.ahead c.loop-next.invariant.shown c.args.level (heap_items c.loop-next.front.low) (heap_items c.pop.new.self) c.in-Some.next
+    c.loop-next.lines c.loop-next.front.seen.items c.loop-next.front.ahead c.loop-next.invariant.shown c.args.level (heap_items c.loop-next.front.low) (heap_items c.pop.new.self) c.in-Some.next
     c.loop-next.invariant.front c.in-Some.ensures.permutation (c.in-Some.ensures.heap_order c.loop-next.invariant.heap).1).few
 
 pub list_point-requires-clause-point : goal.list_point-requires-clause-point
 list_point-requires-clause-point g c =
     (list-low (g.G.Heights.map c.args.grid.now) (g.met.G.Heights.whole c.args.grid.now) g.S.Side.NAME c.args.limit.now.percent.thousandths c.args.limit.now.sz (pits_kept c.args.kept.now) c.requires.firm.exactly
-    c.loop-next.lines.items c.loop-next.front.seen.items c.loop-next.front.ahead c.loop-next.invariant.shown c.args.level (heap_items c.loop-next.front.low) (heap_items c.pop.new.self) c.in-Some.next
+    c.loop-next.lines c.loop-next.front.seen.items c.loop-next.front.ahead c.loop-next.invariant.shown c.args.level (heap_items c.loop-next.front.low) (heap_items c.pop.new.self) c.in-Some.next
     c.loop-next.invariant.front c.in-Some.ensures.permutation (c.in-Some.ensures.heap_order c.loop-next.invariant.heap).1).is_point
 
 pub list_point-requires-clause-cut : goal.list_point-requires-clause-cut
 list_point-requires-clause-cut g c =
     (list-low (g.G.Heights.map c.args.grid.now) (g.met.G.Heights.whole c.args.grid.now) g.S.Side.NAME c.args.limit.now.percent.thousandths c.args.limit.now.sz (pits_kept c.args.kept.now) c.requires.firm.exactly
-    c.loop-next.lines.items c.loop-next.front.seen.items c.loop-next.front.ahead c.loop-next.invariant.shown c.args.level (heap_items c.loop-next.front.low) (heap_items c.pop.new.self) c.in-Some.next
+    c.loop-next.lines c.loop-next.front.seen.items c.loop-next.front.ahead c.loop-next.invariant.shown c.args.level (heap_items c.loop-next.front.low) (heap_items c.pop.new.self) c.in-Some.next
     c.loop-next.invariant.front c.in-Some.ensures.permutation (c.in-Some.ensures.heap_order c.loop-next.invariant.heap).1).cut
 
 pub loop-next-preserved : goal.loop-next-preserved
@@ -40,19 +40,19 @@ loop-next-preserved g c =
     let t = c.args.limit.now.percent.thousandths in
     let sz = c.args.limit.now.sz in
     let kept = pits_kept c.args.kept.now in
-    let lines : List AuditLine = c.loop-next.lines.items in
+    let lines : List AuditLine = c.loop-next.lines in
     let front = c.loop-next.front in
     let rest = heap_items c.pop.new.self in
     let w = c.in-Some.next in
     let listed = list-low m (g.met.G.Heights.whole c.args.grid.now) side t sz kept c.requires.firm.exactly lines front.seen.items front.ahead c.loop-next.invariant.shown c.args.level (heap_items front.low) rest w
     c.loop-next.invariant.front c.in-Some.ensures.permutation (c.in-Some.ensures.heap_order c.loop-next.invariant.heap).1 in
     let next : AuditLine = next_line m side t sz (line_at lines w.from) (rank_of_waiting w) in
-    let items : c.list_point.new.lines.items ≡ lines ++ next ∷ [] = c.in_ok-list_point.ensures.lines in
-    let long : length lines + 1 ≡ length c.list_point.new.lines.items = (let longer = length_push lines next in let same = ap length items in omega (arith, longer, same)) in
+    let items : c.list_point.new.lines ≡ lines ++ next ∷ [] = c.in_ok-list_point.ensures.lines in
+    let long : length lines + 1 ≡ length c.list_point.new.lines = (let longer = length_push lines next in let same = ap length items in omega (arith, longer, same)) in
     let new = c.list_point.new.front in
     record {
       shown = subst (λ (xs : List AuditLine). AreShownTo m side t sz kept xs (length xs)) (sym items) listed.shown;
-      front = subst (λ i. IsFront m side c.list_point.new.lines.items (Some c.args.level) new.seen.items new.ahead (heap_items new.low) i) long
+      front = subst (λ i. IsFront m side c.list_point.new.lines (Some c.args.level) new.seen.items new.ahead (heap_items new.low) i) long
           (c.in_ok-list_point.ensures.spreads (subst (λ (xs : List AuditLine). IsFront m side xs (Some c.args.level) front.seen.items front.ahead rest (length lines)) (sym items) listed.front));
       heap = c.in_ok-list_point.ensures.heap;
     }

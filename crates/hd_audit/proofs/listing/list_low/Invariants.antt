@@ -8,10 +8,10 @@ use Rattle.hd_audit.proofs.listing.list_low.Given as goal
 
 abbrev pub invariant-loop-next : goal.invariant-loop-next
 invariant-loop-next g l = let m = g.G.Heights.map l.grid in record {
-  shown : AreShownTo m g.S.Side.NAME l.limit.percent.thousandths l.limit.sz (pits_kept l.kept) l.lines.items (length l.lines.items);
-  front : IsFront m g.S.Side.NAME l.lines.items (Some l.level) l.front.seen.items l.front.ahead (heap_items l.front.low) (length l.lines.items);
+  shown : AreShownTo m g.S.Side.NAME l.limit.percent.thousandths l.limit.sz (pits_kept l.kept) l.lines (length l.lines);
+  front : IsFront m g.S.Side.NAME l.lines (Some l.level) l.front.seen.items l.front.ahead (heap_items l.front.low) (length l.lines);
   heap : IsLowestFirst g.S.Side.NAME (heap_items l.front.low);
 }
 
 abbrev pub decreases-loop-next : goal.decreases-loop-next
-decreases-loop-next g l = cell_count (g.G.Heights.map l.grid).size - length l.lines.items
+decreases-loop-next g l = cell_count (g.G.Heights.map l.grid).size - length l.lines

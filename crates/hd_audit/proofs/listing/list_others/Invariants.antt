@@ -9,8 +9,8 @@ use Rattle.hd_audit.proofs.listing.list_others.Given as goal
 
 abbrev pub invariant-loop-place : goal.invariant-loop-place
 invariant-loop-place g l = let m = g.G.Heights.map l.grid in record {
-  shown : AreShownTo m g.S.Side.NAME l.limit.percent.thousandths l.limit.sz (pits_kept l.kept) l.lines.items (length l.lines.items);
-  front : IsFrontAt m g.S.Side.NAME l.lines.items l.front.seen.items l.front.ahead (heap_items l.front.low);
+  shown : AreShownTo m g.S.Side.NAME l.limit.percent.thousandths l.limit.sz (pits_kept l.kept) l.lines (length l.lines);
+  front : IsFrontAt m g.S.Side.NAME l.lines l.front.seen.items l.front.ahead (heap_items l.front.low);
   passed : (j : ℕ) (d : Rank) → j < l.place → ArePassed m g.S.Side.NAME l.front.ahead (get_or (map (rank_at m) l.points.items) j d);
   heap : IsLowestFirst g.S.Side.NAME (heap_items l.front.low);
 }

@@ -19,7 +19,7 @@ list_others-requires-clause-firm g c = alone-firm (g.G.Heights.map c.args.grid.n
 
 pub list_others-requires-clause-shown : goal.list_others-requires-clause-shown
 list_others-requires-clause-shown g c =
-    begun-shown (g.G.Heights.map c.args.grid.now) g.S.Side.NAME c.args.limit.now.percent.thousandths c.args.limit.now.sz c.args.kept.now c.list_kept.new.seen.items c.list_kept.new.lines.items
+    begun-shown (g.G.Heights.map c.args.grid.now) g.S.Side.NAME c.args.limit.now.percent.thousandths c.args.limit.now.sz c.args.kept.now c.list_kept.new.seen.items c.list_kept.new.lines
     (alone-points (g.G.Heights.map c.args.grid.now) (g.met.G.Heights.whole c.args.grid.now) g.S.Side.NAME c.args.limit.now.percent.thousandths c.args.limit.now.sz c.requires.sz c.args.kept.now c.requires.kept) c.in_ok-list_kept.ensures
 
 pub spread_kept-requires-clause-front : goal.spread_kept-requires-clause-front
@@ -27,12 +27,10 @@ spread_kept-requires-clause-front g c =
     let m = g.G.Heights.map c.args.grid.now in
     let blank : c.in_ok-new.field-0 ≡ replicate (cell_count m.size) None = search rules in
     let empty : length (heap_items c.new-2.result) ≡ 0 = ap length c.new-2.ensures.items in
-    subst (λ (xs : List AuditLine). IsFront m g.S.Side.NAME xs None c.list_kept.new.seen.items c.in_ok-new.field-0 (heap_items c.new-2.result) 0) (sym c.deref.ensures.value)
-    (front-begin m g.S.Side.NAME c.args.kept.now (length c.args.kept.now) c.list_kept.new.seen.items c.list_kept.new.lines.items c.in_ok-new.field-0 (heap_items c.new-2.result) blank empty c.in_ok-list_kept.ensures)
+    front-begin m g.S.Side.NAME c.args.kept.now (length c.args.kept.now) c.list_kept.new.seen.items c.list_kept.new.lines c.in_ok-new.field-0 (heap_items c.new-2.result) blank empty c.in_ok-list_kept.ensures
 
 pub list_others-requires-clause-front : goal.list_others-requires-clause-front
 list_others-requires-clause-front g c =
     let m = g.G.Heights.map c.args.grid.now in
     let new = c.spread_kept.new.front in
-    subst (λ (xs : List AuditLine). IsFrontAt m g.S.Side.NAME xs new.seen.items new.ahead (heap_items new.low)) c.deref.ensures.value
-    (front-at m g.S.Side.NAME c.deref.result.now new.seen.items new.ahead (heap_items new.low) c.in_ok-spread_kept.ensures.front)
+    front-at m g.S.Side.NAME c.list_kept.new.lines new.seen.items new.ahead (heap_items new.low) c.in_ok-spread_kept.ensures.front
