@@ -160,6 +160,7 @@ pub(crate) fn report_audit<S: Side, G: Heights>(
 {
     let kept = kept_pits::<S, G>(alloc, grid, findings, percent, presence_of(grid).range)?;
     let audit = make_audit::<S, G>(alloc, grid, percent, &kept)?;
+    drop(kept);
     let text = text_of_audit(alloc, &audit)?;
     Ok(text)
 }
