@@ -1,10 +1,10 @@
 -- A flood from several starts, entry by entry.
-use Rattle.std.proofs.Common.{◌≡◌, ◌<◌, ◌≤◌, ◌+◌, ℕ, zero, suc, pos, Bool, true, false, List, [], ◌∷◌, ◌++◌, length, get_or, set, replicate, slice_get, Option, Some, None, IsSome, ◌⊎◌, inl, inr, ap, ◌∙◌, refl, sym, subst, arith}
-use Rattle.std.specs.Prelude.{All, Contains}
+use Rattle.std.proofs.Common.{◌≡◌, ◌<◌, ◌≤◌, ◌+◌, ◌*◌, ◌/◌, ◌%◌, ℕ, zero, suc, pos, Bool, true, false, List, [], ◌∷◌, ◌++◌, length, get_or, set, replicate, slice_get, Option, Some, None, IsSome, ◌⊎◌, inl, inr, ap, ◌∙◌, refl, sym, subst, arith}
+use Rattle.std.specs.Prelude.{All}
 use Rattle.std.specs.List.{sum_by}
 use Rattle.std.proofs.Math.ListN.{length-set}
 use Rattle.std.proofs.lemmas.List.{get_or-set_same, get_or-set_other, get_or_append_left, get_or_push, length_push, get_or-replicate, length-replicate, get_or_default}
-use Rattle.std.proofs.lemmas.List.Elements.{All-head, All-tail, Contains-push_cases}
+use Rattle.std.proofs.lemmas.List.Elements.{All-head, All-tail}
 use Rattle.std.proofs.lemmas.List.Sums.{sum_by-set}
 use Rattle.std.proofs.lemmas.List.Folds.{sum_by-replicate}
 use Rattle.std.proofs.lemmas.Bool.{cases_lt, cases_eq, false≢true}
@@ -12,13 +12,13 @@ use Rattle.std.proofs.lemmas.Option.{get_or_from_slice_get, same_Some, slice_get
 use Rattle.hd_map.specs.declared.types.Pos.{Pos}
 use Rattle.hd_map.specs.declared.types.Rank.{Rank}
 use Rattle.hd_map.specs.Map.{InGrid, Map, Present, cell_count, place_of}
-use Rattle.hd_map.specs.Neighbour.{Neighbour}
+use Rattle.hd_map.specs.Neighbour.{AreBesideUnder, Neighbour}
 use Rattle.hd_map.specs.Path.{Leads}
 use Rattle.hd_map.specs.Rank.{IsPoint, Near, rank}
-use Rattle.hd_map.proofs.Items.{Contains-none}
+use Rattle.hd_map.proofs.Gather.{same_pos}
 use Rattle.hd_map.proofs.Points.{Near-at, place_inside, point_at, same_index, same_place}
 use Rattle.hd_reach.specs.declared.flood.Reached.{Reached}
-use Rattle.hd_reach.specs.Flood.{AreBegun, IsEntry, IsFlood, IsRound, Reaches, entry_of, is_free, noted_at}
+use Rattle.hd_reach.specs.Flood.{AreBegun, IsEntry, IsFlood, Reaches, ReachesAt, entry_of, is_free, noted_at}
 use Rattle.hd_reach.specs.Reached.{AreReached, IsReachedBy, ReachApart}
 use Rattle.hd_reach.proofs.Reaching.{by-point, by-start, by-step, start-point}
 
@@ -84,8 +84,30 @@ pub reaches-whole : (m : Map) (allows : ℕ → Rank → Bool) (at : Pos) (by : 
     → Reaches m allows at by reached queue reached' queue' → length reached' ≡ length reached
 reaches-whole m allows at by reached queue reached' queue' reaches = elim reaches [
   | inl left ↦ ap length left.1
-  | inr new ↦ ap length new.2 ∙ length-set reached (place_of m.size at) (Some by)
+  | inr new ↦ ap length new.3 ∙ length-set reached (place_of m.size at) (Some by)
 ]
+
+pub reaches_at-whole : (m : Map) (allows : ℕ → Rank → Bool) (at : Pos) (x y by : ℕ) (reached : List (Option ℕ)) (queue : List Reached) (reached' : List (Option ℕ)) (queue' : List Reached)
+    → ReachesAt m allows at x y by reached queue reached' queue' → length reached' ≡ length reached
+reaches_at-whole m allows at x y by reached queue reached' queue' reaches = elim reaches [
+  | inl one ↦ reaches-whole m allows one.0 by reached queue reached' queue' one.4
+  | inr none ↦ ap length none.1
+]
+
+-- the step to a neighbour of this number
+step-of : (m : Map) (at q : Pos) (step : ℕ) → Neighbour m at q → step < 9 → 3 * q.y + q.x + 4 ≡ 3 * at.y + at.x + step → (q.x + 1 ≡ at.x + step % 3) × (q.y + 1 ≡ at.y + step / 3)
+step-of m at q step n below e = (omega (arith, n.columns, n.rows, below, e), omega (arith, n.columns, n.rows, below, e))
+
+-- what is present and beside the point at a step is a neighbour
+step-neighbour : (m : Map) (at q : Pos) (step : ℕ) → Present m at → Present m q → AreBesideUnder m.adjacency at q → step < 9 → (step ≡ 4 → ⊥) → q.x + 1 ≡ at.x + step % 3 → q.y + 1 ≡ at.y + step / 3 → Neighbour m at q
+step-neighbour m at q step here there beside below apart ex ey = record {
+  from = here;
+  to = there;
+  columns = (omega (arith, below, ex), omega (arith, below, ex));
+  rows = (omega (arith, below, ey), omega (arith, below, ey));
+  different = λ e. apart (let x : at.x ≡ q.x = ap (λ (p : Pos). p.x) e in let y : at.y ≡ q.y = ap (λ (p : Pos). p.y) e in omega (arith, below, ex, ey, x, y));
+  beside = beside;
+}
 
 none_or_some : (o : Option ℕ) → (o ≡ None) ⊎ ((n : ℕ) × (o ≡ Some n))
 none_or_some None = inl refl
@@ -240,52 +262,111 @@ module _ (m : Map) (starts : List Rank) (allows : ℕ → Rank → Bool) (apart 
         let e = subst (λ (r : Reached). IsEntry m starts allows reached r) is (f.entries head begun) in
         subst (λ x. IsReachedBy m starts allows by x) (same_index m e.point (rank m at) (by-point m starts allows by e.point e.reached_by) (point_at m at present) e.index_is) e.reached_by
 
-    pub round-begin : (reached : List (Option ℕ)) (queue : List Reached) (head : ℕ) → IsFlood m starts allows reached queue head → head < length queue → entry_of queue head ≡ here → IsRound m starts allows here [] reached queue head
-    round-begin reached queue head f begun is = record { flood = f; inside = begun; here_is = is; found = λ q h. absurd (Contains-none q h) }
+    -- it is present
+    head-present : (reached : List (Option ℕ)) (queue : List Reached) (head : ℕ) → IsFlood m starts allows reached queue head → head < length queue → entry_of queue head ≡ here
+        → InGrid m.size at → Present m at
+    head-present reached queue head f begun is in_grid =
+        let e = subst (λ (r : Reached). IsEntry m starts allows reached r) is (f.entries head begun) in
+        let point : IsPoint m e.point = by-point m starts allows by e.point e.reached_by in
+        let places : place_of m.size point.at ≡ place_of m.size at = ap (λ (z : Rank). z.index) (sym point.rank_is) ∙ e.index_is in
+        subst (Present m) (same_place m.size point.at at point.present.in_grid in_grid places) point.present
 
-    -- one more neighbour
-    pub round-more : (reached : List (Option ℕ)) (queue : List Reached) (head : ℕ) (done : List Pos) (q : Pos) (reached' : List (Option ℕ)) (queue' : List Reached) → Neighbour m at q
-        → Reaches m allows q by reached queue reached' queue' → IsRound m starts allows here done reached queue head → IsRound m starts allows here (done ++ q ∷ []) reached' queue' head
-    round-more reached queue head done q reached' queue' near reaches r =
-        let f = r.flood in
-        let start = head-reached reached queue head f r.inside r.here_is near.from in
-        let to : allows by (rank m q) ≡ true → IsReachedBy m starts allows by (rank m q) = λ allowed. by-step m starts allows by (rank m at) (rank m q) start (Near-at m at q near) allowed in
-        elim reaches [
-          | inl left ↦ rw (left.1, left.2) (record {
-            flood = f;
-            inside = r.inside;
-            here_is = r.here_is;
-            found = λ p listed allowed. elim (Contains-push_cases done q p listed) [
-              | inl old ↦ r.found p old allowed
-              | inr same ↦ subst (λ (p : Pos). allows by (rank m p) ≡ true → noted_at reached (place_of m.size p) ≡ Some by) same (λ allowed. elim left.0 [
-                | inl some ↦
-                    let n = some_of (noted_at reached (place_of m.size q)) some in
-                    let x = noted-reached reached queue head f (place_of m.size q) n.0 n.1 in
-                    let one : x.0 ≡ rank m q = same_index m x.0 (rank m q) (by-point m starts allows n.0 x.0 x.2) (point_at m q near.to) x.1 in
-                    let number : n.0 ≡ by = apart.apart n.0 by (rank m q) (subst (λ z. IsReachedBy m starts allows n.0 z) one x.2) (to allowed) in
-                    n.1 ∙ ap Some number
-                | inr refused ↦ absurd (let e : false ≡ true = sym refused ∙ allowed in false≢true e)
-              ]) allowed
-            ];
-          })
-          | inr new ↦ rw (new.2, new.3)
-              (let f' = flood-push reached queue head f r.inside (rank m q) by (to new.1) new.0 in
-              record {
-                flood = f';
-                inside = (let longer = length_push queue (entry_is (place_of m.size q) by) in let begun = r.inside in omega (arith, longer, begun));
-                here_is = entry-old queue (entry_is (place_of m.size q) by) head r.inside ∙ r.here_is;
-                found = λ p listed allowed. elim (Contains-push_cases done q p listed) [
-                  | inl old ↦ noted-kept reached (place_of m.size q) (place_of m.size p) by by new.0 (r.found p old allowed)
-                  | inr same ↦ subst (λ (p : Pos). noted_at (set reached (place_of m.size q) (Some by)) (place_of m.size p) ≡ Some by) same
-                      (noted-here reached (place_of m.size q) by (let inside = place_inside m.size q near.to.in_grid in let whole = f.whole in omega (arith, inside, whole)))
-                ];
-              })
-        ]
+    -- the flood, where the positions before a step from the point were looked at: of these, the neighbours that are allowed are noted
+    pub record IsRound (step : ℕ) (reached : List (Option ℕ)) (queue : List Reached) (head : ℕ) : Type 0 where
+      pub flood : IsFlood m starts allows reached queue head
+      pub inside : head < length queue
+      pub here_is : entry_of queue head ≡ here
+      pub found : (q : Pos) → Neighbour m at q → 3 * q.y + q.x + 4 < 3 * at.y + at.x + step → allows by (rank m q) ≡ true → noted_at reached (place_of m.size q) ≡ Some by
 
-    -- all neighbours are done
-    pub round-end : (reached : List (Option ℕ)) (queue : List Reached) (head : ℕ) (done : List Pos) → InGrid m.size at → ((q : Pos) → Neighbour m at q → Contains done q) → IsRound m starts allows here done reached queue head
-        → IsFlood m starts allows reached queue (head + 1)
-    round-end reached queue head done in_grid all r =
+    pub round-begin : (reached : List (Option ℕ)) (queue : List Reached) (head : ℕ) → IsFlood m starts allows reached queue head → head < length queue → entry_of queue head ≡ here → IsRound 0 reached queue head
+    round-begin reached queue head f begun is = record { flood = f; inside = begun; here_is = is; found = λ q n before. absurd (omega (arith, n.columns, n.rows, before)) }
+
+    -- no neighbour stands at the step
+    round-none : (step : ℕ) (reached : List (Option ℕ)) (queue : List Reached) (head : ℕ) → ((q : Pos) → Neighbour m at q → 3 * q.y + q.x + 4 ≡ 3 * at.y + at.x + step → ⊥)
+        → IsRound step reached queue head → IsRound (step + 1) reached queue head
+    round-none step reached queue head none r = record {
+      flood = r.flood;
+      inside = r.inside;
+      here_is = r.here_is;
+      found = λ p n before allowed. elim (cases_lt (3 * p.y + p.x + 4) (3 * at.y + at.x + step)) [
+        | inl old ↦ r.found p n old allowed
+        | inr new ↦ absurd (none p n (omega (arith, before, new)))
+      ];
+    }
+
+    -- the point itself is passed over
+    pub round-centre : (step : ℕ) (reached : List (Option ℕ)) (queue : List Reached) (head : ℕ) → step ≡ 4 → IsRound step reached queue head → IsRound (step + 1) reached queue head
+    round-centre step reached queue head centre r = round-none step reached queue head (λ q n e.
+        (let is = step-of m at q step n (omega (arith, centre)) e in
+        let x = is.0 in
+        let y = is.1 in
+        n.different (same_pos at q (omega (arith, x, centre)) (omega (arith, y, centre))))) r
+
+    -- a neighbour that is noted, or not allowed, is left
+    round-left : (step : ℕ) (q : Pos) (reached : List (Option ℕ)) (queue : List Reached) (head : ℕ) → step < 9 → q.x + 1 ≡ at.x + step % 3 → q.y + 1 ≡ at.y + step / 3
+        → (Present m q → IsSome (noted_at reached (place_of m.size q)) ⊎ (allows by (rank m q) ≡ false)) → IsRound step reached queue head → IsRound (step + 1) reached queue head
+    round-left step q reached queue head below ex ey left r = record {
+      flood = r.flood;
+      inside = r.inside;
+      here_is = r.here_is;
+      found = λ p n before allowed. elim (cases_lt (3 * p.y + p.x + 4) (3 * at.y + at.x + step)) [
+        | inl old ↦ r.found p n old allowed
+        | inr new ↦
+            let is = step-of m at p step n below (omega (arith, before, new)) in
+            let same : q ≡ p = same_pos q p (let x = is.0 in omega (arith, x, ex)) (let y = is.1 in omega (arith, y, ey)) in
+            elim (subst (λ (z : Pos). Present m z → IsSome (noted_at reached (place_of m.size z)) ⊎ (allows by (rank m z) ≡ false)) same left n.to) [
+              | inl some ↦
+                  let noted = some_of (noted_at reached (place_of m.size p)) some in
+                  let x = noted-reached reached queue head r.flood (place_of m.size p) noted.0 noted.1 in
+                  let one : x.0 ≡ rank m p = same_index m x.0 (rank m p) (by-point m starts allows noted.0 x.0 x.2) (point_at m p n.to) x.1 in
+                  let start = head-reached reached queue head r.flood r.inside r.here_is n.from in
+                  let to = by-step m starts allows by (rank m at) (rank m p) start (Near-at m at p n) allowed in
+                  let number : noted.0 ≡ by = apart.apart noted.0 by (rank m p) (subst (λ z. IsReachedBy m starts allows noted.0 z) one x.2) to in
+                  noted.1 ∙ ap Some number
+              | inr refused ↦ absurd (let e : false ≡ true = sym refused ∙ allowed in false≢true e)
+            ]
+      ];
+    }
+
+    -- another is noted and queued
+    round-push : (step : ℕ) (q : Pos) (reached : List (Option ℕ)) (queue : List Reached) (head : ℕ) → Neighbour m at q → step < 9 → q.x + 1 ≡ at.x + step % 3 → q.y + 1 ≡ at.y + step / 3
+        → noted_at reached (place_of m.size q) ≡ None → allows by (rank m q) ≡ true → IsRound step reached queue head
+        → IsRound (step + 1) (set reached (place_of m.size q) (Some by)) (queue ++ entry_is (place_of m.size q) by ∷ []) head
+    round-push step q reached queue head near below ex ey free allowed r =
+        let start = head-reached reached queue head r.flood r.inside r.here_is near.from in
+        let f = flood-push reached queue head r.flood r.inside (rank m q) by (by-step m starts allows by (rank m at) (rank m q) start (Near-at m at q near) allowed) free in
+        record {
+          flood = f;
+          inside = (let longer = length_push queue (entry_is (place_of m.size q) by) in let begun = r.inside in omega (arith, longer, begun));
+          here_is = entry-old queue (entry_is (place_of m.size q) by) head r.inside ∙ r.here_is;
+          found = λ p n before allowed. elim (cases_lt (3 * p.y + p.x + 4) (3 * at.y + at.x + step)) [
+            | inl old ↦ noted-kept reached (place_of m.size q) (place_of m.size p) by by free (r.found p n old allowed)
+            | inr new ↦
+                let is = step-of m at p step n below (omega (arith, before, new)) in
+                let same : q ≡ p = same_pos q p (let x = is.0 in omega (arith, x, ex)) (let y = is.1 in omega (arith, y, ey)) in
+                subst (λ (z : Pos). noted_at (set reached (place_of m.size q) (Some by)) (place_of m.size z) ≡ Some by) same
+                (noted-here reached (place_of m.size q) by (let inside = place_inside m.size q near.to.in_grid in let whole = r.flood.whole in omega (arith, inside, whole)))
+          ];
+        }
+
+    -- one more position is looked at
+    pub round-more : InGrid m.size at → (step : ℕ) (reached : List (Option ℕ)) (queue : List Reached) (head : ℕ) (reached' : List (Option ℕ)) (queue' : List Reached) → step < 9 → (step ≡ 4 → ⊥)
+        → ReachesAt m allows at (step % 3) (step / 3) by reached queue reached' queue' → IsRound step reached queue head → IsRound (step + 1) reached' queue' head
+    round-more in_grid step reached queue head reached' queue' below off_centre reaches r = elim reaches [
+      | inl one ↦ elim one.4 [
+        | inl left ↦ rw (left.1, left.2) (round-left step one.0 reached queue head below one.1 one.2 left.0 r)
+        | inr new ↦
+            let here : Present m at = head-present reached queue head r.flood r.inside r.here_is in_grid in
+            let near : Neighbour m at one.0 = step-neighbour m at one.0 step here new.0 one.3 below off_centre one.1 one.2 in
+            rw (new.3, new.4) (round-push step one.0 reached queue head near below one.1 one.2 new.1 new.2 r)
+      ]
+      | inr none ↦ rw (none.1, none.2)
+          (round-none step reached queue head (λ q n e. (let is = step-of m at q step n below e in none.0 q is.0 is.1 n.to.in_grid n.beside)) r)
+    ]
+
+    -- all neighbours are looked at
+    pub round-end : (step : ℕ) (reached : List (Option ℕ)) (queue : List Reached) (head : ℕ) → InGrid m.size at → 9 ≤ step → IsRound step reached queue head → IsFlood m starts allows reached queue (head + 1)
+    round-end step reached queue head in_grid end r =
         let f = r.flood in
         record {
           whole = f.whole;
@@ -300,7 +381,8 @@ module _ (m : Map) (starts : List Rank) (allows : ℕ → Rank → Bool) (apart 
                 let places : place_of m.size near.from ≡ place_of m.size at = ap (λ (z : Rank). z.index) (sym near.from_rank) ∙ is ∙ ap (λ (r : Reached). r.index) e in
                 let from : near.from ≡ at = same_place m.size near.from at near.neighbour.from.in_grid in_grid places in
                 let allowed' : allows by y ≡ true = subst (λ (r : Reached). allows r.by y ≡ true) e allowed in
-                let found = r.found near.to (all near.to (subst (λ (p : Pos). Neighbour m p near.to) from near.neighbour)) (subst (λ z. allows by z ≡ true) near.to_rank allowed') in
+                let n : Neighbour m at near.to = subst (λ (p : Pos). Neighbour m p near.to) from near.neighbour in
+                let found = r.found near.to n (omega (arith, n.columns, n.rows, end)) (subst (λ z. allows by z ≡ true) near.to_rank allowed') in
                 subst (λ (r : Reached). noted_at reached y.index ≡ Some r.by) (sym e) (subst (λ (z : Rank). noted_at reached z.index ≡ Some by) (sym near.to_rank) found)
           ];
         }

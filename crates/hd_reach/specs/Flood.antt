@@ -1,9 +1,10 @@
 -- The queue of a flood from several starts: points that are reached, each with the number of its start.
-use Rattle.std.specs.Prelude.{◌≡◌, ◌<◌, ◌+◌, ◌⊎◌, ◌++◌, ℕ, Bool, true, false, List, [], ◌∷◌, length, slice_index_or, slice_get, slice_set, Option, Some, None, IsSome, Contains}
+use Rattle.std.specs.Prelude.{◌≡◌, ◌<◌, ◌+◌, ◌⊎◌, ◌++◌, ℕ, Bool, true, false, List, [], ◌∷◌, length, slice_index_or, slice_get, slice_set, Option, Some, None, IsSome}
 use Rattle.std.specs.List.{sum_by}
 use Rattle.hd_map.specs.declared.types.Pos.{Pos}
 use Rattle.hd_map.specs.declared.types.Rank.{Rank}
-use Rattle.hd_map.specs.Map.{Map, cell_count, place_of}
+use Rattle.hd_map.specs.Map.{InGrid, Map, Present, cell_count, place_of}
+use Rattle.hd_map.specs.Neighbour.{AreBesideUnder}
 use Rattle.hd_map.specs.Rank.{Near, rank}
 use Rattle.hd_reach.specs.declared.flood.Reached.{Reached}
 use Rattle.hd_reach.specs.Reached.{IsReachedBy, ReachApart}
@@ -53,26 +54,20 @@ pub record IsFlood (m : Map) (starts : List Rank) (allows : ℕ → Rank → Boo
   pub closed : (k : ℕ) → k < head → k < length queue → (x y : Rank) → x.index ≡ (entry_of queue k).index → Near m x y → allows (entry_of queue k).by y ≡ true
       → noted_at reached y.index ≡ Some (entry_of queue k).by
 
--- a point that is noted, or not allowed to this start, is left; another is noted and comes last in the queue
+-- a position that is not present, noted, or not allowed to this start is left; another is noted and comes last in the queue
 abbrev pub Reaches : Map → (ℕ → Rank → Bool) → Pos → ℕ → List (Option ℕ) → List Reached → List (Option ℕ) → List Reached → Type 0
 Reaches m allows at by reached queue reached' queue' =
-    ((IsSome (noted_at reached (place_of m.size at)) ⊎ (allows by (rank m at) ≡ false)) × (reached' ≡ reached) × (queue' ≡ queue))
-    ⊎ ((noted_at reached (place_of m.size at) ≡ None) × (allows by (rank m at) ≡ true) × (reached' ≡ slice_set reached (place_of m.size at) (Some by))
+    ((Present m at → IsSome (noted_at reached (place_of m.size at)) ⊎ (allows by (rank m at) ≡ false)) × (reached' ≡ reached) × (queue' ≡ queue))
+    ⊎ (Present m at × (noted_at reached (place_of m.size at) ≡ None) × (allows by (rank m at) ≡ true) × (reached' ≡ slice_set reached (place_of m.size at) (Some by))
     × (queue' ≡ queue ++ record { index = place_of m.size at; by = by } ∷ []))
 
--- the flood, on the way through the points beside the entry at its head: of these, the ones that are done and allowed are noted
-pub record IsRound (m : Map) (starts : List Rank) (allows : ℕ → Rank → Bool) (here : Reached) (done : List Pos) (reached : List (Option ℕ)) (queue : List Reached) (head : ℕ) : Type 0 where
-  pub flood : IsFlood m starts allows reached queue head
-  pub inside : head < length queue
-  pub here_is : entry_of queue head ≡ here
-  pub found : (q : Pos) → Contains done q → allows here.by (rank m q) ≡ true → noted_at reached (place_of m.size q) ≡ Some here.by
+-- so is the position at a step from a point, if it lies in the grid and beside the point; else all stays
+abbrev pub ReachesAt : Map → (ℕ → Rank → Bool) → Pos → ℕ → ℕ → ℕ → List (Option ℕ) → List Reached → List (Option ℕ) → List Reached → Type 0
+ReachesAt m allows at x y by reached queue reached' queue' =
+    ((q : Pos) × (q.x + 1 ≡ at.x + x) × (q.y + 1 ≡ at.y + y) × AreBesideUnder m.adjacency at q × Reaches m allows q by reached queue reached' queue')
+    ⊎ (((q : Pos) → q.x + 1 ≡ at.x + x → q.y + 1 ≡ at.y + y → InGrid m.size q → AreBesideUnder m.adjacency at q → ⊥) × (reached' ≡ reached) × (queue' ≡ queue))
 
--- a flood from starts that reach no point twice goes on by the points beside the entry at its head
-abbrev pub FloodsEach : Map → (ℕ → Rank → Bool) → Pos → List Pos → ℕ → List (Option ℕ) → List Reached → List (Option ℕ) → List Reached → Type 0
-FloodsEach m allows at near by reached queue reached' queue' = (starts : List Rank) (head : ℕ) → ReachApart m starts allows → IsFlood m starts allows reached queue head → head < length queue
-    → entry_of queue head ≡ record { index = place_of m.size at; by = by } → IsRound m starts allows (record { index = place_of m.size at; by = by }) near reached' queue' head
-
--- and goes on by that entry
+-- a flood from starts that reach no point twice goes on by the entry at its head
 abbrev pub FloodsRound : Map → (ℕ → Rank → Bool) → Reached → List (Option ℕ) → List Reached → List (Option ℕ) → List Reached → Type 0
 FloodsRound m allows here reached queue reached' queue' = (starts : List Rank) (head : ℕ) → ReachApart m starts allows → IsFlood m starts allows reached queue head → head < length queue
     → entry_of queue head ≡ here → IsFlood m starts allows reached' queue' (head + 1)

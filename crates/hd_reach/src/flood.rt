@@ -1,16 +1,17 @@
 // A flood from several starts: a queue of points that are reached, each with the number of its start.
-ghost use Rattle.std.specs.Prelude.{◌≡◌, ◌<◌, All, IfOk, OnOk, Some, None, length, replicate, slice_get, [], ℕ};
+ghost use Rattle.std.specs.Prelude.{◌≡◌, ◌<◌, ◌≤◌, ◌+◌, All, IfOk, MatchOption, OnOk, Some, None, length, replicate, slice_get, [], ℕ};
 ghost use Rattle.hd_map.specs.declared.types.Rank.{Rank};
-ghost use Rattle.hd_map.specs.Map.{Present, cell_count};
-ghost use Rattle.hd_map.specs.Neighbour.{Neighbour};
+ghost use Rattle.hd_map.specs.Map.{InGrid, cell_count};
+ghost use Rattle.hd_map.specs.Neighbour.{AreBesideUnder};
 ghost use Rattle.hd_map.specs.Rank.{IsPoint};
-ghost use Rattle.hd_reach.specs.Flood.{AreBegun, FloodsEach, FloodsRound, Reaches};
+ghost use Rattle.hd_reach.specs.Flood.{AreBegun, FloodsRound, Reaches, ReachesAt};
 ghost use Rattle.hd_reach.specs.Reached.{AreReached, ReachApart};
 
 use crate::Bounds;
 use hd_list::Memory;
-use hd_map::{Heights, Pos, Rank, index_of, neighbours, position_of, rank_of};
-use smallvec::SmallVec;
+use hd_map::{
+    Heights, Pos, Rank, are_beside, contains, index_of, is_present, position_of, rank_of,
+};
 use std::alloc::Global;
 
 /// A point that is reached, and from where.
@@ -45,7 +46,7 @@ pub fn reached_from<B: Bounds, G: Heights>(
             return Ok(reached);
         }
         let here = queue[head as usize];
-        reach_round(alloc, grid, bounds, here, &mut reached, &mut queue)?;
+        reach_round(grid, bounds, here, &mut reached, &mut queue)?;
     }
     Ok(reached)
 }
@@ -76,7 +77,6 @@ fn reach_starts<G: Heights>(
 
 // Reaches the neighbours of a point that is reached.
 fn reach_round<B: Bounds, G: Heights>(
-    alloc: Global,
     grid: &G,
     bounds: &B,
     here: Reached,
@@ -88,33 +88,71 @@ fn reach_round<B: Bounds, G: Heights>(
     ensures { OnOk result (FloodsRound (G.map grid.now) (B.test bounds.now) here reached.old.items queue.old.items reached.new.items queue.new.items) }
 {
     let at = position_of(grid.size(), here.index);
-    let near = neighbours(alloc, grid, at);
-    reach_each(grid, bounds, at, &near, here.by, reached, queue)?;
-    Ok(())
-}
-
-// Reaches these neighbours of a point, which the start of a number reaches.
-fn reach_each<B: Bounds, G: Heights>(
-    grid: &G,
-    bounds: &B,
-    at: Pos,
-    near: &SmallVec<Pos, 8>,
-    by: u32,
-    reached: &mut Vec<Option<u32>>,
-    queue: &mut Vec<Reached>,
-) -> Result<(), Memory>
-    requires whole { length reached.old.items ≡ cell_count (G.map grid.now).size }
-    requires near { All (Neighbour (G.map grid.now) at) near.now.items }
-    requires inline { near.now.capacity ≡ 8 }
-    ensures { OnOk result (FloodsEach (G.map grid.now) (B.test bounds.now) at near.now.items by reached.old.items queue.old.items reached.new.items queue.new.items) }
-{
-    'points: for number in 0..near.len() {
-        reach(grid, bounds, near[number], by, reached, queue)?;
+    'steps: for step in 0..9u32 {
+        if step != 4 {
+            reach_at(
+                grid,
+                bounds,
+                at,
+                step % 3,
+                step / 3,
+                here.by,
+                reached,
+                queue,
+            )?;
+        }
     }
     Ok(())
 }
 
-// Reaches a point from the start of a number, if it is not yet reached and allowed to that start.
+// Reaches the position at a step from a point that the start of a number reaches, if it lies in the grid and
+// beside the point.
+fn reach_at<B: Bounds, G: Heights>(
+    grid: &G,
+    bounds: &B,
+    at: Pos,
+    x: u32,
+    y: u32,
+    by: u32,
+    reached: &mut Vec<Option<u32>>,
+    queue: &mut Vec<Reached>,
+) -> Result<(), Memory>
+    requires at { InGrid (G.map grid.now).size at }
+    requires x { x ≤ 2 }
+    requires y { y ≤ 2 }
+    requires whole { length reached.old.items ≡ cell_count (G.map grid.now).size }
+    ensures { OnOk result (ReachesAt (G.map grid.now) (B.test bounds.now) at x y by reached.old.items queue.old.items reached.new.items queue.new.items) }
+{
+    match beside_at(grid, at, x, y) {
+        Some(next) => reach(grid, bounds, next, by, reached, queue),
+        None => Ok(()),
+    }
+}
+
+// The position at a step from a point, if it is in the grid and beside the point.
+#[inline]
+fn beside_at<G: Heights>(grid: &G, at: Pos, x: u32, y: u32) -> Option<Pos>
+    requires at { InGrid (G.map grid.now).size at }
+    requires x { x ≤ 2 }
+    requires y { y ≤ 2 }
+    ensures { MatchOption result ((q : _) → q.x + 1 ≡ at.x + x → q.y + 1 ≡ at.y + y → InGrid (G.map grid.now).size q → AreBesideUnder (G.map grid.now).adjacency at q → ⊥)
+        (λ q. (q.x + 1 ≡ at.x + x) × (q.y + 1 ≡ at.y + y) × InGrid (G.map grid.now).size q × AreBesideUnder (G.map grid.now).adjacency at q) }
+{
+    if at.x + x == 0 || at.y + y == 0 {
+        return None;
+    }
+    let next = Pos {
+        x: at.x + x - 1,
+        y: at.y + y - 1,
+    };
+    if contains(grid.size(), next) && are_beside(grid.adjacency(), at, next) {
+        Some(next)
+    } else {
+        None
+    }
+}
+
+// Reaches a position from the start of a number, if it is not yet reached, present, and allowed to that start.
 fn reach<B: Bounds, G: Heights>(
     grid: &G,
     bounds: &B,
@@ -123,12 +161,15 @@ fn reach<B: Bounds, G: Heights>(
     reached: &mut Vec<Option<u32>>,
     queue: &mut Vec<Reached>,
 ) -> Result<(), Memory>
+    requires in_grid { InGrid (G.map grid.now).size at }
     requires whole { length reached.old.items ≡ cell_count (G.map grid.now).size }
-    requires present { Present (G.map grid.now) at }
     ensures { OnOk result (Reaches (G.map grid.now) (B.test bounds.now) at by reached.old.items queue.old.items reached.new.items queue.new.items) }
 {
     let index = index_of(grid.size(), at);
-    if reached[index as usize].is_some() || !bounds.allows(by as usize, rank_of(grid, at)) {
+    if reached[index as usize].is_some() || !is_present(grid, at) {
+        return Ok(());
+    }
+    if !bounds.allows(by as usize, rank_of(grid, at)) {
         return Ok(());
     }
     queue.push(Reached { index, by })?;
