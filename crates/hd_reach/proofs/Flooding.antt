@@ -1,5 +1,5 @@
 -- A flood from several starts, entry by entry.
-use Rattle.std.proofs.Common.{◌≡◌, ◌<◌, ◌≤◌, ◌+◌, ◌*◌, ◌/◌, ◌%◌, ℕ, zero, suc, pos, Bool, true, false, List, [], ◌∷◌, ◌++◌, length, get_or, set, replicate, slice_get, Option, Some, None, IsSome, ◌⊎◌, inl, inr, ap, ◌∙◌, refl, sym, subst, arith}
+use Rattle.std.proofs.Common.{◌≡◌, ◌<◌, ◌≤◌, ◌+◌, ◌*◌, ◌/◌, ◌%◌, ℕ, zero, suc, Bool, true, false, List, [], ◌∷◌, ◌++◌, length, get_or, set, replicate, slice_get, Option, Some, None, IsSome, ◌⊎◌, inl, inr, ap, ◌∙◌, refl, sym, subst, arith}
 use Rattle.std.specs.Prelude.{All}
 use Rattle.std.specs.List.{sum_by}
 use Rattle.std.proofs.Math.ListN.{length-set}
@@ -18,7 +18,7 @@ use Rattle.hd_map.specs.Rank.{IsPoint, Near, rank}
 use Rattle.hd_map.proofs.Gather.{same_pos}
 use Rattle.hd_map.proofs.Points.{Near-at, place_inside, point_at, same_index, same_place}
 use Rattle.hd_reach.specs.declared.flood.Reached.{Reached}
-use Rattle.hd_reach.specs.Flood.{AreBegun, IsEntry, IsFlood, Reaches, ReachesAt, entry_of, is_free, noted_at}
+use Rattle.hd_reach.specs.Flood.{IsEntry, IsFlood, Reaches, ReachesAt, entry_of, is_free, noted_at}
 use Rattle.hd_reach.specs.Reached.{AreReached, IsReachedBy, ReachApart}
 use Rattle.hd_reach.proofs.Reaching.{by-point, by-start, by-step, start-point}
 
@@ -113,88 +113,27 @@ none_or_some : (o : Option ℕ) → (o ≡ None) ⊎ ((n : ℕ) × (o ≡ Some n
 none_or_some None = inl refl
 none_or_some (Some n) = inr (n, refl)
 
--- no start is queued yet
-pub begun-none : (m : Map) (starts : List Rank) → AreBegun m starts 0 (replicate (cell_count m.size) None) []
-begun-none m starts =
-    let blank : List (Option ℕ) = replicate (cell_count m.size) None in
-    record {
-      whole = length-replicate {A = Option ℕ} (cell_count m.size) None;
-      room = (let all = sum_by-replicate is_free (cell_count m.size) None in omega (arith, all));
-      many = refl;
-      queued = λ i start before. absurd (omega arith);
-      noted = λ i start before. absurd (omega arith);
-      only = λ k i noted. absurd (let inside = noted-inside blank k i noted in
-          let free = get_or-replicate (cell_count m.size) k None None (let long = length-replicate {A = Option ℕ} (cell_count m.size) None in omega (arith, inside, long)) in
-          not_none (noted_at blank k) i noted free);
-    }
-
--- one more start
-pub begun-more : (m : Map) (starts : List Rank) (n : ℕ) (start : Rank) (reached : List (Option ℕ)) (queue : List Reached)
-    → ((i j : ℕ) (s : Rank) → slice_get starts i ≡ Some s → slice_get starts j ≡ Some s → i ≡ j) → All (IsPoint m) starts → slice_get starts n ≡ Some start → AreBegun m starts n reached queue
-    → AreBegun m starts (n + 1) (set reached start.index (Some n)) (queue ++ record { index = start.index; by = n } ∷ [])
-begun-more m starts n start reached queue different points is b =
-    let point = start-point m starts n start points is in
-    let cell : start.index < cell_count m.size = rw point.rank_is (place_inside m.size point.at point.present.in_grid) in
-    let whole = b.whole in
-    let many = b.many in
-    let inside : start.index < length reached = omega (arith, cell, whole) in
-    let e : Reached = entry_is start.index n in
-    let free : noted_at reached start.index ≡ None = elim (none_or_some (noted_at reached start.index)) [
-      | inl none ↦ none
-      | inr some ↦ absurd (let o = b.only start.index some.0 some.1 in
-          let one : o.1.0 ≡ start = same_index m o.1.0 start (start-point m starts some.0 o.1.0 points o.1.1) point o.1.2 in
-          let number : some.0 ≡ n = different some.0 n start (o.1.1 ∙ ap Some one) is in
-          let less = o.0 in
-          omega (arith, less, number))
-    ] in
-    let longer = length_push queue e in
-    let at_n : (i : ℕ) (s : Rank) → n ≡ i → slice_get starts i ≡ Some s → start ≡ s = λ i s last is'. same_of (slice_get starts i) start s (ap (slice_get starts) (sym last) ∙ is) is' in
-    record {
-      whole = length-set reached start.index (Some n) ∙ whole;
-      room = room-less reached queue e (cell_count m.size) start.index n inside free b.room;
-      many = omega (arith, longer, many);
-      queued = λ i s before is'. elim (cases_lt i n) [
-        | inl old ↦ entry-old queue e i (omega (arith, old, many)) ∙ b.queued i s old is'
-        | inr new ↦
-            let last : n ≡ i = omega (arith, before, new) in
-            entry-new queue e i (omega (arith, many, last)) ∙ ap (λ (r : Rank). entry_is r.index n) (at_n i s last is') ∙ ap (entry_is s.index) last
-      ];
-      noted = λ i s before is'. elim (cases_lt i n) [
-        | inl old ↦ noted-kept reached start.index s.index i n free (b.noted i s old is')
-        | inr new ↦
-            let last : n ≡ i = omega (arith, before, new) in
-            subst (λ (r : Rank). noted_at (set reached start.index (Some n)) r.index ≡ Some i) (at_n i s last is') (noted-here reached start.index n inside ∙ ap Some last)
-      ];
-      only = λ k i noted. elim (noted-cases reached start.index k i n inside noted) [
-        | inl was ↦ let o = b.only k i was in (let less = o.0 in omega (arith, less), o.1)
-        | inr new ↦ (let last = new.1 in omega (arith, last), (start, ap (slice_get starts) (sym new.1) ∙ is, new.0))
-      ];
-    }
-
 module _ (m : Map) (starts : List Rank) (allows : ℕ → Rank → Bool) (apart : ReachApart m starts allows) where
-  -- all starts are queued
-  pub flood-begin : (reached : List (Option ℕ)) (queue : List Reached) → AreBegun m starts (length starts) reached queue → IsFlood m starts allows reached queue 0
-  flood-begin reached queue b = record {
-    whole = b.whole;
-    room = b.room;
-    begun = λ i start is. b.noted i start (slice_get_within starts i start is) is;
-    entries = λ k inside.
-        (let many = b.many in
-        let before : k < length starts = omega (arith, inside, many) in
-        let start : Rank = get_or starts k (record { height = pos 0; index = 0 }) in
-        let is : slice_get starts k ≡ Some start = slice_get-get_or starts k (record { height = pos 0; index = 0 }) before in
-        subst (λ e. IsEntry m starts allows reached e) (sym (b.queued k start before is))
-        (record { point = start; index_is = refl; reached_by = by-start m starts allows apart.points k start is; noted = b.noted k start before is }));
-    queued = λ k n noted.
-        (let o = b.only k n noted in
-        let many = b.many in
-        record { place = n; inside = omega (arith, o.0, many); is = b.queued n o.1.0 o.0 o.1.1 ∙ ap (λ i. entry_is i n) o.1.2 });
-    closed = λ k before. absurd (omega arith);
-  }
+  -- no start is queued yet
+  pub flood-none : IsFlood m starts allows 0 (replicate (cell_count m.size) None) [] 0
+  flood-none =
+      let blank : List (Option ℕ) = replicate (cell_count m.size) None in
+      record {
+        whole = length-replicate {A = Option ℕ} (cell_count m.size) None;
+        room = (let all = sum_by-replicate is_free (cell_count m.size) None in omega (arith, all));
+        many = omega arith;
+        begun = λ i start before. absurd (omega arith);
+        entries = λ k inside. absurd (omega arith);
+        numbered = λ k inside. absurd (omega arith);
+        queued = λ k i noted. absurd (let inside = noted-inside blank k i noted in
+            let free = get_or-replicate (cell_count m.size) k None None (let long = length-replicate {A = Option ℕ} (cell_count m.size) None in omega (arith, inside, long)) in
+            not_none (noted_at blank k) i noted free);
+        closed = λ k before. absurd (omega arith);
+      }
 
-  module _ (reached : List (Option ℕ)) (queue : List Reached) (head : ℕ) where
+  module _ (count : ℕ) (reached : List (Option ℕ)) (queue : List Reached) (head : ℕ) where
     -- what is noted is reached
-    noted-reached : IsFlood m starts allows reached queue head → (k n : ℕ) → noted_at reached k ≡ Some n → (x : Rank) × (x.index ≡ k) × IsReachedBy m starts allows n x
+    noted-reached : IsFlood m starts allows count reached queue head → (k n : ℕ) → noted_at reached k ≡ Some n → (x : Rank) × (x.index ≡ k) × IsReachedBy m starts allows n x
     noted-reached f k n noted =
         let h = f.queued k n noted in
         let e = f.entries h.place h.inside in (
@@ -204,17 +143,31 @@ module _ (m : Map) (starts : List Rank) (allows : ℕ → Rank → Bool) (apart 
         )
 
     -- an entry is of a cell
-    pub entry-inside : IsFlood m starts allows reached queue head → (k : ℕ) → k < length queue → (entry_of queue k).index < cell_count m.size
+    pub entry-inside : IsFlood m starts allows count reached queue head → (k : ℕ) → k < length queue → (entry_of queue k).index < cell_count m.size
     entry-inside f k inside =
         let e = f.entries k inside in
         let cell = noted-inside reached (entry_of queue k).index (entry_of queue k).by e.noted in
         let whole = f.whole in
         omega (arith, cell, whole)
 
-    -- a point that the start of the head's entry is allowed to step to is queued
-    flood-push : IsFlood m starts allows reached queue head → head < length queue → (y : Rank) (n : ℕ) → IsReachedBy m starts allows n y → noted_at reached y.index ≡ None
-        → IsFlood m starts allows (set reached y.index (Some n)) (queue ++ record { index = y.index; by = n } ∷ []) head
-    flood-push f begun y n by free =
+    -- where all entries led on, the flood stands at the end of the queue
+    pub flood-idle : IsFlood m starts allows count reached queue head → length queue ≤ head → IsFlood m starts allows count reached queue (length queue)
+    flood-idle f idle = record {
+      whole = f.whole;
+      room = f.room;
+      many = f.many;
+      begun = f.begun;
+      entries = f.entries;
+      numbered = f.numbered;
+      queued = f.queued;
+      closed = λ k before inside. f.closed k (omega (arith, before, idle)) inside;
+    }
+
+    -- a point that a start reaches is queued, and with it more starts may be begun
+    flood-push : IsFlood m starts allows count reached queue head → head ≤ length queue → (y : Rank) (n more : ℕ) → IsReachedBy m starts allows n y → noted_at reached y.index ≡ None → n < more → count ≤ more → more ≤ length queue + 1
+        → ((i : ℕ) (start : Rank) → i < more → slice_get starts i ≡ Some start → noted_at (set reached y.index (Some n)) start.index ≡ Some i)
+        → IsFlood m starts allows more (set reached y.index (Some n)) (queue ++ record { index = y.index; by = n } ∷ []) head
+    flood-push f ahead y n more by free less least most begun =
         let e : Reached = entry_is y.index n in
         let point : IsPoint m y = by-point m starts allows n y by in
         let cell : y.index < cell_count m.size = rw point.rank_is (place_inside m.size point.at point.present.in_grid) in
@@ -224,7 +177,14 @@ module _ (m : Map) (starts : List Rank) (allows : ℕ → Rank → Bool) (apart 
         record {
           whole = length-set reached y.index (Some n) ∙ f.whole;
           room = room-less reached queue e (cell_count m.size) y.index n inside free f.room;
-          begun = λ i start is. noted-kept reached y.index start.index i n free (f.begun i start is);
+          many = omega (arith, most, longer);
+          begun = begun;
+          numbered = λ k h. elim (cases_lt k (length queue)) [
+            | inl old ↦ (let was = f.numbered k old in let same = ap (λ (r : Reached). r.by) (entry-old queue e k old) in omega (arith, was, same, least))
+            | inr new ↦
+                let last : length queue ≡ k = omega (arith, longer, h, new) in
+                (let same = ap (λ (r : Reached). r.by) (entry-new queue e k last) in omega (arith, same, less))
+          ];
           entries = λ k h. elim (cases_lt k (length queue)) [
             | inl old ↦
                 let was = f.entries k old in
@@ -244,26 +204,54 @@ module _ (m : Map) (starts : List Rank) (allows : ℕ → Rank → Bool) (apart 
             | inr is ↦ record { place = length queue; inside = omega (arith, longer); is = entry-new queue e (length queue) refl ∙ ap (λ i. entry_is i n) is.0 ∙ ap (entry_is k) is.1 }
           ];
           closed = λ k before h x z at near allowed.
-              (let old : k < length queue = omega (arith, before, begun) in
+              (let old : k < length queue = omega (arith, before, ahead) in
               let same = entry-old queue e k old in
               let was = f.closed k before old x z (at ∙ ap (λ (r : Reached). r.index) same) near (subst (λ (r : Reached). allows r.by z ≡ true) same allowed) in
               subst (λ (r : Reached). noted_at (set reached y.index (Some n)) z.index ≡ Some r.by) (sym same) (noted-kept reached y.index z.index (entry_of queue k).by n free was));
         }
 
+  -- the next start is queued
+  pub flood-start : (n : ℕ) (start : Rank) (reached : List (Option ℕ)) (queue : List Reached) → slice_get starts n ≡ Some start → IsFlood m starts allows n reached queue (length queue)
+      → IsFlood m starts allows (n + 1) (set reached start.index (Some n)) (queue ++ entry_is start.index n ∷ []) (length queue)
+  flood-start n start reached queue is f =
+      let point = start-point m starts n start apart.points is in
+      let own : IsReachedBy m starts allows n start = by-start m starts allows apart.points n start is in
+      let free : noted_at reached start.index ≡ None = elim (none_or_some (noted_at reached start.index)) [
+        | inl none ↦ none
+        | inr some ↦ absurd (let h = f.queued start.index some.0 some.1 in
+            let less = f.numbered h.place h.inside in
+            let by = ap (λ (r : Reached). r.by) h.is in
+            let x = noted-reached n reached queue (length queue) f start.index some.0 some.1 in
+            let one : x.0 ≡ start = same_index m x.0 start (by-point m starts allows some.0 x.0 x.2) point x.1 in
+            let number : some.0 ≡ n = apart.apart some.0 n start (subst (λ z. IsReachedBy m starts allows some.0 z) one x.2) own in
+            omega (arith, less, by, number))
+      ] in
+      let cell : start.index < cell_count m.size = rw point.rank_is (place_inside m.size point.at point.present.in_grid) in
+      let whole = f.whole in
+      let inside : start.index < length reached = omega (arith, cell, whole) in
+      let many = f.many in
+      flood-push n reached queue (length queue) f (omega arith) start n (n + 1) own free (omega arith) (omega arith) (omega (arith, many)) (λ i s before is'. elim (cases_lt i n) [
+        | inl old ↦ noted-kept reached start.index s.index i n free (f.begun i s old is')
+        | inr new ↦
+            let last : n ≡ i = omega (arith, before, new) in
+            let same : start ≡ s = same_of (slice_get starts i) start s (ap (slice_get starts) (sym last) ∙ is) is' in
+            subst (λ (r : Rank). noted_at (set reached start.index (Some n)) r.index ≡ Some i) same (noted-here reached start.index n inside ∙ ap Some last)
+      ])
+
   -- a flood stands at the point with this entry
-  module _ (at : Pos) (by : ℕ) where
+  module _ (count : ℕ) (at : Pos) (by : ℕ) where
     abbrev here : Reached
     here = entry_is (place_of m.size at) by
 
     -- the point at the head is reached by its start
-    head-reached : (reached : List (Option ℕ)) (queue : List Reached) (head : ℕ) → IsFlood m starts allows reached queue head → head < length queue → entry_of queue head ≡ here
+    head-reached : (reached : List (Option ℕ)) (queue : List Reached) (head : ℕ) → IsFlood m starts allows count reached queue head → head < length queue → entry_of queue head ≡ here
         → Present m at → IsReachedBy m starts allows by (rank m at)
     head-reached reached queue head f begun is present =
         let e = subst (λ (r : Reached). IsEntry m starts allows reached r) is (f.entries head begun) in
         subst (λ x. IsReachedBy m starts allows by x) (same_index m e.point (rank m at) (by-point m starts allows by e.point e.reached_by) (point_at m at present) e.index_is) e.reached_by
 
     -- it is present
-    head-present : (reached : List (Option ℕ)) (queue : List Reached) (head : ℕ) → IsFlood m starts allows reached queue head → head < length queue → entry_of queue head ≡ here
+    head-present : (reached : List (Option ℕ)) (queue : List Reached) (head : ℕ) → IsFlood m starts allows count reached queue head → head < length queue → entry_of queue head ≡ here
         → InGrid m.size at → Present m at
     head-present reached queue head f begun is in_grid =
         let e = subst (λ (r : Reached). IsEntry m starts allows reached r) is (f.entries head begun) in
@@ -273,12 +261,12 @@ module _ (m : Map) (starts : List Rank) (allows : ℕ → Rank → Bool) (apart 
 
     -- the flood, where the positions before a step from the point were looked at: of these, the neighbours that are allowed are noted
     pub record IsRound (step : ℕ) (reached : List (Option ℕ)) (queue : List Reached) (head : ℕ) : Type 0 where
-      pub flood : IsFlood m starts allows reached queue head
+      pub flood : IsFlood m starts allows count reached queue head
       pub inside : head < length queue
       pub here_is : entry_of queue head ≡ here
       pub found : (q : Pos) → Neighbour m at q → 3 * q.y + q.x + 4 < 3 * at.y + at.x + step → allows by (rank m q) ≡ true → noted_at reached (place_of m.size q) ≡ Some by
 
-    pub round-begin : (reached : List (Option ℕ)) (queue : List Reached) (head : ℕ) → IsFlood m starts allows reached queue head → head < length queue → entry_of queue head ≡ here → IsRound 0 reached queue head
+    pub round-begin : (reached : List (Option ℕ)) (queue : List Reached) (head : ℕ) → IsFlood m starts allows count reached queue head → head < length queue → entry_of queue head ≡ here → IsRound 0 reached queue head
     round-begin reached queue head f begun is = record { flood = f; inside = begun; here_is = is; found = λ q n before. absurd (omega (arith, n.columns, n.rows, before)) }
 
     -- no neighbour stands at the step
@@ -317,7 +305,7 @@ module _ (m : Map) (starts : List Rank) (allows : ℕ → Rank → Bool) (apart 
             elim (subst (λ (z : Pos). Present m z → IsSome (noted_at reached (place_of m.size z)) ⊎ (allows by (rank m z) ≡ false)) same left n.to) [
               | inl some ↦
                   let noted = some_of (noted_at reached (place_of m.size p)) some in
-                  let x = noted-reached reached queue head r.flood (place_of m.size p) noted.0 noted.1 in
+                  let x = noted-reached count reached queue head r.flood (place_of m.size p) noted.0 noted.1 in
                   let one : x.0 ≡ rank m p = same_index m x.0 (rank m p) (by-point m starts allows noted.0 x.0 x.2) (point_at m p n.to) x.1 in
                   let start = head-reached reached queue head r.flood r.inside r.here_is n.from in
                   let to = by-step m starts allows by (rank m at) (rank m p) start (Near-at m at p n) allowed in
@@ -334,7 +322,12 @@ module _ (m : Map) (starts : List Rank) (allows : ℕ → Rank → Bool) (apart 
         → IsRound (step + 1) (set reached (place_of m.size q) (Some by)) (queue ++ entry_is (place_of m.size q) by ∷ []) head
     round-push step q reached queue head near below ex ey free allowed r =
         let start = head-reached reached queue head r.flood r.inside r.here_is near.from in
-        let f = flood-push reached queue head r.flood r.inside (rank m q) by (by-step m starts allows by (rank m at) (rank m q) start (Near-at m at q near) allowed) free in
+        let flood = r.flood in
+        let begun = r.inside in
+        let less : by < count = subst (λ (e : Reached). e.by < count) r.here_is (flood.numbered head r.inside) in
+        let many = flood.many in
+        let f = flood-push count reached queue head flood (omega (arith, begun)) (rank m q) by count (by-step m starts allows by (rank m at) (rank m q) start (Near-at m at q near) allowed) free less (omega arith) (omega (arith, many))
+        (λ i s before is. noted-kept reached (place_of m.size q) s.index i by free (flood.begun i s before is)) in
         record {
           flood = f;
           inside = (let longer = length_push queue (entry_is (place_of m.size q) by) in let begun = r.inside in omega (arith, longer, begun));
@@ -365,14 +358,16 @@ module _ (m : Map) (starts : List Rank) (allows : ℕ → Rank → Bool) (apart 
     ]
 
     -- all neighbours are looked at
-    pub round-end : (step : ℕ) (reached : List (Option ℕ)) (queue : List Reached) (head : ℕ) → InGrid m.size at → 9 ≤ step → IsRound step reached queue head → IsFlood m starts allows reached queue (head + 1)
+    pub round-end : (step : ℕ) (reached : List (Option ℕ)) (queue : List Reached) (head : ℕ) → InGrid m.size at → 9 ≤ step → IsRound step reached queue head → IsFlood m starts allows count reached queue (head + 1)
     round-end step reached queue head in_grid end r =
         let f = r.flood in
         record {
           whole = f.whole;
           room = f.room;
+          many = f.many;
           begun = f.begun;
           entries = f.entries;
+          numbered = f.numbered;
           queued = f.queued;
           closed = λ k before inside x y is near allowed. elim (cases_lt k head) [
             | inl less ↦ f.closed k less inside x y is near allowed
@@ -387,14 +382,13 @@ module _ (m : Map) (starts : List Rank) (allows : ℕ → Rank → Bool) (apart 
           ];
         }
 
-  -- where all entries were at the head, all that is reached is noted
-  module _ (reached : List (Option ℕ)) (queue : List Reached) (head : ℕ) (f : IsFlood m starts allows reached queue head) (done : length queue ≤ head) where
+  -- where all starts are begun and all entries led on, all that is reached is noted
+  module _ (count : ℕ) (reached : List (Option ℕ)) (queue : List Reached) (f : IsFlood m starts allows count reached queue (length queue)) (all : length starts ≤ count) where
     noted-along : (n : ℕ) (a : Rank) (xs : List Rank) (x : Rank) → noted_at reached a.index ≡ Some n → Leads (Near m) a xs x → All (λ p. allows n p ≡ true) xs → noted_at reached x.index ≡ Some n
     noted-along n a [] x noted l allowed = subst (λ (z : Rank). noted_at reached z.index ≡ Some n) l noted
     noted-along n a (y ∷ ys) x noted l allowed =
         let h = f.queued a.index n noted in
-        let inside = h.inside in
-        let next = f.closed h.place (omega (arith, inside, done)) h.inside a y (sym (ap (λ (r : Reached). r.index) h.is)) l.0
+        let next = f.closed h.place h.inside h.inside a y (sym (ap (λ (r : Reached). r.index) h.is)) l.0
         (subst (λ (r : Reached). allows r.by y ≡ true) (sym h.is) (All-head (λ p. allows n p ≡ true) y ys allowed)) in
         noted-along n y ys x (next ∙ ap (λ (r : Reached). Some r.by) h.is) l.1 (All-tail (λ p. allows n p ≡ true) y ys allowed)
 
@@ -402,10 +396,10 @@ module _ (m : Map) (starts : List Rank) (allows : ℕ → Rank → Bool) (apart 
     flood-end = record {
       whole = f.whole;
       exactly = λ k n. (
-        λ is. noted-reached reached queue head f k n (get_or_from_slice_get reached k (Some n) None is),
+        λ is. noted-reached count reached queue (length queue) f k n (get_or_from_slice_get reached k (Some n) None is),
         λ x.
             (let by = x.2 in
-            let noted = noted-along n by.start by.within.points x.0 (f.begun n by.start by.is_start) by.within.path.leads by.within.allowed in
+            let noted = noted-along n by.start by.within.points x.0 (f.begun n by.start (let inside = slice_get_within starts n by.start by.is_start in omega (arith, inside, all)) by.is_start) by.within.path.leads by.within.allowed in
             let here : noted_at reached k ≡ Some n = ap (noted_at reached) (sym x.1) ∙ noted in
             slice_get-get_or reached k None (noted-inside reached k n here) ∙ ap Some here),
       );

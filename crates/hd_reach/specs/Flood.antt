@@ -1,5 +1,5 @@
 -- The queue of a flood from several starts: points that are reached, each with the number of its start.
-use Rattle.std.specs.Prelude.{◌≡◌, ◌<◌, ◌+◌, ◌⊎◌, ◌++◌, ℕ, Bool, true, false, List, [], ◌∷◌, length, slice_index_or, slice_get, slice_set, Option, Some, None, IsSome}
+use Rattle.std.specs.Prelude.{◌≡◌, ◌<◌, ◌≤◌, ◌+◌, ◌⊎◌, ◌++◌, ℕ, Bool, true, false, List, [], ◌∷◌, length, slice_index_or, slice_get, slice_set, Option, Some, None, IsSome}
 use Rattle.std.specs.List.{sum_by}
 use Rattle.hd_map.specs.declared.types.Pos.{Pos}
 use Rattle.hd_map.specs.declared.types.Rank.{Rank}
@@ -22,15 +22,6 @@ abbrev pub is_free : Option ℕ → ℕ
 is_free None = 1
 is_free (Some n) = 0
 
--- the first n starts are queued in their order, each with its number, and noted at their points, and nothing else is
-pub record AreBegun (m : Map) (starts : List Rank) (n : ℕ) (reached : List (Option ℕ)) (queue : List Reached) : Type 0 where
-  pub whole : length reached ≡ cell_count m.size
-  pub room : length queue + sum_by is_free reached ≡ cell_count m.size
-  pub many : length queue ≡ n
-  pub queued : (i : ℕ) (start : Rank) → i < n → slice_get starts i ≡ Some start → entry_of queue i ≡ record { index = start.index; by = i }
-  pub noted : (i : ℕ) (start : Rank) → i < n → slice_get starts i ≡ Some start → noted_at reached start.index ≡ Some i
-  pub only : (k i : ℕ) → noted_at reached k ≡ Some i → (i < n) × ((start : Rank) × (slice_get starts i ≡ Some start) × (start.index ≡ k))
-
 -- a point that is reached from a start, and noted with it
 pub record IsEntry (m : Map) (starts : List Rank) (allows : ℕ → Rank → Bool) (reached : List (Option ℕ)) (e : Reached) : Type 0 where
   pub point : Rank
@@ -44,13 +35,15 @@ pub record HasEntry (queue : List Reached) (k n : ℕ) : Type 0 where
   pub inside : place < length queue
   pub is : entry_of queue place ≡ record { index = k; by = n }
 
--- the starts are noted, all that is noted is queued, and what the entries before head are allowed to step to is noted
-pub record IsFlood (m : Map) (starts : List Rank) (allows : ℕ → Rank → Bool) (reached : List (Option ℕ)) (queue : List Reached) (head : ℕ) : Type 0 where
+-- the first n starts are noted, all that is noted is queued, and what the entries before head are allowed to step to is noted
+pub record IsFlood (m : Map) (starts : List Rank) (allows : ℕ → Rank → Bool) (n : ℕ) (reached : List (Option ℕ)) (queue : List Reached) (head : ℕ) : Type 0 where
   pub whole : length reached ≡ cell_count m.size
   pub room : length queue + sum_by is_free reached ≡ cell_count m.size
-  pub begun : (i : ℕ) (start : Rank) → slice_get starts i ≡ Some start → noted_at reached start.index ≡ Some i
+  pub many : n ≤ length queue
+  pub begun : (i : ℕ) (start : Rank) → i < n → slice_get starts i ≡ Some start → noted_at reached start.index ≡ Some i
   pub entries : (k : ℕ) → k < length queue → IsEntry m starts allows reached (entry_of queue k)
-  pub queued : (k n : ℕ) → noted_at reached k ≡ Some n → HasEntry queue k n
+  pub numbered : (k : ℕ) → k < length queue → (entry_of queue k).by < n
+  pub queued : (k i : ℕ) → noted_at reached k ≡ Some i → HasEntry queue k i
   pub closed : (k : ℕ) → k < head → k < length queue → (x y : Rank) → x.index ≡ (entry_of queue k).index → Near m x y → allows (entry_of queue k).by y ≡ true
       → noted_at reached y.index ≡ Some (entry_of queue k).by
 
@@ -69,5 +62,5 @@ ReachesAt m allows at x y by reached queue reached' queue' =
 
 -- a flood from starts that reach no point twice goes on by the entry at its head
 abbrev pub FloodsRound : Map → (ℕ → Rank → Bool) → Reached → List (Option ℕ) → List Reached → List (Option ℕ) → List Reached → Type 0
-FloodsRound m allows here reached queue reached' queue' = (starts : List Rank) (head : ℕ) → ReachApart m starts allows → IsFlood m starts allows reached queue head → head < length queue
-    → entry_of queue head ≡ here → IsFlood m starts allows reached' queue' (head + 1)
+FloodsRound m allows here reached queue reached' queue' = (starts : List Rank) (n head : ℕ) → ReachApart m starts allows → IsFlood m starts allows n reached queue head → head < length queue
+    → entry_of queue head ≡ here → IsFlood m starts allows n reached' queue' (head + 1)

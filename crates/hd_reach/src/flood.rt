@@ -1,10 +1,8 @@
 // A flood from several starts: a queue of points that are reached, each with the number of its start.
-ghost use Rattle.std.specs.Prelude.{◌≡◌, ◌<◌, ◌≤◌, ◌+◌, All, IfOk, MatchOption, OnOk, Some, None, length, replicate, slice_get, [], ℕ};
-ghost use Rattle.hd_map.specs.declared.types.Rank.{Rank};
+ghost use Rattle.std.specs.Prelude.{◌≡◌, ◌<◌, ◌≤◌, ◌+◌, IfOk, MatchOption, OnOk, length};
 ghost use Rattle.hd_map.specs.Map.{InGrid, cell_count};
 ghost use Rattle.hd_map.specs.Neighbour.{AreBesideUnder};
-ghost use Rattle.hd_map.specs.Rank.{IsPoint};
-ghost use Rattle.hd_reach.specs.Flood.{AreBegun, FloodsRound, Reaches, ReachesAt};
+ghost use Rattle.hd_reach.specs.Flood.{FloodsRound, IsFlood, Reaches, ReachesAt};
 ghost use Rattle.hd_reach.specs.Reached.{AreReached, ReachApart};
 
 use crate::Bounds;
@@ -37,40 +35,69 @@ pub fn reached_from<B: Bounds, G: Heights>(
     ensures { IfOk result (λ reached. AreReached (G.map grid.now) starts.now (B.test bounds.now) reached.items) }
 {
     let size = grid.size();
-    let count = size.profiles * size.points;
-    let mut reached = vec![in alloc; None; count as usize]?;
-    let mut queue = Vec::with_capacity(alloc, count as usize)?;
-    reach_starts(grid, starts, &mut reached, &mut queue)?;
-    for head in 0..count {
-        if head as usize >= queue.len() {
-            return Ok(reached);
-        }
-        let here = queue[head as usize];
-        reach_round(grid, bounds, here, &mut reached, &mut queue)?;
+    let count = (size.profiles * size.points) as usize;
+    let mut reached = vec![in alloc; None; count]?;
+    let mut queue = Vec::with_capacity(alloc, count)?;
+    'starts: for number in 0..starts.len() {
+        reach_from(
+            grid,
+            bounds,
+            starts,
+            number as u32,
+            &mut reached,
+            &mut queue,
+        )?;
     }
     Ok(reached)
 }
 
-// Reaches each start from itself.
-fn reach_starts<G: Heights>(
+// Reaches the start of a number from itself, and then what it reaches before the next start begins, so that
+// points near one another come one soon after the other.
+fn reach_from<B: Bounds, G: Heights>(
     grid: &G,
+    bounds: &B,
     starts: &[Rank],
+    number: u32,
     reached: &mut Vec<Option<u32>>,
     queue: &mut Vec<Reached>,
 ) -> Result<(), Memory>
-    requires points { All (IsPoint (G.map grid.now)) starts.now }
-    requires different { (i j : ℕ) (start : Rank) → slice_get starts.now i ≡ Some start → slice_get starts.now j ≡ Some start → i ≡ j }
-    requires blank { reached.old.items ≡ replicate (cell_count (G.map grid.now).size) None }
-    requires empty { queue.old.items ≡ [] }
-    ensures { OnOk result (AreBegun (G.map grid.now) starts.now (length starts.now) reached.new.items queue.new.items) }
+    requires apart { ReachApart (G.map grid.now) starts.now (B.test bounds.now) }
+    requires number { number < length starts.now }
+    requires flood { IsFlood (G.map grid.now) starts.now (B.test bounds.now) number reached.old.items queue.old.items (length queue.old.items) }
+    ensures { OnOk result (IsFlood (G.map grid.now) starts.now (B.test bounds.now) (number + 1) reached.new.items queue.new.items (length queue.new.items)) }
 {
-    for (number, start) in starts.iter().enumerate() {
-        let by = number as u32;
-        queue.push(Reached {
-            index: start.index,
-            by,
-        })?;
-        reached[start.index as usize] = Some(by);
+    let head = queue.len() as u32;
+    let start = starts[number as usize];
+    queue.push(Reached {
+        index: start.index,
+        by: number,
+    })?;
+    reached[start.index as usize] = Some(number);
+    reach_on(grid, bounds, starts, number, head, reached, queue)?;
+    Ok(())
+}
+
+// Reaches what the entries of the queue from a place on lead to, where all those before led on already.
+fn reach_on<B: Bounds, G: Heights>(
+    grid: &G,
+    bounds: &B,
+    _starts: &[Rank],
+    _number: u32,
+    from: u32,
+    reached: &mut Vec<Option<u32>>,
+    queue: &mut Vec<Reached>,
+) -> Result<(), Memory>
+    requires apart { ReachApart (G.map grid.now) _starts.now (B.test bounds.now) }
+    requires flood { IsFlood (G.map grid.now) _starts.now (B.test bounds.now) (_number + 1) reached.old.items queue.old.items from }
+    ensures { OnOk result (IsFlood (G.map grid.now) _starts.now (B.test bounds.now) (_number + 1) reached.new.items queue.new.items (length queue.new.items)) }
+{
+    let size = grid.size();
+    for head in from..size.profiles * size.points {
+        if head as usize >= queue.len() {
+            return Ok(());
+        }
+        let here = queue[head as usize];
+        reach_round(grid, bounds, here, reached, queue)?;
     }
     Ok(())
 }

@@ -13,7 +13,7 @@ steps-init g c =
     let here : c.args.here ≡ entry_is (place_of m.size at) c.args.here.by = ap (λ k. entry_is k c.args.here.by) (sym place) in
     record {
       whole = c.requires.whole;
-      going = λ starts head apart f begun is. round-begin m starts (g.B.Bounds.test c.args.bounds.now) apart at c.args.here.by c.args.reached.now.items c.args.queue.now.items head f begun (is ∙ here);
+      going = λ starts n head apart f begun is. round-begin m starts (g.B.Bounds.test c.args.bounds.now) apart n at c.args.here.by c.args.reached.now.items c.args.queue.now.items head f begun (is ∙ here);
     }
 
 pub steps-preserved : goal.steps-preserved
@@ -33,17 +33,17 @@ steps-preserved g c =
           let reaches = w.in_ok-reach_at.ensures in
           rw (w.reached-is, w.queue-is) (record {
             whole = reaches_at-whole m test at (step % 3) (step / 3) by reached queue reached' queue' reaches ∙ c.steps.invariant.whole;
-            going = λ starts head apart f begun is. round-more m starts test apart at by in_grid step reached queue head reached' queue' c.steps-test.true w.if-step-ne4.true reaches (c.steps.invariant.going starts head apart f begun is);
+            going = λ starts n head apart f begun is. round-more m starts test apart n at by in_grid step reached queue head reached' queue' c.steps-test.true w.if-step-ne4.true reaches (c.steps.invariant.going starts n head apart f begun is);
           })
       | else-step-ne4 w ↦ rw (w.reached-is, w.queue-is) (record {
         whole = c.steps.invariant.whole;
-        going = λ starts head apart f begun is. round-centre m starts test apart at by step reached queue head w.if-step-ne4.false (c.steps.invariant.going starts head apart f begun is);
+        going = λ starts n head apart f begun is. round-centre m starts test apart n at by step reached queue head w.if-step-ne4.false (c.steps.invariant.going starts n head apart f begun is);
       })
     ]
 
 pub returns : goal.returns
-returns g c = λ starts head apart f begun is.
+returns g c = λ starts n head apart f begun is.
     let m = g.G.Heights.map c.args.grid.now in
     let at = c.position_of-at.result in
     let in_grid : InGrid m.size at = subst (λ (s : Size). InGrid s at) c.size.ensures c.position_of-at.ensures.in_grid in
-    round-end m starts (g.B.Bounds.test c.args.bounds.now) apart at c.args.here.by c.steps.step c.steps.reached.items c.steps.queue.items head in_grid c.steps-test.false (c.steps.invariant.going starts head apart f begun is)
+    round-end m starts (g.B.Bounds.test c.args.bounds.now) apart n at c.args.here.by c.steps.step c.steps.reached.items c.steps.queue.items head in_grid c.steps-test.false (c.steps.invariant.going starts n head apart f begun is)
