@@ -16,13 +16,21 @@ use hd_num::Frac;
 pub fn height_value<G: Heights>(grid: &G, name: HeightName) -> Option<Frac>
     ensures { IsHeightValue (G.map grid.now) name result }
 {
-    let sums = sums_of(grid);
+    height_value_by(grid, &sums_of(grid), name)
+}
+
+/// The same by the sums over the heights of the present points. Only `Sa` and `Smr` go over the points.
+pub fn height_value_by<G: Heights>(grid: &G, sums: &Sums, name: HeightName) -> Option<Frac>
+    requires are { AreSums (present_heights (G.map grid.now)) sums.now }
+    requires small { AreSmall sums.now 4194304 }
+    ensures { IsHeightValue (G.map grid.now) name result }
+{
     let range = sums.range?;
     let value = match name {
-        HeightName::Sp => above_mean(&sums, range.greatest),
-        HeightName::Sv => below_mean(&sums, range.least),
-        HeightName::Sa => mean_deviation(grid, &sums),
-        HeightName::Smr(c) => part_at_least(grid, &sums, c),
+        HeightName::Sp => above_mean(sums, range.greatest),
+        HeightName::Sv => below_mean(sums, range.least),
+        HeightName::Sa => mean_deviation(grid, sums),
+        HeightName::Smr(c) => part_at_least(grid, sums, c),
     };
     Some(value)
 }
@@ -75,6 +83,7 @@ fn deviation(sums: &Sums, height: i64) -> i128
 }
 
 // The sum of the absolute values of these, over all present points.
+#[inline(never)]
 fn deviations<G: Heights>(grid: &G, sums: &Sums) -> u128
     requires are { AreSums (present_heights (G.map grid.now)) sums.now }
     requires small { AreSmall sums.now 4194304 }
@@ -106,6 +115,7 @@ fn deviations_with(sum: u128, sums: &Sums, height: Option<i64>) -> u128
 }
 
 // How many present points are at least as high as c.
+#[inline(never)]
 fn at_least<G: Heights>(grid: &G, c: i64) -> u32
     ensures { result ≡ at_least c (present_heights (G.map grid.now)) }
 {

@@ -11,10 +11,11 @@ mod sums;
 mod volumes;
 
 pub use distribution::{hist, perc};
-pub use heights::height_value;
+pub use heights::{height_value, height_value_by};
 pub use laws::{
     counts_add_up, filled_points_are_apart, filled_points_are_owned, further_values_are_determined,
     heights_alone_serve_distributions,
 };
 pub use name::{HeightName, height_name};
+pub use sums::{Sums, sums_of};
 pub use volumes::fill;

@@ -17,6 +17,7 @@ pub struct Sums {
 }
 
 /// The sums over the heights of the present points of a grid.
+#[inline(never)]
 pub fn sums_of<G: Heights>(grid: &G) -> Sums
     ensures are { AreSums (present_heights (G.map grid.now)) result }
     ensures small { AreSmall result 4194304 }
