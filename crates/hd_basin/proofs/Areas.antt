@@ -1,6 +1,8 @@
 -- The positions of a tile, and their places in its lists.
 use Rattle.std.proofs.Common.{◌≡◌, ◌<◌, ◌≤◌, ◌+◌, ◌-◌, ◌*◌, ◌/◌, ◌%◌, ℕ, sym, ◌∙◌, ap, arith}
-use Rattle.std.proofs.lemmas.Nat.{div-add-mod', mod_below, mul-le}
+use Rattle.std.proofs.Math.Nat.{mul-le-mul_right}
+use Rattle.std.proofs.lemmas.Nat.{div-add-mod', div-mul-add, mod-mul-add, mod_below, mul-le}
+use Rattle.hd_map.proofs.Gather.{same_pos}
 use Rattle.hd_map.specs.declared.types.Pos.{Pos}
 use Rattle.hd_map.specs.declared.types.Size.{Size}
 use Rattle.hd_map.specs.Map.{InGrid}
@@ -72,6 +74,31 @@ module _ (s : Size) (t tile : ℕ) (f : Frame) (some : 1 ≤ t) (area : IsArea s
   -- two positions of the tile with one place are one
   pub area-one : (p q : Pos) → InFrame f p → InFrame f q → place_in_tile s t p ≡ place_in_tile s t q → p ≡ q
   area-one p q here there same = sym (area-at p here) ∙ ap (at_place f) same ∙ area-at q there
+
+-- a place has its position alone
+pub place-one : (f : Frame) (i j : ℕ) → i < f.columns * f.rows → j < f.columns * f.rows → at_place f i ≡ at_place f j → i ≡ j
+place-one f i j bi bj e =
+    let x : i % f.columns ≡ j % f.columns = (let ex = ap (λ (p : Pos). p.x) e in omega (arith, ex)) in
+    let y : i / f.columns ≡ j / f.columns = (let ey = ap (λ (p : Pos). p.y) e in omega (arith, ey)) in
+    let di = div-add-mod' i f.columns in
+    let dj = div-add-mod' j f.columns in
+    let product : i / f.columns * f.columns ≡ j / f.columns * f.columns = ap (λ (q : ℕ). q * f.columns) y in
+    omega (arith, x, product, di, dj)
+
+-- the position of a row and a column
+pub place-at : (f : Frame) (i j : ℕ) → j < f.columns → at_place f (i * f.columns + j) ≡ record { x = f.left + j; y = f.top + i }
+place-at f i j column = same_pos (at_place f (i * f.columns + j)) (record { x = f.left + j; y = f.top + i }) (ap (λ (k : ℕ). f.left + k) (mod-mul-add i f.columns j column)) (ap (λ (k : ℕ). f.top + k) (div-mul-add i f.columns j column))
+
+-- the place of a position, by the row and the column that it has
+pub place-of-at : (f : Frame) (k : ℕ) (p : Pos) → at_place f k ≡ p → k ≡ (p.y - f.top) * f.columns + (p.x - f.left)
+place-of-at f k p e =
+    let x : k % f.columns ≡ p.x - f.left = (let ex = ap (λ (q : Pos). q.x) e in omega (arith, ex)) in
+    let y : k / f.columns ≡ p.y - f.top = (let ey = ap (λ (q : Pos). q.y) e in omega (arith, ey)) in
+    sym (div-add-mod' k f.columns) ∙ ap (λ (n : ℕ). n * f.columns + k % f.columns) y ∙ ap (λ (n : ℕ). (p.y - f.top) * f.columns + n) x
+
+-- the place of a row and a column is one of those of the rectangle
+pub place-below : (f : Frame) (i j : ℕ) → i < f.rows → j < f.columns → i * f.columns + j < f.columns * f.rows
+place-below f i j row column = (let rows = mul-le-mul_right f.columns (let h : i + 1 ≤ f.rows = omega (arith, row) in h) in omega (arith, rows, column))
 
 -- a tile has few positions
 pub area-small : (s : Size) (t tile : ℕ) (f : Frame) → t ≤ 256 → IsArea s t tile f → f.columns * f.rows ≤ 65536

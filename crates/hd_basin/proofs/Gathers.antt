@@ -5,7 +5,6 @@ use Rattle.std.proofs.Math.ListN.{length-set}
 use Rattle.std.proofs.lemmas.Bool.{cases_lt, cases_eq}
 use Rattle.std.proofs.lemmas.List.{get_or_append_left, get_or_push, length_push}
 use Rattle.std.proofs.lemmas.Option.{same_Some, slice_get_within}
-use Rattle.std.proofs.lemmas.Nat.{div-add-mod'}
 use Rattle.hd_map.specs.declared.types.Pos.{Pos}
 use Rattle.hd_map.specs.declared.types.Rank.{Rank}
 use Rattle.hd_map.specs.declared.types.SideName.{SideName}
@@ -20,11 +19,11 @@ use Rattle.hd_basin.specs.Basin.{IsSink, IsSinkOf, FlowsTo, tile_at}
 use Rattle.hd_map.specs.Region.{IsPit}
 use Rattle.hd_basin.specs.Edge.{IsEdge}
 use Rattle.hd_basin.specs.Frames.{InFrame}
-use Rattle.hd_basin.specs.Gathering.{no_node, IsTaken, Gathers, home_of, IsGatheredNode, IsNamed, IsGathered, TellsEdge, StartsNode, AddsToNode}
+use Rattle.hd_basin.specs.Gathering.{IsTaken, Gathers, home_of, IsGatheredNode, IsNamed, IsGathered, TellsEdge, StartsNode, AddsToNode}
 use Rattle.hd_basin.specs.Parts.{place_in_tile}
-use Rattle.hd_basin.specs.Sinks.{IsArea, at_place}
+use Rattle.hd_basin.specs.Sinks.{IsArea, at_place, no_node}
 use Rattle.hd_basin.specs.Sums.{EdgeMember, AreSums}
-use Rattle.hd_basin.proofs.Areas.{area-in, area-one, area-tile, area-below}
+use Rattle.hd_basin.proofs.Areas.{area-in, area-one, area-tile, area-below, place-one}
 use Rattle.hd_basin.proofs.Contents.{sums-same, sink-tile}
 use Rattle.hd_basin.proofs.Framing.{step-in_frame, frame_step}
 use Rattle.hd_basin.proofs.Keeping.{tile-of_point}
@@ -91,17 +90,8 @@ module _ (m : Map) (side : SideName) (t tile : ℕ) (f : Frame) (k : ℕ) (some 
       let earlier : taken.place < f.columns * f.rows = omega (arith, b, below) in
       let one = frame_step f here (step-in_frame f k below) in
       let j : ℕ = taken.place in
-      let e : k ≡ j = place-one k j below earlier same in
+      let e : k ≡ j = place-one f k j below earlier same in
       omega (arith, e, b)
-    where
-      place-one : (i j : ℕ) → i < f.columns * f.rows → j < f.columns * f.rows → at_place f i ≡ at_place f j → i ≡ j
-      place-one i j bi bj e =
-          let x : i % f.columns ≡ j % f.columns = (let ex = ap (λ (p : Pos). p.x) e in omega (arith, ex)) in
-          let y : i / f.columns ≡ j / f.columns = (let ey = ap (λ (p : Pos). p.y) e in omega (arith, ey)) in
-          let di = div-add-mod' i f.columns in
-          let dj = div-add-mod' j f.columns in
-          let product : i / f.columns * f.columns ≡ j / f.columns * f.columns = ap (λ (q : ℕ). q * f.columns) y in
-          omega (arith, x, product, di, dj)
 
   -- for another sink the same points are gathered
   same-other : (s : Rank) → (Present m here → IsSinkOf m side t (rank m here) s → ⊥) → (r : Rank) → Gathers m side t f k s r ↔ Gathers m side t f (k + 1) s r

@@ -1,6 +1,5 @@
 -- The passes and the seams of a tile that is seen anew, from the seams at its points.
 use Rattle.std.proofs.Common.{◌≡◌, ◌≢◌, ◌≤◌, ◌*◌, ℕ, ◌⊎◌, inl, inr, Bool, true, false, List, [], ◌∷◌, ◌++◌, Some, slice_get, refl, sym, ◌∙◌, ap, subst}
-use Rattle.std.proofs.lemmas.List.Elements.{Contains-push, Contains-push_cases, Contains-append_left}
 use Rattle.std.specs.Prelude.{Contains, if◌then◌else◌}
 use Rattle.hd_map.specs.declared.types.Pass.{Pass}
 use Rattle.hd_map.specs.declared.types.Pos.{Pos}
@@ -11,7 +10,6 @@ use Rattle.hd_map.specs.Order.{IsNotAbove}
 use Rattle.hd_map.specs.Passes.{higher_by}
 use Rattle.hd_map.specs.Rank.{rank, below_by, IsPoint}
 use Rattle.hd_map.specs.SideLaws.{below_by-order}
-use Rattle.hd_map.proofs.Items.{Contains-none}
 use Rattle.hd_map.proofs.Points.{same_index}
 use Rattle.hd_tiles.specs.Tile.{tile_of}
 use Rattle.hd_basin.specs.declared.frame.Frame.{Frame}
@@ -22,11 +20,9 @@ use Rattle.hd_basin.specs.Built.{IsAsked, IsBuilt, IsKnown, IsNoded, IsRightPass
 use Rattle.hd_basin.specs.Candidates.{AreCandidates, IsCandidate, KeepLowest, pass_between}
 use Rattle.hd_basin.specs.Parts.{IsBetween, IsFresh, IsSeamOf, place_in_tile}
 use Rattle.hd_basin.specs.Sinks.{IsArea}
-use Rattle.hd_basin.specs.Split.{AreSplit}
 use Rattle.hd_basin.proofs.Areas.{area-in, area-below, area-at}
 use Rattle.hd_basin.proofs.Contents.{sink-tile}
 use Rattle.hd_basin.proofs.Keeping.{tile-of_point}
-use Rattle.hd_basin.proofs.Replacing.{both_ends}
 use Rattle.hd_basin.proofs.SinkLaws.{sink-unique, sink-is_sink}
 use Rattle.hd_basin.proofs.Steps.{pass-sym}
 
@@ -37,7 +33,8 @@ lower-first side a b apart e = elim (below_by side b a) as (λ v. below_by side 
   | false ↦ λ f. absurd (apart ((below_by-order side).total a b e f))
 ] refl
 
-joins-between : (side : SideName) (a b w : Rank) → IsBetween (pass_between side a b w) a b w
+-- a pass between two sinks is between them
+pub joins-between : (side : SideName) (a b w : Rank) → IsBetween (pass_between side a b w) a b w
 joins-between side a b w = elim (below_by side a b) as (λ v. IsBetween (if v then (record { a = a; b = b; at = w }) else (record { a = b; b = a; at = w })) a b w) [
   | true ↦ inl refl
   | false ↦ inr refl
@@ -88,18 +85,18 @@ record IsJoint (m : Map) (side : SideName) (t tile : ℕ) (stamps : List ℕ) (p
   between : IsBetween s.pass a b w
   ordered : below_by side s.pass.a s.pass.b ≡ true
   meeting : IsBasinMeeting m side t a b w
-  known : (tile_at m.size t b ≡ tile) ⊎ IsFresh stamps parts (tile_at m.size t b)
+  known : IsFresh stamps parts (tile_at m.size t b)
   stamp : slice_get stamps s.with ≡ Some s.stamp
 
 module _ (m : Map) (side : SideName) (t tile : ℕ) (stamps : List ℕ) (parts : List Part) (f : Frame) (some : 1 ≤ t) (area : IsArea m.size t tile f) (stale : IsFresh stamps parts tile → ⊥)
-    (all kept : List Seam) (cand : AreCandidates m side t tile stamps (IsAsked m t tile stamps parts f (f.columns * f.rows)) all) (k : KeepLowest side all kept) where
+    (all kept : List Seam) (cand : AreCandidates m side t tile stamps (IsAsked m t stamps parts f (f.columns * f.rows)) all) (k : KeepLowest side all kept) where
   abbrev Joint : Seam → Rank → Rank → Rank → Type 0
   Joint = IsJoint m side t tile stamps parts
 
   abbrev In : Rank → Type 0
   In r = tile_at m.size t r ≡ tile
 
-  joint : (p q : Pos) (s : Seam) → IsKnown m.size t tile stamps parts q → (c : IsCandidate m side t tile stamps p q s) → Joint s c.a c.b (higher_by side (rank m p) (rank m q))
+  joint : (p q : Pos) (s : Seam) → IsKnown m.size t stamps parts q → (c : IsCandidate m side t tile stamps p q s) → Joint s c.a c.b (higher_by side (rank m p) (rank m q))
   joint p q s known c =
       let w : Rank = higher_by side (rank m p) (rank m q) in
       let there : tile_at m.size t c.b ≡ tile_of m.size t q = sink-tile m side t (rank m q) c.b c.to ∙ tile-of_point m t (rank m q) q c.near.to refl in
@@ -111,10 +108,7 @@ module _ (m : Map) (side : SideName) (t tile : ℕ) (stamps : List ℕ) (parts :
         between = subst (λ (x : Pass). IsBetween x c.a c.b w) (sym c.pass_is) (joins-between side c.a c.b w);
         ordered = subst (λ (x : Pass). below_by side x.a x.b ≡ true) (sym c.pass_is) (joins-ordered side c.a c.b w c.apart);
         meeting = record { from = rank m p; to = rank m q; near = record { from = p; to = q; neighbour = c.near; from_rank = refl; to_rank = refl }; from_in = c.from; to_in = c.to; higher = refl };
-        known = elim known [
-          | inl here ↦ inl (there ∙ here)
-          | inr fresh ↦ inr (subst (IsFresh stamps parts) (sym there) fresh)
-        ];
+        known = subst (IsFresh stamps parts) (sym there) known;
         stamp = c.stamp;
       }
 
@@ -122,7 +116,7 @@ module _ (m : Map) (side : SideName) (t tile : ℕ) (stamps : List ℕ) (parts :
   joint-of s has = (let c = cand.each s has in (c.3.a, c.3.b, higher_by side (rank m c.0) (rank m c.1), joint c.0 c.1 s c.2.known c.3))
 
   -- each meeting with a known basin has a seam
-  found : (a b u : Rank) → In a → (tile_at m.size t b ≡ tile) ⊎ IsFresh stamps parts (tile_at m.size t b) → a ≢ b → IsBasinMeeting m side t a b u → (s : Seam) × Contains all s × Joint s a b u
+  found : (a b u : Rank) → In a → IsFresh stamps parts (tile_at m.size t b) → a ≢ b → IsBasinMeeting m side t a b u → (s : Seam) × Contains all s × Joint s a b u
   found a b u own known apart mt =
       let near = mt.near in
       let p : Pos = near.from in
@@ -130,11 +124,8 @@ module _ (m : Map) (side : SideName) (t tile : ℕ) (stamps : List ℕ) (parts :
       let in_tile : tile_of m.size t p ≡ tile = sym (tile-of_point m t mt.from p near.neighbour.from near.from_rank) ∙ sym (sink-tile m side t mt.from a mt.from_in) ∙ own in
       let there : tile_of m.size t q ≡ tile_at m.size t b = sym (tile-of_point m t mt.to q near.neighbour.to near.to_rank) ∙ sym (sink-tile m side t mt.to b mt.to_in) in
       let within = area-in m.size t tile f some area p near.neighbour.from.in_grid in_tile in
-      let is_known : IsKnown m.size t tile stamps parts q = elim known [
-        | inl here ↦ inl (there ∙ here)
-        | inr fresh ↦ inr (subst (IsFresh stamps parts) (sym there) fresh)
-      ] in
-      let asked : IsAsked m t tile stamps parts f (f.columns * f.rows) p q = record { place = place_in_tile m.size t p; before = area-below m.size t tile f some area p within; at = sym (area-at m.size t tile f some area p within); known = is_known } in
+      let is_known : IsKnown m.size t stamps parts q = subst (IsFresh stamps parts) (sym there) known in
+      let asked : IsAsked m t stamps parts f (f.columns * f.rows) p q = record { place = place_in_tile m.size t p; before = area-below m.size t tile f some area p within; at = sym (area-at m.size t tile f some area p within); known = is_known } in
       let from : IsSinkOf m side t (rank m p) a = subst (λ (r : Rank). IsSinkOf m side t r a) near.from_rank mt.from_in in
       let to : IsSinkOf m side t (rank m q) b = subst (λ (r : Rank). IsSinkOf m side t r b) near.to_rank mt.to_in in
       let c = cand.every p q a b asked near.neighbour from to apart in
@@ -166,12 +157,8 @@ module _ (m : Map) (side : SideName) (t tile : ℕ) (stamps : List ℕ) (parts :
         | inr e ↦ subst (λ (x : Pass). IsRightPass m side t x) (sym e) (pass-sym m side t a b w right)
       ]
 
-  -- the seams of one tile's basins have both ends in it
-  inside-ends : (s : Seam) → Contains kept s → s.with ≡ tile → In s.pass.a × In s.pass.b
-  inside-ends s has e = (let h = joint-of s (k.some s has) in to_ends In s.pass h.0 h.1 h.2 h.3.between h.3.own (sym h.3.with_is ∙ e))
-
   -- each meeting with a known basin is kept by a seam between the two
-  kept-found : (a b u : Rank) → In a → (tile_at m.size t b ≡ tile) ⊎ IsFresh stamps parts (tile_at m.size t b) → a ≢ b → IsBasinMeeting m side t a b u → (s : Seam) × Contains kept s × IsBetween s.pass a b s.pass.at
+  kept-found : (a b u : Rank) → In a → IsFresh stamps parts (tile_at m.size t b) → a ≢ b → IsBasinMeeting m side t a b u → (s : Seam) × Contains kept s × IsBetween s.pass a b s.pass.at
   kept-found a b u own known apart mt =
       let c = found a b u own known apart mt in
       let e = k.each c.0 c.1 in
@@ -181,96 +168,32 @@ module _ (m : Map) (side : SideName) (t tile : ℕ) (stamps : List ℕ) (parts :
       let other = to_ends (IsPoint m) c.0.pass a b u c.2.between c.2.points.0 c.2.points.1 in
       (s, e.1, ends-between s.pass c.0.pass a b u (same_index m s.pass.a c.0.pass.a mine.0 other.0 e.2.0) (same_index m s.pass.b c.0.pass.b mine.1 other.1 e.2.1) c.2.between)
 
-  -- its other tile is this one where both of them lie in it
-  kept-inside : (s : Seam) (a b w : Rank) → Contains kept s → IsBetween s.pass a b w → In a → In b → s.with ≡ tile
-  kept-inside s a b w has between own other =
+  seam-of : (s : Seam) → Contains kept s → IsSeamOf m.size t tile s × IsFresh stamps parts s.with × (slice_get stamps s.with ≡ Some s.stamp)
+  seam-of s has =
       let h = joint-of s (k.some s has) in
-      let ends = to_ends In s.pass a b w between own other in
-      h.3.with_is ∙ (both_ends In s.pass h.0 h.1 h.2 h.3.between ends.0 ends.1).1
-
-  kept-across : (s : Seam) (a b w : Rank) → Contains kept s → IsBetween s.pass a b w → IsFresh stamps parts (tile_at m.size t b) → s.with ≢ tile
-  kept-across s a b w has between fresh e =
-      let ends = inside-ends s has e in
-      stale (subst (IsFresh stamps parts) (both_ends In s.pass a b w between ends.0 ends.1).1 fresh)
-
-  seam-of : (s : Seam) → Contains kept s → s.with ≢ tile → IsSeamOf m.size t tile s × IsFresh stamps parts s.with × (slice_get stamps s.with ≡ Some s.stamp)
-  seam-of s has apart =
-      let h = joint-of s (k.some s has) in
-      let j = h.3 in (
+      let j = h.3 in
+      let fresh = subst (IsFresh stamps parts) (sym j.with_is) j.known in (
         record {
-          apart = apart;
+          apart = λ e. stale (subst (IsFresh stamps parts) e fresh);
           ends = elim j.between [
             | inl e ↦ inl (ap (λ (x : Pass). tile_at m.size t x.a) e ∙ j.own, ap (λ (x : Pass). tile_at m.size t x.b) e ∙ sym j.with_is)
             | inr e ↦ inr (ap (λ (x : Pass). tile_at m.size t x.b) e ∙ j.own, ap (λ (x : Pass). tile_at m.size t x.a) e ∙ sym j.with_is)
           ];
         },
-        elim j.known [
-          | inl here ↦ absurd (apart (j.with_is ∙ here))
-          | inr fresh ↦ subst (IsFresh stamps parts) (sym j.with_is) fresh
-        ],
+        fresh,
         j.stamp,
       )
 
-  pub joined-built : (part : Part) → IsNoded m side t tile part → AreSplit tile kept part.passes part.seams → IsBuilt m side t stamps parts tile part
-  joined-built part noded split = record {
+  pub joined-built : (part : Part) → IsNoded m side t tile part → part.seams ≡ kept → IsBuilt m side t stamps parts tile part
+  joined-built part noded seams = record {
     nodes = noded.nodes;
     once = noded.once;
     sinks = noded.sinks;
     labels = noded.labels;
-    inside = λ p has. (
-        let s = split.pass p has in
-        let ends = inside-ends s.0 s.1 s.3 in
-        (subst (IsRightPass m side t) s.2 (kept-right s.0 s.1), subst (λ (x : Pass). In x.a) s.2 ends.0, subst (λ (x : Pass). In x.b) s.2 ends.1));
-    inside_all = λ a b u own other apart mt. (
-        let s = kept-found a b u own (inl other) apart mt in
-        (s.0.pass, split.passes_all s.0 s.1 (kept-inside s.0 a b s.0.pass.at s.1 s.2 own other), s.0.pass.at, s.2));
-    across = λ s has. (let h = split.seam s has in let u = seam-of s h.0 h.1 in (kept-right s h.0, u.0, u.1, u.2));
+    inside = noded.passes.inside;
+    inside_all = noded.passes.inside_all;
+    across = λ s has. (let kept_has = subst (λ (xs : List Seam). Contains xs s) seams has in let u = seam-of s kept_has in (kept-right s kept_has, u.0, u.1, u.2));
     across_all = λ a b u own fresh apart mt. (
-        let s = kept-found a b u own (inr fresh) apart mt in
-        (s.0, split.seams_all s.0 s.1 (kept-across s.0 a b s.0.pass.at s.1 s.2 fresh), s.0.pass.at, s.2));
-  }
-
--- nothing is split of nothing
-pub split-none : (tile : ℕ) → AreSplit tile [] [] []
-split-none tile = record {
-  pass = λ p has. absurd (Contains-none p has);
-  passes_all = λ s has. absurd (Contains-none s has);
-  seam = λ s has. absurd (Contains-none s has);
-  seams_all = λ s has. absurd (Contains-none s has);
-}
-
--- one more seam is of this tile, or of another
-module _ (tile : ℕ) (all : List Seam) (passes : List Pass) (seams : List Seam) (s : Seam) (h : AreSplit tile all passes seams) where
-  pub split-own : s.with ≡ tile → AreSplit tile (all ++ s ∷ []) (passes ++ s.pass ∷ []) seams
-  split-own e = record {
-    pass = λ p has. elim (Contains-push_cases passes s.pass p has) [
-      | inl old ↦ (let u = h.pass p old in (u.0, Contains-append_left all (s ∷ []) u.0 u.1, u.2, u.3))
-      | inr new ↦ (s, Contains-push all s, new, e)
-    ];
-    passes_all = λ u has here. elim (Contains-push_cases all s u has) [
-      | inl old ↦ Contains-append_left passes (s.pass ∷ []) u.pass (h.passes_all u old here)
-      | inr new ↦ subst (λ (x : Seam). Contains (passes ++ s.pass ∷ []) x.pass) new (Contains-push passes s.pass)
-    ];
-    seam = λ u has. (let v = h.seam u has in (Contains-append_left all (s ∷ []) u v.0, v.1));
-    seams_all = λ u has apart. elim (Contains-push_cases all s u has) [
-      | inl old ↦ h.seams_all u old apart
-      | inr new ↦ absurd (apart (ap (λ (x : Seam). x.with) (sym new) ∙ e))
-    ];
-  }
-
-  pub split-other : s.with ≢ tile → AreSplit tile (all ++ s ∷ []) passes (seams ++ s ∷ [])
-  split-other e = record {
-    pass = λ p has. (let u = h.pass p has in (u.0, Contains-append_left all (s ∷ []) u.0 u.1, u.2, u.3));
-    passes_all = λ u has here. elim (Contains-push_cases all s u has) [
-      | inl old ↦ h.passes_all u old here
-      | inr new ↦ absurd (e (ap (λ (x : Seam). x.with) new ∙ here))
-    ];
-    seam = λ u has. elim (Contains-push_cases seams s u has) [
-      | inl old ↦ (let v = h.seam u old in (Contains-append_left all (s ∷ []) u v.0, v.1))
-      | inr new ↦ subst (λ (x : Seam). Contains (all ++ s ∷ []) x × (x.with ≢ tile)) new (Contains-push all s, e)
-    ];
-    seams_all = λ u has apart. elim (Contains-push_cases all s u has) [
-      | inl old ↦ Contains-append_left seams (s ∷ []) u (h.seams_all u old apart)
-      | inr new ↦ subst (Contains (seams ++ s ∷ [])) new (Contains-push seams s)
-    ];
+        let s = kept-found a b u own fresh apart mt in
+        (s.0, subst (λ (xs : List Seam). Contains xs s.0) (sym seams) s.1, s.0.pass.at, s.2));
   }

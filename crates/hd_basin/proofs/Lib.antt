@@ -15,11 +15,16 @@ pub mod Walking
 pub mod Edges
 pub mod Lists
 pub mod Areas
+pub mod Chains
+pub mod Rounding
+pub mod Linking
+pub mod Sinking
 pub mod Gathers
 pub mod Lowests
 pub mod Pairing
 pub mod Noding
 pub mod Joining
+pub mod Meets
 pub mod Listed
 pub mod Netted
 pub mod Together

@@ -14,13 +14,15 @@ use Rattle.hd_basin.specs.declared.frame.Frame.{Frame}
 use Rattle.hd_basin.specs.declared.node.Node.{Node}
 use Rattle.hd_basin.specs.declared.part.Part.{Part}
 use Rattle.hd_basin.specs.Basin.{IsSink, IsSinkOf, IsNode, IsLabel, AreNextsInside, tile_at}
-use Rattle.hd_basin.specs.Built.{IsNoded}
+use Rattle.hd_basin.specs.Built.{HasPasses, IsNoded}
+use Rattle.hd_basin.specs.Inside.{AreNamed, place_of_frame}
 use Rattle.hd_basin.specs.Edge.{IsEdge}
-use Rattle.hd_basin.specs.Gathering.{no_node, IsTaken, Gathers, home_of, IsNamed, IsGathered}
+use Rattle.hd_basin.specs.Gathering.{IsTaken, Gathers, home_of, IsNamed, IsGathered}
 use Rattle.hd_basin.specs.Parts.{low_of, node_at, place_in_tile}
-use Rattle.hd_basin.specs.Sinks.{IsArea, at_place}
+use Rattle.hd_basin.specs.Sinks.{IsArea, at_place, no_node}
 use Rattle.hd_basin.proofs.Areas.{area-in, area-below, area-at}
-use Rattle.hd_basin.proofs.Contents.{sums-same, sink-tile, keeps-sym, node_kept, label_kept, sink_kept}
+use Rattle.hd_basin.proofs.Contents.{sums-same, sink-tile, keeps-sym, node_kept, label_kept, sink_kept, meeting_kept, pass_kept}
+use Rattle.hd_basin.proofs.Framing.{frame_step}
 use Rattle.hd_basin.proofs.Keeping.{Keeps, tile-of_point}
 use Rattle.hd_basin.proofs.Rooting.{read-contains}
 use Rattle.hd_basin.proofs.SinkLaws.{sink-unique, sink-own}
@@ -105,8 +107,20 @@ module _ (m : Map) (side : SideName) (t tile : ℕ) (f : Frame) (some : 1 ≤ t)
     | inr absent ↦ absurd (let e = name.none absent in let below = slice_get_within ns label n at in let few = g.few in omega (arith, e, below, few, small))
   ]
 
-  pub gathered-noded : (part : Part) → part.nodes ≡ ns → part.labels.items ≡ ls → IsNoded m side t tile part
-  gathered-noded part nodes labels = record {
+  -- and name the nodes
+  pub gathered-named : AreNamed m side t f ns ls
+  gathered-named = record {
+    count = g.labels_count;
+    few = (let few = g.few in omega (arith, few, small));
+    named = λ p within. (
+        let step = frame_step f p within in
+        subst (λ (q : Pos). IsNamed m side t ns q (get_or ls (place_of_frame f p) no_node)) step.1 (g.labels (place_of_frame f p) step.0));
+    distinct = λ i j n u at there same. same_Some i j (sym (g.homes i n at) ∙ ap (λ (s : Rank). slice_get numbers (home_of m t s)) same ∙ g.homes j u there);
+  }
+
+  pub gathered-noded : (part : Part) → part.nodes ≡ ns → part.labels.items ≡ ls → HasPasses m side t tile part.passes → IsNoded m side t tile part
+  gathered-noded part nodes labels passes = record {
+    passes = passes;
     nodes = λ n has. (let i = contains-at ns n (subst (λ (xs : List Node). Contains xs n) nodes has) in node-right i.0 n i.1);
     once = subst (λ (xs : List Node). AllPairs (λ (n u : Node). n.low ≢ u.low) xs) (sym nodes) once;
     sinks = λ s at sink. (let n = sink-noded s at sink in (n.0, subst (λ (xs : List Node). Contains xs n.0) (sym nodes) n.1, n.2));
@@ -130,6 +144,15 @@ noded-kept m n side t tile k part h =
     record {
       nodes = λ x has. (let u = h.nodes x has in (node_kept n m side t tile back x u.1 u.0, u.1));
       once = h.once;
+      passes = record {
+        inside = λ p has. (
+            let u = h.passes.inside p has in (
+              pass_kept n m side t tile tile back back p.a p.b p.at u.1 u.2 u.0,
+              ap (λ (z : Size). tile_at z t p.a) k.size ∙ u.1,
+              ap (λ (z : Size). tile_at z t p.b) k.size ∙ u.2,
+            ));
+        inside_all = λ a b w own other apart mt. h.passes.inside_all a b w (ap (λ (z : Size). tile_at z t a) (sym k.size) ∙ own) (ap (λ (z : Size). tile_at z t b) (sym k.size) ∙ other) apart (meeting_kept m n side t tile tile k k a b w own other mt);
+      };
       sinks = λ s at sink. h.sinks s (ap (λ (z : Size). tile_at z t s) (sym k.size) ∙ at) (sink_kept m n side t tile k s at sink);
       labels = λ p inside at.
           subst (λ (z : Size). IsLabel m side t p (low_of (node_at (Some part) (place_in_tile z t p)))) (sym k.size)

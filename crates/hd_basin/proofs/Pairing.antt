@@ -1,5 +1,5 @@
 -- Pairs of neighbours with a point in a tile that is seen anew.
-use Rattle.std.proofs.Common.{◌≡◌, ◌+◌, ℕ, ◌⊎◌, inl, inr, List, [], ◌∷◌, length, Option, Some, slice_get, refl, sym, ◌∙◌, ap, subst, arith}
+use Rattle.std.proofs.Common.{◌≡◌, ◌<◌, ◌≤◌, ◌+◌, ◌*◌, ℕ, ◌⊎◌, inl, inr, List, [], ◌∷◌, length, Option, Some, slice_get, refl, sym, ◌∙◌, ap, subst, arith}
 use Rattle.std.specs.Prelude.{Contains}
 use Rattle.std.proofs.lemmas.Bool.{cases_lt}
 use Rattle.std.proofs.lemmas.List.Elements.{Contains-push, Contains-push_cases, Contains-append_left}
@@ -18,8 +18,10 @@ use Rattle.hd_basin.specs.declared.part.Seam.{Seam}
 use Rattle.hd_basin.specs.Basin.{IsSinkOf}
 use Rattle.hd_basin.specs.Built.{IsAsked, IsAskedNext, IsKnown, NotesPair}
 use Rattle.hd_basin.specs.Candidates.{AreCandidates, IsCandidate}
-use Rattle.hd_basin.specs.Parts.{label_of, low_of, node_at, place_in_tile}
-use Rattle.hd_basin.specs.Sinks.{at_place}
+use Rattle.hd_basin.specs.Parts.{IsFresh, label_of, low_of, node_at, place_in_tile}
+use Rattle.hd_basin.specs.Sinks.{IsArea, at_place}
+use Rattle.hd_basin.specs.Frames.{InFrame}
+use Rattle.hd_basin.proofs.Areas.{area-tile, place-at}
 
 -- the label of a position in another tile
 pub other-label : (s : Size) (t : ℕ) (parts : List Part) (p : Pos) (number place : ℕ) (other : Part) → number ≡ tile_of s t p → place ≡ place_in_tile s t p → slice_get parts number ≡ Some other
@@ -29,10 +31,10 @@ other-label s t parts p number place other tile at read =
 
 module _ (m : Map) (side : SideName) (t tile : ℕ) (stamps : List ℕ) (parts : List Part) (f : Frame) where
   abbrev Asked : ℕ → Pos → Pos → Type 0
-  Asked k = IsAsked m t tile stamps parts f k
+  Asked k = IsAsked m t stamps parts f k
 
   abbrev Next : ℕ → List Pos → ℕ → Pos → Pos → Type 0
-  Next k near i = IsAskedNext m t tile stamps parts f k near i
+  Next k near i = IsAskedNext m t stamps parts f k near i
 
   -- no pair is asked for at first
   pub pairs-none : AreCandidates m side t tile stamps (Asked 0) []
@@ -56,7 +58,7 @@ module _ (m : Map) (side : SideName) (t tile : ℕ) (stamps : List ℕ) (parts :
       each = λ s within. (let c = are.each s within in (c.0, c.1, later c.0 c.1 c.2, c.3));
       every = λ p r a b asked near_ from to apart. elim (earlier p r asked) [
         | inl was ↦ are.every p r a b was near_ from to apart
-        | inr it ↦ absurd (none.1 a b (subst (λ (x : Pos). IsSinkOf m side t (rank m x) a) it.0 from) (subst (λ (x : Pos). IsSinkOf m side t (rank m x) b) it.1 to) apart (subst (IsKnown m.size t tile stamps parts) it.1 it.2))
+        | inr it ↦ absurd (none.1 a b (subst (λ (x : Pos). IsSinkOf m side t (rank m x) a) it.0 from) (subst (λ (x : Pos). IsSinkOf m side t (rank m x) b) it.1 to) apart (subst (IsKnown m.size t stamps parts) it.1 it.2))
       ];
     })
     | inr one ↦ subst (AreCandidates m side t tile stamps (Next k near (i + 1))) (sym one.1) (record {
@@ -75,7 +77,7 @@ module _ (m : Map) (side : SideName) (t tile : ℕ) (stamps : List ℕ) (parts :
       later p r (inl was) = inl was
       later p r (inr new) = inr (new.0, (let h = new.1 in let b = h.1 in (h.0, omega (arith, b), h.2)), new.2)
 
-      earlier : (p r : Pos) → Next k near (i + 1) p r → Next k near i p r ⊎ ((p ≡ at_place f k) × (r ≡ q) × IsKnown m.size t tile stamps parts r)
+      earlier : (p r : Pos) → Next k near (i + 1) p r → Next k near i p r ⊎ ((p ≡ at_place f k) × (r ≡ q) × IsKnown m.size t stamps parts r)
       earlier p r (inl was) = inl (inl was)
       earlier p r (inr new) = elim (cases_lt (new.1).0 i) [
         | inl before ↦ inl (inr (new.0, ((new.1).0, before, (new.1).2), new.2))
@@ -120,3 +122,25 @@ module _ (m : Map) (side : SideName) (t tile : ℕ) (stamps : List ℕ) (parts :
           absurd (absent (subst (Present m) (ask.at ∙ ap (at_place f) same) near_.from)))
     ];
   }
+
+  -- and where the point is not at the border of the tile
+  pub pairs-inner : 1 ≤ t → IsArea m.size t tile f → (IsFresh stamps parts tile → ⊥) → (i j : ℕ) (all : List Seam) → 0 < i → 0 < j → i + 1 < f.rows → j + 1 < f.columns
+      → AreCandidates m side t tile stamps (Asked (i * f.columns + j)) all → AreCandidates m side t tile stamps (Asked (i * f.columns + j + 1)) all
+  pairs-inner some area stale i j all top left bottom right are =
+      let k : ℕ = i * f.columns + j in
+      record {
+        each = λ s within. (let c = are.each s within in (c.0, c.1, (let a = c.2 in let b = a.before in record { place = a.place; before = omega (arith, b); at = a.at; known = a.known }), c.3));
+        every = λ p q a b ask near_ from to apart. elim (cases_lt ask.place k) [
+          | inl before ↦ are.every p q a b (record { place = ask.place; before = before; at = ask.at; known = ask.known }) near_ from to apart
+          | inr last ↦ (
+              let below = ask.before in
+              let same : ask.place ≡ k = omega (arith, below, last) in
+              let at : p ≡ record { x = f.left + j; y = f.top + i } = ask.at ∙ ap (at_place f) same ∙ place-at f i j (omega (arith, right)) in
+              let x : p.x ≡ f.left + j = ap (λ (z : Pos). z.x) at in
+              let y : p.y ≡ f.top + i = ap (λ (z : Pos). z.y) at in
+              let c = near_.columns in
+              let r = near_.rows in
+              let within : InFrame f q = record { left = omega (arith, x, c, left); right = omega (arith, x, c, right); top = omega (arith, y, r, top); bottom = omega (arith, y, r, bottom) } in
+              absurd (stale (subst (IsFresh stamps parts) (area-tile m.size t tile f some area q within) ask.known)))
+        ];
+      }

@@ -36,45 +36,52 @@ pub record IsBuilt (m : Map) (side : SideName) (t : ℕ) (stamps : List ℕ) (pa
   pub across_all : (a b u : Rank) → tile_at m.size t a ≡ tile → IsFresh stamps parts (tile_at m.size t b) → a ≢ b → IsBasinMeeting m side t a b u
       → (s : Seam) × Contains part.seams s × (w : Rank) × IsBetween s.pass a b w
 
--- its nodes and its labels are those of the map
+-- the passes are those between two basins of the tile
+pub record HasPasses (m : Map) (side : SideName) (t tile : ℕ) (passes : List Pass) : Type 0 where
+  pub inside : (p : Pass) → Contains passes p → IsRightPass m side t p × (tile_at m.size t p.a ≡ tile) × (tile_at m.size t p.b ≡ tile)
+  pub inside_all : (a b u : Rank) → tile_at m.size t a ≡ tile → tile_at m.size t b ≡ tile → a ≢ b → IsBasinMeeting m side t a b u
+      → (p : Pass) × Contains passes p × (w : Rank) × IsBetween p a b w
+
+-- its nodes, its labels and the passes between its basins are those of the map
 pub record IsNoded (m : Map) (side : SideName) (t tile : ℕ) (part : Part) : Type 0 where
   pub nodes : (n : Node) → Contains part.nodes n → IsNode m side t n × (n.tile ≡ tile)
   pub once : AllPairs (λ (n u : Node). n.low ≢ u.low) part.nodes
   pub sinks : (s : Rank) → tile_at m.size t s ≡ tile → IsSink m side t s → (n : Node) × Contains part.nodes n × (n.low ≡ s)
   pub labels : (p : Pos) → InGrid m.size p → tile_of m.size t p ≡ tile → IsLabel m side t p (low_of (node_at (Some part) (place_in_tile m.size t p)))
+  pub passes : HasPasses m side t tile part.passes
 
--- the basins of a tile are known where it is this one, or a fresh one
-abbrev pub IsKnown : Size → ℕ → ℕ → List ℕ → List Part → Pos → Type 0
-IsKnown s t tile stamps parts p = (tile_of s t p ≡ tile) ⊎ IsFresh stamps parts (tile_of s t p)
+-- the basins of other tiles are known where these are fresh
+abbrev pub IsKnown : Size → ℕ → List ℕ → List Part → Pos → Type 0
+IsKnown s t stamps parts p = IsFresh stamps parts (tile_of s t p)
 
 -- the sink of the point at a position, with the number and the stamp of its tile; none where it is not known, and
 -- where no point is present
-pub record IsEnd (m : Map) (side : SideName) (t tile : ℕ) (stamps : List ℕ) (parts : List Part) (p : Pos) (e : End) : Type 0 where
-  pub known : IsKnown m.size t tile stamps parts p
+pub record IsEnd (m : Map) (side : SideName) (t : ℕ) (stamps : List ℕ) (parts : List Part) (p : Pos) (e : End) : Type 0 where
+  pub known : IsKnown m.size t stamps parts p
   pub present : Present m p
   pub sink : IsSinkOf m side t (rank m p) e.low
   pub with_is : e.with ≡ tile_of m.size t p
   pub stamp : slice_get stamps e.with ≡ Some e.stamp
 
-abbrev pub EndIs : Map → SideName → ℕ → ℕ → List ℕ → List Part → Pos → Option End → Type 0
-EndIs m side t tile stamps parts p result = MatchOption result (IsKnown m.size t tile stamps parts p → Present m p → ⊥) (IsEnd m side t tile stamps parts p)
+abbrev pub EndIs : Map → SideName → ℕ → List ℕ → List Part → Pos → Option End → Type 0
+EndIs m side t stamps parts p result = MatchOption result (IsKnown m.size t stamps parts p → Present m p → ⊥) (IsEnd m side t stamps parts p)
 
 -- the pair has a point at one of the first places of the tile, and the basin of the other is known
-pub record IsAsked (m : Map) (t tile : ℕ) (stamps : List ℕ) (parts : List Part) (f : Frame) (k : ℕ) (p q : Pos) : Type 0 where
+pub record IsAsked (m : Map) (t : ℕ) (stamps : List ℕ) (parts : List Part) (f : Frame) (k : ℕ) (p q : Pos) : Type 0 where
   pub place : ℕ
   pub before : place < k
   pub at : p ≡ at_place f place
-  pub known : IsKnown m.size t tile stamps parts q
+  pub known : IsKnown m.size t stamps parts q
 
 -- or it is that of the point here and one of its first neighbours
-abbrev pub IsAskedNext : Map → ℕ → ℕ → List ℕ → List Part → Frame → ℕ → List Pos → ℕ → Pos → Pos → Type 0
-IsAskedNext m t tile stamps parts f k near i p q = IsAsked m t tile stamps parts f k p q ⊎ ((p ≡ at_place f k) × ((h : ℕ) × (h < i) × (slice_get near h ≡ Some q)) × IsKnown m.size t tile stamps parts q)
+abbrev pub IsAskedNext : Map → ℕ → List ℕ → List Part → Frame → ℕ → List Pos → ℕ → Pos → Pos → Type 0
+IsAskedNext m t stamps parts f k near i p q = IsAsked m t stamps parts f k p q ⊎ ((p ≡ at_place f k) × ((h : ℕ) × (h < i) × (slice_get near h ≡ Some q)) × IsKnown m.size t stamps parts q)
 
 -- the pair of two neighbours gives one more candidate, or none where it asks for none
 abbrev pub NotesPair : Map → SideName → ℕ → ℕ → List ℕ → List Part → Pos → Pos → List Seam → List Seam → Type 0
 NotesPair m side t tile stamps parts p q old new =
-    ((new ≡ old) × ((a b : Rank) → IsSinkOf m side t (rank m p) a → IsSinkOf m side t (rank m q) b → a ≢ b → IsKnown m.size t tile stamps parts q → ⊥))
-    ⊎ ((s : Seam) × (new ≡ old ++ s ∷ []) × IsCandidate m side t tile stamps p q s × IsKnown m.size t tile stamps parts q)
+    ((new ≡ old) × ((a b : Rank) → IsSinkOf m side t (rank m p) a → IsSinkOf m side t (rank m q) b → a ≢ b → IsKnown m.size t stamps parts q → ⊥))
+    ⊎ ((s : Seam) × (new ≡ old ++ s ∷ []) × IsCandidate m side t tile stamps p q s × IsKnown m.size t stamps parts q)
 
 -- what is known of the basins while a tile is seen anew: its own, and those of the fresh tiles
 pub record IsSight (m : Map) (side : SideName) (t tile stamp : ℕ) (stamps : List ℕ) (parts : List Part) (part : Part) : Type 0 where

@@ -12,12 +12,8 @@ use Rattle.hd_basin.specs.Adding.{AddsPoint}
 use Rattle.hd_basin.specs.Basin.{IsSink, IsSinkOf, FlowsTo, tile_at}
 use Rattle.hd_basin.specs.Edge.{IsEdge}
 use Rattle.hd_basin.specs.Parts.{place_in_tile}
-use Rattle.hd_basin.specs.Sinks.{at_place}
+use Rattle.hd_basin.specs.Sinks.{at_place, no_node}
 use Rattle.hd_basin.specs.Sums.{AreSums}
-
--- the number that stands where no node is
-abbrev pub no_node : ℕ
-no_node = 4294967295
 
 -- the point is that of one of the first places
 pub record IsTaken (m : Map) (f : Frame) (k : ℕ) (r : Rank) : Type 0 where

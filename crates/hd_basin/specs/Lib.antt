@@ -13,9 +13,12 @@ pub mod Frames
 pub mod WindowLaws
 pub mod WindowMap
 pub mod Sinks
+pub mod Round
+pub mod Links
+pub mod Meetings
 pub mod Gathering
+pub mod Inside
 pub mod Candidates
 pub mod Lowest
-pub mod Split
 pub mod Listing
 pub mod Extents

@@ -1,5 +1,5 @@
 -- The sinks of the points of a part of a grid, place by place.
-use Rattle.std.specs.Prelude.{◌≡◌, ◌<◌, ◌+◌, ◌-◌, ◌*◌, ◌/◌, ◌%◌, ℕ, List, length, min, Option, Some, None, slice_index_or}
+use Rattle.std.specs.Prelude.{◌≡◌, ◌<◌, ◌+◌, ◌-◌, ◌*◌, ◌/◌, ◌%◌, ℕ, List, length, min, slice_index}
 use Rattle.hd_map.specs.declared.types.Pos.{Pos}
 use Rattle.hd_map.specs.declared.types.Size.{Size}
 use Rattle.hd_map.specs.declared.types.SideName.{SideName}
@@ -8,6 +8,10 @@ use Rattle.hd_map.specs.Rank.{rank}
 use Rattle.hd_tiles.specs.Tile.{tiles_across}
 use Rattle.hd_basin.specs.declared.frame.Frame.{Frame}
 use Rattle.hd_basin.specs.Basin.{IsSinkOf}
+
+-- the number that stands where no node is, and no place
+abbrev pub no_node : ℕ
+no_node = 4294967295
 
 -- the positions of a tile
 pub record IsArea (s : Size) (t tile : ℕ) (f : Frame) : Type 0 where
@@ -22,12 +26,14 @@ pub record IsArea (s : Size) (t tile : ℕ) (f : Frame) : Type 0 where
 abbrev pub at_place : Frame → ℕ → Pos
 at_place f k = record { x = f.left + k % f.columns; y = f.top + k / f.columns }
 
--- the sink of the point at a position is at the other, and none where no point is present
-abbrev pub IsSunk : Map → SideName → ℕ → Pos → Option Pos → Type 0
-IsSunk m side t p (Some q) = Present m p × Present m q × IsSinkOf m side t (rank m p) (rank m q)
-IsSunk m side t p None = Present m p → ⊥
+-- the place is that of the sink of the point at the place k, and no place where no point is present
+pub record IsSunk (m : Map) (side : SideName) (t : ℕ) (f : Frame) (k place : ℕ) : Type 0 where
+  pub inside : Present m (at_place f k) → place < f.columns * f.rows
+  pub present : Present m (at_place f k) → Present m (at_place f place)
+  pub sink : Present m (at_place f k) → IsSinkOf m side t (rank m (at_place f k)) (rank m (at_place f place))
+  pub none : (Present m (at_place f k) → ⊥) → place ≡ no_node
 
--- the sinks of the points at the first places
-pub record AreSunk (m : Map) (side : SideName) (t : ℕ) (f : Frame) (n : ℕ) (sinks : List (Option Pos)) : Type 0 where
-  pub whole : length sinks ≡ n
-  pub each : (k : ℕ) → k < n → IsSunk m side t (at_place f k) (slice_index_or sinks k None)
+-- the sinks of the points at all places
+pub record AreSunk (m : Map) (side : SideName) (t : ℕ) (f : Frame) (sinks : List ℕ) : Type 0 where
+  pub whole : length sinks ≡ f.columns * f.rows
+  pub each : (k : ℕ) → k < f.columns * f.rows → IsSunk m side t f k (slice_index sinks k)

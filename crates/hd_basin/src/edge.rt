@@ -1,15 +1,25 @@
 // Edge points.
-ghost use Rattle.std.specs.Prelude.{◌≡◌, ◌<◌, ◌+◌, true, false};
+ghost use Rattle.std.specs.Prelude.{◌≡◌, ◌<◌, ◌≤◌, ◌+◌, ◌*◌, true, false};
 ghost use Rattle.hd_map.specs.Map.{Present};
 ghost use Rattle.hd_map.specs.Rank.{rank};
 ghost use Rattle.hd_basin.specs.Edge.{IsEdge, HasGap};
+ghost use Rattle.hd_basin.specs.Frames.{InFrame};
+ghost use Rattle.hd_basin.specs.Round.{AreRanks};
 
-use hd_map::{Heights, Pos, is_present};
+use crate::frame::Frame;
+use crate::low::is_missing;
+use crate::round::rank_beside;
+use hd_map::{Heights, Pos, Rank, Side};
 
 /// Whether a present point is an edge point: on the border of the grid, or beside a position without a
 /// present point.
-pub fn is_edge<G: Heights>(grid: &G, at: Pos) -> bool
-    requires { Present (G.map grid.now) at }
+#[inline]
+pub fn is_edge<S: Side, G: Heights>(grid: &G, area: Frame, ranks: &[Rank], at: Pos) -> bool
+    requires present { Present (G.map grid.now) at }
+    requires ranks { AreRanks (G.map grid.now) S.NAME area ((area.rows + 2) * (area.columns + 2)) ranks.now }
+    requires columns { area.columns ≤ 256 }
+    requires rows { area.rows ≤ 256 }
+    requires at { InFrame area at }
     ensures edge { result ≡ true → IsEdge (G.map grid.now) (rank (G.map grid.now) at) }
     ensures inner { result ≡ false → IsEdge (G.map grid.now) (rank (G.map grid.now) at) → ⊥ }
 {
@@ -17,11 +27,16 @@ pub fn is_edge<G: Heights>(grid: &G, at: Pos) -> bool
     if at.x == 0 || at.y == 0 || at.x + 1 == size.points || at.y + 1 == size.profiles {
         return true;
     }
-    has_gap(grid, at)
+    has_gap::<S, G>(grid, area, ranks, at)
 }
 
 // Whether one of the nine positions round a point that is not on the border has no present point.
-fn has_gap<G: Heights>(grid: &G, at: Pos) -> bool
+#[inline]
+fn has_gap<S: Side, G: Heights>(grid: &G, area: Frame, ranks: &[Rank], at: Pos) -> bool
+    requires ranks { AreRanks (G.map grid.now) S.NAME area ((area.rows + 2) * (area.columns + 2)) ranks.now }
+    requires columns { area.columns ≤ 256 }
+    requires rows { area.rows ≤ 256 }
+    requires at { InFrame area at }
     requires left { 0 < at.x }
     requires top { 0 < at.y }
     requires right { at.x + 1 < (G.map grid.now).size.points }
@@ -30,11 +45,8 @@ fn has_gap<G: Heights>(grid: &G, at: Pos) -> bool
     ensures none { result ≡ false → HasGap (G.map grid.now) at → ⊥ }
 {
     for step in 0..9u32 {
-        let beside = Pos {
-            x: at.x + step % 3 - 1,
-            y: at.y + step / 3 - 1,
-        };
-        if !is_present(grid, beside) {
+        let rank = rank_beside::<S, G>(grid, area, ranks, at, step % 3, step / 3);
+        if is_missing::<S>(rank) {
             return true;
         }
     }

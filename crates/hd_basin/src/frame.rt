@@ -88,6 +88,17 @@ pub fn position_in(frame: Frame, place: u32) -> Pos
     }
 }
 
+/// The place of a position of a rectangle, profile by profile.
+#[inline]
+pub fn place_in(frame: Frame, at: Pos) -> u32
+    requires in_frame { InFrame frame at }
+    requires few { frame.columns * frame.rows ≤ 65536 }
+    ensures place { result < frame.columns * frame.rows }
+    ensures at { at_place frame result ≡ at }
+{
+    (at.y - frame.top) * frame.columns + (at.x - frame.left)
+}
+
 #[derive(Clone, Copy)]
 struct Stretch {
     from: u32,

@@ -1,46 +1,20 @@
-// The passes and the seams of a tile.
-ghost use Rattle.std.specs.Prelude.{◌≡◌, ◌<◌, ◌≢◌, ◌⊎◌, IfOk};
+// The seams of a tile.
+ghost use Rattle.std.specs.Prelude.{◌≡◌, ◌<◌, IfOk};
 ghost use Rattle.hd_tiles.specs.Tile.{tile_count};
-ghost use Rattle.hd_basin.specs.Built.{IsBuilt, IsNoded, IsSight};
+ghost use Rattle.hd_basin.specs.Built.{IsBuilt, IsSight};
 ghost use Rattle.hd_basin.specs.Parts.{IsFresh};
-ghost use Rattle.hd_basin.specs.Split.{AreSplit};
 ghost use Rattle.hd_basin.specs.Views.{ShowSame};
 
 use crate::frame::area_of;
 use crate::lowest::lowest_of;
 use crate::pairs::seams_at;
-use crate::part::{Part, Seam};
+use crate::part::Part;
 use hd_list::{List, Memory};
-use hd_map::{Heights, Pass, Side};
+use hd_map::{Heights, Side};
 use hd_tiles::{Looked, Tiling};
 use std::alloc::Global;
 
-/// The passes of a tile and its seams.
-#[derive(Drop)]
-pub struct Split {
-    /// The passes between two of its basins.
-    pub passes: List<Pass>,
-    /// The passes to basins of other tiles.
-    pub seams: List<Seam>,
-}
-
-// The passes within a tile, and the others. `Memory` comes where memory is refused.
-fn split_seams(alloc: Global, tile: u32, all: &[Seam]) -> Result<Split, Memory>
-    ensures { IfOk result (λ done. AreSplit tile all.now done.passes done.seams) }
-{
-    let mut passes = List::new(alloc);
-    let mut seams = List::new(alloc);
-    for seam in all {
-        if seam.with == tile {
-            passes.push(seam.pass)?;
-        } else {
-            seams.push(*seam)?;
-        }
-    }
-    Ok(Split { passes, seams })
-}
-
-/// What is kept of a tile, from its nodes and its labels. `Memory` comes where memory is refused.
+/// What is kept of a tile, from its nodes, its labels and its passes. `Memory` comes where memory is refused.
 pub fn joined<S: Side, G: Heights, T: Looked>(
     alloc: Global,
     tiling: Tiling,
@@ -64,10 +38,8 @@ pub fn joined<S: Side, G: Heights, T: Looked>(
         alloc, tiling, parts, tiles, window, &part, tile, stamp, area,
     )?;
     let kept = lowest_of::<S>(alloc, all.as_slice())?;
-    let Split { passes, seams } = split_seams(alloc, tile, kept.as_slice())?;
     Ok(Part {
-        passes,
-        seams,
+        seams: List::from_vec(kept),
         ..part
     })
 }

@@ -1,78 +1,132 @@
-// The local sinks of points.
-ghost use Rattle.std.specs.Prelude.{◌≡◌, ◌*◌, IfOk, MatchOption};
-ghost use Rattle.hd_map.specs.Map.{InGrid, Present};
-ghost use Rattle.hd_map.specs.Rank.{rank};
-ghost use Rattle.hd_map.specs.Region.{IsNext};
-ghost use Rattle.hd_basin.specs.Basin.{IsSink, IsSinkOf, tile_at};
-ghost use Rattle.hd_basin.specs.Frames.{FitsGrid};
-ghost use Rattle.hd_basin.specs.Sinks.{AreSunk, IsSunk};
+// The local sinks of the points of a tile, by links that are led on in place: most of them by sweeps
+// that do not branch, the rest by walks.
+ghost use Rattle.std.specs.Prelude.{◌≡◌, ◌≢◌, ◌<◌, ◌≤◌, ◌*◌, ◌+◌, IfOk, length, slice_index};
+ghost use Rattle.hd_tiles.specs.Tile.{tile_count};
+ghost use Rattle.hd_basin.specs.Links.{AreLinks, LedTo};
+ghost use Rattle.hd_basin.specs.Round.{AreRanks};
+ghost use Rattle.hd_basin.specs.Sinks.{AreSunk, IsArea, IsSunk, no_node};
 
-use crate::frame::{Frame, position_in};
+use crate::frame::Frame;
+use crate::links::{NO_LINK, links_in};
 use hd_list::Memory;
-use hd_map::{Heights, Pos, Side, is_present};
-use hd_steep::next;
+use hd_map::{Heights, Rank, Side};
 use hd_tiles::Tiling;
 use std::alloc::Global;
 
-// The next of a present point, if it lies in the same tile.
-fn next_inside<S: Side, G: Heights>(alloc: Global, grid: &G, tiling: Tiling, at: Pos) -> Option<Pos>
-    requires size { tiling.size ≡ (G.map grid.now).size }
-    requires present { Present (G.map grid.now) at }
-    ensures { MatchOption result (IsSink (G.map grid.now) S.NAME tiling.side (rank (G.map grid.now) at))
-        (λ q. Present (G.map grid.now) q × IsNext (G.map grid.now) S.NAME (rank (G.map grid.now) at) (rank (G.map grid.now) q) × (tile_at (G.map grid.now).size tiling.side (rank (G.map grid.now) q) ≡ tile_at (G.map grid.now).size tiling.side (rank (G.map grid.now) at))) }
-{
-    let Some(lower) = next::<S, G>(alloc, grid, at) else {
-        return None;
-    };
-    if tiling.tile_of(lower) == tiling.tile_of(at) {
-        Some(lower)
-    } else {
-        None
-    }
-}
-
-// The sink of the local basin in which a present point lies.
-fn sink_of<S: Side, G: Heights>(alloc: Global, grid: &G, tiling: Tiling, at: Pos) -> Pos
-    requires size { tiling.size ≡ (G.map grid.now).size }
-    requires present { Present (G.map grid.now) at }
-    ensures present { Present (G.map grid.now) result }
-    ensures sink { IsSinkOf (G.map grid.now) S.NAME tiling.side (rank (G.map grid.now) at) (rank (G.map grid.now) result) }
-{
-    let mut here = at;
-    'walk: while let Some(lower) = next_inside::<S, G>(alloc, grid, tiling, here) {
-        here = lower;
-    }
-    here
-}
-
-// The sink of the point at a position, and none where no point is present.
-fn sunk<S: Side, G: Heights>(alloc: Global, grid: &G, tiling: Tiling, at: Pos) -> Option<Pos>
-    requires size { tiling.size ≡ (G.map grid.now).size }
-    requires in_grid { InGrid (G.map grid.now).size at }
-    ensures { IsSunk (G.map grid.now) S.NAME tiling.side at result }
-{
-    if is_present(grid, at) {
-        Some(sink_of::<S, G>(alloc, grid, tiling, at))
-    } else {
-        None
-    }
-}
-
-/// The local sinks of the points of a part of a grid, place by place. `Memory` comes where the list is
-/// refused its memory.
+/// By place of the tile the place of the local sink of each point, and `NO_LINK` where no point is
+/// present. `Memory` comes where the list is refused its memory.
 pub fn sinks_in<S: Side, G: Heights>(
     alloc: Global,
     grid: &G,
     tiling: Tiling,
+    tile: u32,
     area: Frame,
-) -> Result<Vec<Option<Pos>>, Memory>
+    ranks: &[Rank],
+) -> Result<Vec<u32>, Memory>
     requires size { tiling.size ≡ (G.map grid.now).size }
-    requires fits { FitsGrid (G.map grid.now).size area }
-    ensures { IfOk result (λ sinks. AreSunk (G.map grid.now) S.NAME tiling.side area (area.columns * area.rows) sinks.items) }
+    requires tile { tile < tile_count tiling.size tiling.side }
+    requires area { IsArea (G.map grid.now).size tiling.side tile area }
+    requires ranks { AreRanks (G.map grid.now) S.NAME area ((area.rows + 2) * (area.columns + 2)) ranks.now }
+    ensures { IfOk result (λ sinks. AreSunk (G.map grid.now) S.NAME tiling.side area sinks.items) }
 {
-    let mut sinks = Vec::new(alloc);
-    for place in 0..area.columns * area.rows {
-        sinks.push(sunk::<S, G>(alloc, grid, tiling, position_in(area, place)))?;
+    let mut links = links_in::<S, G>(alloc, grid, tiling, tile, area, ranks)?;
+    sweep::<S, G>(grid, tiling, area, &mut links);
+    sweep_back::<S, G>(grid, tiling, area, &mut links);
+    lead::<S, G>(grid, tiling, area, &mut links);
+    Ok(links)
+}
+
+// Leads each link on by one link, from the first point to the last.
+fn sweep<S: Side, G: Heights>(grid: &G, tiling: Tiling, area: Frame, links: &mut [u32])
+    requires { AreLinks (G.map grid.now) S.NAME tiling.side area links.old }
+    ensures { AreLinks (G.map grid.now) S.NAME tiling.side area links.new }
+{
+    for place in 0..links.len() {
+        lead_once::<S, G>(grid, tiling, area, links, place);
     }
-    Ok(sinks)
+}
+
+// Leads each link on by one link, from the last point to the first.
+fn sweep_back<S: Side, G: Heights>(grid: &G, tiling: Tiling, area: Frame, links: &mut [u32])
+    requires { AreLinks (G.map grid.now) S.NAME tiling.side area links.old }
+    ensures { AreLinks (G.map grid.now) S.NAME tiling.side area links.new }
+{
+    for place in (0..links.len()).rev() {
+        lead_once::<S, G>(grid, tiling, area, links, place);
+    }
+}
+
+// Leads the link at a place on by one link.
+#[inline]
+fn lead_once<S: Side, G: Heights>(
+    _grid: &G,
+    _tiling: Tiling,
+    _area: Frame,
+    links: &mut [u32],
+    place: usize,
+)
+    requires links { AreLinks (G.map _grid.now) S.NAME _tiling.side _area links.old }
+    requires inside { place < length links.old }
+    ensures { AreLinks (G.map _grid.now) S.NAME _tiling.side _area links.new }
+{
+    let link = links[place];
+    let onward = if link == NO_LINK {
+        place
+    } else {
+        link as usize
+    };
+    links[place] = links[onward];
+}
+
+// Leads each link to the sink.
+fn lead<S: Side, G: Heights>(grid: &G, tiling: Tiling, area: Frame, links: &mut [u32])
+    requires { AreLinks (G.map grid.now) S.NAME tiling.side area links.old }
+    ensures { AreSunk (G.map grid.now) S.NAME tiling.side area links.new }
+{
+    for place in 0..links.len() {
+        lead_one::<S, G>(grid, tiling, area, links, place);
+    }
+}
+
+// Leads the link at a place to the sink.
+#[inline]
+fn lead_one<S: Side, G: Heights>(
+    grid: &G,
+    tiling: Tiling,
+    area: Frame,
+    links: &mut [u32],
+    place: usize,
+)
+    requires before { LedTo (G.map grid.now) S.NAME tiling.side area place links.old }
+    requires inside { place < length links.old }
+    ensures { LedTo (G.map grid.now) S.NAME tiling.side area (place + 1) links.new }
+{
+    let link = links[place];
+    if link != NO_LINK {
+        links[place] = sink_from::<S, G>(grid, tiling, area, links, place as u32);
+    }
+}
+
+// The place of the sink of the point at a place, by walking along the links.
+#[inline]
+fn sink_from<S: Side, G: Heights>(
+    _grid: &G,
+    _tiling: Tiling,
+    _area: Frame,
+    links: &[u32],
+    start: u32,
+) -> u32
+    requires links { AreLinks (G.map _grid.now) S.NAME _tiling.side _area links.now }
+    requires inside { start < length links.now }
+    requires point { slice_index links.now start ≢ no_node }
+    ensures { IsSunk (G.map _grid.now) S.NAME _tiling.side _area start result }
+{
+    let mut here = start;
+    'walk: loop {
+        let onward = links[here as usize];
+        if onward == here {
+            return here;
+        }
+        here = onward;
+    }
 }

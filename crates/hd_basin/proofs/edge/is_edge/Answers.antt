@@ -19,6 +19,6 @@ returns g c =
       ]
     ] in
     record {
-      edge = λ e. edge-gap m c.args.at c.requires (c.has_gap.ensures.gap e);
-      inner = λ e edge. no_edge m c.args.at c.requires inner (c.has_gap.ensures.none e) edge;
+      edge = λ e. edge-gap m c.args.at c.requires.present (c.has_gap.ensures.gap e);
+      inner = λ e edge. no_edge m c.args.at c.requires.present inner (c.has_gap.ensures.none e) edge;
     }

@@ -2,7 +2,7 @@ use Rattle.std.proofs.Common.{◌≡◌, ◌*◌, ℕ, List, length, Some, sym, 
 use Rattle.std.specs.Prelude.{replicate}
 use Rattle.std.proofs.lemmas.List.{length-replicate, get_or-replicate}
 use Rattle.std.proofs.lemmas.Option.{slice_get_within, get_or_from_slice_get}
-use Rattle.hd_basin.specs.Gathering.{no_node}
+use Rattle.hd_basin.specs.Sinks.{no_node}
 use Rattle.hd_basin.proofs.Gathers.{gathered-none}
 use Rattle.hd_basin.proofs.gather.gather.Goals as goal
 
@@ -18,7 +18,7 @@ loop-place-init g c =
     let numbers : List ℕ = c.in_ok-vec.field-0.items in
     let n : ℕ = c.args.area.columns * c.args.area.rows in
     let all : numbers ≡ replicate n no_node = c.in_ok-vec.ensures.items_if_clones_equal (λ _ e. e) in
-    rw (c.new.ensures.items, c.new-2.ensures.items) (gathered-none (g.G.Heights.map c.args.grid.now) g.S.Side.NAME c.args.tiling.side c.args.tile c.args.area numbers (ap (λ (xs : List ℕ). length xs) all ∙ length-replicate n no_node) (none-there numbers n all))
+    rw (c.new.ensures.items, c.in_ok-with_capacity.ensures.items) (gathered-none (g.G.Heights.map c.args.grid.now) g.S.Side.NAME c.args.tiling.side c.args.tile c.args.area numbers (ap (λ (xs : List ℕ). length xs) all ∙ length-replicate n no_node) (none-there numbers n all))
 
 pub returns : goal.returns
 returns g c =

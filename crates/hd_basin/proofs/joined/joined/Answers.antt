@@ -1,12 +1,11 @@
-use Rattle.std.proofs.Common.{ℕ, List, subst, arith}
+use Rattle.std.proofs.Common.{◌≡◌, ◌*◌, ℕ, List, subst, arith}
 use Rattle.hd_map.specs.declared.types.Size.{Size}
 use Rattle.hd_map.specs.Map.{Map}
 use Rattle.hd_basin.specs.declared.frame.Frame.{Frame}
 use Rattle.hd_basin.specs.declared.part.Part.{Part}
-use Rattle.hd_basin.specs.Built.{IsNoded}
+use Rattle.hd_basin.specs.Built.{IsAsked, IsNoded}
 use Rattle.hd_basin.specs.declared.part.Seam.{Seam}
-use Rattle.hd_basin.specs.Candidates.{KeepLowest}
-use Rattle.hd_basin.specs.Split.{AreSplit}
+use Rattle.hd_basin.specs.Candidates.{AreCandidates, KeepLowest}
 use Rattle.hd_basin.specs.Sinks.{IsArea}
 use Rattle.hd_basin.proofs.Joining.{joined-built}
 use Rattle.hd_basin.proofs.joined.joined.Goals as goal
@@ -20,11 +19,12 @@ returns-clause-built g c =
     let f : Frame = c.area_of-area.result in
     let area : IsArea m.size t c.args.tile f = subst (λ (s : Size). IsArea s t c.args.tile f) c.requires.size c.area_of-area.ensures in
     let h = c.requires.sight.noded in
-    let split = c.in_ok-passes.field-0 in
-    let done : Part = record { seen = c.args.part.seen; nodes = c.args.part.nodes; labels = c.args.part.labels; passes = split.passes; seams = split.seams } in
-    let noded : IsNoded m g.S.Side.NAME t c.args.tile done = record { nodes = h.nodes; once = h.once; sinks = h.sinks; labels = h.labels } in
     let all : List Seam = c.in_ok-all.all.items in
     let kept : List Seam = c.in_ok-kept.kept.items in
+    let seams : List Seam = c.from_vec.result in
+    let done : Part = record { seen = c.args.part.seen; nodes = c.args.part.nodes; labels = c.args.part.labels; passes = c.args.part.passes; seams = seams } in
+    let noded : IsNoded m g.S.Side.NAME t c.args.tile done = record { nodes = h.nodes; once = h.once; sinks = h.sinks; labels = h.labels; passes = h.passes } in
     let keeps : KeepLowest g.S.Side.NAME all kept = subst (λ (xs : List Seam). KeepLowest g.S.Side.NAME xs kept) c.as_slice.ensures.value c.in_ok-kept.ensures in
-    let parted : AreSplit c.args.tile kept done.passes done.seams = subst (λ (xs : List Seam). AreSplit c.args.tile xs done.passes done.seams) c.as_slice-2.ensures.value c.in_ok-passes.ensures in
-    joined-built m g.S.Side.NAME t c.args.tile stamps c.args.parts.now f (omega (arith, least)) area c.requires.stale all kept c.in_ok-all.ensures keeps done noded parted
+    let places : f.rows * f.columns ≡ f.columns * f.rows = omega arith in
+    let cand = subst (λ (n : ℕ). AreCandidates m g.S.Side.NAME t c.args.tile stamps (IsAsked m t stamps c.args.parts.now f n) all) places c.in_ok-all.ensures in
+    joined-built m g.S.Side.NAME t c.args.tile stamps c.args.parts.now f (omega (arith, least)) area c.requires.stale all kept cand keeps done noded c.from_vec.ensures

@@ -87,4 +87,4 @@ returns g c =
     let done : c.near.number ≡ length near = omega (arith, past, up) in
     pairs-end m g.S.Side.NAME t c.args.tile stamps c.args.parts.now c.args._area c.args._place near c.near.all.items
     (λ q h. (c.requires.near q).1 (subst (λ (x : Pos). Neighbour m x q) (sym c.requires.here) h))
-    (subst (λ (k : ℕ). AreCandidates m g.S.Side.NAME t c.args.tile stamps (IsAskedNext m t c.args.tile stamps c.args.parts.now c.args._area c.args._place near k) c.near.all.items) done c.near.invariant)
+    (subst (λ (k : ℕ). AreCandidates m g.S.Side.NAME t c.args.tile stamps (IsAskedNext m t stamps c.args.parts.now c.args._area c.args._place near k) c.near.all.items) done c.near.invariant)

@@ -13,11 +13,11 @@ returns-in_default-seam_between g c =
     let m : Map = g.T.Looked.map c.args.tiles.now in
     let t : ℕ = c.args.tiling.side in
     let e = c.in-Some.ensures in
-    let same : c.args.own.low ≡ c.in-Some.end.low = c.in_default-seam_between.ensures in
+    let same : c.args.own ≡ c.in-Some.end.low = c.in_default-seam_between.ensures in
     inl (
       refl,
       λ a b from to apart known. apart (
-          sink-unique m g.S.Side.NAME t (rank m c.args.here.0) a c.args.own.low from c.requires.own.sink ∙ same ∙ sink-unique m g.S.Side.NAME t (rank m c.args.near.0) c.in-Some.end.low b e.sink to),
+          sink-unique m g.S.Side.NAME t (rank m c.args.here.0) a c.args.own from c.requires.own ∙ same ∙ sink-unique m g.S.Side.NAME t (rank m c.args.near.0) c.in-Some.end.low b e.sink to),
     )
 
 pub returns : goal.returns
@@ -35,13 +35,13 @@ returns g c =
       record {
         near = c.requires.neighbour;
         in_tile = c.requires.in_tile;
-        a = c.args.own.low;
+        a = c.args.own;
         b = c.in-Some.end.low;
-        from = c.requires.own.sink;
+        from = c.requires.own;
         to = e.sink;
         apart = h.0;
-        pass_is = h.1 ∙ ap (λ (x : Rank). pass_between g.S.Side.NAME c.args.own.low c.in-Some.end.low (higher_by g.S.Side.NAME x c.args.near.1)) c.requires.here
-            ∙ ap (λ (x : Rank). pass_between g.S.Side.NAME c.args.own.low c.in-Some.end.low (higher_by g.S.Side.NAME (rank m c.args.here.0) x)) c.requires.near;
+        pass_is = h.1 ∙ ap (λ (x : Rank). pass_between g.S.Side.NAME c.args.own c.in-Some.end.low (higher_by g.S.Side.NAME x c.args.near.1)) c.requires.here
+            ∙ ap (λ (x : Rank). pass_between g.S.Side.NAME c.args.own c.in-Some.end.low (higher_by g.S.Side.NAME (rank m c.args.here.0) x)) c.requires.near;
         with_is = h.2 ∙ e.with_is;
         stamp = ap (slice_get stamps) h.2 ∙ e.stamp ∙ ap (λ (k : ℕ). Some k) (sym h.3);
       },

@@ -7,7 +7,7 @@ use Rattle.hd_map.specs.Map.{Map}
 use Rattle.hd_map.specs.Rank.{rank}
 use Rattle.hd_basin.specs.declared.node.Node.{Node}
 use Rattle.hd_basin.specs.Adding.{AddsPoint}
-use Rattle.hd_basin.specs.Gathering.{no_node}
+use Rattle.hd_basin.specs.Sinks.{no_node}
 use Rattle.hd_basin.specs.Parts.{place_in_tile}
 use Rattle.hd_basin.proofs.gather.Gathered.count.Goals as goal
 
@@ -18,26 +18,26 @@ edge_height edge r = if edge then Some r.height else None
 pub index-requires : goal.index-requires
 index-requires g c =
     let numbers : List ℕ = c.args.self.now.numbers.items in
-    let home : c.place_in_tile-home.result < length numbers = rw c.place_in_tile-home.ensures c.requires.home in
-    let at : slice_get numbers c.place_in_tile-home.result ≡ Some c.index-number.result.now = slice_get_read numbers (length numbers) c.place_in_tile-home.result c.index-number.result.now refl home c.index-number.ensures in
-    let below = c.requires.known c.place_in_tile-home.result c.index-number.result.now at c.if-number.false in
+    let home : c.args.home < length numbers = c.requires.inside in
+    let at : slice_get numbers c.args.home ≡ Some c.index-number.result.now = slice_get_read numbers (length numbers) c.args.home c.index-number.result.now refl home c.index-number.ensures in
+    let below = c.requires.known c.args.home c.index-number.result.now at c.if-number.false in
     omega (arith, below, c.args.self.now.nodes.ok.0)
 
 pub index_mut-requires-2 : goal.index_mut-requires-2
 index_mut-requires-2 g c =
     let numbers : List ℕ = c.args.self.now.numbers.items in
-    let home : c.place_in_tile-home.result < length numbers = rw c.place_in_tile-home.ensures c.requires.home in
-    let at : slice_get numbers c.place_in_tile-home.result ≡ Some c.index-number.result.now = slice_get_read numbers (length numbers) c.place_in_tile-home.result c.index-number.result.now refl home c.index-number.ensures in
-    let below = c.requires.known c.place_in_tile-home.result c.index-number.result.now at c.if-number.false in
+    let home : c.args.home < length numbers = c.requires.inside in
+    let at : slice_get numbers c.args.home ≡ Some c.index-number.result.now = slice_get_read numbers (length numbers) c.args.home c.index-number.result.now refl home c.index-number.ensures in
+    let below = c.requires.known c.args.home c.index-number.result.now at c.if-number.false in
     omega (arith, below, c.args.self.now.nodes.ok.0)
 
 pub add_point-requires : goal.add_point-requires
 add_point-requires g c =
     let numbers : List ℕ = c.args.self.now.numbers.items in
     let nodes : List Node = c.args.self.now.nodes.items in
-    let home : c.place_in_tile-home.result < length numbers = rw c.place_in_tile-home.ensures c.requires.home in
-    let at : slice_get numbers c.place_in_tile-home.result ≡ Some c.index-number.result.now = slice_get_read numbers (length numbers) c.place_in_tile-home.result c.index-number.result.now refl home c.index-number.ensures in
-    let below = c.requires.known c.place_in_tile-home.result c.index-number.result.now at c.if-number.false in
+    let home : c.args.home < length numbers = c.requires.inside in
+    let at : slice_get numbers c.args.home ≡ Some c.index-number.result.now = slice_get_read numbers (length numbers) c.args.home c.index-number.result.now refl home c.index-number.ensures in
+    let below = c.requires.known c.args.home c.index-number.result.now at c.if-number.false in
     let node : slice_get nodes c.index-number.result.now ≡ Some c.index.result.now = slice_get_read nodes (length nodes) c.index-number.result.now c.index.result.now refl below c.index.ensures in
     let small = c.requires.small c.index-number.result.now c.index.result.now node in
     omega (arith, small)
@@ -45,12 +45,12 @@ add_point-requires g c =
 pub returns-then-number-clause-counts : goal.returns-then-number-clause-counts
 returns-then-number-clause-counts g c =
     let m : Map = g.G.Heights.map c.args.grid.now in
-    let t : ℕ = c.args.tiling.side in
+    let t : ℕ = c.args._tiling.side in
     let numbers : List ℕ = c.args.self.now.numbers.items in
     let nodes : List Node = c.args.self.now.nodes.items in
-    let home_is : c.place_in_tile-home.result ≡ place_in_tile m.size t c.args.sink = c.place_in_tile-home.ensures ∙ ap (λ (s : Size). place_in_tile s t c.args.sink) c.requires.size in
-    let home : c.place_in_tile-home.result < length numbers = rw c.place_in_tile-home.ensures c.requires.home in
-    let at : slice_get numbers c.place_in_tile-home.result ≡ Some c.index-number.result.now = slice_get_read numbers (length numbers) c.place_in_tile-home.result c.index-number.result.now refl home c.index-number.ensures in
+    let home_is : c.args.home ≡ place_in_tile m.size t c.args.sink = c.requires.home ∙ ap (λ (s : Size). place_in_tile s t c.args.sink) c.requires.size in
+    let home : c.args.home < length numbers = c.requires.inside in
+    let at : slice_get numbers c.args.home ≡ Some c.index-number.result.now = slice_get_read numbers (length numbers) c.args.home c.index-number.result.now refl home c.index-number.ensures in
     let free : slice_get numbers (place_in_tile m.size t c.args.sink) ≡ Some no_node = ap (slice_get numbers) (sym home_is) ∙ at ∙ ap (λ (k : ℕ). Some k) c.if-number.true in
     let pushed : c.push.new.self.items ≡ nodes ++ c.first_node-node.result ∷ [] = c.in_ok-push.ensures.items in
     let count : c.len-number.result ≡ length nodes = search rules in
@@ -76,14 +76,14 @@ returns-then-number-clause-counts g c =
 pub returns-clause-counts : goal.returns-clause-counts
 returns-clause-counts g c =
     let m : Map = g.G.Heights.map c.args.grid.now in
-    let t : ℕ = c.args.tiling.side in
+    let t : ℕ = c.args._tiling.side in
     let numbers : List ℕ = c.args.self.now.numbers.items in
     let nodes : List Node = c.args.self.now.nodes.items in
     let label : ℕ = c.index-number.result.now in
-    let home_is : c.place_in_tile-home.result ≡ place_in_tile m.size t c.args.sink = c.place_in_tile-home.ensures ∙ ap (λ (s : Size). place_in_tile s t c.args.sink) c.requires.size in
-    let home : c.place_in_tile-home.result < length numbers = rw c.place_in_tile-home.ensures c.requires.home in
-    let at : slice_get numbers c.place_in_tile-home.result ≡ Some label = slice_get_read numbers (length numbers) c.place_in_tile-home.result label refl home c.index-number.ensures in
-    let below = c.requires.known c.place_in_tile-home.result label at c.if-number.false in
+    let home_is : c.args.home ≡ place_in_tile m.size t c.args.sink = c.requires.home ∙ ap (λ (s : Size). place_in_tile s t c.args.sink) c.requires.size in
+    let home : c.args.home < length numbers = c.requires.inside in
+    let at : slice_get numbers c.args.home ≡ Some label = slice_get_read numbers (length numbers) c.args.home label refl home c.index-number.ensures in
+    let below = c.requires.known c.args.home label at c.if-number.false in
     let node : slice_get nodes label ≡ Some c.index.result.now = slice_get_read nodes (length nodes) label c.index.result.now refl below c.index.ensures in
     let adds : AddsPoint (rank m c.args.at).height c.is_edge-edge.result c.index.result.now c.add_point.new.node = subst (λ (r : Rank). AddsPoint r.height c.is_edge-edge.result c.index.result.now c.add_point.new.node) c.rank_of-point.ensures c.add_point.ensures in
     inr (record {

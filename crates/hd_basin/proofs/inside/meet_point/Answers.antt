@@ -1,0 +1,15 @@
+use Rattle.std.proofs.Common.{◌≡◌, ℕ, length, subst, arith}
+use Rattle.hd_basin.specs.Inside.{AreMet, place_of_frame}
+use Rattle.hd_basin.proofs.Meets.{met-place}
+use Rattle.hd_basin.proofs.inside.meet_point.Goals as goal
+
+pub returns : goal.returns
+returns g c =
+    let m = g.G.Heights.map c.args.grid.now in
+    let side = g.S.Side.NAME in
+    let count : ℕ = length c.args._nodes.now in
+    let k : ℕ = place_of_frame c.args.area c.args.at in
+    let lasts = c.loop-step.meetings.lasts.items in
+    let list = c.loop-step.meetings.list.items in
+    let done : c.loop-step.step ≡ 4 = omega arith in
+    met-place m side c.args.area c.args.labels.now count k lasts list (subst (λ (s : ℕ). AreMet m side c.args.area c.args.labels.now count k s lasts list) done c.loop-step.invariant)

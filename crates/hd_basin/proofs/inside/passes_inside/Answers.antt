@@ -1,0 +1,41 @@
+use Rattle.std.proofs.Common.{◌≡◌, ◌<◌, ◌*◌, ℕ, List, [], Option, Some, slice_get, length, sym, subst, arith}
+use Rattle.hd_basin.specs.declared.meetings.Meeting.{Meeting}
+use Rattle.hd_basin.specs.Inside.{AreMet, ArePassesOf}
+use Rattle.hd_basin.specs.Meetings.{AreChained}
+use Rattle.hd_basin.proofs.Meets.{met-none, passes-all}
+use Rattle.hd_basin.proofs.inside.passes_inside.Goals as goal
+
+pub loop-row-init : goal.loop-row-init
+loop-row-init g c =
+    let m = g.G.Heights.map c.args.grid.now in
+    let side = g.S.Side.NAME in
+    let count : ℕ = length c.args.nodes.now in
+    let made = c.in_ok-meetings.ensures in
+    let lasts : List (Option ℕ) = c.in_ok-meetings.meetings.lasts.items in
+    let list : List Meeting = c.in_ok-meetings.meetings.list.items in
+    let start = met-none m side c.args.area c.args.labels.now count lasts (subst (AreChained lasts) made.none made.chained) made.count in
+    let first : AreMet m side c.args.area c.args.labels.now count 0 0 lasts list = subst (AreMet m side c.args.area c.args.labels.now count 0 0 lasts) (sym made.none) start in
+    let zero : 0 ≡ 0 * c.args.area.columns = omega arith in
+    subst (λ (k : ℕ). AreMet m side c.args.area c.args.labels.now count k 0 lasts list) zero first
+
+pub list_passes-requires : goal.list_passes-requires
+list_passes-requires g c = λ i x at. (
+    let list : List Meeting = c.loop-row.meetings.list.items in
+    let event = c.loop-row.invariant.kept.each i x (subst (λ (xs : List Meeting). slice_get xs i ≡ Some x) c.as_slice.ensures.value at) in
+    let less = event.pair.less in
+    let few = event.pair.few in
+    (omega (arith, less, few), few))
+
+pub returns : goal.returns
+returns g c =
+    let m = g.G.Heights.map c.args.grid.now in
+    let side = g.S.Side.NAME in
+    let f = c.args.area in
+    let count : ℕ = length c.args.nodes.now in
+    let lasts : List (Option ℕ) = c.loop-row.meetings.lasts.items in
+    let list : List Meeting = c.loop-row.meetings.list.items in
+    let least = c.args._tiling.tile_side.least in
+    let done : c.loop-row.row * f.columns ≡ f.columns * f.rows = (let e : c.loop-row.row ≡ f.rows = omega arith in subst (λ (r : ℕ). r * f.columns ≡ f.columns * f.rows) (sym e) (omega arith)) in
+    let all : AreMet m side f c.args.labels.now count (f.columns * f.rows) 0 lasts list = subst (λ (k : ℕ). AreMet m side f c.args.labels.now count k 0 lasts list) done c.loop-row.invariant in
+    let of : ArePassesOf side c.args.nodes.now list (length list) c.in_ok-passes.passes = subst (λ (xs : List Meeting). ArePassesOf side c.args.nodes.now xs (length xs) c.in_ok-passes.passes) c.as_slice.ensures.value c.in_ok-passes.ensures in
+    passes-all m side c.args._tiling.side c.args._tile f (omega (arith, least)) c.requires.area c.args.nodes.now c.args.labels.now c.requires.named list all.kept c.in_ok-passes.passes of

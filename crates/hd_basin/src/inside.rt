@@ -1,0 +1,322 @@
+// The passes between two basins of a tile, from the pairs of neighbours that lie in two of them.
+ghost use Rattle.std.specs.Prelude.{◌≡◌, ◌<◌, ◌≤◌, ◌*◌, ◌+◌, ℕ, Some, IfOk, MatchOption, OnOk, length, slice_get};
+ghost use Rattle.hd_map.specs.declared.types.Pos.{Pos};
+ghost use Rattle.hd_map.specs.declared.types.Rank.{Rank};
+ghost use Rattle.hd_map.specs.Passes.{higher_by};
+ghost use Rattle.hd_basin.specs.declared.meetings.Meeting.{Meeting};
+ghost use Rattle.hd_basin.specs.Built.{HasPasses};
+ghost use Rattle.hd_basin.specs.Frames.{InFrame};
+ghost use Rattle.hd_basin.specs.Inside.{AreMet, AreNamed, ArePassesOf, IsPairAt, IsPassOf, IsStep, MeetsPair, label_at, place_of_frame, step_down, step_right};
+ghost use Rattle.hd_basin.specs.Meetings.{AreChained};
+ghost use Rattle.hd_basin.specs.Round.{AreRanks};
+ghost use Rattle.hd_basin.specs.Sinks.{IsArea};
+
+use crate::Node;
+use crate::ends::pass_between;
+use crate::frame::{Frame, is_in_frame, place_in};
+use crate::meetings::{Meeting, Meetings};
+use crate::round::rank_in;
+use hd_list::{List, Memory};
+use hd_map::{Heights, Pass, Pos, Rank, Side, are_beside};
+use hd_tiles::Tiling;
+use std::alloc::Global;
+
+/// The passes between two basins of a tile. `Memory` comes where memory is refused.
+pub fn passes_inside<S: Side, G: Heights>(
+    alloc: Global,
+    grid: &G,
+    _tiling: Tiling,
+    _tile: u32,
+    area: Frame,
+    ranks: &[Rank],
+    labels: &[u32],
+    nodes: &[Node],
+) -> Result<List<Pass>, Memory>
+    requires area { IsArea (G.map grid.now).size _tiling.side _tile area }
+    requires ranks { AreRanks (G.map grid.now) S.NAME area ((area.rows + 2) * (area.columns + 2)) ranks.now }
+    requires named { AreNamed (G.map grid.now) S.NAME _tiling.side area nodes.now labels.now }
+    ensures { IfOk result (λ passes. HasPasses (G.map grid.now) S.NAME _tiling.side _tile passes) }
+{
+    let mut meetings = Meetings::new(alloc, nodes.len())?;
+    for row in 0..area.rows {
+        meet_row::<S, G>(
+            grid,
+            _tiling,
+            _tile,
+            area,
+            ranks,
+            labels,
+            nodes,
+            row,
+            &mut meetings,
+        )?;
+    }
+    let passes = list_passes::<S>(alloc, nodes, meetings.list.as_slice())?;
+    Ok(passes)
+}
+
+// Notes the meetings of the points of a row with those after them.
+fn meet_row<S: Side, G: Heights>(
+    grid: &G,
+    _tiling: Tiling,
+    _tile: u32,
+    area: Frame,
+    ranks: &[Rank],
+    labels: &[u32],
+    _nodes: &[Node],
+    row: u32,
+    meetings: &mut Meetings,
+) -> Result<(), Memory>
+    requires area { IsArea (G.map grid.now).size _tiling.side _tile area }
+    requires ranks { AreRanks (G.map grid.now) S.NAME area ((area.rows + 2) * (area.columns + 2)) ranks.now }
+    requires named { AreNamed (G.map grid.now) S.NAME _tiling.side area _nodes.now labels.now }
+    requires row { row < area.rows }
+    requires before { AreMet (G.map grid.now) S.NAME area labels.now (length _nodes.now) (row * area.columns) 0 meetings.old.lasts.items meetings.old.list.items }
+    ensures { OnOk result (AreMet (G.map grid.now) S.NAME area labels.now (length _nodes.now) ((row + 1) * area.columns) 0 meetings.new.lasts.items meetings.new.list.items) }
+{
+    for column in 0..area.columns {
+        let at = Pos {
+            x: area.left + column,
+            y: area.top + row,
+        };
+        meet_point::<S, G>(
+            grid, _tiling, _tile, area, ranks, labels, _nodes, at, meetings,
+        )?;
+    }
+    Ok(())
+}
+
+// Notes the meetings of a point with those after it.
+#[inline]
+fn meet_point<S: Side, G: Heights>(
+    grid: &G,
+    _tiling: Tiling,
+    _tile: u32,
+    area: Frame,
+    ranks: &[Rank],
+    labels: &[u32],
+    _nodes: &[Node],
+    at: Pos,
+    meetings: &mut Meetings,
+) -> Result<(), Memory>
+    requires area { IsArea (G.map grid.now).size _tiling.side _tile area }
+    requires ranks { AreRanks (G.map grid.now) S.NAME area ((area.rows + 2) * (area.columns + 2)) ranks.now }
+    requires named { AreNamed (G.map grid.now) S.NAME _tiling.side area _nodes.now labels.now }
+    requires at { InFrame area at }
+    requires before { AreMet (G.map grid.now) S.NAME area labels.now (length _nodes.now) (place_of_frame area at) 0 meetings.old.lasts.items meetings.old.list.items }
+    ensures { OnOk result (AreMet (G.map grid.now) S.NAME area labels.now (length _nodes.now) (place_of_frame area at + 1) 0 meetings.new.lasts.items meetings.new.list.items) }
+{
+    for step in 0..4u32 {
+        meet_step::<S, G>(
+            grid, _tiling, _tile, area, ranks, labels, _nodes, at, step, meetings,
+        )?;
+    }
+    Ok(())
+}
+
+// Notes the meeting of a point with the one a step after it, if they have one.
+#[inline]
+fn meet_step<S: Side, G: Heights>(
+    grid: &G,
+    _tiling: Tiling,
+    _tile: u32,
+    area: Frame,
+    ranks: &[Rank],
+    labels: &[u32],
+    _nodes: &[Node],
+    at: Pos,
+    step: u32,
+    meetings: &mut Meetings,
+) -> Result<(), Memory>
+    requires area { IsArea (G.map grid.now).size _tiling.side _tile area }
+    requires ranks { AreRanks (G.map grid.now) S.NAME area ((area.rows + 2) * (area.columns + 2)) ranks.now }
+    requires named { AreNamed (G.map grid.now) S.NAME _tiling.side area _nodes.now labels.now }
+    requires at { InFrame area at }
+    requires step { step < 4 }
+    requires before { AreMet (G.map grid.now) S.NAME area labels.now (length _nodes.now) (place_of_frame area at) step meetings.old.lasts.items meetings.old.list.items }
+    ensures { OnOk result (AreMet (G.map grid.now) S.NAME area labels.now (length _nodes.now) (place_of_frame area at) (step + 1) meetings.new.lasts.items meetings.new.list.items) }
+{
+    let Some(near) = stepped(area, at, step) else {
+        return Ok(());
+    };
+    meet_pair::<S, G>(
+        grid, _tiling, _tile, area, ranks, labels, _nodes, at, near, meetings,
+    )?;
+    Ok(())
+}
+
+// The position a step after another one, if the rectangle has it: the one on the right, or one of the
+// three below.
+#[inline]
+fn stepped(area: Frame, at: Pos, step: u32) -> Option<Pos>
+    requires right { area.left + area.columns < 65536 }
+    requires bottom { area.top + area.rows < 65536 }
+    requires at { InFrame area at }
+    requires step { step < 4 }
+    ensures { MatchOption result ((q : Pos) → InFrame area q → IsStep at q step → ⊥) (λ q. InFrame area q × IsStep at q step) }
+{
+    let right = at.x + step_right(step);
+    if right == 0 {
+        return None;
+    }
+    let near = Pos {
+        x: right - 1,
+        y: at.y + step_down(step),
+    };
+    if is_in_frame(area, near) {
+        Some(near)
+    } else {
+        None
+    }
+}
+
+// How many columns a step leads to the right, and one more.
+#[inline]
+fn step_right(step: u32) -> u32
+    requires { step < 4 }
+    ensures value { result ≡ step_right step }
+    ensures few { result ≤ 2 }
+{
+    if step == 0 { 2 } else { step - 1 }
+}
+
+// How many profiles a step leads down.
+#[inline]
+fn step_down(step: u32) -> u32
+    ensures value { result ≡ step_down step }
+    ensures few { result ≤ 1 }
+{
+    if step == 0 { 0 } else { 1 }
+}
+
+// Notes the meeting of two positions side by side, if they have one.
+#[inline]
+fn meet_pair<S: Side, G: Heights>(
+    grid: &G,
+    _tiling: Tiling,
+    _tile: u32,
+    area: Frame,
+    ranks: &[Rank],
+    labels: &[u32],
+    _nodes: &[Node],
+    at: Pos,
+    near: Pos,
+    meetings: &mut Meetings,
+) -> Result<(), Memory>
+    requires area { IsArea (G.map grid.now).size _tiling.side _tile area }
+    requires ranks { AreRanks (G.map grid.now) S.NAME area ((area.rows + 2) * (area.columns + 2)) ranks.now }
+    requires named { AreNamed (G.map grid.now) S.NAME _tiling.side area _nodes.now labels.now }
+    requires at { InFrame area at }
+    requires near { InFrame area near }
+    requires step { (step : _) × (step < 4) × IsStep at near step }
+    requires chained { AreChained meetings.old.lasts.items meetings.old.list.items }
+    requires count { length meetings.old.lasts.items ≡ length _nodes.now }
+    ensures chained { OnOk result (AreChained meetings.new.lasts.items meetings.new.list.items) }
+    ensures count { OnOk result (length meetings.new.lasts.items ≡ length _nodes.now) }
+    ensures meets { OnOk result (MeetsPair (G.map grid.now) S.NAME area labels.now (length _nodes.now) at near meetings.old.list.items meetings.new.list.items) }
+{
+    let count = meetings.lasts.len();
+    let Some((a, b, higher)) = pair_at::<S, G>(
+        grid, _tiling, _tile, area, ranks, labels, _nodes, count, at, near,
+    ) else {
+        return Ok(());
+    };
+    meetings.note::<S>(a, b, higher)?;
+    Ok(())
+}
+
+// The meeting of two positions side by side, if they have one: the numbers of two nodes, the lesser
+// first, and the higher of the points.
+#[inline]
+fn pair_at<S: Side, G: Heights>(
+    grid: &G,
+    _tiling: Tiling,
+    _tile: u32,
+    area: Frame,
+    ranks: &[Rank],
+    labels: &[u32],
+    _nodes: &[Node],
+    count: usize,
+    at: Pos,
+    near: Pos,
+) -> Option<(u32, u32, Rank)>
+    requires area { IsArea (G.map grid.now).size _tiling.side _tile area }
+    requires ranks { AreRanks (G.map grid.now) S.NAME area ((area.rows + 2) * (area.columns + 2)) ranks.now }
+    requires named { AreNamed (G.map grid.now) S.NAME _tiling.side area _nodes.now labels.now }
+    requires count { count ≡ length _nodes.now }
+    requires at { InFrame area at }
+    requires near { InFrame area near }
+    requires step { (step : _) × (step < 4) × IsStep at near step }
+    ensures { MatchOption result ((a b : ℕ) (w : Rank) → IsPairAt (G.map grid.now) S.NAME area labels.now count at near a b w → ⊥)
+        (λ x. IsPairAt (G.map grid.now) S.NAME area labels.now count at near x.0 x.1 x.2) }
+{
+    let a = label_in(area, labels, at);
+    let b = label_in(area, labels, near);
+    if a == b {
+        return None;
+    }
+    if a as usize >= count {
+        return None;
+    }
+    if b as usize >= count {
+        return None;
+    }
+    if !are_beside(grid.adjacency(), at, near) {
+        return None;
+    }
+    let here = rank_in::<S, G>(grid, area, ranks, at);
+    let there = rank_in::<S, G>(grid, area, ranks, near);
+    let higher = higher_of::<S>(here, there);
+    if a < b {
+        Some((a, b, higher))
+    } else {
+        Some((b, a, higher))
+    }
+}
+
+// The label at a position of the tile.
+#[inline]
+fn label_in(area: Frame, labels: &[u32], at: Pos) -> u32
+    requires few { area.columns * area.rows ≤ 65536 }
+    requires whole { length labels.now ≡ area.columns * area.rows }
+    requires at { InFrame area at }
+    ensures { result ≡ label_at area labels.now at }
+{
+    labels[place_in(area, at) as usize]
+}
+
+// The higher of two ranks.
+#[inline]
+fn higher_of<S: Side>(a: Rank, b: Rank) -> Rank
+    ensures { result ≡ higher_by S.NAME a b }
+{
+    if S::below(a, b) { b } else { a }
+}
+
+// The passes of these meetings.
+fn list_passes<S: Side>(
+    alloc: Global,
+    nodes: &[Node],
+    meetings: &[Meeting],
+) -> Result<List<Pass>, Memory>
+    requires { (i : ℕ) (x : Meeting) → slice_get meetings.now i ≡ Some x → (x.a < length nodes.now) × (x.b < length nodes.now) }
+    ensures { IfOk result (λ passes. ArePassesOf S.NAME nodes.now meetings.now (length meetings.now) passes) }
+{
+    let mut passes = List::with_capacity(alloc, meetings.len())?;
+    for number in 0..meetings.len() {
+        let pass = pass_of::<S>(nodes, meetings[number]);
+        passes.push(pass)?;
+    }
+    Ok(passes)
+}
+
+// The pass of a meeting.
+fn pass_of<S: Side>(nodes: &[Node], meeting: Meeting) -> Pass
+    requires a { meeting.a < length nodes.now }
+    requires b { meeting.b < length nodes.now }
+    ensures { IsPassOf S.NAME nodes.now meeting result }
+{
+    let a = nodes[meeting.a as usize];
+    let b = nodes[meeting.b as usize];
+    pass_between::<S>(a.low, b.low, meeting.at)
+}
