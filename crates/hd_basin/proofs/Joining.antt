@@ -33,8 +33,7 @@ lower-first side a b apart e = elim (below_by side b a) as (λ v. below_by side 
   | false ↦ λ f. absurd (apart ((below_by-order side).total a b e f))
 ] refl
 
--- a pass between two sinks is between them
-pub joins-between : (side : SideName) (a b w : Rank) → IsBetween (pass_between side a b w) a b w
+joins-between : (side : SideName) (a b w : Rank) → IsBetween (pass_between side a b w) a b w
 joins-between side a b w = elim (below_by side a b) as (λ v. IsBetween (if v then (record { a = a; b = b; at = w }) else (record { a = b; b = a; at = w })) a b w) [
   | true ↦ inl refl
   | false ↦ inr refl
@@ -68,7 +67,8 @@ to_ends : (P : Rank → Type 0) (p : Pass) (a b w : Rank) → IsBetween p a b w 
 to_ends P p a b w (inl e) one other = (subst P (sym (ap (λ (x : Pass). x.a) e)) one, subst P (sym (ap (λ (x : Pass). x.b) e)) other)
 to_ends P p a b w (inr e) one other = (subst P (sym (ap (λ (x : Pass). x.a) e)) other, subst P (sym (ap (λ (x : Pass). x.b) e)) one)
 
-same-pass : (a b c d w : Rank) → a ≡ c → b ≡ d → ◌≡◌ {A = Pass} (record { a = a; b = b; at = w }) (record { a = c; b = d; at = w })
+-- passes between the same ends at one place are one
+pub same-pass : (a b c d w : Rank) → a ≡ c → b ≡ d → ◌≡◌ {A = Pass} (record { a = a; b = b; at = w }) (record { a = c; b = d; at = w })
 same-pass a b c d w e f = cc
 
 -- what has the ends of a pass between two is between them

@@ -21,6 +21,11 @@ module _ {X Y : Type 0} (f : X → Y) where
   pub map-whole : (ys : List Y) (xs : List X) (k : ℕ) → length xs ≤ k → ys ++ map f (take k xs) ≡ ys ++ map f xs
   map-whole ys xs k past = ap (λ (zs : List X). ys ++ map f zs) (take_all k xs past)
 
+-- what is mapped twice is mapped once
+pub map-twice : {X Y Z : Type 0} (f : Y → Z) (g : X → Y) (xs : List X) → map (λ x. f (g x)) xs ≡ map f (map g xs)
+map-twice f g [] = refl
+map-twice f g (x ∷ xs) = ap (λ zs. f (g x) ∷ zs) (map-twice f g xs)
+
 module _ {X Y : Type 0} (f : X → List Y) where
   -- one list more is written
   pub flat-more : (ys zs new : List Y) (xs : List X) (k : ℕ) (d : X) (piece : List Y) → k < length xs → piece ≡ f (get_or xs k d) → zs ≡ ys ++ flat_map f (take k xs) → new ≡ zs ++ piece → new ≡ ys ++ flat_map f (take (k + 1) xs)

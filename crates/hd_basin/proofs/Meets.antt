@@ -1,8 +1,7 @@
 -- The pairs of neighbours of a tile, each tried once, and the passes from them.
-use Rattle.std.proofs.Common.{◌≡◌, ◌≢◌, ◌<◌, ◌≤◌, ◌+◌, ◌-◌, ◌*◌, ℕ, zero, suc, ◌⊎◌, inl, inr, true, List, [], ◌∷◌, ◌++◌, length, Option, Some, slice_get, refl, sym, ◌∙◌, ap, subst, arith}
+use Rattle.std.proofs.Common.{◌≡◌, ◌≢◌, ◌<◌, ◌≤◌, ◌+◌, ◌-◌, ◌*◌, ℕ, zero, suc, ◌⊎◌, inl, inr, true, List, [], ◌∷◌, ◌++◌, length, map, Option, Some, slice_get, refl, sym, ◌∙◌, ap, subst, arith}
 use Rattle.std.specs.Prelude.{Contains}
 use Rattle.std.proofs.lemmas.Bool.{cases_eq, cases_lt}
-use Rattle.std.proofs.lemmas.List.Elements.{Contains-push, Contains-push_cases, Contains-append_left}
 use Rattle.std.proofs.lemmas.Option.{same_Some, slice_get_within}
 use Rattle.hd_map.specs.declared.types.Pass.{Pass}
 use Rattle.hd_map.specs.declared.types.Pos.{Pos}
@@ -14,7 +13,7 @@ use Rattle.hd_map.specs.Order.{IsNotAbove}
 use Rattle.hd_map.specs.Passes.{higher_by}
 use Rattle.hd_map.specs.Rank.{rank, below_by}
 use Rattle.hd_map.proofs.Gather.{same_pos}
-use Rattle.hd_map.proofs.Items.{Contains-none}
+use Rattle.hd_map.proofs.Items.{Contains-map, map-Contains}
 use Rattle.hd_map.proofs.Points.{present_or_not, neighbour-sym}
 use Rattle.hd_graph.proofs.Basins.{higher-sym}
 use Rattle.hd_steep.specs.Lowest.{IsAtPlace, IsLow}
@@ -24,19 +23,20 @@ use Rattle.hd_basin.specs.declared.meetings.Meeting.{Meeting}
 use Rattle.hd_basin.specs.declared.node.Node.{Node}
 use Rattle.hd_basin.specs.Basin.{IsSinkOf, IsBasinMeeting, IsBasinPass, tile_at}
 use Rattle.hd_basin.specs.Built.{HasPasses, IsRightPass}
-use Rattle.hd_basin.specs.Candidates.{pass_between}
 use Rattle.hd_basin.specs.Frames.{InFrame, FitsGrid}
-use Rattle.hd_basin.specs.Inside.{AreNamed, IsStep, IsTried, IsPairAt, MeetsPair, IsMet, AreMet, IsPassOf, ArePassesOf, label_at, place_of_frame, step_right, step_down}
+use Rattle.hd_basin.specs.Inside.{AreNamed, IsStep, IsTried, IsPairAt, MeetsPair, IsMet, AreMet, join_of, label_at, place_of_frame, step_right, step_down}
 use Rattle.hd_basin.specs.Meetings.{AreChained, AreKept, Notes}
-use Rattle.hd_basin.specs.Parts.{IsBetween}
+use Rattle.hd_basin.specs.Parts.{IsBetween, low_or_none, pass_named}
 use Rattle.hd_basin.specs.Sinks.{IsArea, at_place, no_node}
 use Rattle.hd_basin.proofs.Areas.{area-in, area-tile, area-fits}
 use Rattle.hd_basin.proofs.Chains.{kept-notes}
 use Rattle.hd_basin.proofs.Contents.{sink-tile}
 use Rattle.hd_basin.proofs.Framing.{frame_step, frame-in_grid}
-use Rattle.hd_basin.proofs.Joining.{joins-between}
+use Rattle.hd_basin.proofs.Joining.{same-pass}
+use Rattle.hd_basin.proofs.Rooting.{read-contains}
 use Rattle.hd_basin.proofs.Keeping.{tile-of_point}
 use Rattle.hd_basin.proofs.Linking.{low-own}
+use Rattle.hd_basin.proofs.Listed.{contains-at}
 use Rattle.hd_basin.proofs.SinkLaws.{sink-unique}
 use Rattle.hd_basin.proofs.Steps.{meeting-sym, pass-sym}
 
@@ -236,26 +236,6 @@ module _ (m : Map) (side : SideName) (f : Frame) (ls : List ℕ) (count : ℕ) w
     };
   }
 
--- no passes, and one more
-pub passes-none : (side : SideName) (nodes : List Node) (list : List Meeting) → ArePassesOf side nodes list 0 []
-passes-none side nodes list = record { each = λ p has. absurd (Contains-none p has); all = λ i x below at. absurd (omega (arith, below)) }
-
-pub passes-more : (side : SideName) (nodes : List Node) (list : List Meeting) (n : ℕ) (passes : List Pass) (x : Meeting) (p : Pass) → ArePassesOf side nodes list n passes → slice_get list n ≡ Some x → IsPassOf side nodes x p
-    → ArePassesOf side nodes list (n + 1) (passes ++ p ∷ [])
-passes-more side nodes list n passes x p are at is = record {
-  each = λ q has. elim (Contains-push_cases passes p q has) [
-    | inl old ↦ are.each q old
-    | inr new ↦ (n, x, at, subst (IsPassOf side nodes x) new is)
-  ];
-  all = λ i y below read. elim (cases_lt i n) [
-    | inl early ↦ (let q = are.all i y early read in (q.0, Contains-append_left passes (p ∷ []) q.0 q.1, q.2))
-    | inr late ↦ (
-        let same : n ≡ i = omega (arith, late, below) in
-        let one : x ≡ y = same_Some x y (sym at ∙ ap (slice_get list) same ∙ read) in
-        (p, Contains-push passes p, subst (λ (z : Meeting). IsPassOf side nodes z p) one is))
-  ];
-}
-
 module _ (m : Map) (side : SideName) (t tile : ℕ) (f : Frame) (some : 1 ≤ t) (area : IsArea m.size t tile f) (nodes : List Node) (ls : List ℕ) (named : AreNamed m side t f nodes ls) where
   -- a point whose label is that of a node is present
   label-present : (p : Pos) → InFrame f p → label_at f ls p < length nodes → Present m p
@@ -389,7 +369,21 @@ module _ (m : Map) (side : SideName) (t tile : ℕ) (f : Frame) (some : 1 ≤ t)
       (i, j, u.0, v.0, u.1, v.1, a_is, b_is, met)
 
   -- the passes of all meetings
-  module _ (list : List Meeting) (kept : AreKept side All list) (passes : List Pass) (of : ArePassesOf side nodes list (length list) passes) where
+  module _ (list : List Meeting) (kept : AreKept side All list) where
+    abbrev pass_of : Meeting → Pass
+    pass_of x = pass_named nodes (join_of x)
+
+    abbrev passes : List Pass
+    passes = map (pass_named nodes) (map join_of list)
+
+    -- where two basins meet by a meeting
+    meets-of : (i : ℕ) (x : Meeting) → slice_get list i ≡ Some x → Meets x.a x.b x.at
+    meets-of i x at = (let event = kept.each i x at in pair-meets event.from event.to x.a x.b x.at event.tried.from event.tried.to event.pair)
+
+    -- the pass of two nodes
+    named-pass : (x : Meeting) (u v : Node) → slice_get nodes x.a ≡ Some u → slice_get nodes x.b ≡ Some v → pass_of x ≡ record { a = u.low; b = v.low; at = x.at }
+    named-pass x u v u_at v_at = (let a : low_or_none (slice_get nodes x.a) ≡ u.low = ap low_or_none u_at in let b : low_or_none (slice_get nodes x.b) ≡ v.low = ap low_or_none v_at in same-pass (low_or_none (slice_get nodes x.a)) (low_or_none (slice_get nodes x.b)) u.low v.low x.at a b)
+
     -- a meeting is lowest of those of its two basins
     lowest : (i : ℕ) (x : Meeting) (u v : Node) → slice_get list i ≡ Some x → slice_get nodes x.a ≡ Some u → slice_get nodes x.b ≡ Some v → tile_at m.size t u.low ≡ tile → tile_at m.size t v.low ≡ tile → u.low ≢ v.low
         → x.a < x.b → (w : Rank) → IsBasinMeeting m side t u.low v.low w → IsNotAbove (below_by side) x.at w
@@ -408,46 +402,31 @@ module _ (m : Map) (side : SideName) (t tile : ℕ) (f : Frame) (some : 1 ≤ t)
           | inr all ↦ absurd (let h = all.pair.less in omega (arith, h, c_is, d_is, less))
         ]
 
+    right-pass : (i : ℕ) (x : Meeting) → slice_get list i ≡ Some x → IsRightPass m side t (pass_of x) × (tile_at m.size t (pass_of x).a ≡ tile) × (tile_at m.size t (pass_of x).b ≡ tile)
+    right-pass i x at =
+        let mt = meets-of i x at in
+        let event = kept.each i x at in
+        let right : IsRightPass m side t (record { a = mt.u.low; b = mt.v.low; at = x.at }) = record { apart = mt.apart; meeting = mt.meeting; lowest = lowest i x mt.u mt.v at mt.u_at mt.v_at mt.u_tile mt.v_tile mt.apart event.pair.less } in
+        let is = named-pass x mt.u mt.v mt.u_at mt.v_at in (
+          subst (λ (z : Pass). IsRightPass m side t z) (sym is) right,
+          ap (λ (z : Pass). tile_at m.size t z.a) is ∙ mt.u_tile,
+          ap (λ (z : Pass). tile_at m.size t z.b) is ∙ mt.v_tile,
+        )
+
     pass-right : (p : Pass) → Contains passes p → IsRightPass m side t p × (tile_at m.size t p.a ≡ tile) × (tile_at m.size t p.b ≡ tile)
     pass-right p has =
-        let one = of.each p has in
-        let i : ℕ = one.0 in
-        let x : Meeting = one.1 in
-        let is = one.3 in
-        let event = kept.each i x one.2 in
-        let mt = pair-meets event.from event.to x.a x.b x.at event.tried.from event.tried.to event.pair in
-        let u_is : mt.u ≡ is.a = same_Some mt.u is.a (sym mt.u_at ∙ is.a_at) in
-        let v_is : mt.v ≡ is.b = same_Some mt.v is.b (sym mt.v_at ∙ is.b_at) in
-        let right : IsBasinPass m side t mt.u.low mt.v.low x.at = record { apart = mt.apart; meeting = mt.meeting; lowest = lowest i x mt.u mt.v one.2 mt.u_at mt.v_at mt.u_tile mt.v_tile mt.apart event.pair.less } in
-        let between : IsBetween p mt.u.low mt.v.low x.at = subst (λ (z : Pass). IsBetween z mt.u.low mt.v.low x.at)
-        (sym (is.pass_is ∙ ap (λ (n : Node). pass_between side n.low is.b.low x.at) (sym u_is) ∙ ap (λ (n : Node). pass_between side mt.u.low n.low x.at) (sym v_is))) (joins-between side mt.u.low mt.v.low x.at) in
-        elim between [
-          | inl e ↦ (
-            subst (λ (z : Pass). IsRightPass m side t z) (sym e) right,
-            ap (λ (z : Pass). tile_at m.size t z.a) e ∙ mt.u_tile,
-            ap (λ (z : Pass). tile_at m.size t z.b) e ∙ mt.v_tile,
-          )
-          | inr e ↦ (
-            subst (λ (z : Pass). IsRightPass m side t z) (sym e) (pass-sym m side t mt.u.low mt.v.low x.at right),
-            ap (λ (z : Pass). tile_at m.size t z.a) e ∙ mt.v_tile,
-            ap (λ (z : Pass). tile_at m.size t z.b) e ∙ mt.u_tile,
-          )
-        ]
+        let j = Contains-map (pass_named nodes) (map join_of list) p has in
+        let x = Contains-map join_of list j.0 j.1 in
+        let i = contains-at list x.0 x.1 in
+        subst (λ (z : Pass). IsRightPass m side t z × (tile_at m.size t z.a ≡ tile) × (tile_at m.size t z.b ≡ tile)) (ap (pass_named nodes) x.2 ∙ j.2) (right-pass i.0 x.0 i.1)
 
-    -- the pass of two nodes
+    -- the pass of two nodes is one of them
     pass-of : (i j : ℕ) (u v : Node) (w : Rank) → slice_get nodes i ≡ Some u → slice_get nodes j ≡ Some v → All i j w → (p : Pass) × Contains passes p × (z : Rank) × IsBetween p u.low v.low z
     pass-of i j u v w u_at v_at all =
         let k = kept.every i j w all in
-        let p = of.all k.0 k.1 (slice_get_within list k.0 k.1 k.2) k.2 in
-        let is = p.2 in
-        let u_is : u ≡ is.a = same_Some u is.a (sym u_at ∙ ap (slice_get nodes) (sym k.3) ∙ is.a_at) in
-        let v_is : v ≡ is.b = same_Some v is.b (sym v_at ∙ ap (slice_get nodes) (sym k.4) ∙ is.b_at) in (
-          p.0,
-          p.1,
-          k.1.at,
-          subst (λ (z : Pass). IsBetween z u.low v.low k.1.at) (sym (is.pass_is ∙ ap (λ (n : Node). pass_between side n.low is.b.low k.1.at) (sym u_is) ∙ ap (λ (n : Node). pass_between side u.low n.low k.1.at) (sym v_is)))
-              (joins-between side u.low v.low k.1.at),
-        )
+        let x : Meeting = k.1 in
+        let is = named-pass x u v (ap (slice_get nodes) k.3 ∙ u_at) (ap (slice_get nodes) k.4 ∙ v_at) in
+        (pass_of x, map-Contains (pass_named nodes) (map join_of list) (join_of x) (map-Contains join_of list x (read-contains list k.0 x k.2)), x.at, inl is)
 
     pub passes-all : HasPasses m side t tile passes
     passes-all = record {

@@ -32,7 +32,7 @@ use Rattle.hd_basin.specs.declared.part.Seam.{Seam}
 use Rattle.hd_basin.specs.Basin.{AreNextsInside, IsSinkOf, IsLabel, FlowsTo, tile_at}
 use Rattle.hd_basin.specs.InStep.{IsPoolOf, HasMap}
 use Rattle.hd_basin.specs.Listing.{as_low, lows_in, in_order, was_seen_with, pass_of, passes_in}
-use Rattle.hd_basin.specs.Parts.{Pool, HasNode, IsLinked, IsBetween, is_seen_with, label_of}
+use Rattle.hd_basin.specs.Parts.{inner_passes, Pool, HasNode, IsLinked, IsBetween, is_seen_with, label_of}
 use Rattle.hd_basin.specs.Reading.{IsGraphOf}
 use Rattle.hd_basin.proofs.Listed.{Contains-flat, flat-Contains, contains-at, pairs-flat, pairs-map}
 use Rattle.hd_basin.proofs.Rooting.{read-contains}
@@ -97,11 +97,11 @@ pass-live side parts s other at seen =
 listed-linked : (side : SideName) (parts : List Part) (a b w : Rank) → below_by side a b ≡ true → IsLinked parts a b w → Contains (flat_map (passes_in side parts) parts) (record { a = a; b = b; at = w })
 listed-linked side parts a b w low (inl i) =
     flat-Contains (passes_in side parts) parts i.tile i.part _ i.at
-    (Contains-append_left (map (in_order side) i.part.passes) (flat_map (pass_of side parts) i.part.seams) _
-    (subst (Contains (map (in_order side) i.part.passes)) (order-of side i.pass a b w low i.between) (map-Contains (in_order side) i.part.passes i.pass i.has)))
+    (Contains-append_left (map (in_order side) (inner_passes i.part)) (flat_map (pass_of side parts) i.part.seams) _
+    (subst (Contains (map (in_order side) (inner_passes i.part))) (order-of side i.pass a b w low i.between) (map-Contains (in_order side) (inner_passes i.part) i.pass i.has)))
 listed-linked side parts a b w low (inr x) =
     flat-Contains (passes_in side parts) parts x.tile x.part _ x.at
-    (Contains-append_right (map (in_order side) x.part.passes) (flat_map (pass_of side parts) x.part.seams) _
+    (Contains-append_right (map (in_order side) (inner_passes x.part)) (flat_map (pass_of side parts) x.part.seams) _
     (let k = contains-at x.part.seams x.seam x.has in
     flat-Contains (pass_of side parts) x.part.seams k.0 x.seam _ k.1
     (subst (Contains (pass_of side parts x.seam)) (order-of side x.seam.pass a b w low x.between) (pass-live side parts x.seam x.other x.with_at x.since))))
@@ -111,9 +111,9 @@ linked-listed : (side : SideName) (parts : List Part) (p : Pass) → Contains (f
 linked-listed side parts p h =
     let f = Contains-flat (passes_in side parts) parts p h in
     let part : Part = f.1 in
-    elim (Contains-append_cases (map (in_order side) part.passes) (flat_map (pass_of side parts) part.seams) p f.3) [
+    elim (Contains-append_cases (map (in_order side) (inner_passes part)) (flat_map (pass_of side parts) part.seams) p f.3) [
       | inl inside ↦ (
-          let r = Contains-map (in_order side) part.passes p inside in
+          let r = Contains-map (in_order side) (inner_passes part) p inside in
           (r.0, sym r.2, inl (record { tile = f.0; part = part; pass = r.0; at = f.2; has = r.1; between = subst (λ (q : Pass). IsBetween r.0 q.a q.b q.at) r.2 (order-between side r.0) })))
       | inr across ↦ (
           let g = Contains-flat (pass_of side parts) part.seams p across in

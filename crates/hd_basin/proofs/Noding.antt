@@ -1,5 +1,5 @@
 -- A tile whose points are all gathered has its nodes and its labels.
-use Rattle.std.proofs.Common.{◌≡◌, ◌≢◌, ◌<◌, ◌≤◌, ◌*◌, ℕ, inl, inr, List, [], ◌∷◌, length, get_or, Option, Some, None, slice_get, refl, sym, ◌∙◌, ap, subst, arith}
+use Rattle.std.proofs.Common.{◌≡◌, ◌≢◌, ◌<◌, ◌≤◌, ◌*◌, ℕ, inl, inr, List, [], ◌∷◌, length, map, get_or, Option, Some, None, slice_get, refl, sym, ◌∙◌, ap, subst, arith}
 use Rattle.std.specs.Prelude.{AllPairs, Contains}
 use Rattle.std.proofs.lemmas.Option.{same_Some, slice_get_within, slice_get-get_or, get_or_from_slice_get}
 use Rattle.hd_map.specs.declared.types.Pos.{Pos}
@@ -18,7 +18,7 @@ use Rattle.hd_basin.specs.Built.{HasPasses, IsNoded}
 use Rattle.hd_basin.specs.Inside.{AreNamed, place_of_frame}
 use Rattle.hd_basin.specs.Edge.{IsEdge}
 use Rattle.hd_basin.specs.Gathering.{IsTaken, Gathers, home_of, IsNamed, IsGathered}
-use Rattle.hd_basin.specs.Parts.{low_of, node_at, place_in_tile}
+use Rattle.hd_basin.specs.Parts.{low_of, node_at, pass_named, place_in_tile}
 use Rattle.hd_basin.specs.Sinks.{IsArea, at_place, no_node}
 use Rattle.hd_basin.proofs.Areas.{area-in, area-below, area-at}
 use Rattle.hd_basin.proofs.Contents.{sums-same, sink-tile, keeps-sym, node_kept, label_kept, sink_kept, meeting_kept, pass_kept}
@@ -118,9 +118,9 @@ module _ (m : Map) (side : SideName) (t tile : ℕ) (f : Frame) (some : 1 ≤ t)
     distinct = λ i j n u at there same. same_Some i j (sym (g.homes i n at) ∙ ap (λ (s : Rank). slice_get numbers (home_of m t s)) same ∙ g.homes j u there);
   }
 
-  pub gathered-noded : (part : Part) → part.nodes ≡ ns → part.labels.items ≡ ls → HasPasses m side t tile part.passes → IsNoded m side t tile part
+  pub gathered-noded : (part : Part) → part.nodes ≡ ns → part.labels.items ≡ ls → HasPasses m side t tile (map (pass_named ns) part.joins) → IsNoded m side t tile part
   gathered-noded part nodes labels passes = record {
-    passes = passes;
+    passes = subst (λ (xs : List Node). HasPasses m side t tile (map (pass_named xs) part.joins)) (sym nodes) passes;
     nodes = λ n has. (let i = contains-at ns n (subst (λ (xs : List Node). Contains xs n) nodes has) in node-right i.0 n i.1);
     once = subst (λ (xs : List Node). AllPairs (λ (n u : Node). n.low ≢ u.low) xs) (sym nodes) once;
     sinks = λ s at sink. (let n = sink-noded s at sink in (n.0, subst (λ (xs : List Node). Contains xs n.0) (sym nodes) n.1, n.2));

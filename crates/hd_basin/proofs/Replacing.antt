@@ -17,7 +17,7 @@ use Rattle.hd_basin.specs.declared.part.Seam.{Seam}
 use Rattle.hd_basin.specs.Basin.{IsBasinPass, IsLabel, tile_at}
 use Rattle.hd_basin.specs.Built.{IsBuilt, IsRightPass}
 use Rattle.hd_basin.specs.InStep.{IsInStep, KeepsSeen}
-use Rattle.hd_basin.specs.Parts.{Pool, IsBetween, IsLinked, IsFresh, IsSeamOf, AreSound, HasNode, label_of, low_of, node_at, place_in_tile}
+use Rattle.hd_basin.specs.Parts.{inner_passes, Pool, IsBetween, IsLinked, IsFresh, IsSeamOf, AreSound, HasNode, label_of, low_of, node_at, place_in_tile}
 use Rattle.hd_basin.specs.Pool.{IsRightOn, IsTileRight}
 use Rattle.hd_basin.proofs.Steps.{right-extended, pass-sym}
 
@@ -120,7 +120,7 @@ module _ (m : Map) (side : SideName) (t : ℕ) (stamps : List ℕ) (parts : List
     link-back : IsLinked after a b w → IsLinked parts a b w
     link-back (inl x) = elim (cases_eq x.tile tile) [
       | inl e ↦ (
-          let has : Contains part.passes x.pass = subst (λ (p : Part). Contains p.passes x.pass) (new_part x.tile x.part e x.at) x.has in
+          let has : Contains (inner_passes part) x.pass = subst (λ (p : Part). Contains (inner_passes p) x.pass) (new_part x.tile x.part e x.at) x.has in
           let r = built.inside x.pass has in
           absurd (one (both_ends (λ r. tile_at m.size t r ≡ tile) x.pass a b w x.between r.1 r.2).0))
       | inr far ↦ inl (record { tile = x.tile; part = x.part; pass = x.pass; at = sym (away x.tile far) ∙ x.at; has = x.has; between = x.between })
@@ -173,7 +173,7 @@ module _ (m : Map) (side : SideName) (t : ℕ) (stamps : List ℕ) (parts : List
   module _ (a b w : Rank) (at_tile : tile_at m.size t a ≡ tile) where
     new_pass : IsLinked after a b w → IsBasinPass m side t a b w
     new_pass (inl x) = elim (cases_eq x.tile tile) [
-      | inl e ↦ right-between m side t x.pass a b w x.between (built.inside x.pass (subst (λ (p : Part). Contains p.passes x.pass) (new_part x.tile x.part e x.at) x.has)).0
+      | inl e ↦ right-between m side t x.pass a b w x.between (built.inside x.pass (subst (λ (p : Part). Contains (inner_passes p) x.pass) (new_part x.tile x.part e x.at) x.has)).0
       | inr far ↦ (
           let r = step.sound.inside x.tile x.part x.pass (sym (away x.tile far) ∙ x.at) x.has in
           absurd (far (sym (both_ends (λ r. tile_at m.size t r ≡ x.tile) x.pass a b w x.between r.0 r.1).0 ∙ at_tile)))
@@ -212,7 +212,7 @@ module _ (m : Map) (side : SideName) (t : ℕ) (stamps : List ℕ) (parts : List
   sound : AreSound (pool_of m t after)
   sound = record {
     inside = λ j p pass at has. elim (cases_eq j tile) [
-      | inl e ↦ (let r = built.inside pass (subst (λ (x : Part). Contains x.passes pass) (new_part j p e at) has) in (r.1 ∙ sym e, r.2 ∙ sym e))
+      | inl e ↦ (let r = built.inside pass (subst (λ (x : Part). Contains (inner_passes x) pass) (new_part j p e at) has) in (r.1 ∙ sym e, r.2 ∙ sym e))
       | inr far ↦ step.sound.inside j p pass (sym (away j far) ∙ at) has
     ];
     across = λ j p s at has. elim (cases_eq j tile) [

@@ -1,21 +1,21 @@
 -- A pool that has seen no tile is in step with every map of its size.
-use Rattle.std.proofs.Common.{◌≡◌, ℕ, List, [], Some, None, subst, slice_get}
+use Rattle.std.proofs.Common.{◌≡◌, ℕ, List, [], map, Some, None, subst, slice_get}
 use Rattle.std.specs.Prelude.{All, Contains}
 use Rattle.hd_map.proofs.Items.{Contains-none}
-use Rattle.hd_map.specs.declared.types.Pass.{Pass}
 use Rattle.hd_basin.specs.declared.part.Seam.{Seam}
 use Rattle.std.proofs.lemmas.List.Elements.{All-contains}
 use Rattle.hd_map.specs.declared.types.SideName.{SideName}
 use Rattle.hd_map.specs.Map.{Map}
+use Rattle.hd_basin.specs.declared.part.Join.{Join}
 use Rattle.hd_basin.specs.declared.part.Part.{Part}
 use Rattle.hd_basin.specs.InStep.{IsInStep}
-use Rattle.hd_basin.specs.Parts.{Pool, IsFresh}
+use Rattle.hd_basin.specs.Parts.{pass_named, Pool, IsFresh}
 use Rattle.hd_basin.proofs.Rooting.{read-contains}
 
 -- a tile that was not seen has no passes
 pub record IsUnseen (part : Part) : Type 0 where
   pub seen : part.seen ≡ None
-  pub passes : part.passes ≡ []
+  pub joins : part.joins ≡ []
   pub seams : part.seams ≡ []
 
 module _ (pool : Pool) (unseen : All IsUnseen pool.parts) where
@@ -32,7 +32,7 @@ module _ (pool : Pool) (unseen : All IsUnseen pool.parts) where
   unseen-in_step m side stamps size = record {
     size = size;
     sound = record {
-      inside = λ tile part pass at has. absurd (Contains-none pass (subst (λ (xs : List Pass). Contains xs pass) (none_at tile part at).passes has));
+      inside = λ tile part pass at has. absurd (Contains-none pass (subst (λ (js : List Join). Contains (map (pass_named part.nodes) js) pass) (none_at tile part at).joins has));
       across = λ tile part seam at has. absurd (Contains-none seam (subst (λ (xs : List Seam). Contains xs seam) (none_at tile part at).seams has));
       since = λ tile part seam at has. absurd (Contains-none seam (subst (λ (xs : List Seam). Contains xs seam) (none_at tile part at).seams has));
     };

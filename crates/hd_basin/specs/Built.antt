@@ -16,7 +16,7 @@ use Rattle.hd_basin.specs.declared.ends.End.{End}
 use Rattle.hd_basin.specs.declared.frame.Frame.{Frame}
 use Rattle.hd_basin.specs.Candidates.{IsCandidate}
 use Rattle.hd_basin.specs.Sinks.{at_place}
-use Rattle.hd_basin.specs.Parts.{IsBetween, IsFresh, IsSeamOf, label_of, low_of, node_at, place_in_tile}
+use Rattle.hd_basin.specs.Parts.{inner_passes, IsBetween, IsFresh, IsSeamOf, label_of, low_of, node_at, place_in_tile}
 
 -- a pass is that between the basins of its two ends
 abbrev pub IsRightPass : Map → SideName → ℕ → Pass → Type 0
@@ -28,9 +28,9 @@ pub record IsBuilt (m : Map) (side : SideName) (t : ℕ) (stamps : List ℕ) (pa
   pub once : AllPairs (λ (n u : Node). n.low ≢ u.low) part.nodes
   pub sinks : (s : Rank) → tile_at m.size t s ≡ tile → IsSink m side t s → (n : Node) × Contains part.nodes n × (n.low ≡ s)
   pub labels : (p : Pos) → InGrid m.size p → tile_of m.size t p ≡ tile → IsLabel m side t p (low_of (node_at (Some part) (place_in_tile m.size t p)))
-  pub inside : (p : Pass) → Contains part.passes p → IsRightPass m side t p × (tile_at m.size t p.a ≡ tile) × (tile_at m.size t p.b ≡ tile)
+  pub inside : (p : Pass) → Contains (inner_passes part) p → IsRightPass m side t p × (tile_at m.size t p.a ≡ tile) × (tile_at m.size t p.b ≡ tile)
   pub inside_all : (a b u : Rank) → tile_at m.size t a ≡ tile → tile_at m.size t b ≡ tile → a ≢ b → IsBasinMeeting m side t a b u
-      → (p : Pass) × Contains part.passes p × (w : Rank) × IsBetween p a b w
+      → (p : Pass) × Contains (inner_passes part) p × (w : Rank) × IsBetween p a b w
   pub across : (s : Seam) → Contains part.seams s → IsRightPass m side t s.pass × IsSeamOf m.size t tile s
       × IsFresh stamps parts s.with × (slice_get stamps s.with ≡ Some s.stamp)
   pub across_all : (a b u : Rank) → tile_at m.size t a ≡ tile → IsFresh stamps parts (tile_at m.size t b) → a ≢ b → IsBasinMeeting m side t a b u
@@ -48,7 +48,7 @@ pub record IsNoded (m : Map) (side : SideName) (t tile : ℕ) (part : Part) : Ty
   pub once : AllPairs (λ (n u : Node). n.low ≢ u.low) part.nodes
   pub sinks : (s : Rank) → tile_at m.size t s ≡ tile → IsSink m side t s → (n : Node) × Contains part.nodes n × (n.low ≡ s)
   pub labels : (p : Pos) → InGrid m.size p → tile_of m.size t p ≡ tile → IsLabel m side t p (low_of (node_at (Some part) (place_in_tile m.size t p)))
-  pub passes : HasPasses m side t tile part.passes
+  pub passes : HasPasses m side t tile (inner_passes part)
 
 -- the basins of other tiles are known where these are fresh
 abbrev pub IsKnown : Size → ℕ → List ℕ → List Part → Pos → Type 0

@@ -1,6 +1,5 @@
 -- The passes between two basins of a tile, from the pairs of neighbours that lie in two of them.
 use Rattle.std.specs.Prelude.{◌≡◌, ◌<◌, ◌≤◌, ◌⊎◌, ◌+◌, ◌-◌, ◌*◌, ℕ, zero, suc, List, length, Option, Some, Contains, slice_get, slice_index_or}
-use Rattle.hd_map.specs.declared.types.Pass.{Pass}
 use Rattle.hd_map.specs.declared.types.Pos.{Pos}
 use Rattle.hd_map.specs.declared.types.Rank.{Rank}
 use Rattle.hd_map.specs.declared.types.SideName.{SideName}
@@ -11,7 +10,7 @@ use Rattle.hd_map.specs.Rank.{rank}
 use Rattle.hd_basin.specs.declared.frame.Frame.{Frame}
 use Rattle.hd_basin.specs.declared.meetings.Meeting.{Meeting}
 use Rattle.hd_basin.specs.declared.node.Node.{Node}
-use Rattle.hd_basin.specs.Candidates.{pass_between}
+use Rattle.hd_basin.specs.declared.part.Join.{Join}
 use Rattle.hd_basin.specs.Frames.{InFrame}
 use Rattle.hd_basin.specs.Gathering.{IsNamed}
 use Rattle.hd_basin.specs.Meetings.{AreChained, AreKept, Notes}
@@ -82,15 +81,6 @@ pub record AreMet (m : Map) (side : SideName) (f : Frame) (ls : List ℕ) (count
   pub count_is : length lasts ≡ count
   pub kept : AreKept side (IsMet m side f ls count k first) list
 
--- the pass of a meeting
-pub record IsPassOf (side : SideName) (nodes : List Node) (x : Meeting) (p : Pass) : Type 0 where
-  pub a : Node
-  pub b : Node
-  pub a_at : slice_get nodes x.a ≡ Some a
-  pub b_at : slice_get nodes x.b ≡ Some b
-  pub pass_is : p ≡ pass_between side a.low b.low x.at
-
--- the passes of the first meetings
-pub record ArePassesOf (side : SideName) (nodes : List Node) (list : List Meeting) (n : ℕ) (passes : List Pass) : Type 0 where
-  pub each : (p : Pass) → Contains passes p → (i : ℕ) × (x : Meeting) × (slice_get list i ≡ Some x) × IsPassOf side nodes x p
-  pub all : (i : ℕ) (x : Meeting) → i < n → slice_get list i ≡ Some x → (p : Pass) × Contains passes p × IsPassOf side nodes x p
+-- a meeting as it is kept of a tile
+abbrev pub join_of : Meeting → Join
+join_of x = record { a = x.a; b = x.b; at = x.at }

@@ -9,7 +9,7 @@ use Rattle.hd_graph.specs.declared.graph.Low.{Low}
 use Rattle.hd_basin.specs.declared.node.Node.{Node}
 use Rattle.hd_basin.specs.declared.part.Part.{Part}
 use Rattle.hd_basin.specs.declared.part.Seam.{Seam}
-use Rattle.hd_basin.specs.Parts.{is_seen_with}
+use Rattle.hd_basin.specs.Parts.{inner_passes, is_seen_with}
 
 -- the sink of a node as a low, which is a pit where it flows nowhere
 abbrev pub as_low : Node → Low
@@ -34,4 +34,4 @@ pass_of side parts s = if was_seen_with (slice_get parts s.with) s.stamp then (i
 
 -- the passes that a tile has
 abbrev pub passes_in : SideName → List Part → Part → List Pass
-passes_in side parts part = map (in_order side) part.passes ++ flat_map (pass_of side parts) part.seams
+passes_in side parts part = map (in_order side) (inner_passes part) ++ flat_map (pass_of side parts) part.seams

@@ -1,13 +1,15 @@
 -- What a pool keeps, tile by tile.
-use Rattle.std.specs.Prelude.{◌≡◌, ◌≢◌, ◌≤◌, ◌⊎◌, ◌+◌, ◌-◌, ◌*◌, ◌/◌, ◌%◌, ℕ, Bool, false, List, [], ◌∷◌, length, min, nat_eq, Option, Some, None, Contains, slice_get, slice_index_or, if◌then◌else◌}
+use Rattle.std.specs.Prelude.{◌≡◌, ◌≢◌, ◌≤◌, ◌⊎◌, ◌+◌, ◌-◌, ◌*◌, ◌/◌, ◌%◌, ℕ, Bool, false, List, [], ◌∷◌, length, map, min, nat_eq, Option, Some, None, Contains, slice_get, slice_index_or, if◌then◌else◌}
 use Rattle.hd_map.specs.declared.types.Pos.{Pos}
 use Rattle.hd_map.specs.declared.types.Rank.{Rank}
 use Rattle.hd_map.specs.declared.types.Size.{Size}
 use Rattle.hd_map.specs.declared.types.Pass.{Pass}
 use Rattle.hd_basin.specs.declared.part.Seam.{Seam}
+use Rattle.hd_steep.specs.Rows.{past_end}
 use Rattle.hd_tiles.specs.Tile.{tile_of}
 use Rattle.hd_basin.specs.Basin.{tile_at}
 use Rattle.hd_basin.specs.declared.node.Node.{Node}
+use Rattle.hd_basin.specs.declared.part.Join.{Join}
 use Rattle.hd_basin.specs.declared.part.Part.{Part}
 
 -- the pool of a grid of this size in tiles of this side
@@ -42,6 +44,19 @@ low_of (Some n) = Some n.low
 abbrev pub label_of : Size → ℕ → List Part → Pos → Option Rank
 label_of s t parts p = low_of (node_of s t parts p)
 
+-- the sink of a node, and no point where there is no node
+abbrev pub low_or_none : Option Node → Rank
+low_or_none None = past_end
+low_or_none (Some n) = n.low
+
+-- the pass between two nodes, by their numbers
+abbrev pub pass_named : List Node → Join → Pass
+pass_named nodes j = record { a = low_or_none (slice_get nodes j.a); b = low_or_none (slice_get nodes j.b); at = j.at }
+
+-- the passes between two basins of a tile
+abbrev pub inner_passes : Part → List Pass
+inner_passes part = map (pass_named part.nodes) part.joins
+
 -- the node is one of those of the tile
 pub record HasNode (parts : List Part) (tile : ℕ) (n : Node) : Type 0 where
   pub part : Part
@@ -58,7 +73,7 @@ pub record IsInside (parts : List Part) (a b w : Rank) : Type 0 where
   pub part : Part
   pub pass : Pass
   pub at : slice_get parts tile ≡ Some part
-  pub has : Contains part.passes pass
+  pub has : Contains (inner_passes part) pass
   pub between : IsBetween pass a b w
 
 -- one end of the seam lies in the tile, and the other in another one
@@ -105,7 +120,7 @@ stale_count (stamp ∷ stamps) (part ∷ parts) = (if is_seen_with part.seen sta
 -- the passes of each tile join two of its basins, and its seams one of them and one of another tile, whose seen
 -- stamp has not fallen since
 pub record AreSound (pool : Pool) : Type 0 where
-  pub inside : (tile : ℕ) (part : Part) (pass : Pass) → slice_get pool.parts tile ≡ Some part → Contains part.passes pass
+  pub inside : (tile : ℕ) (part : Part) (pass : Pass) → slice_get pool.parts tile ≡ Some part → Contains (inner_passes part) pass
       → (tile_at pool.size pool.side pass.a ≡ tile) × (tile_at pool.size pool.side pass.b ≡ tile)
   pub across : (tile : ℕ) (part : Part) (seam : Seam) → slice_get pool.parts tile ≡ Some part → Contains part.seams seam
       → IsSeamOf pool.size pool.side tile seam

@@ -32,8 +32,8 @@ pub fn seam_between<S: Side>(low: Rank, end: End, at: Rank, near: Rank) -> Optio
     })
 }
 
-/// The pass between two sinks, the lower one first.
-pub fn pass_between<S: Side>(a: Rank, b: Rank, at: Rank) -> Pass
+// The pass between two sinks, the lower one first.
+fn pass_between<S: Side>(a: Rank, b: Rank, at: Rank) -> Pass
     ensures { result ≡ pass_between S.NAME a b at }
 {
     if S::below(a, b) {

@@ -1,13 +1,14 @@
 // The lows and passes of a graph of local basins, from the tiles.
 ghost use Rattle.std.specs.Prelude.{◌≡◌, ◌++◌, IfOk, OnOk, map, slice_get};
 ghost use Rattle.std.specs.List.{flat_map};
+ghost use Rattle.hd_basin.specs.Parts.{low_or_none, pass_named};
 ghost use Rattle.hd_basin.specs.Listing.{as_low, lows_in, in_order, pass_of, passes_in, was_seen_with};
 
 use crate::Node;
-use crate::part::{Part, Seam};
+use crate::part::{Join, Part, Seam};
 use hd_graph::Low;
 use hd_list::{List, Memory};
-use hd_map::{Pass, Side};
+use hd_map::{Pass, Rank, Side};
 use std::alloc::Global;
 
 /// The lows of all nodes, tile by tile. `Memory` comes where the list is refused its memory.
@@ -48,20 +49,52 @@ pub fn passes_of<S: Side>(alloc: Global, parts: &[Part]) -> Result<List<Pass>, M
 {
     let mut passes = List::new(alloc);
     'parts: for part in parts {
-        push_inside::<S>(&mut passes, part.passes.as_slice())?;
-        push_across::<S>(&mut passes, parts, part.seams.as_slice())?;
+        let nodes = part.nodes.as_slice();
+        let joins = part.joins.as_slice();
+        let seams = part.seams.as_slice();
+        push_inside::<S>(&mut passes, nodes, joins)?;
+        push_across::<S>(&mut passes, parts, seams)?;
     }
     Ok(passes)
 }
 
-// Adds these passes.
-fn push_inside<S: Side>(passes: &mut List<Pass>, found: &[Pass]) -> Result<(), Memory>
-    ensures { OnOk result (passes.new ≡ passes.old ++ map (in_order S.NAME) found.now) }
+// Adds the passes between these nodes.
+fn push_inside<S: Side>(
+    passes: &mut List<Pass>,
+    nodes: &[Node],
+    found: &[Join],
+) -> Result<(), Memory>
+    ensures { OnOk result (passes.new ≡ passes.old ++ map (in_order S.NAME) (map (pass_named nodes.now) found.now)) }
 {
-    'found: for pass in found {
-        passes.push(in_order::<S>(*pass))?;
+    'found: for join in found {
+        let pass = pass_named(nodes, *join);
+        passes.push(in_order::<S>(pass))?;
     }
     Ok(())
+}
+
+// The pass between two nodes, by their numbers.
+fn pass_named(nodes: &[Node], join: Join) -> Pass
+    ensures { result ≡ pass_named nodes.now join }
+{
+    Pass {
+        a: low_of(nodes, join.a),
+        b: low_of(nodes, join.b),
+        at: join.at,
+    }
+}
+
+// The sink of the node of a number, and no point where there is no node.
+fn low_of(nodes: &[Node], number: u32) -> Rank
+    ensures { result ≡ low_or_none (slice_get nodes.now number) }
+{
+    match nodes.get(number as usize) {
+        Some(node) => node.low,
+        None => Rank {
+            height: 0,
+            index: 0,
+        },
+    }
 }
 
 // Adds the passes of these seams, without the void ones.

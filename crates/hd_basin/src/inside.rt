@@ -1,23 +1,23 @@
 // The passes between two basins of a tile, from the pairs of neighbours that lie in two of them.
-ghost use Rattle.std.specs.Prelude.{◌≡◌, ◌<◌, ◌≤◌, ◌*◌, ◌+◌, ℕ, Some, IfOk, MatchOption, OnOk, length, slice_get};
+ghost use Rattle.std.specs.Prelude.{◌≡◌, ◌<◌, ◌≤◌, ◌*◌, ◌+◌, ℕ, Some, IfOk, MatchOption, OnOk, length, map};
 ghost use Rattle.hd_map.specs.declared.types.Pos.{Pos};
 ghost use Rattle.hd_map.specs.declared.types.Rank.{Rank};
 ghost use Rattle.hd_map.specs.Passes.{higher_by};
-ghost use Rattle.hd_basin.specs.declared.meetings.Meeting.{Meeting};
 ghost use Rattle.hd_basin.specs.Built.{HasPasses};
 ghost use Rattle.hd_basin.specs.Frames.{InFrame};
-ghost use Rattle.hd_basin.specs.Inside.{AreMet, AreNamed, ArePassesOf, IsPairAt, IsPassOf, IsStep, MeetsPair, label_at, place_of_frame, step_down, step_right};
+ghost use Rattle.hd_basin.specs.Inside.{AreMet, AreNamed, IsPairAt, IsStep, MeetsPair, join_of, label_at, place_of_frame, step_down, step_right};
 ghost use Rattle.hd_basin.specs.Meetings.{AreChained};
+ghost use Rattle.hd_basin.specs.Parts.{pass_named};
 ghost use Rattle.hd_basin.specs.Round.{AreRanks};
 ghost use Rattle.hd_basin.specs.Sinks.{IsArea};
 
 use crate::Node;
-use crate::ends::pass_between;
 use crate::frame::{Frame, is_in_frame, place_in};
 use crate::meetings::{Meeting, Meetings};
+use crate::part::Join;
 use crate::round::rank_in;
 use hd_list::{List, Memory};
-use hd_map::{Heights, Pass, Pos, Rank, Side, are_beside};
+use hd_map::{Heights, Pos, Rank, Side, are_beside};
 use hd_tiles::Tiling;
 use std::alloc::Global;
 
@@ -31,11 +31,11 @@ pub fn passes_inside<S: Side, G: Heights>(
     ranks: &[Rank],
     labels: &[u32],
     nodes: &[Node],
-) -> Result<List<Pass>, Memory>
+) -> Result<List<Join>, Memory>
     requires area { IsArea (G.map grid.now).size _tiling.side _tile area }
     requires ranks { AreRanks (G.map grid.now) S.NAME area ((area.rows + 2) * (area.columns + 2)) ranks.now }
     requires named { AreNamed (G.map grid.now) S.NAME _tiling.side area nodes.now labels.now }
-    ensures { IfOk result (λ passes. HasPasses (G.map grid.now) S.NAME _tiling.side _tile passes) }
+    ensures { IfOk result (λ joins. HasPasses (G.map grid.now) S.NAME _tiling.side _tile (map (pass_named nodes.now) joins)) }
 {
     let mut meetings = Meetings::new(alloc, nodes.len())?;
     for row in 0..area.rows {
@@ -51,8 +51,8 @@ pub fn passes_inside<S: Side, G: Heights>(
             &mut meetings,
         )?;
     }
-    let passes = list_passes::<S>(alloc, nodes, meetings.list.as_slice())?;
-    Ok(passes)
+    let joins = list_joins(alloc, meetings.list.as_slice())?;
+    Ok(joins)
 }
 
 // Notes the meetings of the points of a row with those after them.
@@ -293,30 +293,24 @@ fn higher_of<S: Side>(a: Rank, b: Rank) -> Rank
     if S::below(a, b) { b } else { a }
 }
 
-// The passes of these meetings.
-fn list_passes<S: Side>(
-    alloc: Global,
-    nodes: &[Node],
-    meetings: &[Meeting],
-) -> Result<List<Pass>, Memory>
-    requires { (i : ℕ) (x : Meeting) → slice_get meetings.now i ≡ Some x → (x.a < length nodes.now) × (x.b < length nodes.now) }
-    ensures { IfOk result (λ passes. ArePassesOf S.NAME nodes.now meetings.now (length meetings.now) passes) }
+// The meetings as they are kept of a tile.
+fn list_joins(alloc: Global, meetings: &[Meeting]) -> Result<List<Join>, Memory>
+    ensures { IfOk result (λ joins. joins ≡ map join_of meetings.now) }
 {
-    let mut passes = List::with_capacity(alloc, meetings.len())?;
-    for number in 0..meetings.len() {
-        let pass = pass_of::<S>(nodes, meetings[number]);
-        passes.push(pass)?;
+    let mut joins = List::with_capacity(alloc, meetings.len())?;
+    'meetings: for meeting in meetings {
+        joins.push(join_of(*meeting))?;
     }
-    Ok(passes)
+    Ok(joins)
 }
 
-// The pass of a meeting.
-fn pass_of<S: Side>(nodes: &[Node], meeting: Meeting) -> Pass
-    requires a { meeting.a < length nodes.now }
-    requires b { meeting.b < length nodes.now }
-    ensures { IsPassOf S.NAME nodes.now meeting result }
+// A meeting as it is kept of a tile.
+fn join_of(meeting: Meeting) -> Join
+    ensures { result ≡ join_of meeting }
 {
-    let a = nodes[meeting.a as usize];
-    let b = nodes[meeting.b as usize];
-    pass_between::<S>(a.low, b.low, meeting.at)
+    Join {
+        a: meeting.a,
+        b: meeting.b,
+        at: meeting.at,
+    }
 }

@@ -43,7 +43,7 @@ pub fn noded<S: Side, G: Heights>(
         ranks.as_slice(),
         sinks.as_slice(),
     )?;
-    let passes = passes_inside::<S, G>(
+    let joins = passes_inside::<S, G>(
         alloc,
         grid,
         tiling,
@@ -58,7 +58,7 @@ pub fn noded<S: Side, G: Heights>(
         seen: Some(stamp),
         nodes,
         labels,
-        passes,
+        joins,
         seams: List::new(alloc),
     })
 }

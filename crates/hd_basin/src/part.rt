@@ -4,7 +4,7 @@ ghost use Rattle.hd_basin.specs.Parts.{node_at};
 
 use crate::Node;
 use hd_list::List;
-use hd_map::Pass;
+use hd_map::{Pass, Rank};
 use std::alloc::Global;
 
 /// A pass between a basin of a tile and one of another tile, found when the tile was seen.
@@ -19,6 +19,17 @@ pub struct Seam {
     pub stamp: u64,
 }
 
+/// A pass between two basins of a tile.
+#[derive(Clone, Copy, Debug, PartialEq, Eq)]
+pub struct Join {
+    /// The number of the node of one of them.
+    pub a: u32,
+    /// The number of the node of the other.
+    pub b: u32,
+    /// The higher of the two points at which they meet.
+    pub at: Rank,
+}
+
 /// The local basins of a tile, as it was when it was last seen.
 #[derive(Drop)]
 pub struct Part {
@@ -30,7 +41,7 @@ pub struct Part {
     /// lies, and the number of nodes where no point is present.
     pub labels: Vec<u32>,
     /// The passes between two of its basins.
-    pub passes: List<Pass>,
+    pub joins: List<Join>,
     /// The passes to basins of tiles that had been seen before it.
     pub seams: List<Seam>,
 }
@@ -39,14 +50,14 @@ impl Part {
     /// What a pool keeps of a tile that it has not seen.
     pub fn unseen(alloc: Global) -> Part
         ensures seen { result.seen ≡ None }
-        ensures passes { result.passes ≡ [] }
+        ensures joins { result.joins ≡ [] }
         ensures seams { result.seams ≡ [] }
     {
         Part {
             seen: None,
             nodes: List::new(alloc),
             labels: Vec::new(alloc),
-            passes: List::new(alloc),
+            joins: List::new(alloc),
             seams: List::new(alloc),
         }
     }

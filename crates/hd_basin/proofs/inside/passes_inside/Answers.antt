@@ -1,6 +1,9 @@
-use Rattle.std.proofs.Common.{◌≡◌, ◌<◌, ◌*◌, ℕ, List, [], Option, Some, slice_get, length, sym, subst, arith}
+use Rattle.std.proofs.Common.{◌≡◌, ◌<◌, ◌*◌, ℕ, List, [], Option, length, map, sym, ◌∙◌, ap, subst, arith}
 use Rattle.hd_basin.specs.declared.meetings.Meeting.{Meeting}
-use Rattle.hd_basin.specs.Inside.{AreMet, ArePassesOf}
+use Rattle.hd_basin.specs.declared.part.Join.{Join}
+use Rattle.hd_basin.specs.Built.{HasPasses}
+use Rattle.hd_basin.specs.Inside.{AreMet, join_of}
+use Rattle.hd_basin.specs.Parts.{pass_named}
 use Rattle.hd_basin.specs.Meetings.{AreChained}
 use Rattle.hd_basin.proofs.Meets.{met-none, passes-all}
 use Rattle.hd_basin.proofs.inside.passes_inside.Goals as goal
@@ -18,14 +21,6 @@ loop-row-init g c =
     let zero : 0 ≡ 0 * c.args.area.columns = omega arith in
     subst (λ (k : ℕ). AreMet m side c.args.area c.args.labels.now count k 0 lasts list) zero first
 
-pub list_passes-requires : goal.list_passes-requires
-list_passes-requires g c = λ i x at. (
-    let list : List Meeting = c.loop-row.meetings.list.items in
-    let event = c.loop-row.invariant.kept.each i x (subst (λ (xs : List Meeting). slice_get xs i ≡ Some x) c.as_slice.ensures.value at) in
-    let less = event.pair.less in
-    let few = event.pair.few in
-    (omega (arith, less, few), few))
-
 pub returns : goal.returns
 returns g c =
     let m = g.G.Heights.map c.args.grid.now in
@@ -37,5 +32,6 @@ returns g c =
     let least = c.args._tiling.tile_side.least in
     let done : c.loop-row.row * f.columns ≡ f.columns * f.rows = (let e : c.loop-row.row ≡ f.rows = omega arith in subst (λ (r : ℕ). r * f.columns ≡ f.columns * f.rows) (sym e) (omega arith)) in
     let all : AreMet m side f c.args.labels.now count (f.columns * f.rows) 0 lasts list = subst (λ (k : ℕ). AreMet m side f c.args.labels.now count k 0 lasts list) done c.loop-row.invariant in
-    let of : ArePassesOf side c.args.nodes.now list (length list) c.in_ok-passes.passes = subst (λ (xs : List Meeting). ArePassesOf side c.args.nodes.now xs (length xs) c.in_ok-passes.passes) c.as_slice.ensures.value c.in_ok-passes.ensures in
-    passes-all m side c.args._tiling.side c.args._tile f (omega (arith, least)) c.requires.area c.args.nodes.now c.args.labels.now c.requires.named list all.kept c.in_ok-passes.passes of
+    let joins : c.in_ok-joins.joins ≡ map join_of list = c.in_ok-joins.ensures ∙ ap (map join_of) c.as_slice.ensures.value in
+    subst (λ (js : List Join). HasPasses m side c.args._tiling.side c.args._tile (map (pass_named c.args.nodes.now) js)) (sym joins)
+    (passes-all m side c.args._tiling.side c.args._tile f (omega (arith, least)) c.requires.area c.args.nodes.now c.args.labels.now c.requires.named list all.kept)

@@ -12,7 +12,7 @@ loop-tile-preserved g c =
     let e : c.push.new.self.items ≡ c.loop-tile.parts.items ++ c.unseen.result ∷ [] = c.in_ok-push.ensures.items in
     record {
       count = rw e (let n = length_push c.loop-tile.parts.items c.unseen.result in let k = c.loop-tile.invariant.count in omega (arith, n, k));
-      unseen = rw e (All-push IsUnseen c.loop-tile.parts.items c.unseen.result c.loop-tile.invariant.unseen (record { seen = c.unseen.ensures.seen; passes = c.unseen.ensures.passes; seams = c.unseen.ensures.seams }));
+      unseen = rw e (All-push IsUnseen c.loop-tile.parts.items c.unseen.result c.loop-tile.invariant.unseen (record { seen = c.unseen.ensures.seen; joins = c.unseen.ensures.joins; seams = c.unseen.ensures.seams }));
     }
 
 pub invariant_of-result : goal.invariant_of-result
