@@ -12,7 +12,7 @@ use Rattle.hd_map.specs.SideLaws.{below_by-order}
 use Rattle.hd_map.proofs.Sides.{below-not_above, not_above-refl, not_above-trans}
 use Rattle.hd_tiles.proofs.Stamping.{get-set_same, get-set_other}
 use Rattle.hd_basin.specs.declared.meetings.Meeting.{Meeting}
-use Rattle.hd_basin.specs.Meetings.{IsLast, AreChained, IsUnknown, IsKnown, IsMeetingAt, Lowers, Notes, AreKept}
+use Rattle.hd_basin.specs.Meetings.{IsLast, AreChained, IsUnknown, IsMeetingAt, Notes, AreKept}
 use Rattle.hd_basin.proofs.Lists.{get-push_left, get-push_last, get-push_cases}
 
 module _ (list : List Meeting) (x : Meeting) where

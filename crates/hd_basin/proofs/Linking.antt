@@ -1,5 +1,5 @@
 -- Links by place of a tile, as they are made, followed and set.
-use Rattle.std.proofs.Common.{◌≡◌, ◌≢◌, ◌<◌, ◌≤◌, ◌+◌, ◌*◌, ◌/◌, ◌%◌, ℕ, true, false, List, [], ◌∷◌, ◌++◌, length, set, slice_index, ◌⊎◌, inl, inr, refl, sym, ◌∙◌, ap, subst, arith}
+use Rattle.std.proofs.Common.{◌≡◌, ◌<◌, ◌≤◌, ◌+◌, ◌*◌, ℕ, true, false, List, [], ◌∷◌, ◌++◌, length, set, slice_index, ◌⊎◌, inl, inr, refl, sym, ◌∙◌, ap, subst, arith}
 use Rattle.std.specs.Prelude.{◌↔◌, ℤ}
 use Rattle.std.specs.Ordering.{int_eq}
 use Rattle.std.proofs.lemmas.Int.{ints}
@@ -26,7 +26,7 @@ use Rattle.hd_steep.proofs.Round.{pit_found, next_found, same_or_below}
 use Rattle.hd_tiles.specs.Tile.{tile_of}
 use Rattle.hd_basin.specs.declared.frame.Frame.{Frame}
 use Rattle.hd_basin.specs.Basin.{IsSink, IsSinkOf, AreNextsInside, tile_at}
-use Rattle.hd_basin.specs.Frames.{InFrame, FitsGrid}
+use Rattle.hd_basin.specs.Frames.{InFrame}
 use Rattle.hd_basin.specs.Links.{IsOnward, LeadsOnward, IsLink, AreLinksTo, AreLinks, LedTo}
 use Rattle.hd_basin.specs.Round.{AreRanks, low_round}
 use Rattle.hd_basin.specs.Sinks.{IsArea, IsSunk, at_place, no_node}

@@ -1,5 +1,5 @@
 -- The pairs of neighbours of a tile, each tried once, and the passes from them.
-use Rattle.std.proofs.Common.{◌≡◌, ◌≢◌, ◌<◌, ◌≤◌, ◌+◌, ◌-◌, ◌*◌, ℕ, zero, suc, ◌⊎◌, inl, inr, true, List, [], ◌∷◌, ◌++◌, length, map, Option, Some, slice_get, refl, sym, ◌∙◌, ap, subst, arith}
+use Rattle.std.proofs.Common.{◌≡◌, ◌≢◌, ◌<◌, ◌≤◌, ◌+◌, ◌*◌, ℕ, zero, suc, ◌⊎◌, inl, inr, List, [], length, map, Option, Some, slice_get, refl, sym, ◌∙◌, ap, subst, arith}
 use Rattle.std.specs.Prelude.{Contains}
 use Rattle.std.proofs.lemmas.Bool.{cases_eq, cases_lt}
 use Rattle.std.proofs.lemmas.Option.{same_Some, slice_get_within}
@@ -21,13 +21,13 @@ use Rattle.hd_tiles.specs.Tile.{tile_of}
 use Rattle.hd_basin.specs.declared.frame.Frame.{Frame}
 use Rattle.hd_basin.specs.declared.meetings.Meeting.{Meeting}
 use Rattle.hd_basin.specs.declared.node.Node.{Node}
-use Rattle.hd_basin.specs.Basin.{IsSinkOf, IsBasinMeeting, IsBasinPass, tile_at}
+use Rattle.hd_basin.specs.Basin.{IsSinkOf, IsBasinMeeting, tile_at}
 use Rattle.hd_basin.specs.Built.{HasPasses, IsRightPass}
-use Rattle.hd_basin.specs.Frames.{InFrame, FitsGrid}
+use Rattle.hd_basin.specs.Frames.{InFrame}
 use Rattle.hd_basin.specs.Inside.{AreNamed, IsStep, IsTried, IsPairAt, MeetsPair, IsMet, AreMet, join_of, label_at, place_of_frame, step_right, step_down}
-use Rattle.hd_basin.specs.Meetings.{AreChained, AreKept, Notes}
+use Rattle.hd_basin.specs.Meetings.{AreChained, AreKept}
 use Rattle.hd_basin.specs.Parts.{IsBetween, low_or_none, pass_named}
-use Rattle.hd_basin.specs.Sinks.{IsArea, at_place, no_node}
+use Rattle.hd_basin.specs.Sinks.{IsArea, at_place}
 use Rattle.hd_basin.proofs.Areas.{area-in, area-tile, area-fits}
 use Rattle.hd_basin.proofs.Chains.{kept-notes}
 use Rattle.hd_basin.proofs.Contents.{sink-tile}
@@ -38,7 +38,7 @@ use Rattle.hd_basin.proofs.Keeping.{tile-of_point}
 use Rattle.hd_basin.proofs.Linking.{low-own}
 use Rattle.hd_basin.proofs.Listed.{contains-at}
 use Rattle.hd_basin.proofs.SinkLaws.{sink-unique}
-use Rattle.hd_basin.proofs.Steps.{meeting-sym, pass-sym}
+use Rattle.hd_basin.proofs.Steps.{meeting-sym}
 
 -- a step leads to one position
 step-one : (p q r : Pos) (step : ℕ) → IsStep p q step → IsStep p r step → q ≡ r

@@ -9,7 +9,7 @@ use Rattle.hd_map.specs.declared.types.Adjacency.TheVariants.{Four, Six, Eight}
 use Rattle.hd_map.specs.declared.types.Pos.{Pos}
 use Rattle.hd_map.specs.declared.types.Rank.{Rank}
 use Rattle.hd_map.specs.declared.types.SideName.{SideName}
-use Rattle.hd_map.specs.Map.{Map, IsMap, Present, place_of}
+use Rattle.hd_map.specs.Map.{Map, IsMap, place_of}
 use Rattle.hd_map.specs.Neighbour.{AreBesideUnder}
 use Rattle.hd_map.proofs.Gather.{same_pos}
 use Rattle.hd_map.proofs.Settings.{beside-profile, beside-eight}

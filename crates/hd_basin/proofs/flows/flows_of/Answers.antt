@@ -1,10 +1,10 @@
-use Rattle.std.proofs.Common.{◌≡◌, ◌<◌, ◌≤◌, ◌+◌, ◌-◌, ◌*◌, ℕ, length, sym, ◌∙◌, ap, subst, arith}
+use Rattle.std.proofs.Common.{◌≡◌, ◌<◌, ◌≤◌, ◌+◌, ◌-◌, ◌*◌, ℕ, sym, ◌∙◌, ap, subst, arith}
 use Rattle.std.proofs.Math.Nat.{mul-le-mul_right}
 use Rattle.hd_map.specs.declared.types.Adjacency.{Adjacency}
 use Rattle.hd_map.specs.declared.types.Pos.{Pos}
 use Rattle.hd_map.specs.declared.types.Rank.{Rank}
 use Rattle.hd_map.specs.declared.types.Size.{Size}
-use Rattle.hd_map.specs.Map.{Map, cell_count, place_of, position_at}
+use Rattle.hd_map.specs.Map.{Map, cell_count, place_of}
 use Rattle.hd_map.specs.Rank.{rank}
 use Rattle.hd_map.proofs.Points.{position_at-of}
 use Rattle.hd_steep.specs.Lowest.{IsLow, IsRound}

@@ -1,4 +1,4 @@
-use Rattle.std.proofs.Common.{◌≡◌, ◌++◌, ◌∙◌, List, ap, map}
+use Rattle.std.proofs.Common.{◌++◌, ◌∙◌, List, ap}
 use Rattle.hd_map.specs.declared.types.Pass.{Pass}
 use Rattle.hd_basin.specs.declared.part.Join.{Join}
 use Rattle.hd_basin.specs.Listing.{in_order}

@@ -1,6 +1,6 @@
-use Rattle.std.proofs.Common.{◌≡◌, ◌<◌, ◌*◌, ℕ, List, length, get_or, sym, ◌∙◌, ap, arith}
+use Rattle.std.proofs.Common.{◌≡◌, ◌<◌, ℕ, List, length, get_or, sym, ◌∙◌, ap, arith}
 use Rattle.std.proofs.lemmas.Option.{slice_get-get_or, get_or_from_slice_get}
-use Rattle.hd_basin.specs.Inside.{label_at, place_of_frame}
+use Rattle.hd_basin.specs.Inside.{place_of_frame}
 use Rattle.hd_basin.specs.Sinks.{no_node}
 use Rattle.hd_basin.proofs.Areas.{place-of-at}
 use Rattle.hd_basin.proofs.inside.label_in.Goals as goal

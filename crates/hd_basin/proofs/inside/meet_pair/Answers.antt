@@ -1,5 +1,4 @@
-use Rattle.std.proofs.Common.{◌≡◌, ◌<◌, ℕ, length, inl, inr, refl, sym, subst, arith}
-use Rattle.hd_map.specs.declared.types.Rank.{Rank}
+use Rattle.std.proofs.Common.{◌≡◌, ℕ, length, inl, inr, refl, sym, subst, arith}
 use Rattle.hd_basin.specs.Inside.{IsPairAt}
 use Rattle.hd_basin.proofs.inside.meet_pair.Goals as goal
 

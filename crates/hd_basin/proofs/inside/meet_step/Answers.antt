@@ -1,4 +1,4 @@
-use Rattle.std.proofs.Common.{ℕ, List, length, refl}
+use Rattle.std.proofs.Common.{length, refl}
 use Rattle.hd_basin.proofs.Meets.{met-outside, met-step}
 use Rattle.hd_basin.specs.Inside.{place_of_frame}
 use Rattle.hd_basin.proofs.inside.meet_step.Goals as goal

@@ -1,11 +1,8 @@
-use Rattle.std.proofs.Common.{◌≡◌, ◌<◌, ◌≤◌, ◌+◌, ◌*◌, ℕ, List, length, inl, inr, refl, sym, ◌∙◌, ap, subst, arith}
+use Rattle.std.proofs.Common.{◌≡◌, ◌<◌, ◌≤◌, ℕ, length, inl, inr, refl, sym, ◌∙◌, subst, arith}
 use Rattle.std.proofs.lemmas.Bool.{false≢true}
 use Rattle.hd_map.specs.declared.types.Adjacency.{Adjacency}
-use Rattle.hd_map.specs.declared.types.Rank.{Rank}
 use Rattle.hd_map.specs.Map.{Map}
-use Rattle.hd_map.specs.Neighbour.{AreBesideUnder, Neighbour}
-use Rattle.hd_map.specs.Passes.{higher_by}
-use Rattle.hd_map.specs.Rank.{rank}
+use Rattle.hd_map.specs.Neighbour.{AreBesideUnder}
 use Rattle.hd_basin.specs.Inside.{IsPairAt, label_at}
 use Rattle.hd_basin.proofs.Meets.{pair-equal, pair-few, pair-up}
 use Rattle.hd_basin.proofs.inside.pair_at.Goals as goal

@@ -1,4 +1,4 @@
-use Rattle.std.proofs.Common.{◌≡◌, ◌+◌, ◌*◌, ℕ, List, sym, subst, arith}
+use Rattle.std.proofs.Common.{◌≡◌, ◌+◌, ◌*◌, ℕ, sym, subst, arith}
 use Rattle.hd_basin.specs.Links.{AreLinksTo}
 use Rattle.hd_basin.proofs.Linking.{links-more}
 use Rattle.hd_basin.proofs.links.link_row.Goals as goal

@@ -1,8 +1,6 @@
-use Rattle.std.proofs.Common.{◌≡◌, ◌<◌, ◌≤◌, ◌+◌, ◌*◌, ℕ, sym, ◌∙◌, subst, arith}
+use Rattle.std.proofs.Common.{◌<◌, ◌+◌, ℕ, sym, arith}
 use Rattle.std.proofs.lemmas.Bool.{OnTrue_at}
-use Rattle.hd_map.specs.declared.types.Pos.{Pos}
-use Rattle.hd_map.specs.Map.{Map, InGrid}
-use Rattle.hd_tiles.specs.Tile.{tile_of}
+use Rattle.hd_map.specs.Map.{Map}
 use Rattle.hd_basin.specs.declared.frame.Frame.{Frame}
 use Rattle.hd_basin.specs.Frames.{InFrame}
 use Rattle.hd_basin.proofs.Areas.{area-grid, area-tile, place-at}

@@ -1,4 +1,4 @@
-use Rattle.std.proofs.Common.{◌≡◌, ◌*◌, ℕ, List, subst, ap, arith}
+use Rattle.std.proofs.Common.{◌≡◌, ◌*◌, ℕ, List, subst, arith}
 use Rattle.hd_basin.specs.Built.{IsAsked}
 use Rattle.hd_basin.specs.Candidates.{AreCandidates}
 use Rattle.hd_basin.proofs.pairs.seams_at.Goals as goal

@@ -1,4 +1,3 @@
-use Rattle.std.proofs.Common.{◌+◌, ◌-◌}
 use Rattle.hd_basin.proofs.Rounding.{entry-at}
 use Rattle.hd_basin.proofs.round.rank_beside.Goals as goal
 

@@ -1,4 +1,4 @@
-use Rattle.std.proofs.Common.{◌≡◌, ◌*◌, arith}
+use Rattle.std.proofs.Common.{arith}
 use Rattle.hd_basin.proofs.sinks.lead.Goals as goal
 
 pub loop-place-init : goal.loop-place-init

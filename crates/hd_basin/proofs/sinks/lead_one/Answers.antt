@@ -1,4 +1,4 @@
-use Rattle.std.proofs.Common.{◌<◌, ◌*◌, arith}
+use Rattle.std.proofs.Common.{arith}
 use Rattle.hd_basin.proofs.Linking.{led-set, led-none}
 use Rattle.hd_basin.proofs.sinks.lead_one.Goals as goal
 

@@ -1,4 +1,4 @@
-use Rattle.std.proofs.Common.{◌≡◌, ◌*◌, ℕ, List, sym, subst, arith}
+use Rattle.std.proofs.Common.{◌≡◌, ◌*◌, ℕ, sym, subst, arith}
 use Rattle.hd_basin.specs.Links.{AreLinks, AreLinksTo}
 use Rattle.hd_basin.proofs.Areas.{area-small, area-fits}
 use Rattle.hd_basin.proofs.sinks.sinks_in.Goals as goal

@@ -1,4 +1,4 @@
-use Rattle.std.proofs.Common.{◌≡◌, ◌<◌, ◌≤◌, ◌*◌, ◌+◌, ◌++◌, ◌∷◌, [], ℕ, List, length, inl, inr, refl, sym, ◌∙◌, ap, subst, arith}
+use Rattle.std.proofs.Common.{◌≡◌, ◌≤◌, ◌*◌, ◌+◌, ◌++◌, ◌∷◌, [], ℕ, List, inl, inr, sym, ◌∙◌, ap, subst, arith}
 use Rattle.hd_map.specs.declared.types.Pos.{Pos}
 use Rattle.hd_map.specs.declared.types.Size.{Size}
 use Rattle.hd_map.specs.Map.{Map, Present}
@@ -6,8 +6,8 @@ use Rattle.hd_basin.specs.declared.frame.Frame.{Frame}
 use Rattle.hd_basin.specs.Gathering.{Counts, IsGathered}
 use Rattle.hd_basin.specs.Parts.{place_in_tile}
 use Rattle.hd_basin.specs.Sinks.{at_place, no_node}
-use Rattle.hd_basin.proofs.Areas.{area-fits, area-small}
-use Rattle.hd_basin.proofs.Gathers.{gathered-absent, gathered-starts, gathered-adds, home-below, numbers-known}
+use Rattle.hd_basin.proofs.Areas.{area-small}
+use Rattle.hd_basin.proofs.Gathers.{gathered-absent, gathered-starts, gathered-adds, numbers-known}
 use Rattle.hd_basin.proofs.Sinking.{sink-home, sunk-absent, sunk-here}
 use Rattle.hd_basin.proofs.gather.Gathered.take.Goals as goal
 

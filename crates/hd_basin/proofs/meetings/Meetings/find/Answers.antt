@@ -1,4 +1,4 @@
-use Rattle.std.proofs.Common.{◌<◌, List, Some, length, slice_get, ◌≡◌, refl, sym, subst, arith}
+use Rattle.std.proofs.Common.{◌<◌, List, Some, length, refl, sym, subst, arith}
 use Rattle.std.specs.Prelude.{Option, ℕ}
 use Rattle.std.proofs.lemmas.Option.{slice_get_read}
 use Rattle.hd_basin.specs.declared.meetings.Meeting.{Meeting}
