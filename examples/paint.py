@@ -54,4 +54,7 @@ def main(points, width, borders, name):
 
 
 if __name__ == '__main__':
-    main(*sys.argv[1:])
+    try:
+        main(*sys.argv[1:])
+    except OSError as error:
+        sys.exit(f'paint.py: {error}')
