@@ -1,8 +1,9 @@
 -- Sources and sinks over readers and writers of the library, as contracts see them.
-use Rattle.std.specs.Prelude.{◌≡◌, ◌-◌, ◌&&◌, ◌==◌, ℕ, List, length, drop, Bool, true, false, Option, Some, None, is_some}
+use Rattle.std.specs.Prelude.{◌≡◌, ◌-◌, ◌&&◌, ◌||◌, ◌==◌, not, ℕ, List, length, drop, Bool, true, false, Option, Some, None, is_some}
 use Rattle.std.specs.Option.{option_map, unwrap_or}
 use Rattle.std.specs.Io.KnownBytes.{append_known, IsAtEnd}
 use Rattle.std.proofs.lemmas.Bool.{true≢false}
+use Rattle.hd_base.specs.Causes.{one_more}
 use Rattle.hd_base.specs.Told.{Told}
 
 -- a source of files: the bytes that are left of the open one, and how often it failed
@@ -21,12 +22,15 @@ pub record StdoutState : Type 0 where
   pub fault_count : ℕ
 
 -- a sink of files: whether one is open, the bytes that it got, how many of them were written since
--- it was opened, whether a flush came after the last of them, and how often the sink failed
+-- it was opened, whether a flush came after the last of them, whether it is a new file that waits for
+-- its place, whether it was one and is removed, and how often the sink failed
 pub record FileSinkState : Type 0 where
   pub has_file : Bool
   pub got : Told
   pub taken : ℕ
   pub has_flushed : Bool
+  pub is_pending : Bool
+  pub is_lost : Bool
   pub fault_count : ℕ
 
 -- the bytes that the writer got, and then those that are gathered
@@ -37,9 +41,34 @@ in_all s = append_known s.got s.gathered
 abbrev pub is_handed_on : StdoutState → Bool
 is_handed_on s = s.has_flushed && length s.gathered == 0
 
--- a sink of files after an accepted open, over a file that got these bytes before
-abbrev pub opened_sink : FileSinkState → Told → FileSinkState
-opened_sink s got = record s { has_file = true; got = got; taken = 0; has_flushed = true }
+-- a flush came after the last byte, and what was written stands in its place
+abbrev pub is_in_place : FileSinkState → Bool
+is_in_place s = s.has_flushed && not s.is_pending && not s.is_lost
+
+-- a sink of files after an accepted open, over a file that got these bytes before, and that waits for
+-- its place or has it
+abbrev pub opened_sink : FileSinkState → Told → Bool → FileSinkState
+opened_sink s got is_pending = record s {
+  has_file = true;
+  got = got;
+  taken = 0;
+  has_flushed = true;
+  is_pending = is_pending;
+  is_lost = false;
+}
+
+-- a sink of files after an accepted flush: nothing waits for its place
+abbrev pub placed_sink : FileSinkState → Told → FileSinkState
+placed_sink s got = record s { got = got; has_flushed = true; is_pending = false }
+
+-- a sink of files after a write or a flush that failed: no later call puts anything in its place
+abbrev pub lost_sink : FileSinkState → Told → FileSinkState
+lost_sink s got = record s {
+  got = got;
+  is_pending = false;
+  is_lost = s.is_lost || s.is_pending;
+  fault_count = one_more s.fault_count;
+}
 
 -- the last of the bytes, by their count
 abbrev pub last_told : ℕ → Told → Told

@@ -1,11 +1,13 @@
 // A source over the files of a runtime.
-ghost use Rattle.std.specs.Prelude.{◌≡◌, Some, None, true, is_some, unwrap_or, OnOk, OnErr};
+ghost use Rattle.std.specs.Prelude.{◌≡◌, ◌<◌, ◌↔◌, Some, None, IsSome, true, is_some, unwrap_or, OnOk, OnErr};
 ghost use Rattle.hd_base.specs.Causes.{HasCause, one_more};
 ghost use Rattle.hd_base.specs.Adapters.{left-untold};
 
 use crate::faults::Faults;
 use crate::{Failed, Source};
+use std::alloc::Global;
 use std::fs::OpenOptions;
+use std::io;
 use std::io::Read;
 use std::marker::Model;
 use std::rt::Files;
@@ -16,6 +18,9 @@ use std::rt::Files;
 #[derive(Drop)]
 pub struct FileSource<'a, R: Files> {
     files: &'a R,
+    alloc: Global,
+    // The name that was opened last, where memory was there to keep it.
+    name: Option<String>,
     file: Option<R::File>,
     faults: Faults,
 }
@@ -34,14 +39,24 @@ impl<'a, R: Files> Model for FileSource<'a, R> {
 
 impl<'a, R: Files> FileSource<'a, R> {
     /// A source with no file open, that has not failed.
-    pub fn new(files: &'a R) -> Self
+    pub fn new(alloc: Global, files: &'a R) -> Self
         ensures { result ≡ record { reading = None; fault_count = 0 } }
     {
         FileSource {
             files,
+            alloc,
+            name: None,
             file: None,
             faults: Faults::none(),
         }
+    }
+
+    /// The error of the last fault, and the name that was opened last, where memory was there to
+    /// keep it.
+    pub fn last_fault(&self) -> Option<(io::Error, Option<&str>)>
+        ensures { IsSome result ↔ (0 < self.now.fault_count) }
+    {
+        self.faults.last_at(&self.name)
     }
 }
 
@@ -61,8 +76,10 @@ impl<'a, R: Files> Source for FileSource<'a, R> {
         ensures err { OnErr result (self.new ≡ record self.old { fault_count = one_more self.old.fault_count }) }
         ensures cause { HasCause self.old.fault_count self.new.fault_count result }
     {
-        let Ok(file) = OpenOptions::new().read(true).open(self.files, name) else {
-            return self.faults.fail();
+        self.name = String::from_str(self.alloc, name).ok();
+        let file = match OpenOptions::new().read(true).open(self.files, name) {
+            Ok(file) => file,
+            Err(error) => return self.faults.fail(error),
         };
         self.file = Some(file);
         Ok(())
@@ -72,7 +89,7 @@ impl<'a, R: Files> Source for FileSource<'a, R> {
         match &mut self.file {
             Some(file) => match file.read(into) {
                 Ok(count) => Ok(count),
-                Err(_) => self.faults.fail(),
+                Err(error) => self.faults.fail(error),
             },
             None => unreachable!(),
         }

@@ -9,6 +9,7 @@ mod file_sink;
 mod file_source;
 mod mem_sink;
 mod mem_source;
+mod new_file;
 mod schedule;
 mod sink;
 mod source;

@@ -5,6 +5,8 @@ ghost use Rattle.hd_base.specs.Causes.{HasCause, one_more};
 
 use crate::faults::Faults;
 use crate::{Failed, List};
+use std::io;
+use std::io::ErrorKind;
 
 /// Numbers the calls from 0, fails those that are listed, and counts the faults. Both numbers stay
 /// at their last value.
@@ -51,6 +53,6 @@ impl Schedule {
         ensures fault { self.new.faults ≡ one_more self.old.faults }
         ensures cause { HasCause self.old.faults self.new.faults result }
     {
-        self.faults.fail()
+        self.faults.fail(io::Error::from(ErrorKind::Other))
     }
 }

@@ -1,5 +1,5 @@
 // A sink over one writer, as the standard output.
-ghost use Rattle.std.specs.Prelude.{◌≡◌, ◌+◌, ◌<◌, ◌≤◌, [], length, true, false, IsOk, IfOk, OnOk, IsTrue, MatchResult};
+ghost use Rattle.std.specs.Prelude.{◌≡◌, ◌+◌, ◌<◌, ◌≤◌, ◌↔◌, [], length, true, false, IsOk, IfOk, IsSome, OnOk, IsTrue, MatchResult};
 ghost use Rattle.std.specs.Io.{WritesAtMost};
 ghost use Rattle.std.specs.Io.KnownBytes.{WriteAppends, Keeps};
 ghost use Rattle.hd_base.specs.Causes.{HasCause};
@@ -8,7 +8,8 @@ ghost use Rattle.hd_base.specs.Adapters.{in_all, is_handed_on, last_told};
 use crate::faults::Faults;
 use crate::{Failed, Memory, Sink};
 use std::alloc::Global;
-use std::io::{BufWriter, Write};
+use std::io;
+use std::io::{BufWriter, ErrorKind, Write};
 use std::marker::Model;
 
 /// The bytes that are gathered before they go to the writer.
@@ -67,6 +68,13 @@ impl<W: Write + Drop> StdoutSink<W> {
             Err(_) => Err(Memory),
         }
     }
+
+    /// The error of the last fault.
+    pub fn last_fault(&self) -> Option<io::Error>
+        ensures { IsSome result ↔ (0 < self.now.fault_count) }
+    {
+        self.faults.last()
+    }
 }
 
 impl<W: Write + Drop> Sink for StdoutSink<W> {
@@ -107,7 +115,8 @@ impl<W: Write + Drop> Sink for StdoutSink<W> {
                 self.has_flushed = self.has_flushed && count == 0;
                 Ok(count)
             }
-            _ => self.faults.fail(),
+            Ok(_) => self.faults.fail(io::Error::from(ErrorKind::WriteZero)),
+            Err(error) => self.faults.fail(error),
         }
     }
 
@@ -117,8 +126,8 @@ impl<W: Write + Drop> Sink for StdoutSink<W> {
         ensures taken { self.new.taken ≡ self.old.taken }
         ensures cause { HasCause self.old.fault_count self.new.fault_count result }
     {
-        if self.to.flush().is_err() {
-            return self.faults.fail();
+        if let Err(error) = self.to.flush() {
+            return self.faults.fail(error);
         }
         self.has_flushed = true;
         Ok(())

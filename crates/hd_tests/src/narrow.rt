@@ -82,7 +82,7 @@ impl OpenFile for Narrow<'_> {
     }
 
     fn sync_all(&self) -> io::Result<()> {
-        Err(unsupported())
+        Ok(())
     }
 
     fn sync_data(&self) -> io::Result<()> {
@@ -90,7 +90,7 @@ impl OpenFile for Narrow<'_> {
     }
 }
 
-/// One such file, under each name.
+/// One such file, under each name, though none is found there before it is opened.
 #[derive(Drop)]
 pub struct Shelf<'a>(pub Narrow<'a>);
 
@@ -108,11 +108,11 @@ impl<'a> Files for Shelf<'a> {
     }
 
     fn metadata(&self, _path: &str) -> io::Result<Metadata> {
-        Err(unsupported())
+        Err(io::Error::from(ErrorKind::NotFound))
     }
 
     fn symlink_metadata(&self, _path: &str) -> io::Result<Metadata> {
-        Err(unsupported())
+        Err(io::Error::from(ErrorKind::NotFound))
     }
 
     fn copy(&self, _from: &str, _to: &str) -> io::Result<u64> {
@@ -120,11 +120,11 @@ impl<'a> Files for Shelf<'a> {
     }
 
     fn rename(&self, _from: &str, _to: &str) -> io::Result<()> {
-        Err(unsupported())
+        Ok(())
     }
 
     fn remove_file(&self, _path: &str) -> io::Result<()> {
-        Err(unsupported())
+        Ok(())
     }
 
     fn create_dir(&self, _path: &str) -> io::Result<()> {

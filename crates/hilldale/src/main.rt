@@ -5,6 +5,7 @@
 //! come to, as far as no sink fails and memory is there.
 #![tactic(auto)]
 
+mod messages;
 mod status;
 #[cfg(test)]
 mod tests;
@@ -13,43 +14,66 @@ mod top;
 
 use hd_base::{FileSink, FileSource, StdoutSink};
 use hd_list::Memory;
+use messages::{LastFaults, tell_failure, tell_memory, tell_no_text};
 pub use status::{Status, exit_of};
+use std::fs::File;
 use std::io::ErrorKind;
 use std::process::ExitCode;
-use std::rt::Env;
+use std::rt::{Env, Files};
 use std::{env, io};
 pub use top::top;
 
 fn main(rt: HostRuntime) -> ExitCode {
+    // A standard stream that is closed is taken by a folder, which can be neither read nor written.
+    // Else the next file would stand for it.
+    let _held = (folder(&rt), folder(&rt), folder(&rt));
     exit_of(status_of_run(&rt))
+}
+
+// An open folder.
+fn folder<R: Files>(files: &R) -> Option<R::File> {
+    File::open(files, "/").ok()
 }
 
 // Runs the program on the words, the files and the standard output of the system.
 fn status_of_run(rt: &HostRuntime) -> Status {
     let Ok(words) = given_words(rt) else {
+        tell_memory(rt);
         return Status::Memory;
     };
     let Ok(mut out) = StdoutSink::new(rt.alloc(), io::writer(rt)) else {
+        tell_memory(rt);
         return Status::Memory;
     };
-    let mut surface = FileSource::new(rt);
-    let mut script = FileSource::new(rt);
-    let mut saved = FileSink::new(rt);
-    top(
+    let mut surface = FileSource::new(rt.alloc(), rt);
+    let mut script = FileSource::new(rt.alloc(), rt);
+    let mut saved = FileSink::new(rt.alloc(), rt);
+    let status = top(
         rt.alloc(),
         words.as_slice(),
         &mut surface,
         &mut script,
         &mut out,
         &mut saved,
-    )
+    );
+    let faults = LastFaults {
+        surface: surface.last_fault(),
+        script: script.last_fault(),
+        out: out.last_fault(),
+        saved: saved.last_fault(),
+    };
+    tell_failure(rt, status, &faults);
+    status
 }
 
 // The words after the program's name; none where some of them are no text.
-fn given_words(rt: &(impl Env + AllocGlobal)) -> Result<Vec<String>, Memory> {
+fn given_words(rt: &(impl Env + Eprint + AllocGlobal)) -> Result<Vec<String>, Memory> {
     match env::args(rt) {
         Ok(given) => Ok(given.skip(1).collect(rt.alloc())?),
         Err(error) if error.kind() == ErrorKind::OutOfMemory => Err(Memory),
-        Err(_) => Ok(Vec::new(rt.alloc())),
+        Err(_) => {
+            tell_no_text(rt);
+            Ok(Vec::new(rt.alloc()))
+        }
     }
 }

@@ -5,5 +5,5 @@ use Rattle.hd_base.proofs.file_sink.FileSinkSink.open.Goals as goal
 
 pub returns-clause-empty : goal.returns-clause-empty
 returns-clause-empty g c = λ bytes told.
-    none_since g.R.File.Write.contents c.self.inside.file c.in-Ok.file c.self.inside.taken bytes c.self.invariant
+    none_since g.R.File.Write.contents c.self.inside.file c.in-Ok.opened.0 c.self.inside.taken bytes c.self.invariant
     (ap (λ s. last_told s.taken s.got) c.self.view_is ∙ told)
