@@ -38,8 +38,6 @@ mod morph;
 #[cfg(test)]
 mod narrow;
 #[cfg(test)]
-mod noted;
-#[cfg(test)]
 mod num;
 #[cfg(test)]
 mod prune;
