@@ -1,17 +1,16 @@
 // Files and the standard output: those of the system, and those in memory that pass a part of each piece.
 use crate::base::{expect_read, expect_refused, write_anew};
 use crate::narrow::{Narrow, Shelf};
-use hd_base::{FileSink, FileSource, ReadError, Sink, StdoutSink, write_all};
+use hd_base::{FileSource, ReadError, Sink, StdoutSink, write_all};
 use std::cell::RefCell;
 use std::process::Abort;
 use std::{fs, io, process};
 
 #[test]
-fn a_file_of_the_system_is_written_anew_and_read(rt: HostRuntime) {
+fn a_file_of_the_system_is_read(rt: HostRuntime) {
     let number = process::id(rt.process());
     let name = format!(in rt.alloc(); "/tmp/hd_tests-{number}").expect(&rt, "memory");
-    fs::write(&rt, &name, b"longer than what is written").expect(&rt, "a file");
-    write_anew(&rt, &mut FileSink::new(rt.alloc(), &rt), &name, b"short");
+    fs::write(&rt, &name, b"short").expect(&rt, "a file");
     expect_read(
         &rt,
         &mut FileSource::new(rt.alloc(), &rt),
@@ -61,28 +60,6 @@ fn expect_printed(rt: &(impl Abort + AllocGlobal), text: &[u8], most: usize, roo
     let has_room = text.len() <= room;
     assert!(rt; write_all(&mut sink, text).is_ok() == has_room);
     assert!(rt; sink.flush().is_ok() == has_room);
-    expect_first(rt, &got, text, room);
-}
-
-#[test]
-fn a_file_is_written_in_parts_or_some_first_bytes_of_it(rt: HostRuntime) {
-    let text = long_text(&rt);
-    for room in [200_000, 100_000] {
-        expect_saved(&rt, &text, room);
-    }
-}
-
-// Writes a text to a file with this room, which fails where the room is too small.
-fn expect_saved(rt: &(impl Abort + AllocGlobal), text: &[u8], room: usize) {
-    let got = RefCell::new(Vec::new(rt.alloc()));
-    let shelf = Shelf(Narrow::new(&[], &got, 1_000, room));
-    let mut sink = FileSink::new(rt.alloc(), &shelf);
-    sink.open("name").expect(rt, "a file");
-    let has_room = text.len() <= room;
-    assert!(rt; write_all(&mut sink, text).is_ok() == has_room);
-    if has_room {
-        sink.flush().expect(rt, "a flush");
-    }
     expect_first(rt, &got, text, room);
 }
 
