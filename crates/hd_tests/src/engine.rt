@@ -163,7 +163,7 @@ fn border_lines_are_listed(rt: HostRuntime) {
 
 // Each report, on both sides.
 const REPORTS: &[u8] =
-    b"dales\nhills\ntree D\ntree H\nprune D 10%\nprune H 20%\nlines D 10%\nlines H 0%\naudit D 10%\nfill D 10%\nfill H 10%\nsaddle D 0 0 4 2\nsaddle H 3 0 0 1\nlabel D 2 2\nparam S10z\nparam Spd\nparam Sda\nhist 4 FC;D;Wolfprune:5%;All;lpvh\nperc 2 FC;H;Wolfprune:5%;All;lpvh\n";
+    b"dales\nhills\ntree D\ntree H\nprune D 10%\nprune H 20%\nlines D 10%\nlines H 0%\naudit D 10%\nfill D 10%\nfill H 10%\nsaddle D 0 0 4 2\nsaddle H 3 0 0 1\nlabel D 2 2\nparam S10z\nparam Spd\nparam Sda 3\nhist 4 FC;D;Wolfprune:5%;All;lpvh\nperc 2 FC;H;Wolfprune:5%;All;lpvh\n";
 
 // Each of these edits, with all reports twice after it.
 fn often_asked(rt: &(impl Abort + AllocGlobal), edits: &str) -> List<u8> {
