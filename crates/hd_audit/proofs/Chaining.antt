@@ -1,12 +1,17 @@
 -- The highest points of the chains of parents of the first lines.
-use Rattle.std.proofs.Common.{◌≡◌, ◌<◌, ◌+◌, ℕ, ℤ, Bool, true, false, List, [], ◌∷◌, ◌++◌, length, map, Some, None, inl, inr, refl, sym, ap, ap₂, ◌∙◌, subst, arith, get_or, if◌then◌else◌}
+use Rattle.std.proofs.Common.{◌≡◌, ◌<◌, ◌+◌, ℕ, ℤ, Bool, true, false, List, [], ◌∷◌, length, map, Option, Some, None, inl, inr, refl, sym, ap, ap₂, ◌∙◌, subst, arith, get_or, set, if◌then◌else◌}
 use Rattle.std.specs.List.{Contains}
 use Rattle.std.proofs.lemmas.List.Elements.{All-nil, All-cons}
 use Rattle.std.proofs.lemmas.Bool.{cases_lt, false≢true}
-use Rattle.std.proofs.lemmas.List.{get_or_append_left, get_or_default, get_or_push, length-append}
+use Rattle.std.specs.Prelude.{MatchOption, pos}
+use Rattle.std.proofs.Math.ListN.{length-set}
+use Rattle.std.proofs.lemmas.Bool.Decides.{nat_tests}
+use Rattle.std.proofs.lemmas.Int.{ints}
+use Rattle.std.proofs.lemmas.List.{get_or-set_other, get_or-set_same, get_or_default}
 use Rattle.hd_map.specs.declared.types.Rank.{Rank}
 use Rattle.hd_map.specs.declared.types.SideName.{SideName}
-use Rattle.hd_map.specs.Map.{Map, Present, position_at}
+use Rattle.hd_map.specs.declared.types.SideName.TheVariants.{Dales, Hills}
+use Rattle.hd_map.specs.Map.{IsMap, Map, Present, cell_count, position_at}
 use Rattle.hd_map.specs.Order.{IsNotAbove}
 use Rattle.hd_map.specs.Passes.{higher_by}
 use Rattle.hd_map.specs.Path.{IsTop}
@@ -17,39 +22,48 @@ use Rattle.hd_map.proofs.Levels.{Contains-cases, Contains-head, Contains-none, C
 use Rattle.hd_map.proofs.Points.{point_at}
 use Rattle.hd_map.proofs.Sides.{below-not_above, not_above-refl}
 use Rattle.hd_num.specs.Percent.{is_percent_less}
+use Rattle.hd_prune.specs.Span.{IsHeight}
+use Rattle.hd_prune.proofs.Spans.{point_height}
 use Rattle.hd_audit.specs.declared.types.AuditLine.{AuditLine}
-use Rattle.hd_audit.specs.Chains.{AreTops, IsChainTop}
+use Rattle.hd_audit.specs.Chains.{AreTopHeights, IsChainTop, IsTopHeight, higher_height}
 use Rattle.hd_audit.specs.Lines.{line_at, rank_at, AreParents, IsLineOf, SaysKept}
-use Rattle.hd_audit.specs.Rules.{IsChainWithin, IsNewPoint, IsWithin, rise_over}
+use Rattle.hd_audit.specs.Rules.{IsChainWithin, IsEarlierNeighbour, IsNewPoint, IsWithin, ParentsEarlier, rise_over}
 use Rattle.hd_audit.proofs.Tests.{none_some, some_same}
+
+-- the height of the higher of two points is that of their heights
+height_of-higher : (side : SideName) (a b : Rank) → (higher_by side a b).height ≡ higher_height side a.height b.height
+height_of-higher Dales a b = grind (arith, ints, nat_tests)
+height_of-higher Hills a b = grind (arith, ints, nat_tests)
 
 module _ (m : Map) (side : SideName) (thousandths : ℕ) (sz : ℤ) (lines : List AuditLine) where
   -- the chain of the line is within its point, where this is a pit with a parent
   abbrev pub IsRightAt : ℕ → Type 0
   IsRightAt k = ((line_at lines k).parent ≡ None → ⊥) → IsPit m side (rank_at m (line_at lines k).index) → IsChainWithin m side thousandths sz lines (line_at lines k).index
 
-  -- these are the tops of the first n lines, and the chains of these lines are right
-  pub record AreChainsTo (tops : List Rank) (n : ℕ) : Type 0 where
-    pub count : length tops ≡ n
-    pub are_tops : AreTops m side lines tops n
+  -- these are the heights of the tops of the first n lines, by index, and the chains of these lines are right
+  pub record AreChainsTo (heights : List ℤ) (n : ℕ) : Type 0 where
+    pub whole : length heights ≡ cell_count m.size
+    pub are_tops : AreTopHeights m side lines heights n
     pub right : (k : ℕ) → k < n → IsRightAt k
 
   -- none at first
-  pub chains_none : (tops : List Rank) → length tops ≡ 0 → AreChainsTo tops 0
-  chains_none tops none = record { count = none; are_tops = λ k below. absurd (omega arith); right = λ k below. absurd (omega arith) }
+  pub chains_none : (heights : List ℤ) → length heights ≡ cell_count m.size → AreChainsTo heights 0
+  chains_none heights whole = record { whole = whole; are_tops = λ k below. absurd (omega arith); right = λ k below. absurd (omega arith) }
 
   -- one more
-  pub chains_more : (tops : List Rank) (n : ℕ) (top : Rank) → AreChainsTo tops n → IsChainTop m side lines (line_at lines n).index top → IsRightAt n → AreChainsTo (tops ++ top ∷ []) (n + 1)
-  chains_more tops n top before is right =
-      let count = before.count in
+  pub chains_more : (heights : List ℤ) (n : ℕ) (height : ℤ) → ((k : ℕ) → k < n → (line_at lines k).index ≡ (line_at lines n).index → ⊥) → (line_at lines n).index < cell_count m.size
+      → AreChainsTo heights n → IsTopHeight m side lines (line_at lines n).index height → IsRightAt n → AreChainsTo (set heights (line_at lines n).index height) (n + 1)
+  chains_more heights n height apart inside before is right =
+      let i : ℕ = (line_at lines n).index in
+      let whole = before.whole in
       record {
-        count = omega (arith, count, length-append {A = Rank} tops (top ∷ []));
-        are_tops = λ k below d. elim (cases_lt k n) [
-          | inl old ↦ subst (IsChainTop m side lines (line_at lines k).index) (sym (get_or_append_left tops (top ∷ []) d k (omega (arith, old, count)))) (before.are_tops k old d)
+        whole = length-set heights i height ∙ whole;
+        are_tops = λ k below. elim (cases_lt k n) [
+          | inl old ↦ subst (IsTopHeight m side lines (line_at lines k).index) (sym (get_or-set_other heights i (line_at lines k).index height (pos 0) (apart k old))) (before.are_tops k old)
           | inr last ↦
               let same : n ≡ k = omega (arith, below, last) in
-              let at : get_or (tops ++ top ∷ []) k d ≡ top = get_or_push tops top d k (count ∙ same) in
-              subst (IsChainTop m side lines (line_at lines k).index) (sym at) (subst (λ (i : ℕ). IsChainTop m side lines (line_at lines i).index top) same is)
+              subst (λ (j : ℕ). IsTopHeight m side lines (line_at lines j).index (get_or (set heights i height) (line_at lines j).index (pos 0))) same
+              (subst (IsTopHeight m side lines i) (sym (get_or-set_same heights i height (pos 0) (omega (arith, inside, whole)))) is)
         ];
         right = λ k below. elim (cases_lt k n) [
           | inl old ↦ before.right k old
@@ -100,6 +114,21 @@ module _ (m : Map) (side : SideName) (lines : List AuditLine) where
         ] refl;
       }
 
+  -- their heights alone
+  pub height_alone : (i : ℕ) → SaysKept lines i → IsTopHeight m side lines i (rank_at m i).height
+  height_alone i kept = record { top = rank_at m i; is_top = top_alone i kept; height_is = refl }
+
+  pub height_higher : (i p : ℕ) (x : AuditLine) (height : ℤ) → IsLineOf lines i x → x.parent ≡ Some p → IsTopHeight m side lines p height → IsTopHeight m side lines i (higher_height side (rank_at m i).height height)
+  height_higher i p x height is parent up = record {
+    top = higher_by side (rank_at m i) up.top;
+    is_top = top_higher i p x up.top is parent up.is_top;
+    height_is = height_of-higher side (rank_at m i) up.top ∙ ap (higher_height side (rank_at m i).height) up.height_is;
+  }
+
+  -- a parent stands on an earlier line
+  pub earlier_parent : (k p : ℕ) → k < length lines → (line_at lines k).parent ≡ Some p → ParentsEarlier m lines None → IsEarlierNeighbour m lines k p
+  earlier_parent k p inside is parents = subst (λ (o : Option ℕ). MatchOption o (Unit {0}) (IsEarlierNeighbour m lines k)) is (parents k inside)
+
   module _ (new : (k : ℕ) → k < length lines → IsNewPoint m lines k) where
     -- the point of a line is present
     pub line_present : (i : ℕ) (x : AuditLine) → IsLineOf lines i x → Present m (position_at m.size i)
@@ -138,6 +167,14 @@ module _ (m : Map) (side : SideName) (lines : List AuditLine) where
 
     pub top_point : (i : ℕ) (top : Rank) → IsChainTop m side lines i top → IsPoint m top
     top_point i top is = chain_points i is.chain is.are_parents top is.is_top.one_of
+
+    -- the point of a line has a height of the map
+    pub line_fits : IsMap m → (k : ℕ) → k < length lines → IsHeight (rank_at m (line_at lines k).index).height
+    line_fits whole k inside = point_height m (rank_at m (line_at lines k).index) whole (point_at m (position_at m.size (line_at lines k).index) (new k inside).present)
+
+    -- and so has the highest point of a chain
+    pub top_fits : IsMap m → (i : ℕ) (height : ℤ) → IsTopHeight m side lines i height → IsHeight height
+    top_fits whole i height up = subst IsHeight up.height_is (point_height m up.top whole (top_point i up.top up.is_top))
 
     -- a point has one chain
     one_chain : (i : ℕ) (ps qs : List ℕ) → AreParents lines i ps → AreParents lines i qs → ps ≡ qs

@@ -210,21 +210,3 @@ module _ {S : Type 0} (m : Map) (side : SideName) (lines : List AuditLine) (leve
 
     pub round-all : (step : ℕ) (seen : List Bool) (ahead : List (Option ℕ)) (low : List (Waiting S)) → 9 ≤ step → IsRound step seen ahead low → IsFront m side lines level seen ahead low (from + 1)
     round-all step seen ahead low end r = round-end seen ahead low (λ q n. r.covered q n (omega (arith, n.columns, n.rows, end))) r.front
-
--- offering a point leaves the lengths of the lists
-pub offers-whole : {S : Type 0} (m : Map) (side : SideName) (at : Pos) (from : ℕ) (level : Option Rank) (seen : List Bool) (ahead : List (Option ℕ)) (low : List (Waiting S)) (seen' : List Bool) (ahead' : List (Option ℕ)) (low' : List (Waiting S))
-    → Offers m side at from level seen ahead low seen' ahead' low' → (length seen' ≡ length seen) × (length ahead' ≡ length ahead)
-offers-whole m side at from level seen ahead low seen' ahead' low' offers = elim offers [
-  | inl left ↦ (ap length left.1, ap length left.2)
-  | inr new ↦ (
-    ap length new.1 ∙ length-set seen (place_of m.size at) true,
-    elim new.2 [ inl under ↦ ap length under.1 | inr over ↦ ap length over.1 ∙ length-set ahead (place_of m.size at) (Some from) ],
-  )
-]
-
-pub at-whole : {S : Type 0} (m : Map) (side : SideName) (at : Pos) (x y from : ℕ) (level : Option Rank) (seen : List Bool) (ahead : List (Option ℕ)) (low : List (Waiting S)) (seen' : List Bool) (ahead' : List (Option ℕ)) (low' : List (Waiting S))
-    → OffersAt m side at x y from level seen ahead low seen' ahead' low' → (length seen' ≡ length seen) × (length ahead' ≡ length ahead)
-at-whole m side at x y from level seen ahead low seen' ahead' low' offers = elim offers [
-  | inl one ↦ offers-whole m side one.0 from level seen ahead low seen' ahead' low' one.5
-  | inr none ↦ (ap length none.1, ap length none.2)
-]

@@ -1,11 +1,10 @@
 -- What is noted of the lines of present points.
 use Rattle.std.proofs.Common.{◌≡◌, ◌<◌, ℕ, List, length, Option, Some, None, sym, subst, ap, ◌∙◌, arith}
-use Rattle.std.specs.Prelude.{MatchOption}
 use Rattle.hd_map.specs.Map.{Map, Present, cell_count, position_at}
 use Rattle.hd_audit.specs.declared.types.AuditLine.{AuditLine}
 use Rattle.hd_audit.specs.Lines.{line_at, IsLineOf, HasCut, SaysKept}
 use Rattle.hd_audit.specs.Places.{AreAllPlaces, place_at}
-use Rattle.hd_audit.specs.Rules.{IsEarlierNeighbour, IsNewPoint, ParentsEarlier}
+use Rattle.hd_audit.specs.Rules.{IsEarlierNeighbour, IsNewPoint}
 use Rattle.hd_audit.proofs.Placing.{line_of_place, place_of_line}
 use Rattle.hd_audit.proofs.Tests.{none_some, some_same}
 
@@ -55,12 +54,3 @@ module _ (m : Map) (lines : List AuditLine) (places : List (Option ℕ)) (are : 
 
     pub inside_at : (i k : ℕ) → place_at places i ≡ Some k → i < cell_count m.size
     inside_at i k at = let found = are.noted.only i k at in subst (λ (j : ℕ). j < cell_count m.size) found.1 (new k found.0).inside
-
-  -- the line of a parent stands before
-  pub parent_noted : (k p : ℕ) → k < length lines → (line_at lines k).parent ≡ Some p → ParentsEarlier m lines None → (j : ℕ) × (j < k) × ((line_at lines j).index ≡ p) × (place_at places p ≡ Some j)
-  parent_noted k p inside is parents =
-      let near : IsEarlierNeighbour m lines k p = subst (λ (o : Option ℕ). MatchOption o (Unit {0}) (IsEarlierNeighbour m lines k)) is (parents k inside) in
-      (near.earlier, near.before, near.index, subst (λ (i : ℕ). place_at places i ≡ Some near.earlier) near.index (are.noted.each near.earlier (less near.earlier k (length lines) near.before inside)))
-    where
-      less : (a b c : ℕ) → a < b → b < c → a < c
-      less a b c h k = omega (arith, h, k)

@@ -67,7 +67,7 @@ fn try_rules<G: Heights>(
     if let Some(at) = first_leak(alloc, surface, limit, lines, &places) {
         return Ok(Verdict::No { rule: 17, at });
     }
-    if let Some(at) = first_far(alloc, surface, limit, lines, &places)? {
+    if let Some(at) = first_far(alloc, surface, limit, lines)? {
         return Ok(Verdict::No { rule: 18, at });
     }
     Ok(Verdict::Yes)

@@ -1,10 +1,10 @@
 // The points that wait to be listed, and how the unlisted neighbours of a listed point come to wait.
-ghost use Rattle.std.specs.Prelude.{◌≡◌, ◌<◌, ◌≤◌, ◌+◌, MatchOption, OnOk, length};
+ghost use Rattle.std.specs.Prelude.{◌≡◌, ◌<◌, ◌≤◌, ◌+◌, MatchOption, OnOk, false, length};
 ghost use Rattle.std.specs.BinaryHeap.{heap_items};
-ghost use Rattle.hd_map.specs.Map.{InGrid, Present, cell_count};
+ghost use Rattle.hd_map.specs.Map.{InGrid, Present, cell_count, place_of};
 ghost use Rattle.hd_map.specs.Neighbour.{AreBesideUnder};
 ghost use Rattle.hd_map.specs.Rank.{below_by};
-ghost use Rattle.hd_audit.specs.Flooding.{IsLowestFirst, OffersAt, OffersIfPresent, Spreads, SpreadsRound, is_under};
+ghost use Rattle.hd_audit.specs.Flooding.{IsLowestFirst, OffersAt, OffersIfPresent, Spreads, SpreadsRound, is_under, seen_at};
 ghost use Rattle.hd_audit.specs.Lines.{line_at};
 
 use crate::AuditLines;
@@ -50,7 +50,7 @@ pub fn spread<S: Side, G: Heights>(
 {
     let at = position_of(grid.size(), lines.at(place).index);
     if is_present(grid, at) {
-        spread_round(grid, at, place as u32, level, front)?;
+        spread_round(grid, at, place as u32, &level, front)?;
     }
     Ok(())
 }
@@ -60,7 +60,7 @@ fn spread_round<S: Side, G: Heights>(
     grid: &G,
     at: Pos,
     from: u32,
-    level: Option<Rank>,
+    level: &Option<Rank>,
     front: &mut Front<S>,
 ) -> Result<(), Memory>
     requires present { Present (G.map grid.now) at }
@@ -68,28 +68,32 @@ fn spread_round<S: Side, G: Heights>(
     requires ahead { length front.old.ahead ≡ cell_count (G.map grid.now).size }
     requires few { from < 4294967295 }
     requires heap { IsLowestFirst S.NAME (heap_items front.old.low) }
-    ensures spreads { OnOk result (SpreadsRound (G.map grid.now) S.NAME at from level front.old.seen.items front.old.ahead (heap_items front.old.low) front.new.seen.items front.new.ahead (heap_items front.new.low)) }
+    ensures spreads { OnOk result (SpreadsRound (G.map grid.now) S.NAME at from level.now front.old.seen.items front.old.ahead (heap_items front.old.low) front.new.seen.items front.new.ahead (heap_items front.new.low)) }
     ensures seen { OnOk result (length front.new.seen.items ≡ cell_count (G.map grid.now).size) }
     ensures ahead { OnOk result (length front.new.ahead ≡ cell_count (G.map grid.now).size) }
     ensures heap { OnOk result (IsLowestFirst S.NAME (heap_items front.new.low)) }
 {
-    'steps: for step in 0..9u32 {
-        if step != 4 {
-            offer_at(grid, at, step % 3, step / 3, from, level, front)?;
-        }
-    }
+    offer_at(grid, at, 0, 0, from, level, front)?;
+    offer_at(grid, at, 1, 0, from, level, front)?;
+    offer_at(grid, at, 2, 0, from, level, front)?;
+    offer_at(grid, at, 0, 1, from, level, front)?;
+    offer_at(grid, at, 2, 1, from, level, front)?;
+    offer_at(grid, at, 0, 2, from, level, front)?;
+    offer_at(grid, at, 1, 2, from, level, front)?;
+    offer_at(grid, at, 2, 2, from, level, front)?;
     Ok(())
 }
 
 // Lets the position at a step from a present point wait behind the line at a place, if it is a neighbour and
 // not yet seen.
+#[inline(always)]
 fn offer_at<S: Side, G: Heights>(
     grid: &G,
     at: Pos,
     x: u32,
     y: u32,
     from: u32,
-    level: Option<Rank>,
+    level: &Option<Rank>,
     front: &mut Front<S>,
 ) -> Result<(), Memory>
     requires x { x ≤ 2 }
@@ -100,7 +104,9 @@ fn offer_at<S: Side, G: Heights>(
     requires ahead { length front.old.ahead ≡ cell_count (G.map grid.now).size }
     requires few { from < 4294967295 }
     requires heap { IsLowestFirst S.NAME (heap_items front.old.low) }
-    ensures offers { OnOk result (OffersAt (G.map grid.now) S.NAME at x y from level front.old.seen.items front.old.ahead (heap_items front.old.low) front.new.seen.items front.new.ahead (heap_items front.new.low)) }
+    ensures offers { OnOk result (OffersAt (G.map grid.now) S.NAME at x y from level.now front.old.seen.items front.old.ahead (heap_items front.old.low) front.new.seen.items front.new.ahead (heap_items front.new.low)) }
+    ensures seen { OnOk result (length front.new.seen.items ≡ cell_count (G.map grid.now).size) }
+    ensures ahead { OnOk result (length front.new.ahead ≡ cell_count (G.map grid.now).size) }
     ensures heap { OnOk result (IsLowestFirst S.NAME (heap_items front.new.low)) }
 {
     match beside_at(grid, at, x, y) {
@@ -133,11 +139,12 @@ fn beside_at<G: Heights>(grid: &G, at: Pos, x: u32, y: u32) -> Option<Pos>
 }
 
 // Lets a position wait behind the line at a place, if it is present and not yet seen.
+#[inline(always)]
 fn offer<S: Side, G: Heights>(
     grid: &G,
     at: Pos,
     from: u32,
-    level: Option<Rank>,
+    level: &Option<Rank>,
     front: &mut Front<S>,
 ) -> Result<(), Memory>
     requires in_grid { InGrid (G.map grid.now).size at }
@@ -145,17 +152,44 @@ fn offer<S: Side, G: Heights>(
     requires ahead { length front.old.ahead ≡ cell_count (G.map grid.now).size }
     requires few { from < 4294967295 }
     requires heap { IsLowestFirst S.NAME (heap_items front.old.low) }
-    ensures offers { OnOk result (OffersIfPresent (G.map grid.now) S.NAME at from level front.old.seen.items front.old.ahead (heap_items front.old.low) front.new.seen.items front.new.ahead (heap_items front.new.low)) }
+    ensures offers { OnOk result (OffersIfPresent (G.map grid.now) S.NAME at from level.now front.old.seen.items front.old.ahead (heap_items front.old.low) front.new.seen.items front.new.ahead (heap_items front.new.low)) }
+    ensures seen { OnOk result (length front.new.seen.items ≡ cell_count (G.map grid.now).size) }
+    ensures ahead { OnOk result (length front.new.ahead ≡ cell_count (G.map grid.now).size) }
     ensures heap { OnOk result (IsLowestFirst S.NAME (heap_items front.new.low)) }
 {
     let index = index_of(grid.size(), at);
-    if front.seen[index as usize] || !is_present(grid, at) {
+    if front.seen[index as usize] {
         return Ok(());
     }
-    front.seen[index as usize] = true;
+    offer_unseen(grid, at, from, level, front)
+}
+
+// The same of a position that is not yet seen.
+fn offer_unseen<S: Side, G: Heights>(
+    grid: &G,
+    at: Pos,
+    from: u32,
+    level: &Option<Rank>,
+    front: &mut Front<S>,
+) -> Result<(), Memory>
+    requires in_grid { InGrid (G.map grid.now).size at }
+    requires seen { length front.old.seen.items ≡ cell_count (G.map grid.now).size }
+    requires ahead { length front.old.ahead ≡ cell_count (G.map grid.now).size }
+    requires few { from < 4294967295 }
+    requires unseen { seen_at front.old.seen.items (place_of (G.map grid.now).size at) ≡ false }
+    requires heap { IsLowestFirst S.NAME (heap_items front.old.low) }
+    ensures offers { OnOk result (OffersIfPresent (G.map grid.now) S.NAME at from level.now front.old.seen.items front.old.ahead (heap_items front.old.low) front.new.seen.items front.new.ahead (heap_items front.new.low)) }
+    ensures seen { OnOk result (length front.new.seen.items ≡ cell_count (G.map grid.now).size) }
+    ensures ahead { OnOk result (length front.new.ahead ≡ cell_count (G.map grid.now).size) }
+    ensures heap { OnOk result (IsLowestFirst S.NAME (heap_items front.new.low)) }
+{
+    if !is_present(grid, at) {
+        return Ok(());
+    }
     let point = rank_of(grid, at);
+    front.seen[point.index as usize] = true;
     if !is_under::<S>(level, point) {
-        front.ahead.put(index, from);
+        front.ahead.put(point.index, from);
         return Ok(());
     }
     front.low.push(Waiting::new(point, from))?;
@@ -164,11 +198,11 @@ fn offer<S: Side, G: Heights>(
 
 // Whether a point is below the level.
 #[inline]
-fn is_under<S: Side>(level: Option<Rank>, point: Rank) -> bool
-    ensures { result ≡ is_under (below_by S.NAME) level point }
+fn is_under<S: Side>(level: &Option<Rank>, point: Rank) -> bool
+    ensures { result ≡ is_under (below_by S.NAME) level.now point }
 {
     match level {
-        Some(level) => S::below(point, level),
+        Some(level) => S::below(point, *level),
         None => false,
     }
 }

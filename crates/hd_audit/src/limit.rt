@@ -24,16 +24,24 @@ pub fn is_within(limit: &Limit, c: Rank, x: Rank) -> bool
     requires { (m : Map) × IsMap m × IsPoint m c × IsPoint m x }
     ensures { result ≡ is_percent_less (rise_over limit.now.side c x) limit.now.percent.thousandths limit.now.sz }
 {
-    percent_less(rise_over(limit.side, c, x), limit.percent, limit.sz)
+    is_height_within(limit, c, x.height)
 }
 
-// How far x is above c on the side, negative where it is lower.
-fn rise_over(side: SideName, c: Rank, x: Rank) -> i64
-    requires { (m : Map) × IsMap m × IsPoint m c × IsPoint m x }
-    ensures { result ≡ rise_over side c x }
+/// Whether the points of a map that have this height are within its point c.
+pub fn is_height_within(limit: &Limit, c: Rank, height: i64) -> bool
+    requires { (m : Map) × IsMap m × IsPoint m c × (x : Rank) × IsPoint m x × (x.height ≡ height) }
+    ensures { (x : Rank) → x.height ≡ height → result ≡ is_percent_less (rise_over limit.now.side c x) limit.now.percent.thousandths limit.now.sz }
+{
+    percent_less(rise_over(limit.side, c, height), limit.percent, limit.sz)
+}
+
+// How far points of this height are above c on the side, negative where they are lower.
+fn rise_over(side: SideName, c: Rank, height: i64) -> i64
+    requires { (m : Map) × IsMap m × IsPoint m c × (x : Rank) × IsPoint m x × (x.height ≡ height) }
+    ensures { (x : Rank) → x.height ≡ height → result ≡ rise_over side c x }
 {
     match side {
-        SideName::Dales => x.height - c.height,
-        SideName::Hills => c.height - x.height,
+        SideName::Dales => height - c.height,
+        SideName::Hills => c.height - height,
     }
 }

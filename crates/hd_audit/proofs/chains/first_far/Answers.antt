@@ -1,14 +1,15 @@
-use Rattle.std.proofs.Common.{◌≡◌, ◌∙◌, ◌+◌, ◌++◌, ◌∷◌, [], ℕ, ℤ, List, None, ap, map, sym, subst}
-use Rattle.std.proofs.lemmas.List.{map_push}
+use Rattle.std.proofs.Common.{◌≡◌, ◌∙◌, ℕ, ℤ, None, ap, length, sym, subst}
+use Rattle.std.specs.Prelude.{pos}
+use Rattle.std.proofs.lemmas.List.{length-replicate}
 use Rattle.hd_map.specs.declared.types.Rank.{Rank}
-use Rattle.hd_audit.specs.declared.types.AuditLine.{AuditLine}
 use Rattle.hd_map.specs.declared.types.SideName.{SideName}
 use Rattle.hd_map.specs.Map.{Map, position_at}
 use Rattle.hd_map.specs.Region.{IsPit}
-use Rattle.hd_audit.specs.Rules.{IsWithin}
+use Rattle.hd_audit.specs.declared.types.AuditLine.{AuditLine}
 use Rattle.hd_audit.specs.Lines.{line_at, rank_at}
-use Rattle.hd_audit.proofs.Chaining.{AreChainsTo, chains_more, not_within, right_where, top_point}
-use Rattle.hd_audit.proofs.HeightOrder.{point-rank}
+use Rattle.hd_audit.specs.Rules.{IsWithin}
+use Rattle.hd_audit.proofs.Chaining.{chains_more, chains_none, not_within, right_where, top_fits, top_point}
+use Rattle.hd_audit.proofs.Heights.{height_kept}
 use Rattle.hd_audit.proofs.Tests.{fails, holds}
 use Rattle.hd_audit.proofs.chains.first_far.Goals as goal
 
@@ -16,18 +17,33 @@ use Rattle.hd_audit.proofs.chains.first_far.Goals as goal
 abbrev IsFar : Map → SideName → ℕ → ℤ → Rank → AuditLine → Type 0
 IsFar m side thousandths sz top x = (x.parent ≡ None → ⊥) × IsPit m side (rank_at m x.index) × (IsWithin side thousandths sz (rank_at m x.index) top → ⊥)
 
+pub loop-k-init : goal.loop-k-init
+loop-k-init g c =
+    let l = c.args.limit.now in
+    chains_none (g.G.Heights.map c.args.surface.now) l.side l.percent.thousandths l.sz c.args.lines.now c.in_ok-tops.tops.items (ap length (c.in_ok-tops.ensures.items_if_clones_equal (λ _ e. e)) ∙ length-replicate {A = ℤ} c.cells_of.result (pos 0) ∙ c.cells_of.ensures)
+
 pub is_far-requires-clause-top : goal.is_far-requires-clause-top
-is_far-requires-clause-top g c = top_point (g.G.Heights.map c.args.surface.now) c.args.limit.now.side c.args.lines.now c.requires.new (line_at c.args.lines.now c.loop-k.k).index c.top_of-top.result c.top_of-top.ensures
+is_far-requires-clause-top g c =
+    let m = g.G.Heights.map c.args.surface.now in
+    let side = c.args.limit.now.side in
+    let lines = c.args.lines.now in
+    let i : ℕ = (line_at lines c.loop-k.k).index in
+    let up = c.top_of-top.ensures in
+    (up.top, top_point m side lines c.requires.new i up.top up.is_top, up.height_is ∙ sym (height_kept c.top_of-top.result (top_fits m side lines c.requires.new (g.met.G.Heights.whole c.args.surface.now) i c.top_of-top.result up)))
 
 pub returns-then-is_far : goal.returns-then-is_far
 returns-then-is_far g c =
     let m = g.G.Heights.map c.args.surface.now in
     let l = c.args.limit.now in
-    let far = subst (λ (x : AuditLine). IsFar m l.side l.percent.thousandths l.sz c.top_of-top.result x) c.at-line.ensures (holds c.is_far.result c.if-is_far.true c.is_far.ensures) in (
+    let lines = c.args.lines.now in
+    let i : ℕ = (line_at lines c.loop-k.k).index in
+    let up = c.top_of-top.ensures in
+    let same = up.height_is ∙ sym (height_kept c.top_of-top.result (top_fits m l.side lines c.requires.new (g.met.G.Heights.whole c.args.surface.now) i c.top_of-top.result up)) in
+    let far = subst (λ (x : AuditLine). IsFar m l.side l.percent.thousandths l.sz up.top x) c.at-line.ensures (holds c.is_far.result c.if-is_far.true (c.is_far.ensures up.top same)) in (
       c.loop-k.k,
       rw c.len-k-end.ensures at c.loop-k-test.true,
       c.loop-k.invariant.right,
-      λ right. not_within m l.side c.args.lines.now c.requires.new l.percent.thousandths l.sz (line_at c.args.lines.now c.loop-k.k).index c.top_of-top.result c.top_of-top.ensures far.2 (right far.0 far.1),
+      λ right. not_within m l.side lines c.requires.new l.percent.thousandths l.sz i up.top up.is_top far.2 (right far.0 far.1),
       c.position_in.ensures ∙ ap (λ (x : AuditLine). position_at m.size x.index) c.at-line.ensures,
     )
 
@@ -35,11 +51,12 @@ pub loop-k-preserved : goal.loop-k-preserved
 loop-k-preserved g c =
     let m = g.G.Heights.map c.args.surface.now in
     let l = c.args.limit.now in
-    let tops : List ℕ = c.loop-k.tops.items in
-    let top = c.top_of-top.result in
-    let near = subst (λ (x : AuditLine). IsFar m l.side l.percent.thousandths l.sz top x → ⊥) c.at-line.ensures (fails c.is_far.result c.if-is_far.false c.is_far.ensures) in
-    let point = top_point m l.side c.args.lines.now c.requires.new (line_at c.args.lines.now c.loop-k.k).index top c.top_of-top.ensures in
-    let items : map (rank_at m) c.push.new.self.items ≡ map (rank_at m) tops ++ top ∷ [] = ap (map (rank_at m)) c.in_ok-push.ensures.items ∙ map_push (rank_at m) tops top.index ∙ ap (λ r. map (rank_at m) tops ++ r ∷ []) (point-rank m top point) in
-    subst (λ (tops : List Rank). AreChainsTo m l.side l.percent.thousandths l.sz c.args.lines.now tops (c.loop-k.k + 1)) (sym items)
-    (chains_more m l.side l.percent.thousandths l.sz c.args.lines.now (map (rank_at m) tops) c.loop-k.k c.top_of-top.result c.loop-k.invariant c.top_of-top.ensures
-    (right_where m l.side l.percent.thousandths l.sz c.args.lines.now c.loop-k.k c.top_of-top.result c.top_of-top.ensures near))
+    let lines = c.args.lines.now in
+    let k = c.loop-k.k in
+    let i : ℕ = (line_at lines k).index in
+    let up = c.top_of-top.ensures in
+    let kept = height_kept c.top_of-top.result (top_fits m l.side lines c.requires.new (g.met.G.Heights.whole c.args.surface.now) i c.top_of-top.result up) in
+    let near = subst (λ (x : AuditLine). IsFar m l.side l.percent.thousandths l.sz up.top x → ⊥) c.at-line.ensures (fails c.is_far.result c.if-is_far.false (c.is_far.ensures up.top (up.height_is ∙ sym kept))) in
+    let new = c.requires.new k (rw c.len-k-end.ensures at c.loop-k-test.true) in
+    rw (kept, c.at-line.ensures) (chains_more m l.side l.percent.thousandths l.sz lines c.loop-k.tops.items k c.top_of-top.result new.new new.inside c.loop-k.invariant up
+    (right_where m l.side l.percent.thousandths l.sz lines k up.top up.is_top near))

@@ -1,7 +1,5 @@
-use Rattle.std.proofs.Common.{map}
-use Rattle.hd_audit.specs.Lines.{rank_at}
 use Rattle.hd_audit.proofs.Chaining.{AreChainsTo}
 use Rattle.hd_audit.proofs.chains.first_far.Given as goal
 
 abbrev pub invariant-loop-k : goal.invariant-loop-k
-invariant-loop-k g l = AreChainsTo (g.G.Heights.map l.surface) l.limit.side l.limit.percent.thousandths l.limit.sz l.lines (map (rank_at (g.G.Heights.map l.surface)) l.tops.items) l.k
+invariant-loop-k g l = AreChainsTo (g.G.Heights.map l.surface) l.limit.side l.limit.percent.thousandths l.limit.sz l.lines l.tops.items l.k
