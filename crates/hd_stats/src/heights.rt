@@ -1,14 +1,15 @@
 // The values of height parameters.
-ghost use Rattle.std.specs.Prelude.{◌≡◌, ◌≤◌, ◌<◌, ◌+◌, ◌*◌, ◌^◌, pos, neg_ℤ, unsigned_abs};
+ghost use Rattle.std.specs.Prelude.{◌≡◌, ◌≤◌, ◌<◌, ◌+◌, ◌*◌, ◌^◌, pos, neg_ℤ, unsigned_abs, length};
 ghost use Rattle.hd_num.specs.Frac.{IsFraction};
 ghost use Rattle.hd_map.specs.Presence.{present_heights};
 ghost use Rattle.hd_stats.specs.Heights.{IsHeightValue, at_least, deviation, deviations};
 ghost use Rattle.hd_stats.specs.Passes.{at_least_with, deviation_by, deviations_with};
 ghost use Rattle.hd_stats.specs.Sums.{AreSmall, AreSums};
 
+use crate::gather::{Gather, gathered};
 use crate::name::HeightName;
 use crate::sums::{Sums, sums_of};
-use hd_map::{Heights, Pos, position_after};
+use hd_map::Heights;
 use hd_num::Frac;
 
 /// The value of a height parameter of ISO 25178-2 over the present points of a grid, in steps, or for
@@ -90,14 +91,28 @@ fn deviations<G: Heights>(grid: &G, sums: &Sums) -> u128
     ensures value { result ≡ deviations (present_heights (G.map grid.now)) }
     ensures small { result ≤ 4194304 * 2 ^ 86 }
 {
-    let size = grid.size();
-    let mut sum = 0u128;
-    let mut at = Pos { x: 0, y: 0 };
-    'points: for _ in 0..size.profiles * size.points {
-        sum = deviations_with(sum, sums, grid.height(at));
-        at = position_after(size, at);
+    gathered(grid, &Deviating { sums: *sums }, 0)
+}
+
+// Gathers the sum of the absolute values of deviations, by the sums over all heights.
+#[derive(Drop)]
+struct Deviating {
+    sums: Sums,
+    ghost small: { AreSmall sums 4194304 },
+}
+
+impl Gather for Deviating {
+    ghost use Rattle.std.specs.List.{sum_by};
+    ghost use Rattle.hd_stats.specs.Passes.{deviation_by};
+
+    type Sum = u128;
+
+    ghost is_of = { λ by heights sum. (sum ≡ sum_by (λ h. unsigned_abs (deviation_by by.sums h)) heights) × (sum ≤ length heights * 2 ^ 86) };
+
+    #[inline]
+    fn with(&self, sum: u128, height: Option<i64>) -> u128 {
+        deviations_with(sum, &self.sums, height)
     }
-    sum
 }
 
 // The sum with one more point, by its height.
@@ -119,14 +134,24 @@ fn deviations_with(sum: u128, sums: &Sums, height: Option<i64>) -> u128
 fn at_least<G: Heights>(grid: &G, c: i64) -> u32
     ensures { result ≡ at_least c (present_heights (G.map grid.now)) }
 {
-    let size = grid.size();
-    let mut count = 0u32;
-    let mut at = Pos { x: 0, y: 0 };
-    'points: for _ in 0..size.profiles * size.points {
-        count = at_least_with(count, c, grid.height(at));
-        at = position_after(size, at);
+    gathered(grid, &Reaching { c }, 0)
+}
+
+// Gathers how many heights are at least c.
+#[derive(Drop)]
+struct Reaching {
+    c: i64,
+}
+
+impl Gather for Reaching {
+    type Sum = u32;
+
+    ghost is_of = { λ by heights count. (count ≡ at_least by.c heights) × (count ≤ length heights) };
+
+    #[inline]
+    fn with(&self, count: u32, height: Option<i64>) -> u32 {
+        at_least_with(count, self.c, height)
     }
-    count
 }
 
 // The count with one more point, by its height.

@@ -4,6 +4,7 @@
 
 mod below;
 mod distribution;
+mod gather;
 mod heights;
 mod laws;
 mod name;

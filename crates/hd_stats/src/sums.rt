@@ -1,9 +1,10 @@
 // The number of the present points of a grid, the range of their heights, and the sum of these.
-ghost use Rattle.std.specs.Prelude.{◌≡◌, ◌+◌, ℕ};
+ghost use Rattle.std.specs.Prelude.{◌≡◌, ◌+◌, ℕ, length};
 ghost use Rattle.hd_map.specs.Presence.{present_heights};
 ghost use Rattle.hd_stats.specs.Sums.{AreSmall, AreSums, sums_with};
 
-use hd_map::{HeightRange, Heights, Pos, position_after};
+use crate::gather::{Gather, gathered};
+use hd_map::{HeightRange, Heights};
 
 /// The number of some heights in steps, their range and their sum.
 #[derive(Clone, Copy)]
@@ -22,18 +23,29 @@ pub fn sums_of<G: Heights>(grid: &G) -> Sums
     ensures are { AreSums (present_heights (G.map grid.now)) result }
     ensures small { AreSmall result 4194304 }
 {
-    let size = grid.size();
-    let mut sums = Sums {
+    let none = Sums {
         count: 0,
         range: None,
         total: 0,
     };
-    let mut at = Pos { x: 0, y: 0 };
-    'points: for _ in 0..size.profiles * size.points {
-        sums = sums_with(sums, grid.height(at));
-        at = position_after(size, at);
+    gathered(grid, &Summing, none)
+}
+
+// Gathers the sums of heights.
+#[derive(Drop)]
+struct Summing;
+
+impl Gather for Summing {
+    ghost use Rattle.hd_stats.specs.Sums.{AreSmall, AreSums};
+
+    type Sum = Sums;
+
+    ghost is_of = { λ _ heights sums. AreSums heights sums × AreSmall sums (length heights) };
+
+    #[inline]
+    fn with(&self, sums: Sums, height: Option<i64>) -> Sums {
+        sums_with(sums, height)
     }
-    sums
 }
 
 // The sums with one more point, by its height.

@@ -1,7 +1,7 @@
 // The fill of the kept pits of a pruning.
-ghost use Rattle.std.specs.Prelude.{◌≡◌, ◌<◌, ◌≤◌, ◌^◌, IfOk, Some, None, ℕ, length, slice_index_or};
+ghost use Rattle.std.specs.Prelude.{◌≡◌, ◌<◌, ◌≤◌, ◌+◌, ◌*◌, ◌^◌, IfOk, Some, None, ℕ, length, slice_index_or};
 ghost use Rattle.std.specs.Option.{ForSome};
-ghost use Rattle.hd_map.specs.Map.{cell_count};
+ghost use Rattle.hd_map.specs.Map.{InGrid, cell_count, height_at};
 ghost use Rattle.hd_prune.specs.Kept.{pits_kept};
 ghost use Rattle.hd_prune.specs.Staying.{AreKeptAlone};
 ghost use Rattle.hd_reach.specs.Reached.{AreReached};
@@ -10,7 +10,7 @@ ghost use Rattle.hd_stats.specs.Volumes.{AddsPoint, AreValues, AreVolumes, IsVal
 
 use crate::below::BelowNearest;
 use hd_list::{List, Memory};
-use hd_map::{Heights, Pos, Rank, Side, position_after};
+use hd_map::{Heights, Pos, Rank, Side, index_of};
 use hd_num::Frac;
 use hd_prune::Kept;
 use hd_reach::reached_from;
@@ -32,6 +32,8 @@ pub fn fill<S: Side, G: Heights>(
     let kept = kept.as_slice();
     let reached = reached_below::<S, G>(alloc, grid, kept)?;
     let volumes = add_up(alloc, grid, kept, &reached)?;
+    // Its memory is free for the values.
+    drop(reached);
     let values = list_values(alloc, kept, &volumes)?;
     Ok(values)
 }
@@ -76,24 +78,47 @@ fn add_up<G: Heights>(
     requires numbers { (k : ℕ) → ForSome (slice_index_or reached.now k None) (λ n. n < length kept.now) }
     ensures { IfOk result (λ volumes. AreVolumes (G.map grid.now) kept.now reached.now (length reached.now) volumes.items) }
 {
-    let size = grid.size();
     let mut volumes = vec![in alloc; 0u128; kept.len()]?;
-    let mut at = Pos { x: 0, y: 0 };
-    'points: for by in reached {
-        add_point(&mut volumes, kept, *by, grid.height(at));
-        at = position_after(size, at);
+    'profiles: for y in 0..grid.size().profiles {
+        add_profile(&mut volumes, grid, kept, reached, y);
     }
     Ok(volumes)
 }
 
-// Adds a point, by the number of the kept pit that reaches it and by its height.
-fn add_point(volumes: &mut Vec<u128>, kept: &[Kept], by: Option<u32>, height: Option<i64>)
+// Adds the points of a profile, where those of the profiles before it are added.
+#[inline]
+fn add_profile<G: Heights>(
+    volumes: &mut Vec<u128>,
+    grid: &G,
+    kept: &[Kept],
+    reached: &[Option<u32>],
+    y: u32,
+)
+    requires profile { y < (G.map grid.now).size.profiles }
+    requires whole { length reached.now ≡ cell_count (G.map grid.now).size }
+    requires numbers { (k : ℕ) → ForSome (slice_index_or reached.now k None) (λ n. n < length kept.now) }
+    requires before { AreVolumes (G.map grid.now) kept.now reached.now (y * (G.map grid.now).size.points) volumes.old.items }
+    ensures { AreVolumes (G.map grid.now) kept.now reached.now ((y + 1) * (G.map grid.now).size.points) volumes.new.items }
+{
+    let size = grid.size();
+    'points: for x in 0..size.points {
+        let at = Pos { x, y };
+        let by = reached[index_of(size, at) as usize];
+        add_point(volumes, grid, kept, by, at);
+    }
+}
+
+// Adds the point at a position, by the number of the kept pit that reaches it.
+#[inline]
+fn add_point<G: Heights>(volumes: &mut Vec<u128>, grid: &G, kept: &[Kept], by: Option<u32>, at: Pos)
+    requires in_grid { InGrid (G.map grid.now).size at }
     requires whole { length volumes.old.items ≡ length kept.now }
     requires number { ForSome by (λ n. n < length kept.now) }
     requires room { (i : ℕ) → i < length kept.now → slice_index_or volumes.old.items i 0 ≤ 2 ^ 100 }
-    ensures { AddsPoint kept.now by height volumes.old.items volumes.new.items }
+    ensures { AddsPoint kept.now by (height_at (G.map grid.now) at) volumes.old.items volumes.new.items }
 {
     if let Some(number) = by {
+        let height = grid.height(at);
         volumes[number as usize] += difference(kept[number as usize].nearest, height);
     }
 }

@@ -1,20 +1,13 @@
-use Rattle.std.proofs.Common.{◌≡◌, ◌∙◌, ap}
-use Rattle.hd_map.specs.Map.{InGrid, height_at, position_at}
-use Rattle.hd_map.proofs.Walks.{at-inside, at-next, at-position}
-use Rattle.hd_stats.proofs.Passing.{sums-next}
+use Rattle.std.proofs.Common.{arith}
+use Rattle.hd_map.specs.Map.{cell_count}
+use Rattle.hd_stats.proofs.Passing.{heights-few}
 use Rattle.hd_stats.proofs.sums.sums_of.Goals as goal
 
-pub points-preserved : goal.points-preserved
-points-preserved g c =
+pub returns-clause-small : goal.returns-clause-small
+returns-clause-small g c =
     let m = g.G.Heights.map c.args.grid.now in
-    let n = c.points.counter in
-    let at = c.points.at in
-    let height = c.height.result in
-    let so = c.points.invariant.at in
-    let inside : InGrid m.size at = at-inside m.size c.size-size.result n at c.size-size.ensures so c.points-test.true in
-    let here : height ≡ height_at m (position_at m.size n) = c.height.ensures ∙ ap (height_at m) (at-position m.size n at so inside) in
-    record {
-      are = sums-next m n c.points.sums c.sums_with-sums.result height c.points.invariant.are here c.sums_with-sums.ensures.value;
-      small = c.sums_with-sums.ensures.small n c.points.invariant.small;
-      at = at-next m.size c.size-size.result n at c.position_after-at.result c.size-size.ensures so c.position_after-at.ensures.column c.position_after-at.ensures.place;
-    }
+    let few = heights-few m (cell_count m.size) in
+    let whole = (g.met.G.Heights.whole c.args.grid.now).size.cells in
+    let count = c.gathered.ensures.1.count in
+    let total = c.gathered.ensures.1.total in
+    record { count = omega (arith, few, whole, count); total = omega (arith, few, whole, total) }

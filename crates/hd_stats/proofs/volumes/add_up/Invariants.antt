@@ -1,9 +1,7 @@
-use Rattle.hd_map.proofs.Walks.{IsAt}
+use Rattle.std.proofs.Common.{◌*◌}
 use Rattle.hd_stats.specs.Volumes.{AreVolumes}
 use Rattle.hd_stats.proofs.volumes.add_up.Given as goal
 
-abbrev pub invariant-points : goal.invariant-points
-invariant-points g l = let m = g.G.Heights.map l.grid in record {
-  are : AreVolumes m l.kept l.reached l.by-index l.volumes.items;
-  at : IsAt m.size l.by-index l.at;
-}
+-- the profiles seen so far
+abbrev pub invariant-profiles : goal.invariant-profiles
+invariant-profiles g l = let m = g.G.Heights.map l.grid in AreVolumes m l.kept l.reached (l.y * m.size.points) l.volumes.items
