@@ -1,33 +1,24 @@
 -- The regions of pits, gathered basin by basin.
-use Rattle.std.proofs.Common.{◌≡◌, ◌<◌, ◌+◌, ◌++◌, ◌^◌, ◌∙◌, ℕ, true, false, List, [], ◌∷◌, length, get_or, take, map, Option, Some, None, inl, inr, refl, sym, ap, subst, arith}
+use Rattle.std.proofs.Common.{◌≡◌, ◌<◌, ◌+◌, ◌++◌, ◌^◌, ◌∙◌, ℕ, List, [], ◌∷◌, length, get_or, take, Option, Some, None, inl, inr, refl, sym, ap, subst, arith}
 use Rattle.std.specs.Prelude.{◌↔◌, ◌≢◌, Contains, AllPairs}
-use Rattle.std.specs.BTreeMap.{BTreeMap, get, is_at}
-use Rattle.std.specs.Cmp.{nat_cmp_is}
 use Rattle.std.specs.List.{flat_map}
-use Rattle.std.specs.declared.cmp.Ordering.TheVariants.{Less, Equal, Greater}
-use Rattle.std.specs.Map.{keys_of, lookup}
-use Rattle.std.specs.Ordering.{is_eq, nat_cmp}
 use Rattle.std.proofs.lemmas.Bool.{cases_eq}
-use Rattle.std.proofs.lemmas.Cmp.{nat_cmp_total}
-use Rattle.std.proofs.lemmas.List.{take_more, get_or-take, length-take-le, get_or-map, get_or_default, length-map}
+use Rattle.std.proofs.lemmas.List.{take_more, get_or-take, length-take-le, get_or_default}
 use Rattle.std.proofs.lemmas.List.Elements.{Contains-append_left, Contains-append_right, Contains-append_cases, Contains-get_or}
-use Rattle.std.proofs.lemmas.Map.Keys.{Less-from_sorted}
-use Rattle.std.proofs.lemmas.Map.Lookups.{exact_unsigned}
-use Rattle.std.proofs.lemmas.Map.Views.{btree_map_get_iff, tells_apart}
 use Rattle.hd_map.specs.declared.types.Rank.{Rank}
 use Rattle.hd_map.specs.declared.types.SideName.{SideName}
-use Rattle.hd_map.specs.Map.{Map, IsMap}
+use Rattle.hd_map.specs.Map.{Map, IsMap, cell_count}
 use Rattle.hd_map.specs.Rank.{IsPoint}
 use Rattle.hd_map.specs.Region.{AreNexts, IsPit, IsRoot}
-use Rattle.hd_map.proofs.Items.{Contains-map, map-Contains, Contains-cases, Contains-none, Contains-head}
+use Rattle.hd_map.proofs.Items.{Contains-cases, Contains-none, Contains-head}
 use Rattle.hd_map.proofs.Nexts.{root-is_pit, root-unique, root-pit}
-use Rattle.hd_map.proofs.Points.{same_index, Near-from}
-use Rattle.hd_graph.proofs.Places.{less_same_more}
+use Rattle.hd_map.proofs.Points.{Near-from, place_inside, same_index}
 use Rattle.hd_basin.specs.declared.extent.Extent.{Extent}
 use Rattle.hd_basin.specs.declared.node.Node.{Node}
 use Rattle.hd_basin.specs.Basin.{IsNode, IsSinkOf, tile_at}
 use Rattle.hd_basin.specs.Edge.{IsEdge}
-use Rattle.hd_basin.specs.Extents.{AddsBasin, AreGathered, AreListed, InBasins, IsExtentWith, IsGathered, nodes_in}
+use Rattle.hd_basin.specs.Extents.{AddsBasin, AreGathered, HavePits, InBasins, IsExtentWith, IsGathered, nodes_in}
+use Rattle.hd_basin.specs.ExtentTable.{AreListedTo, Table, found}
 use Rattle.hd_basin.specs.InStep.{IsPoolOf}
 use Rattle.hd_basin.specs.Parts.{Pool, HasNode}
 use Rattle.hd_basin.specs.Reading.{AreExtents, IsExtent}
@@ -38,13 +29,6 @@ use Rattle.hd_basin.proofs.Netted.{has_sink, node-tile, sink_of-point}
 use Rattle.hd_basin.proofs.SinkLaws.{sink-is_sink, sink-root, sink-unique}
 use Rattle.hd_basin.proofs.Together.{count-few, sums-both, sums-by}
 
--- another key is not at this one
-pub key-apart : (k i : ℕ) → (i ≡ k → ⊥) → is_at (nat_cmp k) i ≡ false
-key-apart k i ne = elim (is_eq (nat_cmp k i)) as (λ v. is_eq (nat_cmp k i) ≡ v → v ≡ false) [
-  | true ↦ λ e. absurd (ne (sym (tells_apart exact_unsigned k i e)))
-  | false ↦ λ e. refl
-] refl
-
 -- what a list of one item has
 pub only : {X : Type 0} → (x y : X) → Contains (x ∷ []) y → y ≡ x
 only x y h = elim (Contains-cases x y [] h) [ inl same ↦ same | inr none ↦ absurd (Contains-none y none) ]
@@ -53,16 +37,6 @@ only x y h = elim (Contains-cases x y [] h) [ inl same ↦ same | inr none ↦ a
 nexts-point : (m : Map) (side : SideName) (p r : Rank) (xs : List Rank) → AreNexts m side p xs r → IsPoint m p
 nexts-point m side p r [] h = h.1.point
 nexts-point m side p r (q ∷ qs) h = Near-from m p q h.0.lower.near
-
--- of two numbers that compare as less the first is less
-less-from_cmp : (a b : ℕ) → nat_cmp a b ≡ Less → a < b
-less-from_cmp a b e = elim (less_same_more a b) [
-  | inl less ↦ less
-  | inr o ↦ elim o [
-    | inl same ↦ absurd (let f : Equal ≡ Less = nat_cmp_is a b Equal same ∙ e in cc)
-    | inr more ↦ absurd (let f : Greater ≡ Less = nat_cmp_is a b Greater more ∙ e in cc)
-  ]
-]
 
 -- of different items, one of the first k is not that at place k
 before-apart : {X : Type 0} → (R : X → X → Type 0) (xs : List X) (k : ℕ) (d : X) → k < length xs → AllPairs R xs → (x : X) → Contains (take k xs) x → R x (get_or xs k d)
@@ -137,16 +111,23 @@ module _ (m : Map) (side : SideName) (t : ℕ) where
           (basins-other nodes n e.pit (λ r. other (sym old.0 ∙ ap (λ (x : Rank). x.index) (root-unique m side n.low e.pit pit r root)))) e.points e.high e.least e.edge_low e.edge_high old.2,
     )
 
-    gathered-more : (old new : BTreeMap ℕ Extent) → AddsBasin old new pit n → AreGathered m side t nodes old → AreGathered m side t (nodes ++ n ∷ []) new
-    gathered-more old new adds before i = elim (cases_eq i pit.index) [
-      | inl e ↦ subst (λ k. IsGathered m side t (nodes ++ n ∷ []) k (get nat_cmp new k)) (sym e)
-          (subst (IsGathered m side t (nodes ++ n ∷ []) pit.index) (sym adds.updates.1) (pit-gathered (get nat_cmp old pit.index) adds.extent adds.with (before pit.index)))
-      | inr ne ↦ subst (IsGathered m side t (nodes ++ n ∷ []) i) (sym (adds.updates.2 i (key-apart pit.index i ne))) (other-gathered i (get nat_cmp old i) ne (before i))
-    ]
+    gathered-more : (old new : Table) → AddsBasin old new pit n → AreGathered m side t nodes old → AreGathered m side t (nodes ++ n ∷ []) new
+    gathered-more old new adds before i =
+        let here = pit-gathered (found old pit.index) adds.extent adds.with (before pit.index) in
+        let at : adds.extent.pit.index ≡ pit.index = here.0 in
+        elim (cases_eq i pit.index) [
+          | inl e ↦ subst (λ k. IsGathered m side t (nodes ++ n ∷ []) k (found new k)) (sym e)
+              (subst (IsGathered m side t (nodes ++ n ∷ []) pit.index) (sym (ap (found new) (sym at) ∙ adds.files.here)) here)
+          | inr ne ↦ subst (IsGathered m side t (nodes ++ n ∷ []) i) (sym (adds.files.others i (λ same. ne (same ∙ at)))) (other-gathered i (found old i) ne (before i))
+        ]
 
 -- nothing is gathered of no basins
-pub gathered-none : (m : Map) (side : SideName) (t : ℕ) (extents : BTreeMap ℕ Extent) → extents.entries ≡ [] → AreGathered m side t [] extents
-gathered-none m side t extents none i = subst (λ (es : List (ℕ × Extent)). IsGathered m side t [] i (lookup (is_at (nat_cmp i)) es)) (sym none) (λ n r at root e. Contains-none n at)
+pub gathered-none : (m : Map) (side : SideName) (t : ℕ) (extents : Table) → ((i : ℕ) → found extents i ≡ None) → AreGathered m side t [] extents
+gathered-none m side t extents none i = subst (IsGathered m side t [] i) (sym (none i)) (λ n r at root e. Contains-none n at)
+
+-- the pits of what is gathered are pits of the map
+pub gathered-pits : (m : Map) (side : SideName) (t : ℕ) (nodes : List Node) (extents : Table) → AreGathered m side t nodes extents → HavePits m side extents
+gathered-pits m side t nodes extents gathered i e is = (let g = subst (IsGathered m side t nodes i) is (gathered i) in (g.0, g.1))
 
 module _ (side : SideName) (pool : Pool) (nodes : List Node) (are : nodes ≡ flat_map nodes_in pool.parts) where
   -- what is listed are the nodes of the pool
@@ -170,7 +151,7 @@ module _ (side : SideName) (pool : Pool) (nodes : List Node) (are : nodes ≡ fl
         omega (arith, tile, less))))
 
     -- one node more is gathered
-    pub gathered-step : (k : ℕ) (d : Node) → k < length nodes → (pit : Rank) → IsRoot m side (get_or nodes k d).low pit → (old new : BTreeMap ℕ Extent) → AddsBasin old new pit (get_or nodes k d)
+    pub gathered-step : (k : ℕ) (d : Node) → k < length nodes → (pit : Rank) → IsRoot m side (get_or nodes k d).low pit → (old new : Table) → AddsBasin old new pit (get_or nodes k d)
         → AreGathered m side pool.side (take k nodes) old → AreGathered m side pool.side (take (k + 1) nodes) new
     gathered-step k d inside pit root old new adds before =
         let n : Node = get_or nodes k d in
@@ -178,7 +159,7 @@ module _ (side : SideName) (pool : Pool) (nodes : List Node) (are : nodes ≡ fl
         (gathered-more m side pool.side (take k nodes) n (node-is n (Contains-get_or nodes k d inside)) (λ u at. before-apart (λ (v w : Node). v.low ≢ w.low) nodes k d inside nodes-different u at) pit root old new adds before)
 
     -- a region has few points
-    pub gathered-few : (k : ℕ) (n : Node) → Contains nodes n → (extents : BTreeMap ℕ Extent) → AreGathered m side pool.side (take k nodes) extents → (i : ℕ) (e : Extent) → get nat_cmp extents i ≡ Some e → e.points + n.points < 2 ^ 64
+    pub gathered-few : (k : ℕ) (n : Node) → Contains nodes n → (extents : Table) → AreGathered m side pool.side (take k nodes) extents → (i : ℕ) (e : Extent) → found extents i ≡ Some e → e.points + n.points < 2 ^ 64
     gathered-few k n at extents gathered i e is =
         let g = subst (IsGathered m side pool.side (take k nodes) i) is (gathered i) in
         let one = count-few m (InBasins m side pool.side (take k nodes) e.pit) e.points whole (λ r h. sink_of-point m side pool.side r h.node.low h.sink) g.2.counted in
@@ -202,53 +183,34 @@ module _ (side : SideName) (pool : Pool) (nodes : List Node) (are : nodes ≡ fl
     )
 
     -- the extents of all nodes are those of the regions
-    module _ (extents : BTreeMap ℕ Extent) (gathered : AreGathered m side pool.side nodes extents) (list : List Extent) (listed : AreListed extents list) where
-      abbrev value : ℕ × Extent → Extent
-      value entry = entry.1
-
-      entry : (k : ℕ) (e : Extent) → (get nat_cmp extents k ≡ Some e) ↔ Contains extents.entries (k, e)
-      entry = btree_map_get_iff nat_cmp_total exact_unsigned extents listed.ordered
-
-      known : (k : ℕ) (e : Extent) → Contains extents.entries (k, e) → IsGathered m side pool.side nodes k (Some e)
-      known k e at = subst (IsGathered m side pool.side nodes k) ((entry k e).1 at) (gathered k)
+    module _ (extents : Table) (gathered : AreGathered m side pool.side nodes extents) (n : ℕ) (points : n ≡ cell_count pool.size) (list : List Extent) (listed : AreListedTo extents n list) where
+      known : (k : ℕ) (e : Extent) → found extents k ≡ Some e → IsGathered m side pool.side nodes k (Some e)
+      known k e is = subst (IsGathered m side pool.side nodes k) is (gathered k)
 
       each-extent : (e : Extent) → Contains list e → IsExtent m side e
       each-extent e at =
-          let h = Contains-map value extents.entries e (subst (λ (es : List Extent). Contains es e) listed.listed at) in
-          let g = known (h.0).0 (h.0).1 h.1 in
-          subst (IsExtent m side) h.2 (record {
+          let g = known e.pit.index e (listed.each e at).0 in
+          record {
             is_pit = g.1;
-            sums = sums-by (InBasins m side pool.side nodes (h.0).1.pit) (λ p. IsRoot m side p (h.0).1.pit) (IsEdge m) (basins-all (h.0).1.pit) _ _ _ _ _ g.2;
-          })
+            sums = sums-by (InBasins m side pool.side nodes e.pit) (λ p. IsRoot m side p e.pit) (IsEdge m) (basins-all e.pit) _ _ _ _ _ g.2;
+          }
 
-      found : (p : Rank) → IsPit m side p → (o : Option Extent) → get nat_cmp extents p.index ≡ o → (e : Extent) × Contains list e × (e.pit ≡ p)
-      found p pit None is =
+      inside : (p : Rank) → IsPit m side p → p.index < n
+      inside p pit =
+          let below : p.index < cell_count m.size = rw pit.point.rank_is (place_inside m.size pit.point.at pit.point.present.in_grid) in
+          subst (λ k. p.index < k) (ap cell_count (sym of.size) ∙ sym points) below
+
+      of-pit : (p : Rank) → IsPit m side p → (o : Option Extent) → found extents p.index ≡ o → (e : Extent) × Contains list e × (e.pit ≡ p)
+      of-pit p pit None is =
           let s = sunk p pit.point in
           absurd (subst (IsGathered m side pool.side nodes p.index) is (gathered p.index) s.0 p s.1 ((sink-root m side pool.side p (s.0).low p s.2).0 (root-pit m side p pit)) refl)
-      found p pit (Some e) is =
-          let g = subst (IsGathered m side pool.side nodes p.index) is (gathered p.index) in
-          (e, subst (λ (es : List Extent). Contains es e) (sym listed.listed) (map-Contains value extents.entries (p.index, e) ((entry p.index e).0 is)), same_index m e.pit p g.1.point pit.point g.0)
+      of-pit p pit (Some e) is =
+          let g = known p.index e is in
+          (e, listed.all p.index e (inside p pit) is, same_index m e.pit p g.1.point pit.point g.0)
 
       pub extents-right : AreExtents m side list
       extents-right = record {
         each = each-extent;
-        all = λ p pit. found p pit (get nat_cmp extents p.index) refl;
-        in_order = subst (AllPairs (λ (e f : Extent). e.pit.index < f.pit.index)) (sym listed.listed) rises;
+        all = λ p pit. of-pit p pit (found extents p.index) refl;
+        in_order = listed.in_order;
       }
-        where
-          rises : AllPairs (λ (e f : Extent). e.pit.index < f.pit.index) (map value extents.entries)
-          rises i j d less inside =
-              let es : List (ℕ × Extent) = extents.entries in
-              let none : ℕ × Extent = (0, d) in
-              let x : ℕ × Extent = get_or es i none in
-              let y : ℕ × Extent = get_or es j none in
-              let key : ℕ × Extent → ℕ = λ e. e.0 in
-              let long : length (map value es) ≡ length es = length-map es value in
-              let last : j < length es = omega (arith, inside, long) in
-              let first : i < length es = omega (arith, less, last) in
-              let below : x.0 < y.0 = less-from_cmp x.0 y.0 (subst (λ q. nat_cmp x.0 q ≡ Less) (get_or-map key es j none 0 last) (subst (λ p. nat_cmp p (get_or (keys_of es) j 0) ≡ Less) (get_or-map key es i none 0 first)
-              (Less-from_sorted nat_cmp (keys_of es) i j 0 listed.ordered less (subst (λ n. j < n) (sym (length-map es key)) last)))) in
-              let a : x.1.pit.index ≡ x.0 = (known x.0 x.1 (Contains-get_or es i none first)).0 in
-              let b : y.1.pit.index ≡ y.0 = (known y.0 y.1 (Contains-get_or es j none last)).0 in
-              subst (λ (e : Extent). e.pit.index < (get_or (map value es) j d).pit.index) (sym (get_or-map value es i none d first))
-              (subst (λ (e : Extent). x.1.pit.index < e.pit.index) (sym (get_or-map value es j none d last)) (omega (arith, below, a, b)))

@@ -30,3 +30,5 @@ pub mod Netted
 pub mod Together
 pub mod Extending
 pub mod Rooted
+pub mod Settling
+pub mod Filed

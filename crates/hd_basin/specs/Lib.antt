@@ -21,4 +21,6 @@ pub mod Inside
 pub mod Candidates
 pub mod Lowest
 pub mod Listing
+pub mod ExtentTable
 pub mod Extents
+pub mod Roots

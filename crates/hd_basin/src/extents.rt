@@ -1,23 +1,18 @@
 // The regions of pits, gathered basin by basin.
-ghost use Rattle.std.specs.Prelude.{◌≡◌, ◌<◌, ◌+◌, ◌^◌, IfOk, OnOk, Some};
-ghost use Rattle.std.specs.BTreeMap.{get};
+ghost use Rattle.std.specs.Prelude.{◌≡◌, ◌<◌, ◌+◌, ◌^◌, IfOk, OnOk, length};
 ghost use Rattle.std.specs.List.{flat_map};
-ghost use Rattle.std.specs.List.Sorted.{IsPermutation, IsSortedBy};
 ghost use Rattle.std.specs.Option.{ForSome};
-ghost use Rattle.std.specs.Ordering.{is_lt, nat_cmp};
-ghost use Rattle.hd_map.specs.declared.types.Rank.{Rank};
-ghost use Rattle.hd_map.specs.Rank.{below_by};
 ghost use Rattle.hd_basin.specs.Adding.{IsGreater, IsLesser};
-ghost use Rattle.hd_basin.specs.Extents.{AddsBasin, AreListed, IsExtentWith, IsOfBoth, is_lower, nodes_in};
+ghost use Rattle.hd_basin.specs.ExtentTable.{found};
+ghost use Rattle.hd_basin.specs.Extents.{AddsBasin, IsExtentWith, IsOfBoth, nodes_in};
 
 use crate::adding::{greater, lesser};
+use crate::extent_table::ExtentTable;
 use crate::part::Part;
 use crate::{Extent, Node};
 use hd_list::{List, Memory};
-use hd_map::{Rank, Side};
+use hd_map::Rank;
 use std::alloc::Global;
-use std::cmp::Ordering;
-use std::collections::BTreeMap;
 
 /// The nodes of all tiles, tile by tile. `Memory` comes where the list is refused its memory.
 pub fn nodes_of(alloc: Global, parts: &[Part]) -> Result<List<Node>, Memory>
@@ -30,53 +25,23 @@ pub fn nodes_of(alloc: Global, parts: &[Part]) -> Result<List<Node>, Memory>
     Ok(nodes)
 }
 
-/// The nodes in the order of their sinks, the lowest first.
-pub fn lowest_first<S: Side>(nodes: List<Node>) -> Vec<Node>
-    ensures sorted { IsSortedBy (is_lower (below_by S.NAME)) result.items }
-    ensures same { IsPermutation nodes result.items }
-{
-    let mut nodes = nodes.into_vec();
-    nodes.sort_unstable_by(|a, b| compare::<S>(a, b));
-    nodes
-}
-
-// Which of two nodes comes first.
-fn compare<S: Side>(a: &Node, b: &Node) -> Ordering
-    ensures { is_lt result ≡ is_lower (below_by S.NAME) a.now b.now }
-{
-    if S::below(a.low, b.low) {
-        Ordering::Less
-    } else {
-        Ordering::Greater
-    }
-}
-
-/// The root that is known of a sink.
-pub fn root_in(roots: &BTreeMap<u32, Rank>, sink: Rank) -> Rank
-    requires { (r : Rank) × (get nat_cmp roots.now sink.index ≡ Some r) }
-    ensures { get nat_cmp roots.now sink.index ≡ Some result }
-{
-    match roots.get(&sink.index) {
-        Some(root) => *root,
-        None => unreachable!(),
-    }
-}
-
 /// Adds the basin of a node to the region of its pit. `Memory` comes where the table is refused its memory.
-pub fn add_basin(extents: &mut BTreeMap<u32, Extent>, pit: Rank, node: Node) -> Result<(), Memory>
-    requires { ForSome (get nat_cmp extents.old pit.index) (λ e. e.points + node.points < 2 ^ 64) }
+pub fn add_basin(extents: &mut ExtentTable, pit: Rank, node: Node) -> Result<(), Memory>
+    requires inside { pit.index < length extents.old.numbers }
+    requires few { ForSome (found extents.old pit.index) (λ e. e.points + node.points < 2 ^ 64) }
     ensures { OnOk result (AddsBasin extents.old extents.new pit node) }
 {
-    let known = extents.get(&pit.index).copied();
+    let known = extents.get(pit.index);
     let extent = extent_with(known, pit, node);
-    extents.insert(pit.index, extent)?;
+    extents.put(extent)?;
     Ok(())
 }
 
 // What is known of a pit's region with the basin of a node more.
 fn extent_with(known: Option<Extent>, pit: Rank, node: Node) -> Extent
     requires { ForSome known (λ e. e.points + node.points < 2 ^ 64) }
-    ensures { IsExtentWith known pit node result }
+    ensures value { IsExtentWith known pit node result }
+    ensures pit { ForSome known (λ e. e.pit.index ≡ pit.index) → result.pit.index ≡ pit.index }
 {
     match known {
         Some(extent) => Extent {
@@ -118,15 +83,4 @@ fn greatest_of(a: Option<i64>, b: Option<i64>) -> Option<i64>
         (Some(a), None) => Some(a),
         (None, b) => b,
     }
-}
-
-/// The extents by the indexes of their pits. `Memory` comes where the list is refused its memory.
-pub fn listed(alloc: Global, extents: &BTreeMap<u32, Extent>) -> Result<List<Extent>, Memory>
-    ensures { IfOk result (λ list. AreListed extents.now list) }
-{
-    let mut list = List::with_capacity(alloc, extents.len())?;
-    'entries: for (_index, extent) in extents {
-        list.push(*extent)?;
-    }
-    Ok(list)
 }

@@ -1,0 +1,5 @@
+use Rattle.hd_basin.proofs.Settling.{AreSettledTo}
+use Rattle.hd_basin.proofs.basins.Basins.settle_part.Given as goal
+
+abbrev pub invariant-nodes : goal.invariant-nodes
+invariant-nodes g l = AreSettledTo g.S.Side.NAME l.self l.nodes l.node-index l.fn.roots.items l.roots.items
