@@ -1,7 +1,7 @@
 pub mod Lists
 mod Inside
 mod Sums
-mod Found
+pub mod Found
 pub mod RootedPoints
 mod Counts
 pub mod MapPits

@@ -1,5 +1,5 @@
 -- What reports find of a side of a map.
-use Rattle.std.specs.Prelude.{◌<◌, ◌^◌, ℕ, List, length, Option, All}
+use Rattle.std.specs.Prelude.{◌≡◌, ◌<◌, ◌^◌, ℕ, List, length, Option, Some, None, All}
 use Rattle.std.specs.Option.{ForSome}
 use Rattle.hd_graph.specs.declared.line.Stop.{Stop}
 use Rattle.hd_graph.specs.Merges.{AreMerges}
@@ -11,7 +11,10 @@ use Rattle.hd_map.specs.Pruning.{ArePits}
 use Rattle.hd_map.specs.Rank.{below_by}
 use Rattle.hd_map.specs.Region.{AreRegions}
 use Rattle.hd_map.specs.Saddle.{SaddleIs}
-use Rattle.hd_prune.specs.Staying.{ranks_of}
+use Rattle.hd_prune.specs.declared.step.Kept.{Kept}
+use Rattle.hd_prune.specs.Staying.{AreKeptAlone, ranks_of}
+use Rattle.hd_steep.specs.Numbering.{AreNumbered, Numbering}
+use Rattle.hd_survey.specs.declared.kept.KeptPits.{KeptPits}
 use Rattle.hd_survey.specs.declared.merges.PitMerges.{PitMerges}
 use Rattle.hd_survey.specs.Regions.{AreRegionSizes}
 
@@ -34,14 +37,31 @@ pub record AreSizes (m : Map) (side : SideName) (sizes : List RegionSize) : Type
   pub are : AreRegionSizes m side sizes
   pub inside : All (λ size. size.pit.index < cell_count m.size) sizes
 
--- the regions with the numbers of their points, the flood line of the pits and their merges, each where it was found
+-- the pits that the pruning of the map at a percent keeps, which are points of it
+pub record AreKeptPits (m : Map) (side : SideName) (thousandths : ℕ) (pits : List Kept) : Type 0 where
+  pub roots : List (Option ℕ)
+  pub regions : AreRegions m side roots
+  pub alone : AreKeptAlone m side thousandths pits
+  pub inside : All (λ k. k.pit.index < cell_count m.size) pits
+
+-- kept pits were found, and are those of the pruning at this percent
+abbrev pub AreKeptAt : ℕ → Option KeptPits → Type 0
+AreKeptAt thousandths None = ⊥
+AreKeptAt thousandths (Some x) = x.percent.thousandths ≡ thousandths
+
+-- the regions with the numbers of their points, the flood line of the pits, their merges, the pits that the last
+-- pruning keeps, and the region of each point, each where it was found
 pub record Found : Type 0 where
   pub sizes : Option (List RegionSize)
   pub line : Option (List Stop)
   pub merges : Option PitMerges
+  pub kept : Option KeptPits
+  pub regions : Option Numbering
 
 -- what was found is that of the map on the side
 pub record AreFindings (m : Map) (side : SideName) (found : Found) : Type 0 where
   pub sizes : ForSome found.sizes (AreSizes m side)
   pub line : ForSome found.line (IsPitLine m side)
   pub merges : ForSome found.merges (ArePitMerges m side)
+  pub kept : ForSome found.kept (λ x. AreKeptPits m side x.percent.thousandths x.pits)
+  pub regions : ForSome found.regions (AreNumbered m side)

@@ -13,3 +13,4 @@ pub mod Saddles
 pub mod Lines
 pub mod Findings
 pub mod Survey
+pub mod Way

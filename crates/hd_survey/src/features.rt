@@ -9,7 +9,7 @@ ghost use Rattle.hd_survey.specs.Heights.{HasHeights, IsHeightRange, farthest_ap
 use crate::findings::Findings;
 use crate::lpvh::lpvh;
 use crate::owned::owned_tallies;
-use crate::pruned::{cells_of, kept_pits, pruned_pits};
+use crate::pruned::{cells_of, pruned_pits};
 use crate::tally::{NO_TALLY, Tally};
 use crate::view::SideView;
 use hd_feature::Region;
@@ -54,7 +54,7 @@ pub fn features<S: Side, G: Heights, V: SideView<S>>(
 }
 
 /// The same regions by their pits and local heights alone, as if they had no points: nothing is counted. The
-/// merges of the pits are added to what was found.
+/// merges of the pits and the kept ones are added to what was found.
 /// `Memory` comes where the kept pits or the list are refused their memory.
 pub fn heights_alone<S: Side, G: Heights>(
     alloc: Global,
@@ -71,8 +71,9 @@ pub fn heights_alone<S: Side, G: Heights>(
     ensures few { IfOk result (λ list. length list ≤ 4194304) }
     ensures findings { AreFindings (G.map grid.now) S.NAME findings.new }
 {
-    let kept = kept_pits::<S, G>(alloc, grid, findings, percent, range)?;
-    list_heights(alloc, S::NAME, range, kept.as_slice())
+    findings.find_kept(alloc, grid, percent, range)?;
+    let kept = findings.kept();
+    list_heights(alloc, S::NAME, range, kept.pits.as_slice())
 }
 
 // The regions of the kept pits without any points.

@@ -1,27 +1,40 @@
 // What reports find of a side of a map, kept for later ones.
-ghost use Rattle.std.specs.Prelude.{◌≡◌, true, OnOk, Some, ℕ};
+ghost use Rattle.std.specs.Prelude.{◌≡◌, ◌↔◌, true, IsTrue, IfOk, OnOk, Some, ℕ};
 ghost use Rattle.std.specs.Option.{is_some};
-ghost use Rattle.hd_map.specs.Map.{Map};
-ghost use Rattle.hd_survey.specs.Findings.{AreFindings};
+ghost use Rattle.hd_map.specs.Map.{Map, Present};
+ghost use Rattle.hd_map.specs.Presence.{present_heights, range_of};
+ghost use Rattle.hd_map.specs.Rank.{rank};
+ghost use Rattle.hd_map.specs.Region.{IsRoot};
+ghost use Rattle.hd_survey.specs.Findings.{AreFindings, AreKeptAt};
 
 use crate::graph::flood_line;
 use crate::grid_view::GridView;
+use crate::kept::{KeptPits, keep_pits};
 use crate::merges::{PitMerges, pit_merges};
+use crate::pruned::cells_of;
+use crate::roots::root_at;
 use crate::view::SideView;
+use crate::way::end_of_way;
 use hd_graph::FloodLine;
 use hd_list::{List, Memory};
-use hd_map::{Heights, RegionSize, Side};
+use hd_map::{HeightRange, Heights, Pos, RegionSize, Side};
+use hd_num::Percent;
+use hd_steep::{Regions, find_regions};
 use std::alloc::Global;
 use std::marker::Model;
 
 /// What reports found of a side of a map, for later ones on the same map under the same setting: the regions
-/// with the numbers of their points, the flood line of the pits, and their merges. It takes at most 120 bytes a
-/// pit. Contracts see it as what was found.
+/// with the numbers of their points, the flood line of the pits, their merges, the pits that the last pruning
+/// keeps, and the region of each point. It takes at most 160 bytes a pit, and 4 a point for these regions, which are
+/// found only where many points were asked. Contracts see it as what was found.
 #[derive(Drop)]
 pub struct Findings<S: Side> {
     sizes: Option<List<RegionSize>>,
     line: Option<FloodLine<S>>,
     merges: Option<PitMerges>,
+    kept: Option<KeptPits>,
+    regions: Option<Regions>,
+    walked: u64,
 }
 
 impl<S: Side> Model for Findings<S> {
@@ -29,7 +42,7 @@ impl<S: Side> Model for Findings<S> {
 
     ghost Value = { Found };
 
-    ghost view = { λ f. record { sizes = f.sizes; line = f.line; merges = f.merges } };
+    ghost view = { λ f. record { sizes = f.sizes; line = f.line; merges = f.merges; kept = f.kept; regions = f.regions } };
 }
 
 impl<S: Side> Findings<S> {
@@ -41,6 +54,9 @@ impl<S: Side> Findings<S> {
             sizes: None,
             line: None,
             merges: None,
+            kept: None,
+            regions: None,
+            walked: 0,
         }
     }
 
@@ -127,7 +143,19 @@ impl<S: Side> Findings<S> {
     {
         if self.merges.is_none() {
             let view = GridView::<S, G>::new(alloc, grid)?;
-            self.merges = Some(pit_merges::<S, GridView<'_, S, G>>(alloc, &view)?);
+            self.find_merges_by(alloc, &view)?;
+        }
+        Ok(())
+    }
+
+    /// The same by a view of the side.
+    pub fn find_merges_by<V: SideView<S>>(&mut self, alloc: Global, view: &V) -> Result<(), Memory>
+        requires { AreFindings (V.map view.now) S.NAME self.old }
+        ensures findings { AreFindings (V.map view.now) S.NAME self.new }
+        ensures found { OnOk result (is_some self.new.merges ≡ true) }
+    {
+        if self.merges.is_none() {
+            self.merges = Some(pit_merges::<S, V>(alloc, view)?);
         }
         Ok(())
     }
@@ -141,5 +169,82 @@ impl<S: Side> Findings<S> {
             Some(merges) => merges,
             None => unreachable!(),
         }
+    }
+
+    /// Finds the pits that the pruning at a percent keeps, where they are not those that were found last, and for
+    /// them the merges of the pits. The range is that of the heights of the grid. `Memory` comes where the merges
+    /// or the kept pits are refused their memory.
+    pub fn find_kept<G: Heights>(
+        &mut self,
+        alloc: Global,
+        grid: &G,
+        percent: Percent,
+        range: Option<HeightRange>,
+    ) -> Result<(), Memory>
+        requires findings { AreFindings (G.map grid.now) S.NAME self.old }
+        requires range { range ≡ range_of (present_heights (G.map grid.now)) }
+        ensures findings { AreFindings (G.map grid.now) S.NAME self.new }
+        ensures found { OnOk result (AreKeptAt percent.thousandths self.new.kept) }
+    {
+        if are_kept_at(&self.kept, percent) {
+            return Ok(());
+        }
+        self.find_merges(alloc, grid)?;
+        let kept = keep_pits::<S, G>(alloc, grid, self.merges(), percent, range)?;
+        self.kept = Some(kept);
+        Ok(())
+    }
+
+    /// The kept pits that were found last.
+    pub fn kept(&self) -> &KeptPits
+        requires { is_some self.now.kept ≡ true }
+        ensures { self.now.kept ≡ Some result.now }
+    {
+        match &self.kept {
+            Some(kept) => kept,
+            None => unreachable!(),
+        }
+    }
+
+    /// The pit in whose region a present point lies. The way to it is walked; once such walks together went over
+    /// as many points as the grid has, the region of each point is found, and kept. What points are gone over is
+    /// added to what was spent. `Memory` comes where the regions are refused their memory.
+    pub fn root<G: Heights>(
+        &mut self,
+        alloc: Global,
+        grid: &G,
+        at: Pos,
+        spent: &mut u64,
+    ) -> Result<Pos, Memory>
+        requires findings { AreFindings (G.map grid.now) S.NAME self.old }
+        requires present { Present (G.map grid.now) at }
+        ensures findings { AreFindings (G.map grid.now) S.NAME self.new }
+        ensures present { IfOk result (Present (G.map grid.now)) }
+        ensures root { IfOk result (λ pit. IsRoot (G.map grid.now) S.NAME (rank (G.map grid.now) at) (rank (G.map grid.now) pit)) }
+    {
+        if let Some(regions) = &self.regions {
+            return Ok(root_at::<S, G>(grid, regions, at));
+        }
+        let before = self.walked;
+        let found = end_of_way::<S, G>(alloc, grid, at, &mut self.walked);
+        *spent = spent.saturating_add(self.walked.saturating_sub(before));
+        if let Some(pit) = found {
+            return Ok(pit);
+        }
+        let regions = find_regions::<S, G>(alloc, grid)?;
+        let pit = root_at::<S, G>(grid, &regions, at);
+        self.regions = Some(regions);
+        *spent = spent.saturating_add(cells_of(grid) as u64);
+        Ok(pit)
+    }
+}
+
+// Whether kept pits were found, and are those of the pruning at a percent.
+fn are_kept_at(kept: &Option<KeptPits>, percent: Percent) -> bool
+    ensures { IsTrue result ↔ AreKeptAt percent.thousandths kept.now }
+{
+    match kept {
+        Some(kept) => kept.percent.thousandths == percent.thousandths,
+        None => false,
     }
 }

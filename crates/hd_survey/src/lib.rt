@@ -8,6 +8,7 @@ mod features;
 mod findings;
 mod graph;
 mod grid_view;
+mod kept;
 mod laws;
 mod lines;
 mod lpvh;
@@ -23,16 +24,18 @@ mod tallies;
 mod tally;
 mod values;
 mod view;
+mod way;
 
 pub use findings::Findings;
 pub use graph::change_tree;
+pub use kept::KeptPits;
 pub use laws::{
     features_are_determined, kept_pits_are_determined, pruned_lines_are_determined,
     pruned_regions_are_determined, region_sizes_are_determined, values_are_determined,
 };
 pub use lines::pruned_lines;
 pub use merges::PitMerges;
-pub use pruned::{PrunedRegions, kept_pits, pruned_regions};
+pub use pruned::{PrunedRegions, pruned_regions, pruned_regions_by};
 pub use roots::graph_of_pits;
 pub use saddles::saddle_between;
 pub use survey::Survey;

@@ -1,12 +1,10 @@
 // The pruning of a map.
-ghost use Rattle.std.specs.Prelude.{◌≡◌, ◌<◌, ℕ, List as Items, Option, All, IfOk};
+ghost use Rattle.std.specs.Prelude.{◌≡◌, ◌<◌, All, IfOk};
 ghost use Rattle.hd_map.specs.Map.{IsMap, Map, cell_count};
 ghost use Rattle.hd_map.specs.Presence.{present_heights, range_of};
-ghost use Rattle.hd_map.specs.Region.{AreRegions};
 ghost use Rattle.hd_prune.specs.Answer.{IsPruned};
 ghost use Rattle.hd_prune.specs.Pruned.{leavings_of};
-ghost use Rattle.hd_prune.specs.Staying.{AreKeptAlone};
-ghost use Rattle.hd_survey.specs.Findings.{AreFindings, ArePitMerges, IsPitLine};
+ghost use Rattle.hd_survey.specs.Findings.{AreFindings, IsPitLine};
 ghost use Rattle.hd_survey.specs.Inside.{IsStepOn};
 ghost use Rattle.hd_survey.specs.Owned.{ArePrunedRegions};
 ghost use Rattle.hd_survey.specs.Regions.{AreRegionSizes};
@@ -14,14 +12,13 @@ ghost use Rattle.hd_survey.specs.Regions.{AreRegionSizes};
 use crate::falls::Falls;
 use crate::findings::Findings;
 use crate::grid_view::GridView;
-use crate::merges::PitMerges;
 use crate::owned::owned_sizes;
 use crate::view::SideView;
 use hd_graph::FloodLine;
 use hd_list::{List, Memory};
 use hd_map::{HeightRange, Heights, RegionSize, Side, presence_of};
 use hd_num::Percent;
-use hd_prune::{Kept, Pruned, Step, height_span, keep, prune};
+use hd_prune::{Pruned, Step, height_span, prune};
 use std::alloc::Global;
 
 /// What a pruning does, and the regions that it leaves.
@@ -49,17 +46,29 @@ pub fn pruned_regions<S: Side, G: Heights>(
     ensures findings { AreFindings (G.map grid.now) S.NAME findings.new }
 {
     let view = GridView::<S, G>::new(alloc, grid)?;
-    findings.find_line_by(alloc, &view)?;
-    findings.find_sizes_by(&view)?;
+    pruned_regions_by::<S, G, GridView<'_, S, G>>(alloc, grid, &view, findings, percent)
+}
+
+/// The same by a view of the side.
+pub fn pruned_regions_by<S: Side, G: Heights, V: SideView<S>>(
+    alloc: Global,
+    grid: &G,
+    view: &V,
+    findings: &mut Findings<S>,
+    percent: Percent,
+) -> Result<PrunedRegions, Memory>
+    requires view { V.map view.now ≡ G.map grid.now }
+    requires findings { AreFindings (G.map grid.now) S.NAME findings.old }
+    ensures are { IfOk result (λ pruned. ArePrunedRegions (G.map grid.now) S.NAME percent.thousandths (leavings_of pruned.steps) pruned.kept) }
+    ensures steps { IfOk result (λ pruned. All (IsStepOn (G.map grid.now).size) pruned.steps) }
+    ensures kept { IfOk result (λ pruned. All (λ region. region.pit.index < cell_count (G.map grid.now).size) pruned.kept) }
+    ensures findings { AreFindings (G.map grid.now) S.NAME findings.new }
+{
+    findings.find_line_by(alloc, view)?;
+    findings.find_sizes_by(view)?;
     let range = presence_of(grid).range;
-    let pruned = pruned_pits::<S, G, GridView<'_, S, G>>(
-        alloc,
-        grid,
-        &view,
-        findings.line(),
-        percent,
-        range,
-    )?;
+    let line = findings.line();
+    let pruned = pruned_pits::<S, G, V>(alloc, grid, view, line, percent, range)?;
     regions_left::<S, G>(alloc, grid, pruned, findings.sizes(), percent)
 }
 
@@ -101,50 +110,6 @@ pub fn pruned_pits<S: Side, G: Heights, V: SideView<S>>(
 {
     let falls = Falls::<'_, S, G, V>::new(alloc, grid, view);
     prune::<S, Falls<'_, S, G, V>>(alloc, line, &falls, percent, height_span(range))
-}
-
-/// The pits that the pruning of a grid on a side at a percent keeps, with their nearest saddles, in position
-/// order, by what was found of the side, to which the merges of the pits are added. Neither the steps nor the
-/// owners are found for them. The range is that of the heights of the grid. `Memory` comes where the regions,
-/// the merges or the list are refused their memory.
-pub fn kept_pits<S: Side, G: Heights>(
-    alloc: Global,
-    grid: &G,
-    findings: &mut Findings<S>,
-    percent: Percent,
-    range: Option<HeightRange>,
-) -> Result<List<Kept>, Memory>
-    requires findings { AreFindings (G.map grid.now) S.NAME findings.old }
-    requires range { range ≡ range_of (present_heights (G.map grid.now)) }
-    ensures kept { IfOk result (AreKeptAlone (G.map grid.now) S.NAME percent.thousandths) }
-    ensures inside { IfOk result (All (λ k. k.pit.index < cell_count (G.map grid.now).size)) }
-    ensures regions { IfOk result (λ _. (roots : Items (Option ℕ)) × AreRegions (G.map grid.now) S.NAME roots) }
-    ensures findings { AreFindings (G.map grid.now) S.NAME findings.new }
-{
-    findings.find_merges(alloc, grid)?;
-    keep_pits::<S, G>(alloc, grid, findings.merges(), percent, range)
-}
-
-// The same by the merges of the pits.
-fn keep_pits<S: Side, G: Heights>(
-    alloc: Global,
-    _grid: &G,
-    merges: &PitMerges,
-    percent: Percent,
-    range: Option<HeightRange>,
-) -> Result<List<Kept>, Memory>
-    requires merges { ArePitMerges (G.map _grid.now) S.NAME merges.now }
-    requires range { range ≡ range_of (present_heights (G.map _grid.now)) }
-    ensures kept { IfOk result (AreKeptAlone (G.map _grid.now) S.NAME percent.thousandths) }
-    ensures inside { IfOk result (All (λ k. k.pit.index < cell_count (G.map _grid.now).size)) }
-{
-    keep::<S>(
-        alloc,
-        merges.lows.as_slice(),
-        merges.merges.as_slice(),
-        percent,
-        height_span(range),
-    )
 }
 
 /// How many cells a grid has.

@@ -1,13 +1,17 @@
 // What reports find of a map.
 ghost use Rattle.hd_map.specs.Map.{Map};
-ghost use Rattle.hd_survey.specs.Survey.{IsSurvey};
+ghost use Rattle.hd_map.specs.Presence.{IsPresence, present_heights};
+ghost use Rattle.hd_survey.specs.Survey.{AreMapSums, IsSurvey};
 
 use crate::findings::Findings;
-use hd_map::{Down, Up};
+use hd_map::{Down, Heights, Presence, Up};
+use hd_stats::{Sums, sums_of};
 
-/// What reports found of both sides of a map, for later ones on the same map under the same setting.
+/// What reports found of a map and of both its sides, for later ones on the same map under the same setting.
 #[derive(Drop)]
 pub struct Survey {
+    /// The sums over the heights of its present points, where they were found.
+    pub sums: Option<Sums>,
     /// Of its dales.
     pub dales: Findings<Down>,
     /// Of its hills.
@@ -20,8 +24,36 @@ impl Survey {
         ensures { (m : Map) → IsSurvey m result }
     {
         Survey {
+            sums: None,
             dales: Findings::new(),
             hills: Findings::new(),
+        }
+    }
+
+    /// The sums over the heights of the present points, which are found where they were not.
+    pub fn height_sums<G: Heights>(&mut self, grid: &G) -> Sums
+        requires { IsSurvey (G.map grid.now) self.old }
+        ensures sums { AreMapSums (G.map grid.now) result }
+        ensures survey { IsSurvey (G.map grid.now) self.new }
+    {
+        if let Some(sums) = self.sums {
+            return sums;
+        }
+        let sums = sums_of(grid);
+        self.sums = Some(sums);
+        sums
+    }
+
+    /// How many points are present, and the range of their heights, by these sums.
+    pub fn presence<G: Heights>(&mut self, grid: &G) -> Presence
+        requires { IsSurvey (G.map grid.now) self.old }
+        ensures presence { IsPresence (present_heights (G.map grid.now)) result }
+        ensures survey { IsSurvey (G.map grid.now) self.new }
+    {
+        let sums = self.height_sums(grid);
+        Presence {
+            count: sums.count,
+            range: sums.range,
         }
     }
 }

@@ -19,7 +19,7 @@ use hd_feature::{
     mean_height_is_small,
 };
 use hd_list::{List, Memory};
-use hd_map::{Down, HeightRange, Heights, Presence, Side, Up, presence_of};
+use hd_map::{Down, HeightRange, Heights, Presence, Side, Up};
 use hd_num::Frac;
 use std::alloc::Global;
 
@@ -37,7 +37,7 @@ pub fn parameter_value<G: Heights>(
     ensures value { IfOk result (IsParameterValue (G.map grid.now) parameter.now) }
     ensures survey { IsSurvey (G.map grid.now) survey.new }
 {
-    let presence = presence_of(grid);
+    let presence = survey.presence(grid);
     match parameter {
         Parameter::One(notation) => value_among(alloc, grid, survey, notation, presence),
         Parameter::Sum(first, second) => {
@@ -60,7 +60,8 @@ pub fn notation_value<G: Heights>(
     ensures value { IfOk result (IsNotationValue (G.map grid.now) notation.now) }
     ensures survey { IsSurvey (G.map grid.now) survey.new }
 {
-    value_among(alloc, grid, survey, notation, presence_of(grid))
+    let presence = survey.presence(grid);
+    value_among(alloc, grid, survey, notation, presence)
 }
 
 /// The regions of the notation's type after its pruning, in position order; where its significance and its
@@ -79,7 +80,8 @@ pub fn notation_regions<G: Heights>(
     ensures heights { IfOk result (All (λ r. unsigned_abs r.lpvh ≤ farthest_apart)) }
     ensures few { IfOk result (λ list. length list ≤ 4194304) }
 {
-    kind_features(alloc, grid, survey, notation, presence_of(grid).range)
+    let range = survey.presence(grid).range;
+    kind_features(alloc, grid, survey, notation, range)
 }
 
 // The sum of two values, and none where one of them is none.

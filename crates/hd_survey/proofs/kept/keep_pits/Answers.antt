@@ -7,12 +7,11 @@ use Rattle.hd_map.specs.Pruning.{ArePits, SzIs}
 use Rattle.hd_map.specs.Rank.{below_by}
 use Rattle.hd_map.specs.Saddle.{SaddleIs}
 use Rattle.hd_prune.specs.Staying.{AreKeptAlone, ranks_of}
-use Rattle.std.proofs.lemmas.Result.{IfOk-weaker}
 use Rattle.hd_survey.proofs.FeaturePoints.{kept_inside}
-use Rattle.hd_survey.proofs.pruned.keep_pits.Goals as goal
+use Rattle.hd_survey.proofs.kept.keep_pits.Goals as goal
 
-pub returns-clause-kept : goal.returns-clause-kept
-returns-clause-kept g c =
+pub returns-clause-pits : goal.returns-clause-pits
+returns-clause-pits g c =
     let m = g.G.Heights.map c.args._grid.now in
     let side = g.S.Side.NAME in
     let whole = g.met.G.Heights.whole c.args._grid.now in
@@ -23,11 +22,10 @@ returns-clause-kept g c =
     (subst (λ (xs : List Merge). AreMerges (below_by side) (SaddleIs m side) c.args.merges.now.lows xs) (sym c.as_slice-2.ensures) found.merges) in
     let fits : SFits w64 c.height_span.result = search rules in
     let sz : SzIs m c.height_span.result = c.height_span.ensures m whole c.requires.range in
-    IfOk-weaker c.keep.result _ _ (λ kept is. is m whole pits (rw (to_z-of_z w64 c.height_span.result fits) sz) merges) c.keep.ensures
-
-pub returns-clause-inside : goal.returns-clause-inside
-returns-clause-inside g c =
-    let m = g.G.Heights.map c.args._grid.now in
-    let side = g.S.Side.NAME in
-    IfOk-weaker c.keep.result (AreKeptAlone m side c.args.percent.thousandths) _
-    (λ kept is. kept_inside m side c.args.percent.thousandths (g.met.G.Heights.whole c.args._grid.now) is.steps is.last is.owner is.pruning kept is.are_kept) (returns-clause-kept g c)
+    let alone : AreKeptAlone m side c.args.percent.thousandths c.in_ok-pits.pits = c.in_ok-pits.ensures m whole pits (rw (to_z-of_z w64 c.height_span.result fits) sz) merges in
+    record {
+      roots = found.roots;
+      regions = found.regions;
+      alone = alone;
+      inside = kept_inside m side c.args.percent.thousandths whole alone.steps alone.last alone.owner alone.pruning c.in_ok-pits.pits alone.are_kept;
+    }
