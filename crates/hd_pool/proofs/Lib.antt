@@ -7,3 +7,5 @@ mod Extents
 mod Between
 mod Rooted
 mod Pits
+mod Touched
+pub mod Following

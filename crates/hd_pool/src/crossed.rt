@@ -4,10 +4,11 @@ ghost use Rattle.std.specs.Ordering.{is_lt};
 ghost use Rattle.hd_map.specs.Rank.{IsPoint};
 ghost use Rattle.hd_map.specs.Region.{IsRoot};
 ghost use Rattle.hd_basin.specs.InStep.{IsPoolOf};
+ghost use Rattle.hd_basin.specs.Roots.{AreRoots};
 ghost use Rattle.hd_prune.specs.Pruned.{AreInOrder, index_less};
 ghost use Rattle.hd_pool.specs.Crossed.{AddsBetweenRoots, AreBetweenRoots, HavePointEnds, pass_between, pits_of};
 
-use hd_basin::Basins;
+use hd_basin::{Basins, Roots};
 use hd_graph::Low;
 use hd_list::{List, Memory};
 use hd_map::{Heights, Pass, Rank, Side, position_of, rank_of};
@@ -20,15 +21,17 @@ pub fn passes_between_regions<S: Side, G: Heights>(
     alloc: Global,
     grid: &G,
     pool: &Basins<S>,
+    roots: &Roots,
     passes: &[Pass],
 ) -> Result<List<Pass>, Memory>
     requires pool { IsPoolOf (G.map grid.now) S.NAME pool.now }
+    requires roots { AreRoots S.NAME pool.now roots.now }
     requires ends { HavePointEnds (G.map grid.now) passes.now }
     ensures { IfOk result (AreBetweenRoots (G.map grid.now) S.NAME passes.now) }
 {
     let mut between = List::with_capacity(alloc, passes.len())?;
     'passes: for pass in passes {
-        push_between::<S, G>(grid, pool, &mut between, *pass)?;
+        push_between::<S, G>(grid, pool, roots, &mut between, *pass)?;
     }
     Ok(between)
 }
@@ -37,16 +40,18 @@ pub fn passes_between_regions<S: Side, G: Heights>(
 fn push_between<S: Side, G: Heights>(
     grid: &G,
     pool: &Basins<S>,
+    roots: &Roots,
     between: &mut List<Pass>,
     pass: Pass,
 ) -> Result<(), Memory>
     requires pool { IsPoolOf (G.map grid.now) S.NAME pool.now }
+    requires roots { AreRoots S.NAME pool.now roots.now }
     requires from { IsPoint (G.map grid.now) pass.a }
     requires to { IsPoint (G.map grid.now) pass.b }
     ensures { OnOk result (AddsBetweenRoots (G.map grid.now) S.NAME pass between.old between.new) }
 {
-    let a = root_of::<S, G>(grid, pool, pass.a);
-    let b = root_of::<S, G>(grid, pool, pass.b);
+    let a = root_of::<S, G>(grid, pool, roots, pass.a);
+    let b = root_of::<S, G>(grid, pool, roots, pass.b);
     if a.index != b.index {
         between.push(pass_between::<S>(a, b, pass.at))?;
     }
@@ -54,12 +59,13 @@ fn push_between<S: Side, G: Heights>(
 }
 
 // The root of a point.
-fn root_of<S: Side, G: Heights>(grid: &G, pool: &Basins<S>, point: Rank) -> Rank
+fn root_of<S: Side, G: Heights>(grid: &G, pool: &Basins<S>, roots: &Roots, point: Rank) -> Rank
     requires pool { IsPoolOf (G.map grid.now) S.NAME pool.now }
+    requires roots { AreRoots S.NAME pool.now roots.now }
     requires point { IsPoint (G.map grid.now) point }
     ensures { IsRoot (G.map grid.now) S.NAME point result }
 {
-    match pool.label(position_of(grid.size(), point.index)) {
+    match pool.root(roots, position_of(grid.size(), point.index)) {
         Some(pit) => rank_of(grid, pit),
         None => unreachable!(),
     }

@@ -1,9 +1,13 @@
 //! A side of a grid, seen by its pool of local basins: what reports ask of it is read off the basins, and no point
-//! of the grid is looked at.
+//! of the grid is looked at. Of a grid in tiles the pool is kept from one report to the next, where that pays.
 #![tactic(auto)]
 
+mod choice;
 mod crossed;
 mod pool_view;
+mod side_pool;
 mod told;
 
+pub use choice::{Choice, Question};
 pub use pool_view::PoolView;
+pub use side_pool::SidePool;

@@ -54,11 +54,13 @@ impl<'a, S: Side, G: Heights> SideView<S> for PoolView<'a, S, G> {
     }
 
     fn graph(&self) -> Result<Graph<S>, Memory> {
+        let roots = self.pool.find_roots()?;
         let basins = self.pool.as_graph()?;
         let passes = passes_between_regions::<S, G>(
             self.alloc,
             self.grid,
             self.pool,
+            &roots,
             basins.passes(),
         )?;
         let pits = pits_among(self.alloc, basins.lows())?;

@@ -1,0 +1,140 @@
+// The pool of a side of a grid in tiles.
+ghost use Rattle.std.specs.Prelude.{◌≡◌, IfOk, IsTrue, None, OnOk};
+ghost use Rattle.hd_basin.specs.InStep.{IsPoolOf};
+ghost use Rattle.hd_pool.specs.Following.{Follows, IsFollowing, IsReady};
+
+use crate::PoolView;
+use crate::choice::{Choice, Question, is_by_pool, spent_at};
+use hd_basin::Basins;
+use hd_list::Memory;
+use hd_map::{Grid, Heights, Side};
+use hd_tiles::{Steps, Tiles};
+use std::alloc::Global;
+use std::marker::{Brand, Model};
+use std::sync::ledger::{Blank, Ledger};
+
+/// The pool of a side of a grid in tiles, which is made and brought up to the grid where questions are answered by it.
+/// Contracts see it as the pool, if there is one.
+#[derive(Drop)]
+pub struct SidePool<S: Side> {
+    choice: Choice,
+    pool: Option<Basins<S>>,
+    spent: u64,
+    changes: u64,
+}
+
+impl<S: Side> Model for SidePool<S> {
+    ghost use Rattle.std.specs.Prelude.{Option};
+    ghost use Rattle.hd_basin.specs.Parts.{Pool};
+
+    ghost Value = { Option Pool };
+
+    ghost view = { λ s. s.pool };
+}
+
+impl<S: Side> SidePool<S> {
+    /// No pool yet, and nothing spent on labels.
+    pub fn new(choice: Choice) -> SidePool<S>
+        ensures { result ≡ None }
+    {
+        SidePool {
+            choice,
+            pool: None,
+            spent: 0,
+            changes: 0,
+        }
+    }
+
+    /// Tells whether a question about the side is answered by the pool, and brings it up to the grid if so.
+    ///
+    /// `Memory` comes where the pool is refused its memory.
+    pub fn serves<G: Grid>(
+        &mut self,
+        alloc: Global,
+        tiles: &Tiles<G>,
+        question: Question,
+    ) -> Result<bool, Memory>
+        requires { Follows (G.map tiles.now.grid) S.NAME tiles.now.tiling.side tiles.now.stamps.items self.old }
+        ensures follows { Follows (G.map tiles.now.grid) S.NAME tiles.now.tiling.side tiles.now.stamps.items self.new }
+        ensures ready { IfOk result (λ serves. IsTrue serves → IsReady (G.map tiles.now.grid) S.NAME self.new) }
+    {
+        if !self.is_worth(tiles, question) {
+            return Ok(false);
+        }
+        self.bring_up(alloc, tiles)?;
+        Ok(true)
+    }
+
+    // Whether a question is to be answered by the pool.
+    fn is_worth<G: Grid>(&mut self, tiles: &Tiles<G>, question: Question) -> bool
+        ensures { self.new ≡ self.old }
+    {
+        let size = tiles.tiling().size();
+        let points = u64::from(size.points) * u64::from(size.profiles);
+        if !is_by_pool(self.choice, question, self.spent, points) {
+            return false;
+        }
+        self.spent = spent_at(self.spent, self.changes, tiles);
+        self.changes = tiles.changes();
+        is_by_pool(self.choice, question, self.spent, points)
+    }
+
+    /// Counts what points were gone over for a label.
+    pub fn spend(&mut self, points: u64)
+        ensures { self.new ≡ self.old }
+    {
+        self.spent = self.spent.saturating_add(points);
+    }
+
+    // Brings the pool up to the grid, and makes it first where there is none.
+    fn bring_up<G: Grid>(&mut self, alloc: Global, tiles: &Tiles<G>) -> Result<(), Memory>
+        requires { Follows (G.map tiles.now.grid) S.NAME tiles.now.tiling.side tiles.now.stamps.items self.old }
+        ensures follows { Follows (G.map tiles.now.grid) S.NAME tiles.now.tiling.side tiles.now.stamps.items self.new }
+        ensures ready { OnOk result (IsReady (G.map tiles.now.grid) S.NAME self.new) }
+    {
+        let mut pool = match self.pool.take() {
+            Some(pool) => pool,
+            None => new_pool(alloc, tiles)?,
+        };
+        let refreshed = refresh::<S, G, Brand>(&mut pool, tiles, Blank::new(1));
+        self.pool = Some(pool);
+        refreshed
+    }
+
+    /// The side, by its pool. The pool is that of the grid.
+    pub fn view<'a, G: Heights>(&'a self, alloc: Global, grid: &'a G) -> PoolView<'a, S, G>
+        requires { IsReady (G.map grid.now) S.NAME self.now }
+        ensures { result ≡ grid.now }
+    {
+        match &self.pool {
+            Some(pool) => PoolView::new(alloc, grid, pool),
+            None => unreachable!(),
+        }
+    }
+}
+
+// A pool for a grid that has seen no tile.
+fn new_pool<S: Side, G: Grid>(alloc: Global, tiles: &Tiles<G>) -> Result<Basins<S>, Memory>
+    ensures { IfOk result (IsFollowing (G.map tiles.now.grid) S.NAME tiles.now.tiling.side tiles.now.stamps.items) }
+{
+    let tiling = tiles.tiling();
+    let pool = Basins::new(alloc, tiling.size(), tiling.side())?;
+    Ok(pool)
+}
+
+// Brings a pool up to the grid, with a counter of looks of its own.
+fn refresh<S: Side, G: Grid, L: Ledger>(
+    pool: &mut Basins<S>,
+    tiles: &Tiles<G>,
+    blank: Blank,
+) -> Result<(), Memory>
+    requires name { blank.name ≡ L.name }
+    requires parts { blank.parts ≡ L.parts }
+    requires one { blank.parts ≡ 1 }
+    requires following { IsFollowing (G.map tiles.now.grid) S.NAME tiles.now.tiling.side tiles.now.stamps.items pool.old }
+    ensures following { IsFollowing (G.map tiles.now.grid) S.NAME tiles.now.tiling.side tiles.now.stamps.items pool.new }
+    ensures pool { OnOk result (IsPoolOf (G.map tiles.now.grid) S.NAME pool.new) }
+{
+    let mut looks: Steps<L> = Steps::new(blank);
+    pool.refresh(tiles, &mut looks)
+}
