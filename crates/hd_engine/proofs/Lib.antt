@@ -1,5 +1,6 @@
 mod EditAnswers
 mod Kept
+mod KeepsUp
 mod Makes
 mod NamedSums
 mod SaddleAnswers

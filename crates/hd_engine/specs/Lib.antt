@@ -1,6 +1,7 @@
 pub mod State
 pub mod Texts
 pub mod Workpiece
+pub mod Tiled
 pub mod Layout
 pub mod Reply
 pub mod Edits

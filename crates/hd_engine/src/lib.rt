@@ -2,7 +2,9 @@
 #![tactic(auto)]
 
 mod answer;
+mod by_pool;
 mod copies;
+mod labels;
 mod laws;
 mod parts;
 mod reports;

@@ -3,17 +3,14 @@ ghost use Rattle.std.specs.Prelude.{◌≡◌, IfOk, List as Items, Option as Ma
 ghost use Rattle.hd_audit.specs.declared.types.Audit.{Audit};
 ghost use Rattle.hd_audit.specs.Shown.{IsShown};
 ghost use Rattle.hd_audit.specs.Text.{audit_text};
-ghost use Rattle.hd_map.specs.declared.types.Pos.{Pos};
 ghost use Rattle.hd_map.specs.declared.types.RegionSize.{RegionSize};
 ghost use Rattle.hd_map.specs.ChangeTree.{Joining, IsChangeTree};
-ghost use Rattle.hd_map.specs.Map.{Present};
+ghost use Rattle.hd_map.specs.Presence.{present_heights, range_of};
 ghost use Rattle.hd_map.specs.Pruning.{Leaving};
-ghost use Rattle.hd_map.specs.Rank.{rank};
-ghost use Rattle.hd_map.specs.Region.{IsRoot};
 ghost use Rattle.hd_lines.specs.declared.line.BorderLine.{BorderLine};
 ghost use Rattle.hd_report.specs.Borders.{borders_text};
 ghost use Rattle.hd_report.specs.Prunings.{prune_text};
-ghost use Rattle.hd_report.specs.Regions.{label_text, regions_text};
+ghost use Rattle.hd_report.specs.Regions.{regions_text};
 ghost use Rattle.hd_report.specs.Trees.{tree_text};
 ghost use Rattle.hd_num.specs.declared.frac.Frac.{Frac};
 ghost use Rattle.hd_prune.specs.declared.step.Kept.{Kept};
@@ -30,15 +27,13 @@ ghost use Rattle.hd_engine.specs.Texts.{texts_view};
 use crate::texts::Texts;
 use hd_audit::{make_audit, text_of_audit};
 use hd_list::{List, Memory};
-use hd_map::{Grid, Heights, Pos, Side, presence_of};
+use hd_map::{Grid, HeightRange, Heights, Side, presence_of};
 use hd_num::Percent;
 use hd_report::{
     Scales, list_borders, list_pruning, list_regions, list_tree, list_volumes, tell_info,
-    tell_label,
 };
 use hd_stats::fill;
-use hd_steep::root;
-use hd_survey::{Findings, change_tree, kept_pits, pruned_lines, pruned_regions};
+use hd_survey::{Findings, change_tree, pruned_lines, pruned_regions};
 use std::alloc::Global;
 
 /// The size, the type, the present points and the range of their heights, and the scales.
@@ -72,21 +67,6 @@ pub(crate) fn report_regions<S: Side, G: Heights>(
 {
     findings.find_sizes(alloc, grid)?;
     let text = list_regions(alloc, S::NAME, grid.size(), findings.sizes())?;
-    Ok(text)
-}
-
-/// The pit of the region of a side that a present point lies in.
-pub(crate) fn report_label<S: Side, G: Heights>(
-    alloc: Global,
-    grid: &G,
-    at: Pos,
-) -> Result<List<u8>, Memory>
-    requires { Present (G.map grid.now) at }
-    ensures { IfOk result (λ text. (pit : Pos) × Present (G.map grid.now) pit × IsRoot (G.map grid.now) S.NAME (rank (G.map grid.now) at) (rank (G.map grid.now) pit)
-        × (text ≡ label_text S.NAME at pit)) }
-{
-    let pit = root::<S, G>(alloc, grid, at);
-    let text = tell_label(alloc, S::NAME, at, pit)?;
     Ok(text)
 }
 
@@ -147,44 +127,50 @@ pub(crate) fn report_borders<S: Side, G: Heights>(
     Ok(text)
 }
 
-/// The certificate of the pruning of a side at a percent.
+/// The certificate of the pruning of a side at a percent. The range is that of the heights of the grid.
 pub(crate) fn report_audit<S: Side, G: Heights>(
     alloc: Global,
     grid: &G,
     findings: &mut Findings<S>,
     percent: Percent,
+    range: Option<HeightRange>,
 ) -> Result<List<u8>, Memory>
-    requires { AreFindings (G.map grid.now) S.NAME findings.old }
+    requires findings { AreFindings (G.map grid.now) S.NAME findings.old }
+    requires range { range ≡ range_of (present_heights (G.map grid.now)) }
     ensures findings { AreFindings (G.map grid.now) S.NAME findings.new }
     ensures text { IfOk result (λ text. (audit : Audit) × IsShown (G.map grid.now) S.NAME percent audit × (text ≡ audit_text audit)) }
 {
-    let kept = kept_pits::<S, G>(alloc, grid, findings, percent, presence_of(grid).range)?;
-    let audit = make_audit::<S, G>(alloc, grid, percent, &kept)?;
-    drop(kept);
+    findings.find_kept(alloc, grid, percent, range)?;
+    let kept = findings.kept();
+    let audit = make_audit::<S, G>(alloc, grid, percent, &kept.pits)?;
     let text = text_of_audit(alloc, &audit)?;
     Ok(text)
 }
 
-/// The fill volumes of the pits that the pruning of a side at a percent keeps.
+/// The fill volumes of the pits that the pruning of a side at a percent keeps. The range is that of the heights
+/// of the grid.
 pub(crate) fn report_volumes<S: Side, G: Heights>(
     alloc: Global,
     grid: &G,
     findings: &mut Findings<S>,
     percent: Percent,
+    range: Option<HeightRange>,
 ) -> Result<List<u8>, Memory>
-    requires { AreFindings (G.map grid.now) S.NAME findings.old }
+    requires findings { AreFindings (G.map grid.now) S.NAME findings.old }
+    requires range { range ≡ range_of (present_heights (G.map grid.now)) }
     ensures findings { AreFindings (G.map grid.now) S.NAME findings.new }
     ensures text { IfOk result (λ text. (kept : Items Kept) × (volumes : Items (Maybe Frac)) × AreKeptAlone (G.map grid.now) S.NAME percent.thousandths kept
         × AreFills (G.map grid.now) S.NAME kept volumes × (text ≡ fill_text S.NAME percent.thousandths (G.map grid.now).size kept volumes)) }
 {
-    let kept = kept_pits::<S, G>(alloc, grid, findings, percent, presence_of(grid).range)?;
-    let volumes = fill::<S, G>(alloc, grid, &kept)?;
+    findings.find_kept(alloc, grid, percent, range)?;
+    let kept = findings.kept();
+    let volumes = fill::<S, G>(alloc, grid, &kept.pits)?;
     let text = list_volumes(
         alloc,
         S::NAME,
         grid.size(),
         percent,
-        kept.as_slice(),
+        kept.pits.as_slice(),
         volumes.as_slice(),
     )?;
     Ok(text)

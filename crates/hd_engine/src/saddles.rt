@@ -15,7 +15,6 @@ use hd_check::write_certificate;
 use hd_list::{List, Memory};
 use hd_map::{Heights, Pos, Side, contains, is_present, rank_of};
 use hd_report::one_region_cause;
-use hd_steep::root;
 use hd_survey::{Findings, saddle_between};
 use std::alloc::Global;
 
@@ -67,8 +66,9 @@ fn show_pair<S: Side, G: Heights>(
     ensures findings { AreFindings (G.map grid.now) S.NAME findings.new }
     ensures answer { IfOk result (λ r. IsPairReply (G.map grid.now) number S.NAME a b (reply_of r)) }
 {
-    let from = root::<S, G>(alloc, grid, a);
-    let to = root::<S, G>(alloc, grid, b);
+    let mut spent = 0;
+    let from = findings.root(alloc, grid, a, &mut spent)?;
+    let to = findings.root(alloc, grid, b, &mut spent)?;
     if from == to {
         return Answer::refused(alloc, number, one_region_cause());
     }

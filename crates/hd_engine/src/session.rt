@@ -10,6 +10,7 @@ use crate::parts::{joined, parted};
 use crate::surveyed::Surveyed;
 use hd_list::Memory;
 use hd_map::{Narrow, Surface, Wide};
+use hd_pool::Choice;
 use hd_sdf_read::SdfFile;
 use std::alloc::Global;
 use std::marker::Model;
@@ -20,7 +21,6 @@ use std::marker::Model;
 pub struct Session {
     layout: Layout,
     asked: u64,
-    tile: u32,
 }
 
 /// The surface in its layout, which is chosen once.
@@ -31,20 +31,20 @@ enum Layout {
 }
 
 impl Model for Session {
-    ghost use Rattle.std.specs.Prelude.{◌≤◌};
-    ghost use Rattle.hd_engine.specs.Layout.{state_in};
+    ghost use Rattle.std.specs.Prelude.{◌≤◌, ◌*◌, ◌^◌};
+    ghost use Rattle.hd_engine.specs.Layout.{changes_in, state_in};
     ghost use Rattle.hd_engine.specs.State.{SessionState};
 
     ghost Value = { SessionState };
 
     ghost view = { λ s. record { state = state_in s.layout; asked = s.asked } };
 
-    ghost invariant = { λ s. (8 ≤ s.tile) × (s.tile ≤ 256) };
+    ghost invariant = { λ s. changes_in s.layout ≤ s.asked * 2 ^ 27 };
 }
 
 impl Session {
-    /// A session on the surface of a file, with no line asked. The tile side, from 8 to 256 points,
-    /// has no effect on any answer.
+    /// A session on the surface of a file, in tiles of this side, from 8 to 256 points, with no line asked.
+    /// The side has no effect on any answer.
     ///
     /// `Memory` comes where the session is refused its memory.
     pub fn new(alloc: Global, file: SdfFile, tile: u32) -> Result<Session, Memory>
@@ -52,16 +52,28 @@ impl Session {
         requires greatest { tile ≤ 256 }
         ensures { IfOk result (λ s. (s.state ≡ first_state (file_of file)) × (s.asked ≡ 0)) }
     {
+        Session::with_choice(alloc, file, tile, Choice::Free)
+    }
+
+    /// The same, where reports are made by what is chosen. The choice has no effect on any answer.
+    pub fn with_choice(
+        alloc: Global,
+        file: SdfFile,
+        tile: u32,
+        choice: Choice,
+    ) -> Result<Session, Memory>
+        requires least { 8 ≤ tile }
+        requires greatest { tile ≤ 256 }
+        ensures { IfOk result (λ s. (s.state ≡ first_state (file_of file)) × (s.asked ≡ 0)) }
+    {
         let (texts, surface) = parted(file);
         let layout = match surface {
-            Surface::Narrow(grid) => Layout::Narrow(Surveyed::new(alloc, texts, grid)?),
-            Surface::Wide(grid) => Layout::Wide(Surveyed::new(alloc, texts, grid)?),
+            Surface::Narrow(grid) => {
+                Layout::Narrow(Surveyed::new(alloc, texts, grid, tile, choice)?)
+            }
+            Surface::Wide(grid) => Layout::Wide(Surveyed::new(alloc, texts, grid, tile, choice)?),
         };
-        Ok(Session {
-            layout,
-            asked: 0,
-            tile,
-        })
+        Ok(Session { layout, asked: 0 })
     }
 
     /// The file with the texts as they were read and all cells of the present map: masked points
@@ -71,14 +83,14 @@ impl Session {
     {
         match &self.layout {
             Layout::Narrow(surveyed) => {
-                let work = &surveyed.work;
-                let surface = work.board.grid().without_masks(work.alloc)?;
-                joined(work.alloc, &work.texts, Surface::Narrow(surface))
+                let alloc = surveyed.alloc();
+                let surface = surveyed.grid().without_masks(alloc)?;
+                joined(alloc, surveyed.texts(), Surface::Narrow(surface))
             }
             Layout::Wide(surveyed) => {
-                let work = &surveyed.work;
-                let surface = work.board.grid().without_masks(work.alloc)?;
-                joined(work.alloc, &work.texts, Surface::Wide(surface))
+                let alloc = surveyed.alloc();
+                let surface = surveyed.grid().without_masks(alloc)?;
+                joined(alloc, surveyed.texts(), Surface::Wide(surface))
             }
         }
     }

@@ -1,58 +1,102 @@
 // A surface that lines of a script work on, with what reports found of it.
 ghost use Rattle.std.specs.Prelude.{◌≡◌, ◌<◌, ◌^◌, [], IfOk, OnErr};
+ghost use Rattle.hd_edit.specs.Board.{RisesUpTo};
 ghost use Rattle.hd_script.specs.Whole.{IsTable, IsWhole};
 ghost use Rattle.hd_report.specs.Forms.{form_text};
 ghost use Rattle.hd_engine.specs.Answers.{IsAnswer, IsCommandAnswer};
 ghost use Rattle.hd_engine.specs.Edits.{IsEditAnswer, IsUndoAnswer};
 ghost use Rattle.hd_engine.specs.Elements.{IsElementAnswer};
 ghost use Rattle.hd_engine.specs.Neighbours.{IsNeighboursAnswer};
+ghost use Rattle.hd_engine.specs.Regions.{IsLabelAnswer};
 ghost use Rattle.hd_engine.specs.Reply.{refused_for, reply_of};
-ghost use Rattle.hd_engine.specs.Workpiece.{state_of};
+ghost use Rattle.hd_engine.specs.Texts.{texts_view};
+ghost use Rattle.hd_tiles.specs.Tile.{IsTileSide};
 
 use crate::Answer;
+use crate::by_pool::{Need, find_by_pool};
+use crate::labels::show_label;
 use crate::texts::Texts;
 use crate::workpiece::Workpiece;
+use hd_basin::pool_stays_in_step;
 use hd_edit::Edit;
 use hd_list::{List, Memory};
-use hd_map::{Adjacency, Down, Grid, SideName, Up};
+use hd_map::{Adjacency, Down, Grid, Pos, SideName, Up};
+use hd_pool::{Choice, SidePool};
 use hd_report::form_cause;
 use hd_script::{Command, LineError, read_line};
 use hd_survey::Survey;
+use hd_tiles::Tiles;
 use std::alloc::Global;
 use std::marker::Model;
 
-/// A grid that a script works on, with the texts of its file, and what reports found of its present map.
-/// Contracts see it as the grid and the texts.
+/// A grid in tiles that a script works on, with the texts of its file, what reports found of its present map, and the
+/// pools of its sides. Contracts see it as its state and the count of its changes.
 #[derive(Drop)]
 pub struct Surveyed<G: Grid> {
-    /// The grid and the texts.
-    pub work: Workpiece<G>,
+    work: Workpiece<Tiles<G>>,
     survey: Survey,
+    dales: SidePool<Down>,
+    hills: SidePool<Up>,
 }
 
 impl<G: Grid> Model for Surveyed<G> {
-    ghost use Rattle.hd_survey.specs.Survey.{IsSurvey};
-    ghost use Rattle.hd_engine.specs.declared.workpiece.Workpiece.{Workpiece};
+    ghost use Rattle.hd_engine.specs.Tiled.{KeepsUp, TiledState};
+    ghost use Rattle.hd_engine.specs.Workpiece.{state_of};
 
-    ghost Value = { Workpiece G };
+    ghost Value = { TiledState };
 
-    ghost view = { λ s. s.work };
+    ghost view = { λ s. record { state = state_of (λ t. G.map t.grid) s.work; changes = s.work.board.grid.changes } };
 
-    ghost invariant = { λ s. IsSurvey (G.map s.work.board.grid) s.survey };
+    ghost invariant = { λ s. let tiles = s.work.board.grid in KeepsUp (G.map tiles.grid) tiles.tiling.side tiles.stamps.items s.survey s.dales s.hills };
 }
 
 impl<G: Grid> Surveyed<G> {
-    /// A grid with the texts of its file, no earlier map and no element, of which nothing is found yet.
-    /// `Memory` comes where it is refused its memory.
-    pub fn new(alloc: Global, texts: Texts, grid: G) -> Result<Surveyed<G>, Memory>
+    /// A grid with the texts of its file, in tiles of this side, from 8 to 256 points, with no earlier map and no
+    /// element, of which nothing is found yet. `Memory` comes where it is refused its memory.
+    pub fn new(
+        alloc: Global,
+        texts: Texts,
+        grid: G,
+        side: u32,
+        choice: Choice,
+    ) -> Result<Surveyed<G>, Memory>
     where
         G: Drop,
-        ensures texts { IfOk result (λ w. w.texts ≡ texts) }
-        ensures board { IfOk result (λ w. w.board ≡ record { grid = grid; earlier = []; elements = [] }) }
+        requires side { IsTileSide side }
+        requires count { G.changes grid ≡ 0 }
+        ensures state { IfOk result (λ s. s.state ≡ record { read = texts_view texts; map = G.map grid; earlier = []; elements = [] }) }
+        ensures changes { IfOk result (λ s. s.changes ≡ 0) }
     {
-        let work = Workpiece::new(alloc, texts, grid)?;
+        let tiles = Tiles::from_surface(alloc, grid, side)?;
+        let work = Workpiece::new(alloc, texts, tiles)?;
         let survey = Survey::new();
-        Ok(Surveyed { work, survey })
+        let dales = SidePool::new(choice);
+        let hills = SidePool::new(choice);
+        Ok(Surveyed {
+            work,
+            survey,
+            dales,
+            hills,
+        })
+    }
+
+    /// Whence it takes memory.
+    pub fn alloc(&self) -> Global {
+        self.work.alloc
+    }
+
+    /// The texts of its file.
+    pub fn texts(&self) -> &Texts
+        ensures { texts_view result.now ≡ self.now.state.read }
+    {
+        &self.work.texts
+    }
+
+    /// The grid.
+    pub fn grid(&self) -> &G
+        ensures { G.map result.now ≡ self.now.state.map }
+    {
+        self.work.board.grid().surface()
     }
 
     /// The answer to a line without its LF. The number is the one that the line has in its answer.
@@ -60,9 +104,10 @@ impl<G: Grid> Surveyed<G> {
     /// `Memory` comes where the line, the edit or the answer is refused its memory; the surface, the
     /// earlier maps, the elements and the setting of the neighbours are then as before.
     pub fn answer(&mut self, number: u64, line: &[u8]) -> Result<Answer, Memory>
-        requires { G.changes self.old.board.grid < 2 ^ 62 }
-        ensures ok { IfOk result (λ a. IsAnswer (state_of G.map self.old) number line.now (reply_of a) (state_of G.map self.new)) }
-        ensures memory { OnErr result ((state_of G.map self.new) ≡ (state_of G.map self.old)) }
+        requires { self.old.changes < 2 ^ 62 }
+        ensures ok { IfOk result (λ a. IsAnswer self.old.state number line.now (reply_of a) self.new.state) }
+        ensures memory { OnErr result (self.new.state ≡ self.old.state) }
+        ensures changes { RisesUpTo (2 ^ 27) self.old.changes self.new.changes }
     {
         match read_line(self.work.alloc, line) {
             Err(LineError::Memory) => Err(Memory),
@@ -83,10 +128,12 @@ impl<G: Grid> Surveyed<G> {
     // The answer to a command.
     fn obey(&mut self, number: u64, command: Command) -> Result<Answer, Memory>
         requires whole { IsWhole command }
-        requires count { G.changes self.old.board.grid < 2 ^ 62 }
-        ensures ok { IfOk result (λ a. IsCommandAnswer (state_of G.map self.old) number command (reply_of a) (state_of G.map self.new)) }
-        ensures memory { OnErr result ((state_of G.map self.new) ≡ (state_of G.map self.old)) }
+        requires count { self.old.changes < 2 ^ 62 }
+        ensures ok { IfOk result (λ a. IsCommandAnswer self.old.state number command (reply_of a) self.new.state) }
+        ensures memory { OnErr result (self.new.state ≡ self.old.state) }
+        ensures changes { RisesUpTo (2 ^ 27) self.old.changes self.new.changes }
     {
+        self.prepare(&command)?;
         match command {
             Command::Do(edit) => self.edit(number, &edit),
             Command::Undo(count) => self.undo(number, count),
@@ -101,7 +148,7 @@ impl<G: Grid> Surveyed<G> {
             Command::Info => self.work.info(),
             Command::Dales => self.work.list::<Down>(&mut self.survey.dales),
             Command::Hills => self.work.list::<Up>(&mut self.survey.hills),
-            Command::Label { side, at } => self.work.label(number, side, at),
+            Command::Label { side, at } => self.label(number, side, at),
             Command::Saddle { side, a, b } => self
                 .work
                 .saddle(&mut self.survey, number, side, a, b),
@@ -116,7 +163,10 @@ impl<G: Grid> Surveyed<G> {
             Command::Feature { word } => {
                 self.work.feature(&mut self.survey, number, word.as_slice())
             }
-            Command::HeightValue { name, c } => self.work.height(number, name.as_slice(), c),
+            Command::HeightValue { name, c } => {
+                self.work
+                    .height(&mut self.survey, number, name.as_slice(), c)
+            }
             Command::Hist { bins, word } => {
                 self.work
                     .hist(&mut self.survey, number, bins, word.as_slice())
@@ -134,33 +184,90 @@ impl<G: Grid> Surveyed<G> {
         }
     }
 
+    // Finds by the pools what the report of a command asks for, where they serve.
+    fn prepare(&mut self, command: &Command) -> Result<(), Memory>
+        ensures { self.new ≡ self.old }
+    {
+        match command {
+            Command::Dales => self.find_by_pool(SideName::Dales, Need::Regions),
+            Command::Hills => self.find_by_pool(SideName::Hills, Need::Regions),
+            Command::Tree { side }
+            | Command::Saddle { side, .. }
+            | Command::Prune { side, .. }
+            | Command::Lines { side, .. } => self.find_by_pool(*side, Need::Line),
+            Command::Audit { side, .. } | Command::Fill { side, .. } => {
+                self.find_by_pool(*side, Need::Merges)
+            }
+            _ => Ok(()),
+        }
+    }
+
+    // Finds by the pool of a side what a report asks for, where it serves.
+    fn find_by_pool(&mut self, side: SideName, need: Need) -> Result<(), Memory>
+        ensures { self.new ≡ self.old }
+    {
+        let alloc = self.work.alloc;
+        let tiles = self.work.board.grid();
+        match side {
+            SideName::Dales => {
+                find_by_pool(alloc, tiles, &mut self.dales, &mut self.survey.dales, need)
+            }
+            SideName::Hills => {
+                find_by_pool(alloc, tiles, &mut self.hills, &mut self.survey.hills, need)
+            }
+        }
+    }
+
+    // Tells in which region of a side a point lies.
+    fn label(&mut self, number: u64, side: SideName, at: Pos) -> Result<Answer, Memory>
+        ensures ok { IfOk result (λ a. IsLabelAnswer self.old.state number side at (reply_of a) self.new.state) }
+        ensures same { self.new ≡ self.old }
+    {
+        match side {
+            SideName::Dales => {
+                let found = &mut self.survey.dales;
+                show_label(&self.work, &mut self.dales, found, number, at)
+            }
+            SideName::Hills => {
+                let found = &mut self.survey.hills;
+                show_label(&self.work, &mut self.hills, found, number, at)
+            }
+        }
+    }
+
     // Makes an edit. What was found is given up.
     fn edit(&mut self, number: u64, edit: &Edit) -> Result<Answer, Memory>
-        requires { G.changes self.old.board.grid < 2 ^ 62 }
-        ensures ok { IfOk result (λ a. IsEditAnswer (state_of G.map self.old) number edit.now (reply_of a) (state_of G.map self.new)) }
-        ensures memory { OnErr result ((state_of G.map self.new) ≡ (state_of G.map self.old)) }
+        requires { self.old.changes < 2 ^ 62 }
+        ensures ok { IfOk result (λ a. IsEditAnswer self.old.state number edit.now (reply_of a) self.new.state) }
+        ensures memory { OnErr result (self.new.state ≡ self.old.state) }
+        ensures changes { RisesUpTo (2 ^ 27) self.old.changes self.new.changes }
     {
         self.survey = Survey::new();
+        pool_stays_in_step();
         self.work.edit(number, edit)
     }
 
     // Goes back over kept edits. What was found is given up.
     fn undo(&mut self, number: u64, count: u64) -> Result<Answer, Memory>
-        requires { G.changes self.old.board.grid < 2 ^ 62 }
-        ensures ok { IfOk result (λ a. IsUndoAnswer (state_of G.map self.old) number count (reply_of a) (state_of G.map self.new)) }
-        ensures memory { OnErr result ((state_of G.map self.new) ≡ (state_of G.map self.old)) }
+        requires { self.old.changes < 2 ^ 62 }
+        ensures ok { IfOk result (λ a. IsUndoAnswer self.old.state number count (reply_of a) self.new.state) }
+        ensures memory { OnErr result (self.new.state ≡ self.old.state) }
+        ensures changes { RisesUpTo (2 ^ 27) self.old.changes self.new.changes }
     {
         self.survey = Survey::new();
+        pool_stays_in_step();
         self.work.undo(number, count)
     }
 
     // Sets which points are neighbours. What was found is given up.
     fn set_adjacency(&mut self, number: u64, adjacency: Adjacency) -> Result<Answer, Memory>
-        requires { G.changes self.old.board.grid < 2 ^ 62 }
-        ensures ok { IfOk result (λ a. IsNeighboursAnswer (state_of G.map self.old) number adjacency (reply_of a) (state_of G.map self.new)) }
-        ensures memory { OnErr result ((state_of G.map self.new) ≡ (state_of G.map self.old)) }
+        requires { self.old.changes < 2 ^ 62 }
+        ensures ok { IfOk result (λ a. IsNeighboursAnswer self.old.state number adjacency (reply_of a) self.new.state) }
+        ensures memory { OnErr result (self.new.state ≡ self.old.state) }
+        ensures changes { RisesUpTo (2 ^ 27) self.old.changes self.new.changes }
     {
         self.survey = Survey::new();
+        pool_stays_in_step();
         self.work.set_adjacency(number, adjacency)
     }
 
@@ -174,8 +281,9 @@ impl<G: Grid> Surveyed<G> {
         table: List<Option<i64>>,
     ) -> Result<Answer, Memory>
         requires { IsTable width height table }
-        ensures ok { IfOk result (λ a. IsElementAnswer (state_of G.map self.old) number (record { name = name; width = width; height = height; table = table }) (reply_of a) (state_of G.map self.new)) }
-        ensures memory { OnErr result ((state_of G.map self.new) ≡ (state_of G.map self.old)) }
+        ensures ok { IfOk result (λ a. IsElementAnswer self.old.state number (record { name = name; width = width; height = height; table = table }) (reply_of a) self.new.state) }
+        ensures memory { OnErr result (self.new.state ≡ self.old.state) }
+        ensures changes { RisesUpTo (2 ^ 27) self.old.changes self.new.changes }
     {
         self.work.define(number, name, width, height, table)
     }

@@ -12,7 +12,7 @@ use hd_feature::{Notation, Parameter};
 use hd_list::{List, Memory};
 use hd_map::Heights;
 use hd_report::{tell_distribution, tell_feature, tell_height, tell_parameter, tell_share};
-use hd_stats::{HeightName, height_value, heights_alone_serve_distributions, hist, perc};
+use hd_stats::{HeightName, height_value_by, heights_alone_serve_distributions, hist, perc};
 use hd_survey::{Survey, notation_regions, notation_value, parameter_value};
 use std::alloc::Global;
 
@@ -56,13 +56,17 @@ pub(crate) fn report_feature<G: Heights>(
 pub(crate) fn report_height<G: Heights>(
     alloc: Global,
     grid: &G,
+    survey: &mut Survey,
     name: &[u8],
     c: Option<i64>,
     parameter: HeightName,
 ) -> Result<List<u8>, Memory>
-    ensures { IfOk result (λ text. (value : _) × IsHeightValue (G.map grid.now) parameter value × (text ≡ height_line name.now c value)) }
+    requires { IsSurvey (G.map grid.now) survey.old }
+    ensures survey { IsSurvey (G.map grid.now) survey.new }
+    ensures text { IfOk result (λ text. (value : _) × IsHeightValue (G.map grid.now) parameter value × (text ≡ height_line name.now c value)) }
 {
-    let value = height_value(grid, parameter);
+    let sums = survey.height_sums(grid);
+    let value = height_value_by(grid, &sums, parameter);
     let text = tell_height(alloc, name, c, value)?;
     Ok(text)
 }

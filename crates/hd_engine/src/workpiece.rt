@@ -1,6 +1,7 @@
 // A surface that lines of a script work on.
 ghost use Rattle.std.specs.Prelude.{◌≡◌, ◌≤◌, ◌<◌, ◌^◌, [], IfOk, OnErr};
 ghost use Rattle.hd_map.specs.Map.{Present};
+ghost use Rattle.hd_edit.specs.Board.{RisesUpTo};
 ghost use Rattle.hd_script.specs.Whole.{IsTable, IsWhole};
 ghost use Rattle.hd_report.specs.Edits.{edit_text, kept_text};
 ghost use Rattle.hd_report.specs.Elements.{element_text};
@@ -16,7 +17,7 @@ ghost use Rattle.hd_engine.specs.Elements.{IsElementAnswer, IsElementsAnswer};
 ghost use Rattle.hd_engine.specs.Heights.{IsHeightAnswer};
 ghost use Rattle.hd_engine.specs.Info.{IsInfoAnswer};
 ghost use Rattle.hd_engine.specs.Prunings.{IsPruneAnswer};
-ghost use Rattle.hd_engine.specs.Regions.{IsLabelAnswer, IsRegionsAnswer, TellsRoot};
+ghost use Rattle.hd_engine.specs.Regions.{IsRegionsAnswer};
 ghost use Rattle.hd_engine.specs.Reply.{refused_for, reply_of};
 ghost use Rattle.hd_engine.specs.Saddles.{IsSaddleAnswer};
 ghost use Rattle.hd_engine.specs.Trees.{IsTreeAnswer};
@@ -28,8 +29,8 @@ ghost use Rattle.hd_engine.specs.Workpiece.{state_of};
 
 use crate::Answer;
 use crate::reports::{
-    report_audit, report_borders, report_info, report_label, report_pruning, report_regions,
-    report_tree, report_volumes,
+    report_audit, report_borders, report_info, report_pruning, report_regions, report_tree,
+    report_volumes,
 };
 use crate::saddles::show_saddle;
 use crate::texts::Texts;
@@ -81,6 +82,8 @@ impl<G: Grid> Workpiece<G> {
         requires { G.changes self.old.board.grid < 2 ^ 62 }
         ensures ok { IfOk result (λ a. IsEditAnswer (state_of G.map self.old) number edit.now (reply_of a) (state_of G.map self.new)) }
         ensures memory { OnErr result ((state_of G.map self.new) ≡ (state_of G.map self.old)) }
+        ensures origin { G.comes_from self.old.board.grid self.new.board.grid }
+        ensures count { RisesUpTo (2 ^ 27) (G.changes self.old.board.grid) (G.changes self.new.board.grid) }
     {
         let ok = Answer::ok(self.alloc, number)?;
         match self.board.apply(edit) {
@@ -103,6 +106,8 @@ impl<G: Grid> Workpiece<G> {
         requires { G.changes self.old.board.grid < 2 ^ 62 }
         ensures ok { IfOk result (λ a. IsUndoAnswer (state_of G.map self.old) number count (reply_of a) (state_of G.map self.new)) }
         ensures memory { OnErr result ((state_of G.map self.new) ≡ (state_of G.map self.old)) }
+        ensures origin { G.comes_from self.old.board.grid self.new.board.grid }
+        ensures count { RisesUpTo (2 ^ 27) (G.changes self.old.board.grid) (G.changes self.new.board.grid) }
     {
         let ok = Answer::ok(self.alloc, number)?;
         match self.board.undo(count) {
@@ -131,6 +136,7 @@ impl<G: Grid> Workpiece<G> {
         requires { IsTable width height table }
         ensures ok { IfOk result (λ a. IsElementAnswer (state_of G.map self.old) number (record { name = name; width = width; height = height; table = table }) (reply_of a) (state_of G.map self.new)) }
         ensures memory { OnErr result ((state_of G.map self.new) ≡ (state_of G.map self.old)) }
+        ensures grid { self.new.board.grid ≡ self.old.board.grid }
     {
         let ok = Answer::ok(self.alloc, number)?;
         match Element::new(name, width, height, table) {
@@ -159,6 +165,8 @@ impl<G: Grid> Workpiece<G> {
         requires { G.changes self.old.board.grid < 2 ^ 62 }
         ensures ok { IfOk result (λ a. IsNeighboursAnswer (state_of G.map self.old) number adjacency (reply_of a) (state_of G.map self.new)) }
         ensures memory { OnErr result ((state_of G.map self.new) ≡ (state_of G.map self.old)) }
+        ensures origin { G.comes_from self.old.board.grid self.new.board.grid }
+        ensures count { RisesUpTo (2 ^ 27) (G.changes self.old.board.grid) (G.changes self.new.board.grid) }
     {
         let ok = Answer::ok(self.alloc, number)?;
         self.board.set_adjacency(adjacency);
@@ -189,32 +197,6 @@ impl<G: Grid> Workpiece<G> {
         ensures answer { IfOk result (λ a. IsRegionsAnswer (state_of G.map self.now) S.NAME (reply_of a) (state_of G.map self.now)) }
     {
         let text = report_regions::<S, G>(self.alloc, self.board.grid(), findings)?;
-        Ok(Answer::with_text(text))
-    }
-
-    /// The answer that tells in which region of a side a point lies.
-    pub(crate) fn label(&self, number: u64, side: SideName, at: Pos) -> Result<Answer, Memory>
-        ensures { IfOk result (λ a. IsLabelAnswer (state_of G.map self.now) number side at (reply_of a) (state_of G.map self.now)) }
-    {
-        let grid = self.board.grid();
-        if !contains(grid.size(), at) {
-            return Answer::outside(self.alloc, number, at);
-        }
-        if !is_present(grid, at) {
-            return Answer::not_present(self.alloc, number, at);
-        }
-        match side {
-            SideName::Dales => self.tell_root::<Down>(at),
-            SideName::Hills => self.tell_root::<Up>(at),
-        }
-    }
-
-    // The answer that tells the pit of the region that a present point lies in.
-    fn tell_root<S: Side>(&self, at: Pos) -> Result<Answer, Memory>
-        requires { Present (G.map self.now.board.grid) at }
-        ensures { IfOk result (λ a. TellsRoot (state_of G.map self.now) S.NAME at (reply_of a) (state_of G.map self.now)) }
-    {
-        let text = report_label::<S, G>(self.alloc, self.board.grid(), at)?;
         Ok(Answer::with_text(text))
     }
 
@@ -273,24 +255,19 @@ impl<G: Grid> Workpiece<G> {
         ensures survey { IsSurvey (G.map self.now.board.grid) survey.new }
         ensures answer { IfOk result (λ a. IsPruneAnswer (state_of G.map self.now) side percent.thousandths (reply_of a) (state_of G.map self.now)) }
     {
+        let grid = self.board.grid();
         match side {
-            SideName::Dales => self.tell_pruning::<Down>(&mut survey.dales, percent),
-            SideName::Hills => self.tell_pruning::<Up>(&mut survey.hills, percent),
+            SideName::Dales => {
+                let dales = &mut survey.dales;
+                let text = report_pruning::<Down, G>(self.alloc, grid, dales, percent)?;
+                Ok(Answer::with_text(text))
+            }
+            SideName::Hills => {
+                let hills = &mut survey.hills;
+                let text = report_pruning::<Up, G>(self.alloc, grid, hills, percent)?;
+                Ok(Answer::with_text(text))
+            }
         }
-    }
-
-    // The same, by the order of the side.
-    fn tell_pruning<S: Side>(
-        &self,
-        findings: &mut Findings<S>,
-        percent: Percent,
-    ) -> Result<Answer, Memory>
-        requires { AreFindings (G.map self.now.board.grid) S.NAME findings.old }
-        ensures findings { AreFindings (G.map self.now.board.grid) S.NAME findings.new }
-        ensures answer { IfOk result (λ a. IsPruneAnswer (state_of G.map self.now) S.NAME percent.thousandths (reply_of a) (state_of G.map self.now)) }
-    {
-        let text = report_pruning::<S, G>(self.alloc, self.board.grid(), findings, percent)?;
-        Ok(Answer::with_text(text))
     }
 
     /// The answer that lists the borders that the pruning of a side leaves.
@@ -304,24 +281,19 @@ impl<G: Grid> Workpiece<G> {
         ensures survey { IsSurvey (G.map self.now.board.grid) survey.new }
         ensures answer { IfOk result (λ a. IsBordersAnswer (state_of G.map self.now) side percent.thousandths (reply_of a) (state_of G.map self.now)) }
     {
+        let grid = self.board.grid();
         match side {
-            SideName::Dales => self.list_borders::<Down>(&mut survey.dales, percent),
-            SideName::Hills => self.list_borders::<Up>(&mut survey.hills, percent),
+            SideName::Dales => {
+                let dales = &mut survey.dales;
+                let text = report_borders::<Down, G>(self.alloc, grid, dales, percent)?;
+                Ok(Answer::with_text(text))
+            }
+            SideName::Hills => {
+                let hills = &mut survey.hills;
+                let text = report_borders::<Up, G>(self.alloc, grid, hills, percent)?;
+                Ok(Answer::with_text(text))
+            }
         }
-    }
-
-    // The same, by the order of the side.
-    fn list_borders<S: Side>(
-        &self,
-        findings: &mut Findings<S>,
-        percent: Percent,
-    ) -> Result<Answer, Memory>
-        requires { AreFindings (G.map self.now.board.grid) S.NAME findings.old }
-        ensures findings { AreFindings (G.map self.now.board.grid) S.NAME findings.new }
-        ensures answer { IfOk result (λ a. IsBordersAnswer (state_of G.map self.now) S.NAME percent.thousandths (reply_of a) (state_of G.map self.now)) }
-    {
-        let text = report_borders::<S, G>(self.alloc, self.board.grid(), findings, percent)?;
-        Ok(Answer::with_text(text))
     }
 
     /// The answer that prints the certificate of the pruning of a side.
@@ -335,24 +307,20 @@ impl<G: Grid> Workpiece<G> {
         ensures survey { IsSurvey (G.map self.now.board.grid) survey.new }
         ensures answer { IfOk result (λ a. IsAuditAnswer (state_of G.map self.now) side percent (reply_of a) (state_of G.map self.now)) }
     {
+        let grid = self.board.grid();
+        let range = survey.presence(grid).range;
         match side {
-            SideName::Dales => self.print_audit::<Down>(&mut survey.dales, percent),
-            SideName::Hills => self.print_audit::<Up>(&mut survey.hills, percent),
+            SideName::Dales => {
+                let dales = &mut survey.dales;
+                let text = report_audit::<Down, G>(self.alloc, grid, dales, percent, range)?;
+                Ok(Answer::with_text(text))
+            }
+            SideName::Hills => {
+                let hills = &mut survey.hills;
+                let text = report_audit::<Up, G>(self.alloc, grid, hills, percent, range)?;
+                Ok(Answer::with_text(text))
+            }
         }
-    }
-
-    // The same, by the order of the side.
-    fn print_audit<S: Side>(
-        &self,
-        findings: &mut Findings<S>,
-        percent: Percent,
-    ) -> Result<Answer, Memory>
-        requires { AreFindings (G.map self.now.board.grid) S.NAME findings.old }
-        ensures findings { AreFindings (G.map self.now.board.grid) S.NAME findings.new }
-        ensures answer { IfOk result (λ a. IsAuditAnswer (state_of G.map self.now) S.NAME percent (reply_of a) (state_of G.map self.now)) }
-    {
-        let text = report_audit::<S, G>(self.alloc, self.board.grid(), findings, percent)?;
-        Ok(Answer::with_text(text))
     }
 
     /// The answer that lists the fill volumes of the pits that the pruning of a side keeps.
@@ -366,24 +334,20 @@ impl<G: Grid> Workpiece<G> {
         ensures survey { IsSurvey (G.map self.now.board.grid) survey.new }
         ensures answer { IfOk result (λ a. IsVolumesAnswer (state_of G.map self.now) side percent.thousandths (reply_of a) (state_of G.map self.now)) }
     {
+        let grid = self.board.grid();
+        let range = survey.presence(grid).range;
         match side {
-            SideName::Dales => self.list_volumes::<Down>(&mut survey.dales, percent),
-            SideName::Hills => self.list_volumes::<Up>(&mut survey.hills, percent),
+            SideName::Dales => {
+                let dales = &mut survey.dales;
+                let text = report_volumes::<Down, G>(self.alloc, grid, dales, percent, range)?;
+                Ok(Answer::with_text(text))
+            }
+            SideName::Hills => {
+                let hills = &mut survey.hills;
+                let text = report_volumes::<Up, G>(self.alloc, grid, hills, percent, range)?;
+                Ok(Answer::with_text(text))
+            }
         }
-    }
-
-    // The same, by the order of the side.
-    fn list_volumes<S: Side>(
-        &self,
-        findings: &mut Findings<S>,
-        percent: Percent,
-    ) -> Result<Answer, Memory>
-        requires { AreFindings (G.map self.now.board.grid) S.NAME findings.old }
-        ensures findings { AreFindings (G.map self.now.board.grid) S.NAME findings.new }
-        ensures answer { IfOk result (λ a. IsVolumesAnswer (state_of G.map self.now) S.NAME percent.thousandths (reply_of a) (state_of G.map self.now)) }
-    {
-        let text = report_volumes::<S, G>(self.alloc, self.board.grid(), findings, percent)?;
-        Ok(Answer::with_text(text))
     }
 
     /// The answer that tells the value of a parameter by its name.
@@ -435,12 +399,21 @@ impl<G: Grid> Workpiece<G> {
     }
 
     /// The answer that tells the value of a height parameter by its name.
-    pub(crate) fn height(&self, number: u64, name: &[u8], c: Option<i64>) -> Result<Answer, Memory>
-        ensures { IfOk result (λ a. IsHeightAnswer (state_of G.map self.now) number name.now c (reply_of a) (state_of G.map self.now)) }
+    pub(crate) fn height(
+        &self,
+        survey: &mut Survey,
+        number: u64,
+        name: &[u8],
+        c: Option<i64>,
+    ) -> Result<Answer, Memory>
+        requires { IsSurvey (G.map self.now.board.grid) survey.old }
+        ensures survey { IsSurvey (G.map self.now.board.grid) survey.new }
+        ensures answer { IfOk result (λ a. IsHeightAnswer (state_of G.map self.now) number name.now c (reply_of a) (state_of G.map self.now)) }
     {
         match height_name(name, c) {
             Ok(parameter) => {
-                let text = report_height(self.alloc, self.board.grid(), name, c, parameter)?;
+                let grid = self.board.grid();
+                let text = report_height(self.alloc, grid, survey, name, c, parameter)?;
                 Ok(Answer::with_text(text))
             }
             Err(error) => self.refuse_notation(number, error),
