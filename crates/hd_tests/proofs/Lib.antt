@@ -1,3 +1,2 @@
 -- Lemmas of the proofs.
 mod Literals
-mod Following

@@ -1,16 +1,18 @@
 // Files and the standard output: those of the system, and those in memory that pass a part of each piece.
 use crate::base::{expect_read, expect_refused, write_anew};
 use crate::narrow::{Narrow, Shelf};
-use hd_base::{FileSource, ReadError, Sink, StdoutSink, write_all};
+use crate::noted::Noted;
+use hd_base::{FileSink, FileSource, ReadError, Sink, StdoutSink, write_all};
 use std::cell::RefCell;
 use std::process::Abort;
 use std::{fs, io, process};
 
 #[test]
-fn a_file_of_the_system_is_read(rt: HostRuntime) {
+fn a_file_of_the_system_is_written_anew_and_read(rt: HostRuntime) {
     let number = process::id(rt.process());
     let name = format!(in rt.alloc(); "/tmp/hd_tests-{number}").expect(&rt, "memory");
-    fs::write(&rt, &name, b"short").expect(&rt, "a file");
+    fs::write(&rt, &name, b"longer than what is written").expect(&rt, "a file");
+    write_anew(&rt, &mut FileSink::new(rt.alloc(), &rt), &name, b"short");
     expect_read(
         &rt,
         &mut FileSource::new(rt.alloc(), &rt),
@@ -64,6 +66,28 @@ fn expect_printed(rt: &(impl Abort + AllocGlobal), text: &[u8], most: usize, roo
 }
 
 #[test]
+fn a_file_is_written_in_parts_or_some_first_bytes_of_it(rt: HostRuntime) {
+    let text = long_text(&rt);
+    for room in [200_000, 100_000] {
+        expect_saved(&rt, &text, room);
+    }
+}
+
+// Writes a text to a file with this room, which fails where the room is too small.
+fn expect_saved(rt: &(impl Abort + AllocGlobal), text: &[u8], room: usize) {
+    let got = RefCell::new(Vec::new(rt.alloc()));
+    let shelf = Shelf(Narrow::new(&[], &got, 1_000, room));
+    let mut sink = FileSink::new(rt.alloc(), &shelf);
+    sink.open("name").expect(rt, "a file");
+    let has_room = text.len() <= room;
+    assert!(rt; write_all(&mut sink, text).is_ok() == has_room);
+    if has_room {
+        sink.flush().expect(rt, "a flush");
+    }
+    expect_first(rt, &got, text, room);
+}
+
+#[test]
 fn a_file_is_read_in_parts_or_not_at_all(rt: HostRuntime) {
     let text = long_text(&rt);
     let got = RefCell::new(Vec::new(rt.alloc()));
@@ -84,4 +108,49 @@ fn a_file_is_read_in_parts_or_not_at_all(rt: HostRuntime) {
         200_000,
         fault,
     );
+}
+
+// The calls that save a file where none stands.
+const SAVING: [&str; 7] = [
+    "metadata name",
+    "symlink_metadata name",
+    "open name.new0",
+    "write",
+    "flush",
+    "sync",
+    "rename name.new0 name",
+];
+
+#[test]
+fn a_file_is_put_in_its_place_once_it_is_stored_or_removed(rt: HostRuntime) {
+    for fails in 0..=SAVING.len() {
+        let calls = RefCell::new(Vec::new(rt.alloc()));
+        let noted = Noted::new(rt.alloc(), &calls, fails);
+        let mut sink = FileSink::new(rt.alloc(), &noted);
+        let is_saved = is_saved(&mut sink);
+        assert!(rt; is_saved == (fails == SAVING.len()));
+        expect_calls(&rt, &calls, fails);
+    }
+}
+
+// Opens, writes and flushes, as far as no call fails. What failed is not flushed later.
+fn is_saved(sink: &mut FileSink<'_, Noted<'_>>) -> bool {
+    if sink.open("name").is_err() {
+        return false;
+    }
+    write_all(sink, b"bytes").is_ok() && sink.flush().is_ok() || sink.flush().is_ok()
+}
+
+// The calls are those of a saving up to the one that fails, and then the removal of what was opened.
+fn expect_calls(rt: &impl Abort, calls: &RefCell<Vec<String>>, fails: usize) {
+    let calls = calls.try_borrow().expect(rt, "no other borrow");
+    let made = SAVING.len().min(fails.saturating_add(1));
+    let is_removed = 2 < fails && fails < SAVING.len();
+    for (call, wanted) in calls.iter().zip(SAVING).take(made) {
+        assert!(rt; call.as_str() == wanted);
+    }
+    let left = calls.len().saturating_sub(made);
+    assert!(rt; left == is_removed as usize);
+    let last = calls.last().map(|call| call.as_str());
+    assert!(rt; (last == Some("remove name.new0")) == is_removed);
 }

@@ -7,7 +7,7 @@ use hd_check::CertificateError;
 use hd_list::List;
 use hd_map::{DataType, Down, Side, Surface, Up, presence_of};
 use hd_num::{Percent, read_percent};
-use hd_survey::{Findings, kept_pits};
+use hd_survey::Findings;
 use std::process::Abort;
 
 // What is said of the certificate after a surface and a colon.
@@ -74,14 +74,12 @@ fn certificate_text<S: Side>(
     percent: Percent,
 ) -> String {
     let range = presence_of(surface).range;
-    let kept = kept_pits::<S, Surface>(
-        rt.alloc(),
-        surface,
-        &mut Findings::new(),
-        percent,
-        range,
-    ).expect(rt, "memory");
-    let audit = make_audit::<S, Surface>(rt.alloc(), surface, percent, &kept).expect(rt, "memory");
+    let mut findings = Findings::<S>::new();
+    findings
+        .find_kept(rt.alloc(), surface, percent, range)
+        .expect(rt, "memory");
+    let kept = &findings.kept().pits;
+    let audit = make_audit::<S, Surface>(rt.alloc(), surface, percent, kept).expect(rt, "memory");
     let mut text = List::new(rt.alloc());
     write_audit(&mut text, &audit).expect(rt, "memory");
     let text = text_of(rt, text);

@@ -2,7 +2,8 @@
 ghost use Rattle.std.specs.Prelude.{◌≡◌};
 ghost use Rattle.hd_map.specs.Surface.{map_of};
 ghost use Rattle.hd_tiles.specs.Tile.{IsTileSide};
-ghost use Rattle.hd_tests.specs.Following.{IsFollowing, IsUpToDate};
+ghost use Rattle.hd_basin.specs.InStep.{HasMap};
+ghost use Rattle.hd_pool.specs.Following.{IsFollowing};
 
 use crate::followed::{Followed, Watched, pool_anew};
 use crate::shared::surface;
@@ -28,7 +29,8 @@ fn expect_same<S: Side>(rt: &(impl Abort + AllocGlobal), followed: &mut Followed
 // What a pool tells, which is what another pool tells that has seen all at once, and what is found
 // without tiles.
 fn compared<S: Side>(rt: &(impl Abort + AllocGlobal), watched: &Watched, pool: &Basins<S>) -> Told
-    requires { IsUpToDate (map_of watched.now.tiles.grid) S.NAME watched.now.tiles.tiling.side watched.now.tiles.stamps.items pool.now }
+    requires following { IsFollowing (map_of watched.now.tiles.grid) S.NAME watched.now.tiles.tiling.side watched.now.tiles.stamps.items pool.now }
+    requires pool { HasMap S.NAME pool.now }
 {
     let surface = watched.tiles.surface();
     let told = told_by(rt, surface, pool);
@@ -182,7 +184,7 @@ fn a_set_changes_dales_and_hills(rt: HostRuntime) {
 
 // A surface of this size whose heights are from 0 to 15 by a linear congruence, where about each eighth
 // point is not measured.
-fn noise(rt: &(impl Abort + AllocGlobal), points: u32, profiles: u32) -> Surface {
+pub(crate) fn noise(rt: &(impl Abort + AllocGlobal), points: u32, profiles: u32) -> Surface {
     assert!(rt; 1 <= points && points <= 17 && 1 <= profiles && profiles <= 17);
     let mut cells = Vec::new(rt.alloc());
     let mut drawn = 7u32;

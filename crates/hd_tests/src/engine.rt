@@ -1,17 +1,43 @@
 // Sessions on surfaces, line by line.
+ghost use Rattle.std.specs.Prelude.{◌≡◌};
+
 use crate::shared::{expect_bytes, expect_heights, file_of};
 use hd_engine::Session;
 use hd_list::List;
 use hd_num::{next_line, push_text};
+use hd_pool::Choice;
 use hd_sdf_read::SdfFile;
 use std::process::Abort;
 
-// The answers of a session on a file to the lines of a script, of which there are at most 512.
+// The answers of a session on a file to the lines of a script.
 pub(crate) fn answers(rt: &(impl Abort + AllocGlobal), file: SdfFile, script: &[u8]) -> List<u8> {
-    let mut session = Session::new(rt.alloc(), file, 64).expect(rt, "memory");
+    let (text, _) = answered(rt, file, script, 64, Choice::Free);
+    text
+}
+
+// The answers of a session on a file to the lines of a script, and the file that it leaves, with tiles of this side and
+// reports made by what is chosen. A session has many parts, so no other function holds one.
+pub(crate) fn answered(
+    rt: &(impl Abort + AllocGlobal),
+    file: SdfFile,
+    script: &[u8],
+    side: u32,
+    choice: Choice,
+) -> (List<u8>, SdfFile) {
+    assert!(rt; 8 <= side && side <= 256);
+    let mut session = Session::with_choice(rt.alloc(), file, side, choice).expect(rt, "memory");
+    let text = answers_of(rt, &mut session, script);
+    let file = session.file().expect(rt, "memory");
+    (text, file)
+}
+
+// The answers of a session that was asked nothing to the lines of a script, of which there are at most 65,536.
+fn answers_of(rt: &(impl Abort + AllocGlobal), session: &mut Session, script: &[u8]) -> List<u8>
+    requires { session.old.asked ≡ 0 }
+{
     let mut text = List::new(rt.alloc());
     let mut from = 0;
-    'lines: for number in 1..=512u64 {
+    'lines: for number in 1..=65_536u64 {
         let Some((span, next)) = next_line(script, from) else {
             break;
         };
@@ -43,10 +69,8 @@ fn expect_answers(rt: &(impl Abort + AllocGlobal), profiles: &str, script: &str,
 fn a_file_is_given_back_with_the_present_cells_and_without_masks(rt: HostRuntime) {
     let text = file_text(&rt, "0 5 1");
     let file = file_of(&rt, text.as_bytes());
-    let mut session = Session::new(rt.alloc(), file, 64).expect(&rt, "memory");
-    session.answer(1, b"set 0 0 7").expect(&rt, "memory");
-    session.answer(2, b"mask 1 0 1 0").expect(&rt, "memory");
-    let file = session.file().expect(&rt, "memory");
+    let script = b"set 0 0 7\nmask 1 0 1 0\n";
+    let (_, file) = answered(&rt, file, script, 64, Choice::Free);
     expect_heights(&rt, &file.surface, "7 5 1");
 }
 
@@ -158,58 +182,5 @@ fn border_lines_are_listed(rt: HostRuntime) {
         "0 5 1",
         "lines H 5%\nlines D 5%\nlines D\nlines D 101%\n",
         "lines H 5% 0\nlines D 5% 1\nridge 0 0 2 0 pairs 1 pass 1 0 5 saddle\nline 3 refused: wrong number of words\nline 4 refused: word 3 has not its form\n",
-    );
-}
-
-// Each report, on both sides.
-const REPORTS: &[u8] =
-    b"dales\nhills\ntree D\ntree H\nprune D 10%\nprune H 20%\nlines D 10%\nlines H 0%\naudit D 10%\nfill D 10%\nfill H 10%\nsaddle D 0 0 4 2\nsaddle H 3 0 0 1\nlabel D 2 2\nparam S10z\nparam Spd\nparam Sda 3\nhist 4 FC;D;Wolfprune:5%;All;lpvh\nperc 2 FC;H;Wolfprune:5%;All;lpvh\n";
-
-// Each of these edits, with all reports twice after it.
-fn often_asked(rt: &(impl Abort + AllocGlobal), edits: &str) -> List<u8> {
-    let mut script = List::from_slice(rt.alloc(), REPORTS).expect(rt, "memory");
-    for edit in edits.lines() {
-        push_text(&mut script, edit.as_bytes()).expect(rt, "memory");
-        push_text(&mut script, b"\n").expect(rt, "memory");
-        push_text(&mut script, REPORTS).expect(rt, "memory");
-        push_text(&mut script, REPORTS).expect(rt, "memory");
-    }
-    script
-}
-
-// These edits, with all reports once after the last.
-fn once_asked(rt: &(impl Abort + AllocGlobal), edits: &str) -> List<u8> {
-    let mut script = List::from_slice(rt.alloc(), edits.as_bytes()).expect(rt, "memory");
-    push_text(&mut script, REPORTS).expect(rt, "memory");
-    script
-}
-
-// The answers to a script on a small surface.
-fn small_answers(rt: &(impl Abort + AllocGlobal), script: &[u8]) -> List<u8> {
-    let text = file_text(rt, "0 5 1 6 2\n7 3 8 4 9\n1 6 0 5 2");
-    answers(rt, file_of(rt, text.as_bytes()), script)
-}
-
-// The reports after these edits are the same, whatever was asked before.
-fn expect_same_reports(rt: &(impl Abort + AllocGlobal), edits: &str) {
-    let found = small_answers(rt, often_asked(rt, edits).as_slice());
-    let wanted = small_answers(rt, once_asked(rt, edits).as_slice());
-    let replies = small_answers(rt, edits.as_bytes());
-    let reports = wanted
-        .as_slice()
-        .get(replies.as_slice().len()..)
-        .expect(rt, "the reports");
-    assert!(rt; found.as_slice().ends_with(reports));
-}
-
-#[test]
-fn reports_are_those_of_the_present_map_whatever_was_asked_before(rt: HostRuntime) {
-    expect_same_reports(&rt, "set 2 1 0\n");
-    expect_same_reports(&rt, "set 2 1 0\nmask 4 0 4 1\n");
-    expect_same_reports(&rt, "set 2 1 0\nmask 4 0 4 1\nneighbours 4\n");
-    expect_same_reports(&rt, "set 2 1 0\nmask 4 0 4 1\nneighbours 4\nundo 1\n");
-    expect_same_reports(
-        &rt,
-        "set 2 1 0\nmask 4 0 4 1\nneighbours 4\nundo 1\nundo 1\n",
     );
 }

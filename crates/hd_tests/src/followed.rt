@@ -2,7 +2,8 @@
 ghost use Rattle.std.specs.Prelude.{◌≡◌};
 ghost use Rattle.hd_map.specs.Surface.{map_of};
 ghost use Rattle.hd_tiles.specs.Tile.{IsTileSide};
-ghost use Rattle.hd_tests.specs.Following.{IsFollowing, IsUpToDate};
+ghost use Rattle.hd_basin.specs.InStep.{HasMap};
+ghost use Rattle.hd_pool.specs.Following.{IsFollowing};
 
 use hd_basin::{Basins, pool_stays_in_step};
 use hd_map::{Adjacency, Cell, Grid, Heights, Pos, Side, Size, Surface};
@@ -90,7 +91,8 @@ impl<S: Side> Followed<S> {
     // Brings the pool up to the surface, and tells how many looks that took.
     pub(crate) fn refresh(&mut self, rt: &impl Abort) -> u32
         requires { IsFollowing (map_of self.old.watched.tiles.grid) S.NAME self.old.watched.tiles.tiling.side self.old.watched.tiles.stamps.items self.old.pool }
-        ensures { IsUpToDate (map_of self.new.watched.tiles.grid) S.NAME self.new.watched.tiles.tiling.side self.new.watched.tiles.stamps.items self.new.pool }
+        ensures following { IsFollowing (map_of self.new.watched.tiles.grid) S.NAME self.new.watched.tiles.tiling.side self.new.watched.tiles.stamps.items self.new.pool }
+        ensures pool { HasMap S.NAME self.new.pool }
     {
         self.watched.looks.set(0);
         bring_up::<S, Brand>(rt, &mut self.pool, &self.watched, Blank::new(1));
@@ -136,7 +138,8 @@ impl<S: Side> Followed<S> {
 
 // Another pool that has seen all of the same tiles.
 pub(crate) fn pool_anew<S: Side>(rt: &(impl Abort + AllocGlobal), watched: &Watched) -> Basins<S>
-    ensures { IsUpToDate (map_of watched.now.tiles.grid) S.NAME watched.now.tiles.tiling.side watched.now.tiles.stamps.items result }
+    ensures following { IsFollowing (map_of watched.now.tiles.grid) S.NAME watched.now.tiles.tiling.side watched.now.tiles.stamps.items result }
+    ensures pool { HasMap S.NAME result }
 {
     let tiling = watched.tiles.tiling();
     let mut pool = Basins::new(rt.alloc(), tiling.size(), tiling.side()).expect(rt, "memory");
@@ -155,7 +158,8 @@ fn bring_up<S: Side, L: Ledger>(
     requires parts { blank.parts ≡ L.parts }
     requires one { blank.parts ≡ 1 }
     requires following { IsFollowing (map_of watched.now.tiles.grid) S.NAME watched.now.tiles.tiling.side watched.now.tiles.stamps.items pool.old }
-    ensures { IsUpToDate (map_of watched.now.tiles.grid) S.NAME watched.now.tiles.tiling.side watched.now.tiles.stamps.items pool.new }
+    ensures following { IsFollowing (map_of watched.now.tiles.grid) S.NAME watched.now.tiles.tiling.side watched.now.tiles.stamps.items pool.new }
+    ensures pool { HasMap S.NAME pool.new }
 {
     let mut looks: Steps<L> = Steps::new(blank);
     pool.refresh(watched, &mut looks).expect(rt, "memory");

@@ -18,6 +18,10 @@ mod decimals;
 #[cfg(test)]
 mod dot;
 #[cfg(test)]
+mod drawn_script;
+#[cfg(test)]
+mod draws;
+#[cfg(test)]
 mod edit;
 #[cfg(test)]
 mod engine;
@@ -27,6 +31,8 @@ mod feature;
 mod followed;
 #[cfg(test)]
 mod graph;
+#[cfg(test)]
+mod large_sessions;
 #[cfg(test)]
 mod layouts;
 #[cfg(test)]
@@ -38,13 +44,19 @@ mod morph;
 #[cfg(test)]
 mod narrow;
 #[cfg(test)]
+mod noted;
+#[cfg(test)]
 mod num;
+#[cfg(test)]
+mod pools;
 #[cfg(test)]
 mod prune;
 #[cfg(test)]
 mod script;
 #[cfg(test)]
 mod sdf;
+#[cfg(test)]
+mod sessions;
 #[cfg(test)]
 mod shared;
 #[cfg(test)]

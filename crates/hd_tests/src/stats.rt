@@ -10,7 +10,7 @@ use hd_map::{
 };
 use hd_num::{Frac, Percent, Whole, push_frac, push_text, push_unsigned, read_whole};
 use hd_stats::{HeightName, fill, height_name, height_value, hist, perc};
-use hd_survey::{Findings, kept_pits};
+use hd_survey::Findings;
 use std::process::Abort;
 
 // What a name and a height, of which the latter may be missing, stand for.
@@ -245,10 +245,11 @@ fn push_fills<S: Side>(
 ) {
     let range = presence_of(surface).range;
     let percent = Percent { thousandths };
-    let kept = kept_pits::<S, _>(rt.alloc(), surface, &mut Findings::new(), percent, range).expect(
-        rt, "memory",
-    );
-    let fills = fill::<S, _>(rt.alloc(), surface, &kept).expect(rt, "memory");
+    let mut findings = Findings::<S>::new();
+    findings
+        .find_kept(rt.alloc(), surface, percent, range)
+        .expect(rt, "memory");
+    let fills = fill::<S, _>(rt.alloc(), surface, &findings.kept().pits).expect(rt, "memory");
     for value in fills.as_slice() {
         push_value(rt, text, *value);
     }

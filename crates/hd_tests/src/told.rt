@@ -83,7 +83,7 @@ fn labels_of<S: Side>(
 }
 
 // The index of a position of the surface, if there is one.
-fn place_of(rt: &impl Abort, surface: &Surface, at: Option<Pos>) -> Option<u32> {
+pub(crate) fn place_of(rt: &impl Abort, surface: &Surface, at: Option<Pos>) -> Option<u32> {
     let at = at?;
     assert!(rt; contains(surface.size(), at));
     Some(index_of(surface.size(), at))
@@ -126,7 +126,7 @@ fn in_order(a: u32, b: u32) -> (u32, u32) {
 }
 
 // The saddle and each part of the joins of a tree.
-fn joins_of(rt: &(impl Abort + AllocGlobal), tree: &ChangeTree) -> Vec<(Rank, Rank)> {
+pub(crate) fn joins_of(rt: &(impl Abort + AllocGlobal), tree: &ChangeTree) -> Vec<(Rank, Rank)> {
     let mut joins = Vec::new(rt.alloc());
     for join in tree.joins.as_slice() {
         for part in join.parts.as_slice() {
@@ -157,7 +157,10 @@ pub(crate) fn told_without<S: Side>(
 }
 
 // The roots of all points, by the regions and by the way from each point.
-fn roots_of<S: Side>(rt: &(impl Abort + AllocGlobal), surface: &Surface) -> Vec<Option<u32>> {
+pub(crate) fn roots_of<S: Side>(
+    rt: &(impl Abort + AllocGlobal),
+    surface: &Surface,
+) -> Vec<Option<u32>> {
     let size = surface.size();
     let labels = regions::<S, _>(rt.alloc(), surface)
         .expect(rt, "memory")
@@ -273,7 +276,7 @@ fn wanted_nodes<S: Side>(
 }
 
 // What the points of each label sum up to.
-fn wanted_extents(
+pub(crate) fn wanted_extents(
     rt: &(impl Abort + AllocGlobal),
     surface: &Surface,
     labels: &[Option<u32>],

@@ -1,0 +1,96 @@
+// A side of a surface in tiles, by the pool that is kept of it, against what is found without tiles.
+ghost use Rattle.std.specs.Prelude.{◌≡◌};
+ghost use Rattle.hd_tiles.specs.Tile.{IsTileSide};
+
+use crate::basin::noise;
+use crate::told::{joins_of, place_of, roots_of, wanted_extents};
+use hd_basin::Extent;
+use hd_graph::{flood, tree};
+use hd_map::{Down, HeightRange, Side, Surface, Up, is_present, position_of};
+use hd_pool::{Choice, PoolView, Question, SidePool};
+use hd_survey::{Findings, SideView, change_tree};
+use hd_tiles::Tiles;
+use std::process::Abort;
+
+// A side of a surface in tiles, by its pool.
+type View<'a, S> = PoolView<'a, S, Tiles<Surface>>;
+
+// Compares the roots of all points.
+fn expect_roots<S: Side>(
+    rt: &impl Abort,
+    tiles: &Tiles<Surface>,
+    view: &PoolView<'_, S, Tiles<Surface>>,
+    labels: &[Option<u32>],
+)
+    requires { view.now ≡ tiles.now }
+{
+    let size = tiles.tiling().size();
+    for index in 0..size.profiles * size.points {
+        let at = position_of(size, index);
+        if is_present(tiles, at) {
+            let root = place_of(rt, tiles.surface(), Some(view.root(at)));
+            assert!(rt; labels.get(index as usize) == Some(&root));
+        }
+    }
+}
+
+// Compares the pits of the graph, and the joins of its tree with those that are found by the whole surface.
+fn expect_graph<S: Side>(
+    rt: &(impl Abort + AllocGlobal),
+    surface: &Surface,
+    view: &PoolView<'_, S, Tiles<Surface>>,
+    extents: &[Extent],
+) {
+    let graph = view.graph().expect(rt, "memory");
+    assert!(rt; graph.lows().len() == extents.len());
+    for (low, extent) in graph.lows().iter().zip(extents) {
+        assert!(rt; low.pit && low.rank == extent.pit);
+    }
+    let line = flood(rt.alloc(), &graph).expect(rt, "memory");
+    let found = tree(rt.alloc(), &line).expect(rt, "memory");
+    let wanted = change_tree::<S, _>(rt.alloc(), surface, &mut Findings::new());
+    let wanted = joins_of(rt, &wanted.expect(rt, "memory"));
+    assert!(rt; joins_of(rt, &found) == wanted);
+}
+
+// Compares the regions with the numbers of their points, and their tallies.
+fn expect_regions<S: Side>(
+    rt: &impl Abort,
+    view: &PoolView<'_, S, Tiles<Surface>>,
+    extents: &[Extent],
+) {
+    let sizes = view.sizes().expect(rt, "memory");
+    let tallies = view.tallies().expect(rt, "memory");
+    assert!(rt; sizes.as_slice().len() == extents.len());
+    assert!(rt; tallies.as_slice().len() == extents.len());
+    let found = sizes.as_slice().iter().zip(tallies.as_slice());
+    for ((size, tally), extent) in found.zip(extents) {
+        assert!(rt; size.pit == extent.pit && u64::from(size.points) == extent.points);
+        assert!(rt; tally.points == size.points);
+        assert!(rt; tally.edge.map(|edge| edge.least) == extent.edge_low);
+        assert!(rt; tally.edge.map(|edge| edge.greatest) == extent.edge_high);
+    }
+}
+
+// Compares what the pool of a side of a surface tells.
+fn expect_side<S: Side>(rt: &(impl Abort + AllocGlobal), surface: Surface, side: u32)
+    requires { IsTileSide side }
+{
+    let tiles = Tiles::from_surface(rt.alloc(), surface, side).expect(rt, "memory");
+    let mut pool = SidePool::<S>::new(Choice::Pool);
+    let serves = pool.serves(rt.alloc(), &tiles, Question::Report);
+    assert!(rt; serves.expect(rt, "memory"));
+    let view = pool.view(rt.alloc(), &tiles);
+    let labels = roots_of::<S>(rt, tiles.surface());
+    let extents = wanted_extents(rt, tiles.surface(), &labels);
+    expect_roots(rt, &tiles, &view, &labels);
+    expect_graph(rt, tiles.surface(), &view, &extents);
+    expect_regions(rt, &view, &extents);
+}
+
+#[test]
+fn a_pool_tells_of_a_side_what_is_found_without_tiles(rt: HostRuntime) {
+    expect_side::<Down>(&rt, noise(&rt, 17, 17), 8);
+    expect_side::<Up>(&rt, noise(&rt, 17, 9), 9);
+    expect_side::<Down>(&rt, noise(&rt, 1, 17), 256);
+}
