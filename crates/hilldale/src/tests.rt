@@ -1,6 +1,7 @@
 // Runs of the program over sources and sinks in memory.
 mod calls;
 mod certificates;
+mod damage;
 mod demos;
 mod faults;
 mod neighbours;

@@ -110,8 +110,10 @@ fn run(
     failing: Failing<'_>,
 ) -> Result<(Status, [u64; 4]), Fail> {
     let given = words_of(alloc, words)?;
+    let surface = surface.as_bytes();
+    let script = SCRIPT.as_bytes();
     let mut surface = Counted::new(source_of(alloc, "A", surface, failing.surface, PIECE)?);
-    let mut script = Counted::new(source_of(alloc, "B", SCRIPT, failing.script, PIECE)?);
+    let mut script = Counted::new(source_of(alloc, "B", script, failing.script, PIECE)?);
     let mut out = Counted::new(sink_of(alloc, failing.out, PIECE)?);
     let mut saved = Counted::new(sink_of(alloc, failing.saved, PIECE)?);
     let words = given.as_slice();

@@ -1,6 +1,8 @@
-// What is written where a call of a source or of the sink fails.
+// What is written where a call of a source or of a sink fails.
 use crate::Status;
-use crate::tests::trials::{Feed, PROFILE_DALES, expect, profile, run, whole};
+use crate::tests::saves::{MEASURED, MEASURED_DALES, SAVED};
+use crate::tests::trials::{Feed, PROFILE_DALES, expect, profile, run, run_saving, sink_of, whole};
+use hd_base::{MemSink, write_all};
 use std::alloc::Global;
 use std::process::Abort;
 use std::test::Fail;
@@ -26,14 +28,12 @@ fn run_in_pieces(
     alloc: Global,
     piece: usize,
     surface_fails: &[u64],
-    script_fails: &[u64],
     sink_fails: &[u64],
 ) -> Result<(Status, String), Fail> {
     let surface = profile(alloc, 5)?;
     let feed = Feed {
         piece,
         surface_fails,
-        script_fails,
         sink_fails,
         ..whole(surface.as_str(), "dales\n")
     };
@@ -43,77 +43,151 @@ fn run_in_pieces(
 #[test]
 fn pieces_of_any_size_make_the_same_output(rt: HostRuntime) -> Result<(), Fail> {
     for piece in [1, 2, 3, 7] {
-        let (status, text) = run_in_pieces(rt.alloc(), piece, &[], &[], &[])?;
+        let (status, text) = run_in_pieces(rt.alloc(), piece, &[], &[])?;
         assert_eq!(rt; status, Status::Done);
         assert_eq!(rt; text.as_str(), PROFILE_DALES);
     }
     Ok(())
 }
 
+// What the file to save holds before a run.
+const HELD: &str = "x";
+
 // Whose call fails.
 #[derive(Clone, Copy, Debug)]
 enum Failing {
     Surface,
     Script,
-    Sink,
+    Out,
+    Saved,
+}
+
+// A run on the measured surface with the words and what the file to save holds at its end; whose
+// calls fail in turn, the bytes of a piece, and the calls that the run makes.
+#[derive(Clone, Copy)]
+struct Trial {
+    words: &'static [&'static str],
+    saved: &'static str,
+    failing: Failing,
+    piece: usize,
+    calls: u64,
+}
+
+// The first bytes of a text.
+fn first(text: &'static str, count: usize) -> &'static str {
+    text.get(..count).unwrap_or(text)
+}
+
+// How a run ends where this call fails: its status, what is printed, and what the file to save holds.
+fn failed_end(trial: Trial, call: u64) -> (Status, &'static str, &'static str) {
+    let before = trial.piece.saturating_mul(call as usize);
+    match trial.failing {
+        Failing::Surface | Failing::Script => (Status::ReadFault, "read fault\n", HELD),
+        Failing::Out if before < MEASURED_DALES.len() => {
+            (Status::WriteFault, first(MEASURED_DALES, before), HELD)
+        }
+        Failing::Out => (Status::WriteFault, MEASURED_DALES, trial.saved),
+        Failing::Saved if call == 0 => (Status::WriteFault, MEASURED_DALES, HELD),
+        Failing::Saved => {
+            let written = before.saturating_sub(trial.piece);
+            (Status::WriteFault, MEASURED_DALES, first(SAVED, written))
+        }
+    }
+}
+
+// A run where the calls of these numbers fail, of the sources and of the output.
+fn run_measured(
+    alloc: Global,
+    trial: Trial,
+    surface_fails: &[u64],
+    script_fails: &[u64],
+    sink_fails: &[u64],
+    saved: &mut MemSink,
+) -> Result<(Status, String), Fail> {
+    let feed = Feed {
+        piece: trial.piece,
+        surface_fails,
+        script_fails,
+        sink_fails,
+        ..whole(MEASURED, "dales")
+    };
+    run_saving(alloc, trial.words, &feed, saved)
+}
+
+// The file to save. A call of it is made before the run.
+fn saved_of(alloc: Global, trial: Trial, call: u64) -> Result<MemSink, Fail> {
+    let mut saved = match trial.failing {
+        Failing::Saved => sink_of(alloc, &[call.saturating_add(1)], trial.piece)?,
+        _ => sink_of(alloc, &[], trial.piece)?,
+    };
+    write_all(&mut saved, HELD.as_bytes())?;
+    Ok(saved)
 }
 
 // A run where this call fails.
 fn run_failing(
     alloc: Global,
-    failing: Failing,
-    piece: usize,
+    trial: Trial,
     call: u64,
+    saved: &mut MemSink,
 ) -> Result<(Status, String), Fail> {
-    match failing {
-        Failing::Surface => run_in_pieces(alloc, piece, &[call], &[], &[]),
-        Failing::Script => run_in_pieces(alloc, piece, &[], &[call], &[]),
-        Failing::Sink => run_in_pieces(alloc, piece, &[], &[], &[call]),
+    match trial.failing {
+        Failing::Surface => run_measured(alloc, trial, &[call], &[], &[], saved),
+        Failing::Script => run_measured(alloc, trial, &[], &[call], &[], saved),
+        Failing::Out => run_measured(alloc, trial, &[], &[], &[call], saved),
+        Failing::Saved => run_measured(alloc, trial, &[], &[], &[], saved),
     }
 }
 
-// The status and the output of a run where a call fails, and how many bytes are written before it.
-fn failed_end(failing: Failing, written: usize) -> (Status, &'static str) {
-    match failing {
-        Failing::Surface | Failing::Script => (Status::ReadFault, "read fault\n"),
-        Failing::Sink => (
-            Status::WriteFault,
-            PROFILE_DALES.get(..written).unwrap_or(PROFILE_DALES),
-        ),
-    }
-}
-
-// Lets each of so many calls fail in turn, and then none.
-fn expect_faults(
+// Compares how a run ends where this call fails.
+fn expect_end(
     rt: &(impl Abort + AllocGlobal),
-    failing: Failing,
-    piece: usize,
-    calls: u64,
+    trial: Trial,
+    call: u64,
+    end: (Status, &str, &str),
 ) -> Result<(), Fail> {
-    for call in 0..calls {
-        let (wanted, output) = failed_end(failing, piece.saturating_mul(call as usize));
-        let (status, text) = run_failing(rt.alloc(), failing, piece, call)?;
-        assert_eq!(rt; status, wanted, "at {call} of {failing:?}");
-        assert_eq!(rt; text.as_str(), output);
-    }
-    let (status, text) = run_failing(rt.alloc(), failing, piece, calls)?;
-    assert_eq!(rt; status, Status::Done, "past the calls of {failing:?}");
-    assert_eq!(rt; text.as_str(), PROFILE_DALES);
+    let (wanted, printed, held) = end;
+    let mut saved = saved_of(rt.alloc(), trial, call)?;
+    let (status, text) = run_failing(rt.alloc(), trial, call, &mut saved)?;
+    assert_eq!(rt; status, wanted, "at {call} of {:?}", trial.failing);
+    assert_eq!(rt; text.as_str(), printed);
+    assert_eq!(rt; saved.bytes(), held.as_bytes());
     Ok(())
+}
+
+// Lets each call of a run fail in turn, and then none.
+fn expect_faults(rt: &(impl Abort + AllocGlobal), trial: Trial) -> Result<(), Fail> {
+    for call in 0..trial.calls {
+        expect_end(rt, trial, call, failed_end(trial, call))?;
+    }
+    let done = (Status::Done, MEASURED_DALES, trial.saved);
+    expect_end(rt, trial, trial.calls, done)
 }
 
 #[test]
 fn each_call_that_fails_is_a_fault_of_its_kind(rt: HostRuntime) -> Result<(), Fail> {
-    // The bytes of a piece, and the calls: an open, a read for each piece of the 217 bytes of the
-    // surface and the 6 of the script, and one that finds the end; a write for each piece of the 34
-    // bytes of the output, and a flush.
+    // The calls are an open, a read for each piece of the 342 bytes of the surface and the 5 of the
+    // script, and one that finds the end; a write for each piece of the 36 bytes of the output, and a
+    // flush; an open, a write for each piece of the 281 bytes that are saved, and a flush.
+    let saving: &[&str] = &["run", "A", "B", "--save", "C"];
+    let listing: &[&str] = &["dales", "A"];
     let table = [
-        (Failing::Surface, 64, 6),
-        (Failing::Script, 64, 3),
-        (Failing::Sink, 4, 10),
+        (saving, SAVED, Failing::Surface, 64, 8),
+        (saving, SAVED, Failing::Script, 2, 5),
+        (saving, SAVED, Failing::Out, 4, 10),
+        (saving, SAVED, Failing::Saved, 100, 5),
+        (listing, HELD, Failing::Surface, 64, 8),
+        (listing, HELD, Failing::Out, 4, 10),
     ];
-    for (failing, piece, calls) in table {
-        expect_faults(&rt, failing, piece, calls)?;
+    for (words, saved, failing, piece, calls) in table {
+        let trial = Trial {
+            words,
+            saved,
+            failing,
+            piece,
+            calls,
+        };
+        expect_faults(&rt, trial)?;
     }
     Ok(())
 }
@@ -141,7 +215,7 @@ fn each_answer_is_written_before_the_next_line(rt: HostRuntime) -> Result<(), Fa
 
 #[test]
 fn a_read_fault_that_cannot_be_told_is_a_write_fault(rt: HostRuntime) -> Result<(), Fail> {
-    let (status, text) = run_in_pieces(rt.alloc(), 4, &[0], &[], &[1])?;
+    let (status, text) = run_in_pieces(rt.alloc(), 4, &[0], &[1])?;
     assert_eq!(rt; status, Status::WriteFault);
     assert_eq!(rt; text.as_str(), "read");
     Ok(())

@@ -1,11 +1,9 @@
 // What a run saves.
 use crate::Status;
 use crate::tests::trials::{run_saving, sink_of, whole};
-use hd_base::write_all;
-use std::process::Abort;
 use std::test::Fail;
 
-const MEASURED: &str = "aBCR-1.0\r
+pub(crate) const MEASURED: &str = "aBCR-1.0\r
 ManufacID   = Lab 7\r
 CreateDate  = 010120261230\r
 ModDate     = 010120261230\r
@@ -28,7 +26,7 @@ BAD 15 16 17 18\r
 Operator: A. N.\r
 ";
 
-const SAVED: &str = "aBCR-1.0
+pub(crate) const SAVED: &str = "aBCR-1.0
 ManufacID = Lab 7
 CreateDate = 010120261230
 ModDate = 010120261230
@@ -49,7 +47,7 @@ Objective = 50x
 Operator: A. N.
 ";
 
-const MEASURED_DALES: &str = "dales 2\ndale 0 0 12 5\ndale 3 0 15 2\n";
+pub(crate) const MEASURED_DALES: &str = "dales 2\ndale 0 0 12 5\ndale 3 0 15 2\n";
 
 #[test]
 fn a_measured_file_is_saved_in_the_canonical_text(rt: HostRuntime) -> Result<(), Fail> {
@@ -69,40 +67,6 @@ fn a_measured_file_is_saved_in_the_canonical_text(rt: HostRuntime) -> Result<(),
         }
     }
     Ok(())
-}
-
-// A run that saves to a sink that takes 100 bytes a write and fails at this call. Before it the sink
-// holds a byte. The calls are an open, a write for each piece of the 281 bytes, and a flush.
-fn expect_saved(
-    rt: &(impl Abort + AllocGlobal),
-    call: u64,
-    wanted: Status,
-    bytes: &[u8],
-) -> Result<(), Fail> {
-    let mut saved = sink_of(rt.alloc(), &[call.saturating_add(1)], 100)?;
-    write_all(&mut saved, b"x".as_slice())?;
-    let feed = whole(MEASURED, "dales");
-    let words = ["run", "A", "B", "--save", "C"];
-    let (status, text) = run_saving(rt.alloc(), &words, &feed, &mut saved)?;
-    assert_eq!(rt; status, wanted, "at {call}");
-    assert_eq!(rt; text.as_str(), MEASURED_DALES);
-    assert_eq!(rt; saved.bytes(), bytes);
-    Ok(())
-}
-
-#[test]
-fn each_call_of_saving_that_fails_is_a_write_fault(rt: HostRuntime) -> Result<(), Fail> {
-    let text = SAVED.as_bytes();
-    expect_saved(&rt, 0, Status::WriteFault, b"x".as_slice())?;
-    for (call, count) in [(1, 0), (2, 100), (3, 200), (4, 281)] {
-        expect_saved(
-            &rt,
-            call,
-            Status::WriteFault,
-            text.get(..count).unwrap_or(text),
-        )?;
-    }
-    expect_saved(&rt, 5, Status::Done, text)
 }
 
 #[test]

@@ -53,7 +53,8 @@ fn data_outside_the_grammar_are_refused(rt: HostRuntime) -> Result<(), Fail> {
         let surface = file(rt.alloc(), 3, 1, code, data)?;
         expect_refused(&rt, surface.as_str(), cause)?;
     }
-    Ok(())
+    let surface = file(rt.alloc(), 65535, 64, 5, "0 5 1")?;
+    expect_refused(&rt, surface.as_str(), "only 3 data")
 }
 
 #[test]

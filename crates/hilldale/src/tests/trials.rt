@@ -39,13 +39,13 @@ pub(crate) fn profile(alloc: Global, code: u32) -> Result<String, Fail> {
     file(alloc, 3, 1, code, "0 5 1")
 }
 
-// How a run is fed: the name of the surface and its text, the text of the second input `B`, the bytes
+// How a run is fed: the name of the surface and its text, the bytes of the second input `B`, the bytes
 // of a piece, and the calls of each source and of the sink that fail.
 #[derive(Drop)]
 pub(crate) struct Feed<'a> {
     pub(crate) surface_name: &'a str,
     pub(crate) surface: &'a str,
-    pub(crate) script: &'a str,
+    pub(crate) script: &'a [u8],
     pub(crate) piece: usize,
     pub(crate) surface_fails: &'a [u64],
     pub(crate) script_fails: &'a [u64],
@@ -57,7 +57,7 @@ pub(crate) fn whole<'a>(surface: &'a str, script: &'a str) -> Feed<'a> {
     Feed {
         surface_name: "A",
         surface,
-        script,
+        script: script.as_bytes(),
         piece: 4096,
         surface_fails: &[],
         script_fails: &[],
@@ -78,12 +78,12 @@ pub(crate) fn words_of(alloc: Global, words: &[&str]) -> Result<Vec<String>, Fai
 pub(crate) fn source_of(
     alloc: Global,
     name: &str,
-    text: &str,
+    bytes: &[u8],
     fails: &[u64],
     piece: usize,
 ) -> Result<MemSource, Fail> {
     let name = List::from_vec(name.as_bytes().to_vec(alloc)?);
-    let bytes = List::from_vec(text.as_bytes().to_vec(alloc)?);
+    let bytes = List::from_vec(bytes.to_vec(alloc)?);
     let files = List::from_vec(vec![in alloc; (name, bytes)]?);
     let fails = List::from_vec(fails.to_vec(alloc)?);
     Ok(MemSource::new(files, fails, piece.max(1)))
@@ -114,7 +114,7 @@ pub(crate) fn run_saving(
     let mut surface = source_of(
         alloc,
         feed.surface_name,
-        feed.surface,
+        feed.surface.as_bytes(),
         feed.surface_fails,
         feed.piece,
     )?;
