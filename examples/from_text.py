@@ -46,7 +46,8 @@ def header_of(name):
 
 
 def profiles_of(name, header_end, points):
-    """The words of each profile: those of a line, or in an SDF file the next so many of its data."""
+    """The words of each profile, with the number of the line that ends them: those of a line, or in an SDF file the next
+    so many of its data."""
     gathered = []
     with opened(name) as file:
         for number, line in enumerate(file, 1):
@@ -54,11 +55,11 @@ def profiles_of(name, header_end, points):
             if number <= header_end or not words or not header_end and words[0].startswith('#'):
                 continue
             if not header_end:
-                yield words
+                yield number, words
                 continue
             gathered += words[:words.index('*')] if '*' in words else words
             whole = len(gathered) // points * points
-            yield from (gathered[at:at + points] for at in range(0, whole, points))
+            yield from ((number, gathered[at:at + points]) for at in range(0, whole, points))
             del gathered[:whole]
             if '*' in words:
                 break
@@ -66,20 +67,20 @@ def profiles_of(name, header_end, points):
         fail(f'{name} ends within a profile, after {len(gathered)} of its {points} points')
 
 
-def height_of(word, column, profile):
+def height_of(word, column, profile, line):
     """The height that a word gives, or None for a point without one."""
     if word.lower() in MISSING:
         return None
     if not NUMBER.fullmatch(word) or len(word) > 64:
-        fail(f'column {column} of profile {profile}: {word[:64]} is no number with a decimal point')
+        fail(f'line {line}, column {column} of profile {profile}: {word[:64]} is no number with a decimal point')
     return decimal.Decimal(word)
 
 
-def heights_of(name, header_end, points, crop):
+def heights_of(name, header_end, points, profiles_named, crop):
     """The heights of each profile, of the part that is asked for."""
     left, top, columns, profiles = crop or (0, 0, None, None)
     found = 0
-    for profile, words in enumerate(profiles_of(name, header_end, points)):
+    for profile, (line, words) in enumerate(profiles_of(name, header_end, points)):
         points, found = points or len(words), profile + 1
         if len(words) != points:
             fail(f'profile {profile} has {len(words)} numbers, and those before it have {points}')
@@ -87,7 +88,9 @@ def heights_of(name, header_end, points, crop):
             fail(f'a profile has {points} points, so columns {left} to {left + columns - 1} are outside')
         if profile >= top and (not crop or profile < top + profiles):
             stop = left + columns if crop else points
-            yield [height_of(words[x], x, profile) for x in range(left, stop)]
+            yield [height_of(words[x], x, profile, line) for x in range(left, stop)]
+    if header_end and found != profiles_named:
+        fail(f'{name} names {profiles_named} profiles in its header, and has {found}')
     if crop and top + profiles > found:
         fail(f'there are {found} profiles, so profiles {top} to {top + profiles - 1} are outside')
 
@@ -127,10 +130,10 @@ def main():
     for key in ('xscale', 'yscale', 'zscale'):
         if not NUMBER.fullmatch(keys.get(name[key], '')):
             fail(f'{name[key]} is not known or no number: give ' + ('--unit U' if key == 'zscale' else '--scales X Y, in metres'))
-    points = int(keys[name['numpoints']]) if header_end else 0
+    points, profiles_named = (int(keys[name[key]]) if header_end else 0 for key in ('numpoints', 'numprofiles'))
 
     def rows():
-        return heights_of(given.text, header_end, points, given.crop)
+        return heights_of(given.text, header_end, points, profiles_named, given.crop)
 
     columns, profiles, missing, power, least, greatest = measure(rows())
     if columns * profiles > MOST_POINTS or max(columns, profiles) > MOST_IN_A_LINE:
