@@ -1,7 +1,8 @@
 -- A map whose cells before an index are new.
-use Rattle.std.proofs.Common.{◌≡◌, ◌<◌, ◌≤◌, ◌+◌, ℕ, ℤ, Bool, true, Option, None, List, All, map, length, get_or, set, refl, sym, ap, subst, ◌∙◌, arith}
+use Rattle.std.proofs.Common.{◌≡◌, ◌<◌, ◌≤◌, ◌+◌, ℕ, ℤ, Bool, true, Option, None, List, [], All, map, length, get_or, set, refl, sym, ap, subst, ◌∙◌, arith}
 use Rattle.std.specs.Prelude.{not, slice_index_or, if◌then◌else◌}
 use Rattle.std.specs.List.{range_with_len}
+use Rattle.std.proofs.lemmas.List.Elements.{All-nil}
 use Rattle.std.proofs.lemmas.List.FromFn.{get_or-map-range_with_len, fill_by_all}
 use Rattle.std.proofs.lemmas.List.{set-get_or, get_or_default}
 use Rattle.hd_map.specs.declared.types.Pos.{Pos}
@@ -63,11 +64,11 @@ new-read m heights n at old d place inside is =
 
 module _ (m : Map) (heights : List (Option ℤ)) where
   -- the cells before an index are new, and what those were that became others is noted
-  pub record Noted (n : ℕ) (now : Map) (notes : List Change) (len : ℕ) : Type 0 where
+  pub record Noted (n : ℕ) (now : Map) (notes : List Change) : Type 0 where
     pub map : now ≡ partly_new m (cells_after m heights) n
     pub before : before_changes notes now ≡ m
     pub notes_are : All (IsChange m) notes
-    pub len_is : len ≡ count_below (becomes_other m heights) n
+    pub len_is : length notes ≡ count_below (becomes_other m heights) n
 
   -- a point that becomes another cell is counted
   pub counted_next : (n : ℕ) (at : Pos) (old new : Cell) (same : Bool) (count : ℕ) → place_of m.size at ≡ n → old ≡ cell_at m at → new ≡ cell_with (slice_index_or heights n None) old → same ≡ same_cell old new
@@ -80,11 +81,11 @@ module _ (m : Map) (heights : List (Option ℤ)) where
       ∙ sym (count-more (becomes_other m heights) n)
 
   -- at first nothing is
-  pub noted_first : IsMap m → (notes : List Change) → before_changes notes m ≡ m → All (IsChange m) notes → Noted 0 m notes 0
-  noted_first whole notes none are = record {
+  pub noted_first : IsMap m → Noted 0 m []
+  noted_first whole = record {
     map = new-none m (cells_after m heights) whole.cells;
-    before = none;
-    notes_are = are;
+    before = refl;
+    notes_are = All-nil (IsChange m);
     len_is = refl;
   }
 
@@ -96,7 +97,7 @@ module _ (m : Map) (heights : List (Option ℤ)) where
     here : cell_at (partly_new m (cells_after m heights) n) at ≡ cell_at m at
     here = new-here m (cells_after m heights) n at place inside Bad room
 
-    module _ (now : Map) (notes : List Change) (len : ℕ) (so : Noted n now notes len) where
+    module _ (now : Map) (notes : List Change) (so : Noted n now notes) where
       -- it becomes its new cell
       noted_new : cell_after now heights (place_of now.size at) ≡ get_or (cells_after m heights) n Bad
       noted_new =
@@ -123,23 +124,23 @@ module _ (m : Map) (heights : List (Option ℤ)) where
           ∙ ap (λ (c : Cell). not (same_cell c (cell_with (slice_index_or heights (place_of m.size at) None) c))) here
           ∙ ap (becomes_other m heights) place
 
-      noted_len : len + one_if_other now heights at ≡ count_below (becomes_other m heights) (n + 1)
+      noted_len : length notes + one_if_other now heights at ≡ count_below (becomes_other m heights) (n + 1)
       noted_len =
-          ap (λ (b : Bool). len + (if b then 1 else 0)) noted_other
+          ap (λ (b : Bool). length notes + (if b then 1 else 0)) noted_other
           ∙ ap (λ (l : ℕ). l + (if becomes_other m heights n then 1 else 0)) so.len_is
           ∙ sym (count-more (becomes_other m heights) n)
 
       -- and there is room to note what stood there
-      pub noted_room : len + one_if_other now heights at ≤ changed_cells m heights
+      pub noted_room : length notes + one_if_other now heights at ≤ changed_cells m heights
       noted_room = rw noted_len (count-grows (becomes_other m heights) (n + 1) (cell_count m.size) (omega (arith, inside)))
 
       pub noted_notes : All (IsChange now) notes
       noted_notes = subst (λ (s : Map). All (IsChange s) notes) (sym so.map) so.notes_are
 
       -- one point further
-      pub noted_next : (now' : Map) (notes' : List Change) (len' : ℕ) → now' ≡ with_cell now at (cell_after now heights (place_of now.size at)) → before_changes notes' now' ≡ before_changes notes now → All (IsChange now) notes'
-          → len' ≡ len + one_if_other now heights at → Noted (n + 1) now' notes' len'
-      noted_next now' notes' len' sets same are more = record {
+      pub noted_next : (now' : Map) (notes' : List Change) → now' ≡ with_cell now at (cell_after now heights (place_of now.size at)) → before_changes notes' now' ≡ before_changes notes now → All (IsChange now) notes'
+          → length notes' ≡ length notes + one_if_other now heights at → Noted (n + 1) now' notes'
+      noted_next now' notes' sets same are more = record {
         map = sets ∙ ap (λ (c : Cell). with_cell now at c) noted_new
             ∙ ap (λ (s : Map). with_cell s at (get_or (cells_after m heights) n Bad)) so.map
             ∙ sym (new-more m (cells_after m heights) n at place inside Bad room);
@@ -149,12 +150,12 @@ module _ (m : Map) (heights : List (Option ℤ)) where
       }
 
   -- past the last index all cells are new
-  pub noted_last : (n : ℕ) (now : Map) (notes : List Change) (len : ℕ) → cell_count m.size ≤ n → Noted n now notes len → now ≡ with_cells m (cells_after m heights)
-  noted_last n now notes len past so = so.map ∙ new-all m (cells_after m heights) (length_cells_after m heights) n past
+  pub noted_last : (n : ℕ) (now : Map) (notes : List Change) → cell_count m.size ≤ n → Noted n now notes → now ≡ with_cells m (cells_after m heights)
+  noted_last n now notes past so = so.map ∙ new-all m (cells_after m heights) (length_cells_after m heights) n past
 
   -- no more is noted than there are cells
-  pub noted_few : (n : ℕ) (now : Map) (notes : List Change) (len : ℕ) → n ≤ cell_count m.size → Noted n now notes len → len ≤ cell_count m.size
-  noted_few n now notes len within so = let few = count-few (becomes_other m heights) n in omega (arith, so.len_is, few, within)
+  pub noted_few : (n : ℕ) (now : Map) (notes : List Change) → n ≤ cell_count m.size → Noted n now notes → length notes ≤ cell_count m.size
+  noted_few n now notes within so = let few = count-few (becomes_other m heights) n in omega (arith, so.len_is, few, within)
 
 -- a cell that is set to itself stays
 pub stays : (m : Map) (at : Pos) (c : Cell) → same_cell (cell_at m at) c ≡ true → m ≡ with_cell m at c

@@ -1,5 +1,5 @@
 -- The map before changes.
-use Rattle.std.proofs.Common.{◌≡◌, ◌≤◌, ℕ, Bool, false, List, [], ◌∷◌, ◌++◌, length, set, All, refl, sym, ap, subst, ◌∙◌}
+use Rattle.std.proofs.Common.{◌≡◌, ℕ, Bool, false, List, [], ◌∷◌, ◌++◌, set, All, refl, sym, ap, subst, ◌∙◌}
 use Rattle.std.proofs.lemmas.List.{set-set, set-get_or}
 use Rattle.hd_map.specs.declared.types.Adjacency.{Adjacency}
 use Rattle.hd_map.specs.declared.types.Pos.{Pos}
@@ -93,7 +93,3 @@ kind_of_was P (was.Mask masked) k m p = p
 pub kind_stays : (P : Size → DataType → Type 0) (cs : List Change) (m : Map) → P m.size m.data_type → P (before_changes cs m).size (before_changes cs m).data_type
 kind_stays P [] m p = p
 kind_stays P (c ∷ cs) m p = kind_of_was P c.was c.index (before_changes cs m) (kind_stays P cs m p)
-
--- no more is noted than a number that the length of the notes does not pass
-pub few_notes : {X : Type 0} (notes items : List X) (len count : ℕ) → notes ≡ items → len ≡ length items → len ≤ count → length notes ≤ count
-few_notes notes items len count same is few = rw (same, ← is) few

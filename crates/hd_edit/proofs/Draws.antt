@@ -1,5 +1,6 @@
 -- A rectangle that is stroked point by point, with notes of what was changed.
-use Rattle.std.proofs.Common.{◌≡◌, ◌<◌, ◌≤◌, ◌+◌, ℕ, Bool, List, All, sym, ap, subst, ◌∙◌, arith}
+use Rattle.std.proofs.Common.{◌≡◌, ◌<◌, ◌≤◌, ◌+◌, ℕ, Bool, List, [], All, length, refl, sym, ap, subst, ◌∙◌, arith}
+use Rattle.std.proofs.lemmas.List.Elements.{All-nil}
 use Rattle.std.specs.Prelude.{if◌then◌else◌}
 use Rattle.hd_map.specs.declared.types.Pos.{Pos}
 use Rattle.hd_map.specs.declared.types.Cell.{Cell}
@@ -15,23 +16,23 @@ use Rattle.hd_edit.proofs.Walks.{changes_here, none_changes, count_all}
 
 module _ (m : Map) (from to : Pos) (s : Stroke) where
   -- the points before an index are stroked, and each change is noted
-  pub record Drawn (n : ℕ) (now : Map) (notes : List Change) (len : ℕ) : Type 0 where
+  pub record Drawn (n : ℕ) (now : Map) (notes : List Change) : Type 0 where
     pub map : now ≡ partly m from to s n
     pub before : before_changes notes now ≡ m
     pub notes_are : All (IsChange m) notes
-    pub len_is : len ≡ count_below (changes_at m from to s) n
+    pub len_is : length notes ≡ count_below (changes_at m from to s) n
 
   module _ (whole : IsMap m) (is : IsRectangle m.size from to) where
     -- at first nothing is
-    pub drawn_first : (notes : List Change) → before_changes notes m ≡ m → All (IsChange m) notes → Drawn (place_of m.size from) m notes 0
-    drawn_first notes none are = record {
+    pub drawn_first : Drawn (place_of m.size from) m []
+    drawn_first = record {
       map = sym (partly-none m from to s whole) ∙ partly-skip m from to s 0 (place_of m.size from) (omega arith) (λ k after before. none_before m.size from to is k before);
-      before = none;
-      notes_are = are;
+      before = refl;
+      notes_are = All-nil (IsChange m);
       len_is = count-skip (changes_at m from to s) 0 (place_of m.size from) (omega arith) (λ k after before. none_changes m from to s k (none_before m.size from to is k before));
     }
 
-    module _ (at : Pos) (stands : StandsAt from to at) (here : at.y ≤ to.y) (now : Map) (notes : List Change) (len : ℕ) (so : Drawn (place_of m.size at) now notes len) where
+    module _ (at : Pos) (stands : StandsAt from to at) (here : at.y ≤ to.y) (now : Map) (notes : List Change) (so : Drawn (place_of m.size at) now notes) where
       -- the point that comes next is as it was
       pub drawn_cell : cell_at now at ≡ cell_at m at
       drawn_cell = ap (λ (n : Map). cell_at n at) so.map ∙ partly-cell m from to s at (stands_inside m.size from to at is stands here)
@@ -51,12 +52,12 @@ module _ (m : Map) (from to : Pos) (s : Stroke) where
           subst (λ (n : Map). IsCellOf n.data_type (cell_after s (cell_at now at) (mask_at now at))) (sym so.map) (subst (λ (c : Cell). IsCellOf m.data_type c) (sym same) new)
 
       -- and there is room to note it
-      pub drawn_len : len + (if changes s (cell_at now at) (mask_at now at) then 1 else 0) ≡ count_below (changes_at m from to s) (place_of m.size at + 1)
+      pub drawn_len : length notes + (if changes s (cell_at now at) (mask_at now at) then 1 else 0) ≡ count_below (changes_at m from to s) (place_of m.size at + 1)
       drawn_len =
           let same : changes s (cell_at now at) (mask_at now at) ≡ changes_at m from to s (place_of m.size at) = ap (λ (c : Cell). changes s c (mask_at now at)) drawn_cell ∙ ap (changes s (cell_at m at)) drawn_mask ∙ sym (changes_here m from to s whole is at stands here) in
-          ap (λ (b : Bool). len + (if b then 1 else 0)) same ∙ ap (λ (l : ℕ). l + (if changes_at m from to s (place_of m.size at) then 1 else 0)) so.len_is ∙ sym (count-more (changes_at m from to s) (place_of m.size at))
+          ap (λ (b : Bool). length notes + (if b then 1 else 0)) same ∙ ap (λ (l : ℕ). l + (if changes_at m from to s (place_of m.size at) then 1 else 0)) so.len_is ∙ sym (count-more (changes_at m from to s) (place_of m.size at))
 
-      pub drawn_room : len + (if changes s (cell_at now at) (mask_at now at) then 1 else 0) ≤ count_below (changes_at m from to s) (cell_count m.size)
+      pub drawn_room : length notes + (if changes s (cell_at now at) (mask_at now at) then 1 else 0) ≤ count_below (changes_at m from to s) (cell_count m.size)
       drawn_room =
           let inside = place_inside m.size at (stands_inside m.size from to at is stands here) in
           rw drawn_len (count-grows (changes_at m from to s) (place_of m.size at + 1) (cell_count m.size) (omega (arith, inside)))
@@ -65,9 +66,9 @@ module _ (m : Map) (from to : Pos) (s : Stroke) where
       drawn_notes = subst (λ (n : Map). All (IsChange n) notes) (sym so.map) so.notes_are
 
       -- one point further
-      pub drawn_next : (now' : Map) (notes' : List Change) (len' : ℕ) → now' ≡ touched s at now → before_changes notes' now' ≡ before_changes notes now → All (IsChange now) notes'
-          → len' ≡ len + (if changes s (cell_at now at) (mask_at now at) then 1 else 0) → Drawn (place_of m.size (next_in from to at)) now' notes' len'
-      drawn_next now' notes' len' touches same are more =
+      pub drawn_next : (now' : Map) (notes' : List Change) → now' ≡ touched s at now → before_changes notes' now' ≡ before_changes notes now → All (IsChange now) notes'
+          → length notes' ≡ length notes + (if changes s (cell_at now at) (mask_at now at) then 1 else 0) → Drawn (place_of m.size (next_in from to at)) now' notes'
+      drawn_next now' notes' touches same are more =
           let n = place_of m.size at in
           let later = next_later m.size from to at is stands here in
           let none = none_between m.size from to at is stands here in
@@ -79,10 +80,10 @@ module _ (m : Map) (from to : Pos) (s : Stroke) where
           }
 
     -- past the last profile all is stroked
-    pub drawn_last : (at : Pos) (now : Map) (notes : List Change) (len : ℕ) → to.y < at.y → Drawn (place_of m.size at) now notes len → now ≡ stroked m from to s
-    drawn_last at now notes len past so =
+    pub drawn_last : (at : Pos) (now : Map) (notes : List Change) → to.y < at.y → Drawn (place_of m.size at) now notes → now ≡ stroked m from to s
+    drawn_last at now notes past so =
         let n = place_of m.size at in
         so.map ∙ partly-skip m from to s n (n + cell_count m.size) (omega arith) (λ k after before. none_past m.size from to is at past k after) ∙ partly-all m from to s (n + cell_count m.size) (omega arith)
 
-    pub drawn_few : (at : Pos) (now : Map) (notes : List Change) (len : ℕ) → to.y < at.y → Drawn (place_of m.size at) now notes len → len ≤ cell_count m.size
-    drawn_few at now notes len past so = rw (so.len_is, count_all m from to s whole is at past) (count-few (changes_at m from to s) (cell_count m.size))
+    pub drawn_few : (at : Pos) (now : Map) (notes : List Change) → to.y < at.y → Drawn (place_of m.size at) now notes → length notes ≤ cell_count m.size
+    drawn_few at now notes past so = rw (so.len_is, count_all m from to s whole is at past) (count-few (changes_at m from to s) (cell_count m.size))

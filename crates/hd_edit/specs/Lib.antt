@@ -6,5 +6,6 @@ pub mod Stroke
 pub mod Over
 pub mod Change
 pub mod Notes
+pub mod NewNotes
 pub mod Filtered
 pub mod Log

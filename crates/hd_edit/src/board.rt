@@ -121,7 +121,7 @@ impl<G: Grid> Board<G> {
         ensures count { RisesUpTo (2 ^ 27) (G.changes self.old.grid) (G.changes self.new.grid) }
     {
         let changes = make(self.alloc, &mut self.grid, &self.elements, edit)?;
-        self.log.push_back(Notes::of(self.alloc, changes));
+        self.log.push_back(changes);
         Ok(())
     }
 

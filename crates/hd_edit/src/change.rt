@@ -1,12 +1,12 @@
 // What a cell or a mask was before it was changed.
-ghost use Rattle.std.specs.Prelude.{◌≡◌, ◌<◌, ◌≤◌, ◌+◌, ◌^◌, length, vec_len, vec_capacity, All};
+ghost use Rattle.std.specs.Prelude.{◌≡◌, ◌<◌, ◌≤◌, ◌+◌, ◌^◌, length, All};
 ghost use Rattle.hd_map.specs.declared.types.Cell.TheVariants.{Height};
 ghost use Rattle.hd_map.specs.Map.{InGrid, IsCellOf};
 ghost use Rattle.hd_map.specs.Sets.{with_cell, with_mask};
 ghost use Rattle.hd_edit.specs.Board.{RisesUpTo};
 ghost use Rattle.hd_edit.specs.Change.{height_over, IsCellThatWas, IsChange, AreChanges, with_was, before_changes};
 
-use crate::notes::Notes;
+use crate::notes::{NewNotes, Notes};
 use crate::over::OverLeast;
 use hd_map::{Cell, DataType, Grid, Heights, Pos, index_of, least_of, position_of};
 
@@ -71,25 +71,25 @@ pub fn put_cell<G: Grid>(grid: &mut G, at: Pos, cell: Cell)
 /// Sets a cell to another one, and notes what it was. Inlined, it reads no cell that its caller has
 /// read.
 #[inline(always)]
-pub fn change_cell<G: Grid>(grid: &mut G, at: Pos, new: Cell, notes: &mut Vec<Change>)
+pub fn change_cell<G: Grid>(grid: &mut G, at: Pos, new: Cell, notes: &mut NewNotes)
     requires in_grid { InGrid (G.map grid.old).size at }
     requires in_range { IsCellOf (G.map grid.old).data_type new }
     requires count { G.changes grid.old < 2 ^ 63 }
-    requires room { vec_len notes.old < vec_capacity notes.old }
-    requires notes { All (IsChange (G.map grid.old)) notes.old.items }
+    requires room { length notes.old.changes < notes.old.room }
+    requires notes { All (IsChange (G.map grid.old)) notes.old.changes }
     ensures map { G.map grid.new ≡ with_cell (G.map grid.old) at new }
-    ensures before { let back = before_changes notes.old.items (G.map grid.old) in
-        before_changes notes.new.items (G.map grid.new) ≡ back }
-    ensures notes { All (IsChange (G.map grid.old)) notes.new.items }
-    ensures len { vec_len notes.new ≡ vec_len notes.old + 1 }
-    ensures capacity { vec_capacity notes.new ≡ vec_capacity notes.old }
+    ensures before { let back = before_changes notes.old.changes (G.map grid.old) in
+        before_changes notes.new.changes (G.map grid.new) ≡ back }
+    ensures notes { All (IsChange (G.map grid.old)) notes.new.changes }
+    ensures len { length notes.new.changes ≡ length notes.old.changes + 1 }
+    ensures room { notes.new.room ≡ notes.old.room }
     ensures origin { G.comes_from grid.old grid.new }
     ensures count { RisesUpTo 1 (G.changes grid.old) (G.changes grid.new) }
 {
     let cell = grid.cell(at);
     let index = index_of(grid.size(), at);
     let was = was_of(grid.data_type(), cell);
-    notes.push_reserved(Change { index, was });
+    notes.push(Change { index, was });
     put_cell(grid, at, new);
 }
 
@@ -107,24 +107,24 @@ fn put_mask<G: Grid>(grid: &mut G, at: Pos, masked: bool)
 /// Sets a mask to another one, and notes what it was. Inlined, it reads no mask that its caller has
 /// read.
 #[inline(always)]
-pub fn change_mask<G: Grid>(grid: &mut G, at: Pos, new: bool, notes: &mut Vec<Change>)
+pub fn change_mask<G: Grid>(grid: &mut G, at: Pos, new: bool, notes: &mut NewNotes)
     requires in_grid { InGrid (G.map grid.old).size at }
     requires count { G.changes grid.old < 2 ^ 63 }
-    requires room { vec_len notes.old < vec_capacity notes.old }
-    requires notes { All (IsChange (G.map grid.old)) notes.old.items }
+    requires room { length notes.old.changes < notes.old.room }
+    requires notes { All (IsChange (G.map grid.old)) notes.old.changes }
     ensures map { G.map grid.new ≡ with_mask (G.map grid.old) at new }
-    ensures before { let back = before_changes notes.old.items (G.map grid.old) in
-        before_changes notes.new.items (G.map grid.new) ≡ back }
-    ensures notes { All (IsChange (G.map grid.old)) notes.new.items }
-    ensures len { vec_len notes.new ≡ vec_len notes.old + 1 }
-    ensures capacity { vec_capacity notes.new ≡ vec_capacity notes.old }
+    ensures before { let back = before_changes notes.old.changes (G.map grid.old) in
+        before_changes notes.new.changes (G.map grid.new) ≡ back }
+    ensures notes { All (IsChange (G.map grid.old)) notes.new.changes }
+    ensures len { length notes.new.changes ≡ length notes.old.changes + 1 }
+    ensures room { notes.new.room ≡ notes.old.room }
     ensures origin { G.comes_from grid.old grid.new }
     ensures count { RisesUpTo 1 (G.changes grid.old) (G.changes grid.new) }
 {
     let masked = grid.masked(at);
     let index = index_of(grid.size(), at);
     let was = Was::Mask(masked);
-    notes.push_reserved(Change { index, was });
+    notes.push(Change { index, was });
     put_mask(grid, at, new);
 }
 

@@ -1,5 +1,5 @@
 // The filters of a grid: all its heights at once.
-ghost use Rattle.std.specs.Prelude.{◌≡◌, ◌<◌, ◌≤◌, ◌+◌, ◌^◌, IfOk, OnOk, OnErr, MatchResult, None, length, vec_len, vec_capacity, All};
+ghost use Rattle.std.specs.Prelude.{◌≡◌, ◌<◌, ◌≤◌, ◌+◌, ◌^◌, IfOk, OnOk, OnErr, MatchResult, None, length, All};
 ghost use Rattle.hd_map.specs.Map.{InGrid, IsCellOf, AreCellsOf, cell_count, place_of};
 ghost use Rattle.hd_map.specs.Sets.{with_cell};
 ghost use Rattle.hd_morph.specs.Answer.{with_cells};
@@ -9,10 +9,11 @@ ghost use Rattle.hd_edit.specs.Change.{IsChange, AreChanges, before_changes};
 ghost use Rattle.hd_edit.specs.Filtered.{AreEditHeights, changed_cells, one_if_other};
 ghost use Rattle.hd_edit.specs.Stroke.{same_cell, stroke_parts};
 
-use crate::change::{Change, change_cell};
+use crate::change::change_cell;
 use crate::elements::Elements;
+use crate::notes::{NewNotes, Notes};
 use crate::{Edit, EditError};
-use hd_list::{List, Memory};
+use hd_list::Memory;
 use hd_map::{Cell, Grid, Heights, Pos, index_of, position_after};
 use hd_morph::{
     MorphError, NewHeights, closed_heights, dilated_heights, eroded_heights, opened_heights,
@@ -85,24 +86,24 @@ fn count_changed<G: Grid>(grid: &G, heights: &NewHeights) -> u32
 
 // Puts the new height of a point in, and notes what stood there where that makes another cell.
 #[inline]
-fn put_height<G: Grid>(grid: &mut G, at: Pos, heights: &NewHeights, notes: &mut Vec<Change>)
+fn put_height<G: Grid>(grid: &mut G, at: Pos, heights: &NewHeights, notes: &mut NewNotes)
     requires in_grid { InGrid (G.map grid.old).size at }
     requires whole { length heights.now ≡ cell_count (G.map grid.old).size }
     requires in_range { let m = G.map grid.old in
         IsCellOf m.data_type (cell_after m heights.now (place_of m.size at)) }
     requires count { G.changes grid.old < 2 ^ 63 }
-    requires room { vec_len notes.old + one_if_other (G.map grid.old) heights.now at ≤ vec_capacity notes.old }
-    requires notes { All (IsChange (G.map grid.old)) notes.old.items }
+    requires room { length notes.old.changes + one_if_other (G.map grid.old) heights.now at ≤ notes.old.room }
+    requires notes { All (IsChange (G.map grid.old)) notes.old.changes }
     ensures map { let m = G.map grid.old in
         G.map grid.new ≡ with_cell m at (cell_after m heights.now (place_of m.size at)) }
-    ensures before { let back = before_changes notes.old.items (G.map grid.old) in
-        before_changes notes.new.items (G.map grid.new) ≡ back }
-    ensures notes { All (IsChange (G.map grid.old)) notes.new.items }
-    ensures len { vec_len notes.new ≡ vec_len notes.old + one_if_other (G.map grid.old) heights.now at }
-    ensures capacity { vec_capacity notes.new ≡ vec_capacity notes.old }
+    ensures before { let back = before_changes notes.old.changes (G.map grid.old) in
+        before_changes notes.new.changes (G.map grid.new) ≡ back }
+    ensures notes { All (IsChange (G.map grid.old)) notes.new.changes }
+    ensures len { length notes.new.changes ≡ length notes.old.changes + one_if_other (G.map grid.old) heights.now at }
+    ensures room { notes.new.room ≡ notes.old.room }
     ensures origin { G.comes_from grid.old grid.new }
     ensures rises { G.changes grid.old ≤ G.changes grid.new }
-    ensures count { G.changes grid.new + vec_len notes.old ≤ G.changes grid.old + vec_len notes.new }
+    ensures count { G.changes grid.new + length notes.old.changes ≤ G.changes grid.old + length notes.new.changes }
 {
     let old = grid.cell(at);
     let index = index_of(grid.size(), at);
@@ -118,7 +119,7 @@ pub fn put_heights<G: Grid>(
     alloc: Global,
     grid: &mut G,
     heights: &NewHeights,
-) -> Result<List<Change>, Memory>
+) -> Result<Notes, Memory>
     requires whole { length heights.now ≡ cell_count (G.map grid.old).size }
     requires of_type { let m = G.map grid.old in AreCellsOf m.data_type (cells_after m heights.now) }
     requires count { G.changes grid.old < 2 ^ 62 }
@@ -132,13 +133,13 @@ pub fn put_heights<G: Grid>(
 {
     let size = grid.size();
     let count = count_changed(grid, heights);
-    let mut notes = Vec::with_capacity(alloc, count as usize)?;
+    let mut notes = NewNotes::with_room(alloc, count)?;
     let mut at = Pos { x: 0, y: 0 };
     for _index in 0..size.profiles * size.points {
         put_height(grid, at, heights, &mut notes);
         at = position_after(size, at);
     }
-    Ok(List::from_vec(notes))
+    Ok(notes.into_notes())
 }
 
 impl From<MorphError> for EditError {

@@ -6,13 +6,13 @@ ghost use Rattle.hd_edit.specs.Board.{IsEdited, IsRefusalBy, RisesUpTo};
 ghost use Rattle.hd_edit.specs.Change.{AreChanges, before_changes};
 ghost use Rattle.hd_edit.specs.Stroke.{IsRectangle, IsStroked, stroke_parts};
 
-use crate::change::Change;
 use crate::elements::Elements;
 use crate::filter::{filtered, put_heights};
+use crate::notes::Notes;
 use crate::paint::{count_changes, stroke_points};
 use crate::stroke::Stroke;
 use crate::{Edit, EditError};
-use hd_list::{List, Memory};
+use hd_list::Memory;
 use hd_map::{Cell, Grid, Heights, Pos, Size, contains};
 use std::alloc::Global;
 
@@ -57,7 +57,7 @@ fn stroke_grid<G: Grid>(
     from: Pos,
     to: Pos,
     stroke: Stroke,
-) -> Result<List<Change>, EditError>
+) -> Result<Notes, EditError>
     requires { G.changes grid.old < 2 ^ 62 }
     ensures edit { let IsOutcome = IsStroked (G.map grid.old) from to stroke in
         MatchResult result (λ _. IsOutcome (Ok (G.map grid.new))) (IsRefusalBy IsOutcome) }
@@ -84,7 +84,7 @@ fn filter_grid<G: Grid>(
     grid: &mut G,
     elements: &Elements,
     edit: &Edit,
-) -> Result<List<Change>, EditError>
+) -> Result<Notes, EditError>
     requires filter { stroke_parts edit.now ≡ None }
     requires count { G.changes grid.old < 2 ^ 62 }
     ensures edit { let IsOutcome = IsEdited elements.now (G.map grid.old) edit.now in
@@ -108,7 +108,7 @@ pub fn make<G: Grid>(
     grid: &mut G,
     elements: &Elements,
     edit: &Edit,
-) -> Result<List<Change>, EditError>
+) -> Result<Notes, EditError>
     requires { G.changes grid.old < 2 ^ 62 }
     ensures edit { let IsOutcome = IsEdited elements.now (G.map grid.old) edit.now in
         MatchResult result (λ _. IsOutcome (Ok (G.map grid.new))) (IsRefusalBy IsOutcome) }

@@ -1,10 +1,10 @@
 // What an edit changed, as it is kept for an undo.
-ghost use Rattle.std.specs.Prelude.{◌≡◌, ◌++◌, ◌∷◌, [], MatchOption, length};
-ghost use Rattle.hd_edit.specs.Notes.{changes_after, last_after, note_at};
+ghost use Rattle.std.specs.Prelude.{◌≡◌, ◌<◌, ◌++◌, ◌∷◌, [], IfOk, MatchOption, length};
+ghost use Rattle.hd_edit.specs.Notes.{note_at};
 
 use crate::change::{Change, Was};
 use crate::over::OverLeast;
-use hd_list::List;
+use hd_list::Memory;
 use std::alloc::Global;
 use std::marker::Model;
 
@@ -20,15 +20,16 @@ pub struct HeightNote {
 
 const _: () = prove!(size_of::<HeightNote>() <= 6);
 
-/// The changes of an edit as they are kept, the last of which was made last. An edit of many cells takes 6
-/// bytes for each, where all were heights less than 2 ^ 32 over the least one and no two that follow each
-/// other are further apart than 65,535 indexes; else a change takes 12. Contracts see it as the changes.
+/// The changes of an edit as they are kept, the last of which was made last. A change takes 6 bytes, up to
+/// the first that is not of a height less than 2 ^ 32 over the least one, or is further than 65,535 indexes
+/// from the change before it; from there on each takes 12. Contracts see it as the changes.
 #[derive(Drop)]
 pub struct Notes {
     // The indexes of the first and of the last height noted.
     first: u32,
     last: u32,
     heights: Vec<HeightNote>,
+    // The changes after those of the heights noted.
     others: Vec<Change>,
 }
 
@@ -45,40 +46,6 @@ impl Model for Notes {
 }
 
 impl Notes {
-    /// The changes of an edit, in fewer bytes where that can be and where there is memory for it.
-    pub fn of(alloc: Global, changes: List<Change>) -> Notes
-        ensures { result ≡ changes }
-    {
-        match Notes::of_heights(alloc, changes.as_slice()) {
-            Some(notes) => notes,
-            None => Notes {
-                first: 0,
-                last: 0,
-                heights: Vec::new(alloc),
-                others: changes.into_vec(),
-            },
-        }
-    }
-
-    // The changes by the heights that the cells were, where they can be noted so.
-    fn of_heights(alloc: Global, changes: &[Change]) -> Option<Notes>
-        ensures { MatchOption result (Unit {0}) (λ notes. notes ≡ changes.now) }
-    {
-        let first = changes.first()?.index;
-        let mut heights = Vec::with_capacity(alloc, changes.len()).ok()?;
-        let mut last = first;
-        'changes: for change in changes {
-            heights.push_reserved(height_note(last, *change)?);
-            last = change.index;
-        }
-        Some(Notes {
-            first,
-            last,
-            heights,
-            others: Vec::new(alloc),
-        })
-    }
-
     /// Takes the last change.
     pub fn pop(&mut self) -> Option<Change>
         ensures { MatchOption result (self.old ≡ []) (λ change. self.old ≡ self.new ++ change ∷ []) }
@@ -93,6 +60,90 @@ impl Notes {
             index,
             was: Was::Height(OverLeast::of_low(note.over)),
         })
+    }
+}
+
+/// Notes in the making. Memory for all of them is taken before the first: 18 bytes for each, of which 6 or 12
+/// are then written. Contracts see the changes that are noted, and for how many there is room.
+#[derive(Drop)]
+pub struct NewNotes {
+    // As in `Notes`; both lists have the same room.
+    first: u32,
+    last: u32,
+    heights: Vec<HeightNote>,
+    others: Vec<Change>,
+}
+
+impl Model for NewNotes {
+    ghost use Rattle.std.specs.Prelude.{◌≡◌, ◌++◌, vec_capacity};
+    ghost use Rattle.hd_edit.specs.NewNotes.{NewNotesState};
+    ghost use Rattle.hd_edit.specs.Notes.{changes_after, last_after};
+
+    ghost Value = { NewNotesState };
+
+    ghost view = { λ n. record {
+      changes = changes_after n.first n.heights.items ++ n.others.items;
+      room = vec_capacity n.heights;
+    } };
+
+    ghost invariant = { λ n.
+        (n.last ≡ last_after n.first n.heights.items) × (vec_capacity n.others ≡ vec_capacity n.heights) };
+}
+
+impl NewNotes {
+    /// No notes, with room for this many. `Memory` comes where 18 bytes for each are refused.
+    pub fn with_room(alloc: Global, count: u32) -> Result<NewNotes, Memory>
+        ensures { IfOk result (λ notes. notes ≡ record { changes = []; room = count }) }
+    {
+        let heights = Vec::with_capacity(alloc, count as usize)?;
+        let others = Vec::with_capacity(alloc, count as usize)?;
+        Ok(NewNotes {
+            first: 0,
+            last: 0,
+            heights,
+            others,
+        })
+    }
+
+    /// Notes a change after those before it, as a height where that can be.
+    #[inline]
+    pub fn push(&mut self, change: Change)
+        requires { length self.old.changes < self.old.room }
+        ensures changes { self.new.changes ≡ self.old.changes ++ change ∷ [] }
+        ensures room { self.new.room ≡ self.old.room }
+    {
+        if self.others.is_empty() {
+            if self.heights.is_empty() {
+                self.first = change.index;
+                self.last = change.index;
+            }
+            if let Some(note) = height_note(self.last, change) {
+                self.heights.push_reserved(note);
+                self.last = change.index;
+                return;
+            }
+        }
+        self.others.push_reserved(change);
+    }
+
+    /// The notes as they are kept. The memory that they do not use is given back.
+    pub fn into_notes(self) -> Notes
+        ensures { result ≡ self.changes }
+    {
+        let NewNotes {
+            first,
+            last,
+            mut heights,
+            mut others,
+        } = self;
+        heights.shrink_to_fit();
+        others.shrink_to_fit();
+        Notes {
+            first,
+            last,
+            heights,
+            others,
+        }
     }
 }
 

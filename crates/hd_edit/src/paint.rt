@@ -1,5 +1,5 @@
 // The edits of a rectangle, point by point.
-ghost use Rattle.std.specs.Prelude.{◌≡◌, ◌<◌, ◌≤◌, ◌+◌, ◌-◌, ◌^◌, IfOk, OnOk, OnErr, MatchResult, MatchOption, Some, vec_len, vec_capacity, All};
+ghost use Rattle.std.specs.Prelude.{◌≡◌, ◌<◌, ◌≤◌, ◌+◌, ◌-◌, ◌^◌, IfOk, OnOk, OnErr, MatchResult, MatchOption, Some, length, All};
 ghost use Rattle.hd_map.specs.Map.{InGrid, cell_count, cell_at, mask_at, IsCellOf};
 ghost use Rattle.hd_edit.specs.Edit.{height_refusal};
 ghost use Rattle.hd_edit.specs.declared.edit.EditError.TheVariants.{HeightRange};
@@ -7,9 +7,10 @@ ghost use Rattle.hd_edit.specs.Board.{RisesUpTo};
 ghost use Rattle.hd_edit.specs.Change.{IsChange, AreChanges, before_changes};
 ghost use Rattle.hd_edit.specs.Stroke.{next_in, IsRectangle, IsStrokeOf, stroked, touched, cell_after, changes, one_if_changed, changed_points};
 
-use crate::change::{Change, change_cell, change_mask};
+use crate::change::{change_cell, change_mask};
+use crate::notes::{NewNotes, Notes};
 use crate::stroke::{Stroke, Touch, touch_of};
-use hd_list::{List, Memory};
+use hd_list::Memory;
 use hd_map::{Grid, Heights, Pos};
 use std::alloc::Global;
 
@@ -71,22 +72,22 @@ pub fn count_changes<G: Grid>(grid: &G, from: Pos, to: Pos, stroke: Stroke) -> R
 }
 
 // Strokes a point, and notes what it was where that changes it.
-fn touch_point<G: Grid>(grid: &mut G, at: Pos, stroke: Stroke, notes: &mut Vec<Change>)
+fn touch_point<G: Grid>(grid: &mut G, at: Pos, stroke: Stroke, notes: &mut NewNotes)
     requires in_grid { InGrid (G.map grid.old).size at }
     requires in_range { let m = G.map grid.old in
         IsCellOf m.data_type (cell_after stroke (cell_at m at) (mask_at m at)) }
     requires count { G.changes grid.old < 2 ^ 63 }
-    requires room { vec_len notes.old + one_if_changed stroke (G.map grid.old) at ≤ vec_capacity notes.old }
-    requires notes { All (IsChange (G.map grid.old)) notes.old.items }
+    requires room { length notes.old.changes + one_if_changed stroke (G.map grid.old) at ≤ notes.old.room }
+    requires notes { All (IsChange (G.map grid.old)) notes.old.changes }
     ensures map { G.map grid.new ≡ touched stroke at (G.map grid.old) }
-    ensures before { let back = before_changes notes.old.items (G.map grid.old) in
-        before_changes notes.new.items (G.map grid.new) ≡ back }
-    ensures notes { All (IsChange (G.map grid.old)) notes.new.items }
-    ensures len { vec_len notes.new ≡ vec_len notes.old + one_if_changed stroke (G.map grid.old) at }
-    ensures capacity { vec_capacity notes.new ≡ vec_capacity notes.old }
+    ensures before { let back = before_changes notes.old.changes (G.map grid.old) in
+        before_changes notes.new.changes (G.map grid.new) ≡ back }
+    ensures notes { All (IsChange (G.map grid.old)) notes.new.changes }
+    ensures len { length notes.new.changes ≡ length notes.old.changes + one_if_changed stroke (G.map grid.old) at }
+    ensures room { notes.new.room ≡ notes.old.room }
     ensures origin { G.comes_from grid.old grid.new }
     ensures rises { G.changes grid.old ≤ G.changes grid.new }
-    ensures count { G.changes grid.new + vec_len notes.old ≤ G.changes grid.old + vec_len notes.new }
+    ensures count { G.changes grid.new + length notes.old.changes ≤ G.changes grid.old + length notes.new.changes }
 {
     match touch_of(stroke, grid.data_type(), grid.cell(at), grid.masked(at)) {
         Some(Touch::Cell(new)) => change_cell(grid, at, new, notes),
@@ -104,7 +105,7 @@ pub fn stroke_points<G: Grid>(
     to: Pos,
     stroke: Stroke,
     count: u32,
-) -> Result<List<Change>, Memory>
+) -> Result<Notes, Memory>
     requires rectangle { IsRectangle (G.map grid.old).size from to }
     requires in_range { IsStrokeOf (G.map grid.old) from to stroke }
     requires room { count ≡ changed_points (G.map grid.old) from to stroke }
@@ -116,11 +117,11 @@ pub fn stroke_points<G: Grid>(
     ensures origin { G.comes_from grid.old grid.new }
     ensures count { RisesUpTo (cell_count (G.map grid.old).size) (G.changes grid.old) (G.changes grid.new) }
 {
-    let mut notes = Vec::with_capacity(alloc, count as usize)?;
+    let mut notes = NewNotes::with_room(alloc, count)?;
     let mut at = from;
     while at.y <= to.y {
         touch_point(grid, at, stroke, &mut notes);
         at = step(from, to, at);
     }
-    Ok(List::from_vec(notes))
+    Ok(notes.into_notes())
 }

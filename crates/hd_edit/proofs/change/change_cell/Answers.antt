@@ -13,14 +13,14 @@ pub returns-clause-before : goal.returns-clause-before
 returns-clause-before g c =
     let m = g.G.Heights.map c.args.grid.now in
     let place : c.index_of-index.result ≡ place_of m.size c.args.at = c.index_of-index.ensures.value ∙ ap (λ (s : Size). place_of s c.args.at) c.size.ensures in
-    before-cell m (g.G.Heights.map c.put_cell.new.grid) c.args.notes.now.items c.push_reserved.new.self.items c.args.at c.index_of-index.result c.cell-cell.result c.args.new c.was_of-was.result
-    c.push_reserved.ensures.items place (rw c.data_type.ensures at c.was_of-was.ensures) c.cell-cell.ensures c.put_cell.ensures.map
+    before-cell m (g.G.Heights.map c.put_cell.new.grid) c.args.notes.now.changes c.push.new.self.changes c.args.at c.index_of-index.result c.cell-cell.result c.args.new c.was_of-was.result
+    c.push.ensures.changes place (rw c.data_type.ensures at c.was_of-was.ensures) c.cell-cell.ensures c.put_cell.ensures.map
 
 pub returns-clause-notes : goal.returns-clause-notes
 returns-clause-notes g c =
     let m = g.G.Heights.map c.args.grid.now in
     let whole = g.met.G.Heights.whole c.args.grid.now in
-    rw c.push_reserved.ensures.items (All-push (IsChange m) c.args.notes.now.items (record { index = c.index_of-index.result; was = c.was_of-was.result }) c.requires.notes (record {
+    rw c.push.ensures.changes (All-push (IsChange m) c.args.notes.now.changes (record { index = c.index_of-index.result; was = c.was_of-was.result }) c.requires.notes (record {
       inside = rw (← c.size.ensures) c.index_of-index.ensures.in_map;
       height = was-of m.data_type c.was_of-was.result c.cell-cell.result (rw c.data_type.ensures at c.was_of-was.ensures) (rw c.cell-cell.ensures (cell_of m whole c.args.at c.requires.in_grid));
     }))

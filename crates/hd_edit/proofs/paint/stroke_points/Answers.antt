@@ -1,18 +1,16 @@
-use Rattle.std.proofs.Common.{◌≡◌, ap, ◌∙◌, refl, arith, [], vec_len}
-use Rattle.std.proofs.lemmas.List.Elements.{All-nil}
-use Rattle.hd_map.specs.Map.{place_of, cell_count}
-use Rattle.hd_edit.specs.Change.{IsChange}
+use Rattle.std.proofs.Common.{◌≡◌, ap, ◌∙◌, arith}
+use Rattle.hd_map.specs.Map.{place_of}
+use Rattle.hd_edit.specs.NewNotes.{NewNotesState}
 use Rattle.hd_edit.specs.Stroke.{next_in}
 use Rattle.hd_edit.proofs.Rectangles.{stands_first, stands_next, next_later, stands_low}
-use Rattle.hd_edit.proofs.Changes.{few_notes}
 use Rattle.hd_edit.proofs.Draws.{drawn_first, drawn_next, drawn_fits, drawn_room, drawn_last, drawn_few}
 use Rattle.hd_edit.proofs.paint.stroke_points.Goals as goal
 
 pub loop-at-init : goal.loop-at-init
 loop-at-init g c = let m = g.G.Heights.map c.args.grid.now in record {
   stands = stands_first m.size c.args.from c.args.to c.requires.rectangle;
-  drawn = rw (c.in_ok-notes.ensures.items, c.in_ok-notes.ensures.len) (drawn_first m c.args.from c.args.to c.args.stroke (g.met.G.Heights.whole c.args.grid.now) c.requires.rectangle [] refl (All-nil (IsChange m)));
-  capacity = c.in_ok-notes.ensures.exact;
+  drawn = rw (c.in_ok-notes.ensures) (drawn_first m c.args.from c.args.to c.args.stroke (g.met.G.Heights.whole c.args.grid.now) c.requires.rectangle);
+  room = ap (λ (s : NewNotesState). s.room) c.in_ok-notes.ensures;
   origin = g.met.G.Grid.itself c.args.grid.now;
   rises = omega arith;
   few = omega arith;
@@ -21,12 +19,18 @@ loop-at-init g c = let m = g.G.Heights.map c.args.grid.now in record {
 pub touch_point-requires-clause-in_range : goal.touch_point-requires-clause-in_range
 touch_point-requires-clause-in_range g c =
     let m = g.G.Heights.map c.args.grid.now in
-    drawn_fits m c.args.from c.args.to c.args.stroke (g.met.G.Heights.whole c.args.grid.now) c.requires.rectangle c.loop-at.at c.loop-at.invariant.stands c.loop-at-test.true (g.G.Heights.map c.loop-at.grid) c.loop-at.notes.items (vec_len c.loop-at.notes) c.loop-at.invariant.drawn c.requires.in_range
+    drawn_fits m c.args.from c.args.to c.args.stroke (g.met.G.Heights.whole c.args.grid.now) c.requires.rectangle c.loop-at.at c.loop-at.invariant.stands c.loop-at-test.true (g.G.Heights.map c.loop-at.grid) c.loop-at.notes.changes c.loop-at.invariant.drawn c.requires.in_range
+
+pub touch_point-requires-clause-count : goal.touch_point-requires-clause-count
+touch_point-requires-clause-count g c =
+    let m = g.G.Heights.map c.args.grid.now in
+    let room = drawn_room m c.args.from c.args.to c.args.stroke (g.met.G.Heights.whole c.args.grid.now) c.requires.rectangle c.loop-at.at c.loop-at.invariant.stands c.loop-at-test.true (g.G.Heights.map c.loop-at.grid) c.loop-at.notes.changes c.loop-at.invariant.drawn in
+    omega (arith, c.loop-at.invariant.few, room, c.requires.room, c.ranges.count.fits, c.requires.changes)
 
 pub touch_point-requires-clause-room : goal.touch_point-requires-clause-room
 touch_point-requires-clause-room g c =
     let m = g.G.Heights.map c.args.grid.now in
-    rw (c.loop-at.invariant.capacity, c.requires.room) (drawn_room m c.args.from c.args.to c.args.stroke (g.met.G.Heights.whole c.args.grid.now) c.requires.rectangle c.loop-at.at c.loop-at.invariant.stands c.loop-at-test.true (g.G.Heights.map c.loop-at.grid) c.loop-at.notes.items (vec_len c.loop-at.notes) c.loop-at.invariant.drawn)
+    rw (c.loop-at.invariant.room, c.requires.room) (drawn_room m c.args.from c.args.to c.args.stroke (g.met.G.Heights.whole c.args.grid.now) c.requires.rectangle c.loop-at.at c.loop-at.invariant.stands c.loop-at-test.true (g.G.Heights.map c.loop-at.grid) c.loop-at.notes.changes c.loop-at.invariant.drawn)
 
 pub loop-at-smaller : goal.loop-at-smaller
 loop-at-smaller g c =
@@ -42,9 +46,9 @@ loop-at-preserved g c =
     record {
       stands = rw c.step-at.ensures (stands_next m.size c.args.from c.args.to c.loop-at.at c.requires.rectangle c.loop-at.invariant.stands c.loop-at-test.true);
       drawn = rw c.step-at.ensures (drawn_next m c.args.from c.args.to c.args.stroke (g.met.G.Heights.whole c.args.grid.now) c.requires.rectangle c.loop-at.at c.loop-at.invariant.stands c.loop-at-test.true
-          (g.G.Heights.map c.loop-at.grid) c.loop-at.notes.items (vec_len c.loop-at.notes) c.loop-at.invariant.drawn
-          (g.G.Heights.map c.touch_point.new.grid) c.touch_point.new.notes.items (vec_len c.touch_point.new.notes) c.touch_point.ensures.map c.touch_point.ensures.before c.touch_point.ensures.notes c.touch_point.ensures.len);
-      capacity = c.touch_point.ensures.capacity ∙ c.loop-at.invariant.capacity;
+          (g.G.Heights.map c.loop-at.grid) c.loop-at.notes.changes c.loop-at.invariant.drawn
+          (g.G.Heights.map c.touch_point.new.grid) c.touch_point.new.notes.changes c.touch_point.ensures.map c.touch_point.ensures.before c.touch_point.ensures.notes c.touch_point.ensures.len);
+      room = c.touch_point.ensures.room ∙ c.loop-at.invariant.room;
       origin = g.met.G.Grid.onward c.args.grid.now c.loop-at.grid c.touch_point.new.grid c.loop-at.invariant.origin c.touch_point.ensures.origin;
       rises = omega (arith, c.loop-at.invariant.rises, c.touch_point.ensures.rises);
       few = omega (arith, c.loop-at.invariant.few, c.touch_point.ensures.count);
@@ -52,19 +56,19 @@ loop-at-preserved g c =
 
 pub returns-clause-map : goal.returns-clause-map
 returns-clause-map g c =
-    drawn_last (g.G.Heights.map c.args.grid.now) c.args.from c.args.to c.args.stroke (g.met.G.Heights.whole c.args.grid.now) c.requires.rectangle c.loop-at.at (g.G.Heights.map c.loop-at.grid) c.loop-at.notes.items (vec_len c.loop-at.notes) c.loop-at-test.false c.loop-at.invariant.drawn
+    drawn_last (g.G.Heights.map c.args.grid.now) c.args.from c.args.to c.args.stroke (g.met.G.Heights.whole c.args.grid.now) c.requires.rectangle c.loop-at.at (g.G.Heights.map c.loop-at.grid) c.loop-at.notes.changes c.loop-at-test.false c.loop-at.invariant.drawn
 
 pub returns-clause-notes : goal.returns-clause-notes
 returns-clause-notes g c =
     let m = g.G.Heights.map c.args.grid.now in
-    let few = drawn_few m c.args.from c.args.to c.args.stroke (g.met.G.Heights.whole c.args.grid.now) c.requires.rectangle c.loop-at.at (g.G.Heights.map c.loop-at.grid) c.loop-at.notes.items (vec_len c.loop-at.notes) c.loop-at-test.false c.loop-at.invariant.drawn in
+    let few = drawn_few m c.args.from c.args.to c.args.stroke (g.met.G.Heights.whole c.args.grid.now) c.requires.rectangle c.loop-at.at (g.G.Heights.map c.loop-at.grid) c.loop-at.notes.changes c.loop-at-test.false c.loop-at.invariant.drawn in
     record {
-      each = rw c.from_vec.ensures c.loop-at.invariant.drawn.notes_are;
-      few = few_notes c.from_vec.result c.loop-at.notes.items (vec_len c.loop-at.notes) (cell_count m.size) c.from_vec.ensures c.loop-at.notes.ok.0 few;
+      each = rw c.into_notes.ensures c.loop-at.invariant.drawn.notes_are;
+      few = rw c.into_notes.ensures few;
     }
 
 pub returns-clause-count : goal.returns-clause-count
 returns-clause-count g c =
     let m = g.G.Heights.map c.args.grid.now in
-    let few = drawn_few m c.args.from c.args.to c.args.stroke (g.met.G.Heights.whole c.args.grid.now) c.requires.rectangle c.loop-at.at (g.G.Heights.map c.loop-at.grid) c.loop-at.notes.items (vec_len c.loop-at.notes) c.loop-at-test.false c.loop-at.invariant.drawn in
+    let few = drawn_few m c.args.from c.args.to c.args.stroke (g.met.G.Heights.whole c.args.grid.now) c.requires.rectangle c.loop-at.at (g.G.Heights.map c.loop-at.grid) c.loop-at.notes.changes c.loop-at-test.false c.loop-at.invariant.drawn in
     (c.loop-at.invariant.rises, omega (arith, c.loop-at.invariant.few, few))
