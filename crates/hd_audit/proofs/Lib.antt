@@ -23,7 +23,6 @@ mod Noted
 mod Chaining
 mod Leaking
 mod Determined
-mod Keyed
 mod Blank
 mod HeightOrder
 mod LineList

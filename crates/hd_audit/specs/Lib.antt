@@ -10,7 +10,6 @@ pub mod Writable
 pub mod Places
 pub mod Chains
 pub mod Leaks
-pub mod ByKey
 pub mod HeightKeys
 pub mod LineList
 pub mod Plain

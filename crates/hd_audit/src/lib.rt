@@ -3,7 +3,6 @@
 //! names exactly the pits that the pruning keeps.
 #![tactic(auto)]
 
-mod by_key;
 mod chains;
 mod checking;
 mod cuts;

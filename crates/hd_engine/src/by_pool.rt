@@ -41,6 +41,6 @@ pub(crate) fn find_by_pool<S: Side, G: Grid>(
     match need {
         Need::Regions => findings.find_sizes_by(&view),
         Need::Line => findings.find_line_by(alloc, &view),
-        Need::Merges => findings.find_merges_by(alloc, &view),
+        Need::Merges => findings.find_merges_by(&view),
     }
 }

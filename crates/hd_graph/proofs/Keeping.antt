@@ -2,11 +2,11 @@
 use Rattle.std.proofs.Common.{◌≡◌, ℕ, ◌<◌, ◌≤◌, ◌+◌, ◌-◌, inl, inr, Bool, List, [], ◌∷◌, ◌++◌, length, get_or, Some, refl, sym, ◌∙◌, ap, subst, arith, slice_get}
 use Rattle.std.specs.Prelude.{All, Contains}
 use Rattle.std.specs.Cmp.{IsStrictWeakOrder}
-use Rattle.std.specs.List.Sorted.{IsSortedBy, IsPermutation}
+use Rattle.std.specs.List.Sorted.{IsSortedBy}
 use Rattle.std.proofs.lemmas.Bool.{cases_eq}
 use Rattle.std.proofs.lemmas.List.Elements.{All-contains, Contains-append_left, Contains-push, Contains-push_cases, Contains-get_or}
 use Rattle.std.proofs.lemmas.List.Kept.{IsSortedBy-push}
-use Rattle.std.proofs.lemmas.List.Sorted.{sorted_far, Contains-permutation, IsPermutation-sym}
+use Rattle.std.proofs.lemmas.List.Sorted.{sorted_far}
 use Rattle.std.proofs.lemmas.Option.{slice_get_within, get_or_from_slice_get, same_Some}
 use Rattle.hd_map.specs.declared.types.Rank.{Rank}
 use Rattle.hd_map.specs.Order.{IsNotAbove, IsStrictOrder}
@@ -15,6 +15,7 @@ use Rattle.hd_map.proofs.Sides.{not_above-trans, not_above-refl, below-not_above
 use Rattle.hd_graph.specs.declared.links.Link.{Link}
 use Rattle.hd_graph.specs.Classes.{AreOneClass, AreJoined, Joins}
 use Rattle.hd_graph.specs.Links.{IsBetween}
+use Rattle.hd_graph.specs.Order.{HaveSameLinks}
 use Rattle.hd_graph.specs.Thinning.{LinkStep, IsThinned, is_lower}
 use Rattle.hd_graph.proofs.Places.{at_place, place_of}
 use Rattle.hd_graph.proofs.Steps.{reach-by}
@@ -106,10 +107,10 @@ module _ (below : Rank → Rank → Bool) (order : IsStrictOrder below) where
   }
 
   -- in whichever order the links were
-  pub thinned-permuted : (links sorted kept : List Link) → IsPermutation links sorted → IsThinned below sorted kept → IsThinned below links kept
-  thinned-permuted links sorted kept p h = record {
-    some = λ l m. Contains-permutation sorted links l (IsPermutation-sym links sorted p) (h.some l m);
-    spans = λ l m. h.spans l (Contains-permutation links sorted l p m);
+  pub thinned-permuted : (links sorted kept : List Link) → HaveSameLinks links sorted → IsThinned below sorted kept → IsThinned below links kept
+  thinned-permuted links sorted kept same h = record {
+    some = λ l m. same.only l (h.some l m);
+    spans = λ l m. h.spans l (same.kept l m);
     sorted = h.sorted;
   }
 

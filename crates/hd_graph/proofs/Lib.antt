@@ -9,6 +9,7 @@ pub mod Visits
 pub mod Rises
 pub mod Floods
 pub mod Losing
+pub mod InOrder
 pub mod Keeping
 pub mod Thinned
 pub mod Stops

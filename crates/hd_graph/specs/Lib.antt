@@ -4,6 +4,7 @@ pub mod Line
 pub mod Tells
 pub mod Basins
 pub mod Links
+pub mod Order
 pub mod Classes
 pub mod Thinning
 pub mod Merges

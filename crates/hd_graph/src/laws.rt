@@ -1,14 +1,16 @@
 // What a graph and its flood line tell of a map whose lows and passes they are.
-ghost use Rattle.std.specs.Prelude.{◌≡◌, ◌≢◌, ◌↔◌, ℕ, List, Option, AllPairs};
+ghost use Rattle.std.specs.Prelude.{◌≡◌, ◌≢◌, ◌↔◌, ℕ, Bool, List, Option, AllPairs};
 ghost use Rattle.hd_map.specs.declared.types.Pass.{Pass};
 ghost use Rattle.hd_map.specs.declared.types.Rank.{Rank};
 ghost use Rattle.hd_map.specs.declared.types.SideName.{SideName};
 ghost use Rattle.hd_map.specs.Crossings.{AreCrossingsUnder};
 ghost use Rattle.hd_map.specs.Map.{Map, IsMap};
+ghost use Rattle.hd_map.specs.Order.{IsStrictOrder};
 ghost use Rattle.hd_map.specs.Passes.{IsLabelled, ArePassesUnder};
 ghost use Rattle.hd_map.specs.Rank.{below_by};
 ghost use Rattle.hd_map.specs.Region.{AreRegions};
 ghost use Rattle.hd_map.specs.Saddle.{SaddleIs};
+ghost use Rattle.hd_map.specs.Walks.{HasPass};
 ghost use Rattle.hd_graph.specs.declared.graph.Low.{Low};
 ghost use Rattle.hd_graph.specs.declared.line.Stop.{Stop};
 ghost use Rattle.hd_graph.specs.declared.merges.Merge.{Merge};
@@ -65,4 +67,12 @@ pub fn merges_tell_the_saddles()
         → AreLowsOf m side (IsLabelled m labels) lows
         → AreMerges (below_by side) (LeastHighestIs (below_by side) passes) lows merges
         → AreMerges (below_by side) (SaddleIs m side) lows merges }
+{}
+
+/// Lows have the merges that they have by other passes, where these join the same lows at the same heights,
+/// whichever end each of them names first.
+pub fn merges_rest_on_the_passes()
+    ensures { (below : Rank → Rank → Bool) (lows : List Low) (old new : List Pass) (merges : List Merge)
+        → IsStrictOrder below → ((a b w : Rank) → HasPass old a b w ↔ HasPass new a b w)
+        → AreMerges below (LeastHighestIs below old) lows merges → AreMerges below (LeastHighestIs below new) lows merges }
 {}

@@ -10,7 +10,9 @@ mod laws;
 mod line;
 mod links;
 mod merges;
+mod order;
 mod parts;
+mod pass_heights;
 mod thinning;
 mod trees;
 mod ways;
@@ -19,9 +21,11 @@ pub use classes::Classes;
 pub use flooding::flood;
 pub use graph::{Graph, Low};
 pub use laws::{
-    flood_line_tells_the_saddles, least_highest_pass_is_the_saddle, merges_tell_the_saddles,
-    passes_are_crossings, passes_of_basins_are_a_graph, regions_are_basins,
+    flood_line_tells_the_saddles, least_highest_pass_is_the_saddle, merges_rest_on_the_passes,
+    merges_tell_the_saddles, passes_are_crossings, passes_of_basins_are_a_graph,
+    regions_are_basins,
 };
 pub use line::{FloodLine, Stop};
-pub use merges::{Merge, merges_of};
+pub use links::Link;
+pub use merges::{Merge, merges_by_links, merges_of};
 pub use trees::{ChangeTree, Join, tree};

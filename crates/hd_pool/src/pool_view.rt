@@ -8,7 +8,7 @@ use hd_basin::Basins;
 use hd_graph::Graph;
 use hd_list::{List, Memory};
 use hd_map::{Heights, Pos, RegionSize, Side};
-use hd_survey::{SideView, Tally, graph_of_pits};
+use hd_survey::{PitMerges, SideView, Tally, graph_of_pits, merges_of_graph};
 use std::alloc::Global;
 use std::marker::Model;
 
@@ -65,6 +65,11 @@ impl<'a, S: Side, G: Heights> SideView<S> for PoolView<'a, S, G> {
         )?;
         let pits = pits_among(self.alloc, basins.lows())?;
         graph_of_pits::<S, G>(self.alloc, self.grid, pits.as_slice(), passes)
+    }
+
+    fn merges(&self) -> Result<PitMerges, Memory> {
+        let graph = self.graph()?;
+        merges_of_graph::<S, G>(self.alloc, self.grid, &graph)
     }
 
     fn sizes(&self) -> Result<List<RegionSize>, Memory> {

@@ -21,6 +21,7 @@ pub mod Around
 pub mod Heights
 pub mod Enough
 pub mod Crossed
+mod NumberedCrossings
 pub mod Served
 mod Windows
 mod Taken

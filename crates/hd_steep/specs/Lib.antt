@@ -6,4 +6,5 @@ pub mod Borders
 pub mod Meetings
 pub mod Ring
 pub mod Crossed
+pub mod Crossings
 pub mod Numbering

@@ -1,13 +1,14 @@
 // The passes at points whose lower neighbours fall into several groups.
-ghost use Rattle.std.specs.Prelude.{◌≡◌, ◌<◌, ◌≤◌, ◌+◌, ℕ, [], true, IfOk, OnOk, MatchOption};
+ghost use Rattle.std.specs.Prelude.{◌≡◌, ◌<◌, ◌≤◌, ◌+◌, ℕ, [], true, All, IfOk, OnOk};
 ghost use Rattle.hd_map.specs.Map.{InGrid};
 ghost use Rattle.hd_map.specs.Crossings.{AreCrossingsUnder};
 ghost use Rattle.hd_map.specs.Rank.{IsPoint};
-ghost use Rattle.hd_map.specs.Region.{LowerNeighbour, IsRoot};
+ghost use Rattle.hd_map.specs.Region.{LowerNeighbour};
+ghost use Rattle.hd_steep.specs.Crossings.{HasPits, IsNumberOf, pass_of, passes_of};
 ghost use Rattle.hd_steep.specs.Numbering.{AreNumbered, roots_of};
 ghost use Rattle.hd_steep.specs.Rows.{rank_in};
 ghost use Rattle.hd_steep.specs.Ring.{is_marked};
-ghost use Rattle.hd_steep.specs.Crossed.{AreRowsRound, AreWide, ring_round, AreInOne, IsPassTo, Extends, IsCrossed, AreCrossedTo, Gathers};
+ghost use Rattle.hd_steep.specs.Crossed.{AreRowsRound, AreWide, ring_round, Extends, IsCrossed, AreCrossedTo, Gathers};
 
 use crate::lowest::is_missing;
 use crate::numbering::Regions;
@@ -16,6 +17,17 @@ use crate::rolling::Rows;
 use hd_list::{List, Memory};
 use hd_map::{Heights, Pass, Pos, Rank, Side};
 use std::alloc::Global;
+
+/// A pass at a point between two regions, which it names by the numbers of their pits.
+#[derive(Clone, Copy, Debug, PartialEq, Eq)]
+pub struct Crossing {
+    /// The number of the one pit: the point lies in its region.
+    pub a: u32,
+    /// The number of the other.
+    pub b: u32,
+    /// The pass.
+    pub at: Rank,
+}
 
 /// Passes between these regions that are enough to tell at which heights regions are joined: where
 /// two of them meet, passes that are not above the meeting lead from one to the other.
@@ -28,53 +40,90 @@ pub fn crossings<S: Side, G: Heights>(
     alloc: Global,
     grid: &G,
     regions: &Regions,
-) -> Result<List<Pass>, Memory>
+) -> Result<List<Crossing>, Memory>
     requires { AreNumbered (G.map grid.now) S.NAME regions.now }
-    ensures { IfOk result (AreCrossingsUnder (G.map grid.now) S.NAME (roots_of regions.now)) }
+    ensures passes { IfOk result (λ xs. AreCrossingsUnder (G.map grid.now) S.NAME (roots_of regions.now) (passes_of S.NAME regions.now.pits xs)) }
+    ensures pits { IfOk result (All (HasPits regions.now.pits)) }
 {
-    let passes = gather::<S, G>(alloc, grid, regions)?;
-    Ok(List::from_vec(passes))
+    let crossings = gather::<S, G>(alloc, grid, regions)?;
+    Ok(List::from_vec(crossings))
 }
 
-// The passes at all points.
-fn gather<S: Side, G: Heights>(
+/// The passes of crossings between these regions, each with the pits that it joins, the lower one first. `Memory`
+/// comes where the list is refused its memory.
+pub fn passes_of<S: Side>(
     alloc: Global,
-    grid: &G,
     regions: &Regions,
-) -> Result<Vec<Pass>, Memory>
-    requires { AreNumbered (G.map grid.now) S.NAME regions.now }
-    ensures { IfOk result (λ passes. Gathers (G.map grid.now) S.NAME (λ u. u.y < (G.map grid.now).size.profiles) [] passes.items) }
+    crossings: &[Crossing],
+) -> Result<List<Pass>, Memory>
+    requires { All (HasPits regions.now.pits) crossings.now }
+    ensures { IfOk result (λ passes. passes ≡ passes_of S.NAME regions.now.pits crossings.now) }
 {
-    let mut rows = Rows::new::<S, G>(alloc, grid)?;
-    // heights without any order have about one pass for three points
-    let mut passes = Vec::with_capacity(alloc, regions.len() / 3)?;
-    'profiles: for y in 0..grid.size().profiles {
-        rows.advance::<S, G>(grid, y);
-        gather_profile::<S, G>(grid, regions, &rows, y, &mut passes)?;
+    let mut passes = List::with_capacity(alloc, crossings.len())?;
+    for crossing in crossings {
+        passes.push(pass_of::<S>(regions, *crossing))?;
     }
     Ok(passes)
 }
 
-// Adds the passes at the points of a profile.
+// The pass of a crossing.
+#[inline]
+fn pass_of<S: Side>(regions: &Regions, crossing: Crossing) -> Pass
+    requires { HasPits regions.now.pits crossing }
+    ensures { result ≡ pass_of S.NAME regions.now.pits crossing }
+{
+    let Crossing { a, b, at } = crossing;
+    let pits = regions.pits();
+    let a = pits[a as usize];
+    let b = pits[b as usize];
+    if S::below(a, b) {
+        Pass { a, b, at }
+    } else {
+        Pass { a: b, b: a, at }
+    }
+}
+
+// The crossings at all points.
+fn gather<S: Side, G: Heights>(
+    alloc: Global,
+    grid: &G,
+    regions: &Regions,
+) -> Result<Vec<Crossing>, Memory>
+    requires { AreNumbered (G.map grid.now) S.NAME regions.now }
+    ensures gathers { IfOk result (λ xs. Gathers (G.map grid.now) S.NAME (λ u. u.y < (G.map grid.now).size.profiles) [] (passes_of S.NAME regions.now.pits xs.items)) }
+    ensures pits { IfOk result (λ xs. All (HasPits regions.now.pits) xs.items) }
+{
+    let mut rows = Rows::new::<S, G>(alloc, grid)?;
+    // heights without any order have about one pass for three points
+    let mut crossings = Vec::with_capacity(alloc, regions.len() / 3)?;
+    'profiles: for y in 0..grid.size().profiles {
+        rows.advance::<S, G>(grid, y);
+        gather_profile::<S, G>(grid, regions, &rows, y, &mut crossings)?;
+    }
+    Ok(crossings)
+}
+
+// Adds the crossings at the points of a profile.
 fn gather_profile<S: Side, G: Heights>(
     grid: &G,
     regions: &Regions,
     rows: &Rows,
     y: u32,
-    passes: &mut Vec<Pass>,
+    crossings: &mut Vec<Crossing>,
 ) -> Result<(), Memory>
     requires regions { AreNumbered (G.map grid.now) S.NAME regions.now }
     requires profile { y < (G.map grid.now).size.profiles }
     requires rows { AreRowsRound (G.map grid.now) S.NAME y rows.now }
-    ensures { OnOk result (Gathers (G.map grid.now) S.NAME (λ u. u.y ≡ y) passes.old.items passes.new.items) }
+    ensures gathers { OnOk result (Gathers (G.map grid.now) S.NAME (λ u. u.y ≡ y) (passes_of S.NAME regions.now.pits crossings.old.items) (passes_of S.NAME regions.now.pits crossings.new.items)) }
+    ensures pits { OnOk result (All (HasPits regions.now.pits) crossings.old.items → All (HasPits regions.now.pits) crossings.new.items) }
 {
     for x in 0..grid.size().points {
-        gather_point::<S, G>(grid, regions, rows, Pos { x, y }, passes)?;
+        gather_point::<S, G>(grid, regions, rows, Pos { x, y }, crossings)?;
     }
     Ok(())
 }
 
-// Adds the passes at a point, if it is present. Where its lower neighbours are one group, they are
+// Adds the crossings at a point, if it is present. Where its lower neighbours are one group, they are
 // joined below it.
 #[inline]
 fn gather_point<S: Side, G: Heights>(
@@ -82,12 +131,13 @@ fn gather_point<S: Side, G: Heights>(
     regions: &Regions,
     rows: &Rows,
     at: Pos,
-    passes: &mut Vec<Pass>,
+    crossings: &mut Vec<Crossing>,
 ) -> Result<(), Memory>
     requires regions { AreNumbered (G.map grid.now) S.NAME regions.now }
     requires inside { InGrid (G.map grid.now).size at }
     requires rows { AreRowsRound (G.map grid.now) S.NAME at.y rows.now }
-    ensures { OnOk result (Gathers (G.map grid.now) S.NAME (λ u. u ≡ at) passes.old.items passes.new.items) }
+    ensures gathers { OnOk result (Gathers (G.map grid.now) S.NAME (λ u. u ≡ at) (passes_of S.NAME regions.now.pits crossings.old.items) (passes_of S.NAME regions.now.pits crossings.new.items)) }
+    ensures pits { OnOk result (All (HasPits regions.now.pits) crossings.old.items → All (HasPits regions.now.pits) crossings.new.items) }
 {
     let x = at.x as usize;
     let own = rows.level[x + 1];
@@ -97,12 +147,12 @@ fn gather_point<S: Side, G: Heights>(
     let lower = lower_at::<S>(&rows.above, &rows.level, &rows.below, x, own);
     let marks = marked(grid.adjacency(), &lower);
     if are_several(&marks) {
-        cross::<S, G>(grid, regions, own, rows, x, &marks, passes)?;
+        cross::<S, G>(grid, regions, own, rows, x, &marks, crossings)?;
     }
     Ok(())
 }
 
-// Adds the passes at a point to the marked ones of its lower neighbours.
+// Adds the crossings at a point to the marked ones of its lower neighbours.
 #[inline]
 fn cross<S: Side, G: Heights>(
     grid: &G,
@@ -111,22 +161,23 @@ fn cross<S: Side, G: Heights>(
     rows: &Rows,
     x: usize,
     marks: &[bool; 8],
-    passes: &mut Vec<Pass>,
+    crossings: &mut Vec<Crossing>,
 ) -> Result<(), Memory>
     requires regions { AreNumbered (G.map grid.now) S.NAME regions.now }
     requires point { IsPoint (G.map grid.now) own }
     requires wide { AreWide rows.now x }
     requires lower { (k : ℕ) → is_marked marks.now k ≡ true → LowerNeighbour (G.map grid.now) S.NAME own (rank_in (ring_round rows.now x) k) }
-    ensures extends { OnOk result (Extends (G.map grid.now) S.NAME passes.old.items passes.new.items) }
-    ensures crossed { OnOk result ((k : ℕ) → is_marked marks.now k ≡ true → IsCrossed (G.map grid.now) S.NAME passes.new.items own (rank_in (ring_round rows.now x) k)) }
+    ensures extends { OnOk result (Extends (G.map grid.now) S.NAME (passes_of S.NAME regions.now.pits crossings.old.items) (passes_of S.NAME regions.now.pits crossings.new.items)) }
+    ensures crossed { OnOk result ((k : ℕ) → is_marked marks.now k ≡ true → IsCrossed (G.map grid.now) S.NAME (passes_of S.NAME regions.now.pits crossings.new.items) own (rank_in (ring_round rows.now x) k)) }
+    ensures pits { OnOk result (All (HasPits regions.now.pits) crossings.old.items → All (HasPits regions.now.pits) crossings.new.items) }
 {
-    let pit = pit_of::<S, G>(grid, regions, own);
-    cross_four::<S, G>(grid, regions, own, pit, rows, x, marks, 0, passes)?;
-    cross_four::<S, G>(grid, regions, own, pit, rows, x, marks, 4, passes)?;
+    let number = number_of::<S, G>(grid, regions, own);
+    cross_four::<S, G>(grid, regions, own, number, rows, x, marks, 0, crossings)?;
+    cross_four::<S, G>(grid, regions, own, number, rows, x, marks, 4, crossings)?;
     Ok(())
 }
 
-// Adds the passes at a point, whose pit is known, to the marked ones among four of its lower
+// Adds the crossings at a point, the number of whose pit is known, to the marked ones among four of its lower
 // neighbours, from one of the eight places on. Each is written out: a loop would have to store the
 // marks, and to look for the row of each place.
 #[inline(always)]
@@ -134,118 +185,94 @@ fn cross_four<S: Side, G: Heights>(
     grid: &G,
     regions: &Regions,
     own: Rank,
-    pit: Rank,
+    number: u32,
     rows: &Rows,
     x: usize,
     marks: &[bool; 8],
     first: usize,
-    passes: &mut Vec<Pass>,
+    crossings: &mut Vec<Crossing>,
 ) -> Result<(), Memory>
     requires regions { AreNumbered (G.map grid.now) S.NAME regions.now }
-    requires pit { IsRoot (G.map grid.now) S.NAME own pit }
+    requires number { IsNumberOf (G.map grid.now) S.NAME regions.now.pits own number }
     requires wide { AreWide rows.now x }
     requires lower { (k : ℕ) → is_marked marks.now k ≡ true → LowerNeighbour (G.map grid.now) S.NAME own (rank_in (ring_round rows.now x) k) }
     requires first { first ≤ 4 }
-    ensures { OnOk result (AreCrossedTo (G.map grid.now) S.NAME passes.old.items passes.new.items own (ring_round rows.now x) marks.now first (first + 4)) }
+    ensures crossed { OnOk result (AreCrossedTo (G.map grid.now) S.NAME (passes_of S.NAME regions.now.pits crossings.old.items) (passes_of S.NAME regions.now.pits crossings.new.items) own (ring_round rows.now x) marks.now first (first + 4)) }
+    ensures pits { OnOk result (All (HasPits regions.now.pits) crossings.old.items → All (HasPits regions.now.pits) crossings.new.items) }
 {
-    cross_if::<S, G>(grid, regions, own, pit, rows, x, marks, first, passes)?;
-    cross_if::<S, G>(grid, regions, own, pit, rows, x, marks, first + 1, passes)?;
-    cross_if::<S, G>(grid, regions, own, pit, rows, x, marks, first + 2, passes)?;
-    cross_if::<S, G>(grid, regions, own, pit, rows, x, marks, first + 3, passes)?;
+    cross_if::<S, G>(grid, regions, own, number, rows, x, marks, first, crossings)?;
+    cross_if::<S, G>(grid, regions, own, number, rows, x, marks, first + 1, crossings)?;
+    cross_if::<S, G>(grid, regions, own, number, rows, x, marks, first + 2, crossings)?;
+    cross_if::<S, G>(grid, regions, own, number, rows, x, marks, first + 3, crossings)?;
     Ok(())
 }
 
-// Adds the pass at a point to its lower neighbour at one of the eight places, if that is marked and
+// Adds the crossing at a point to its lower neighbour at one of the eight places, if that is marked and
 // lies in another region.
 #[inline(always)]
 fn cross_if<S: Side, G: Heights>(
     grid: &G,
     regions: &Regions,
     own: Rank,
-    pit: Rank,
+    number: u32,
     rows: &Rows,
     x: usize,
     marks: &[bool; 8],
     place: usize,
-    passes: &mut Vec<Pass>,
+    crossings: &mut Vec<Crossing>,
 ) -> Result<(), Memory>
     requires regions { AreNumbered (G.map grid.now) S.NAME regions.now }
-    requires pit { IsRoot (G.map grid.now) S.NAME own pit }
+    requires number { IsNumberOf (G.map grid.now) S.NAME regions.now.pits own number }
     requires wide { AreWide rows.now x }
     requires place { place < 8 }
     requires lower { is_marked marks.now place ≡ true → LowerNeighbour (G.map grid.now) S.NAME own (rank_in (ring_round rows.now x) place) }
-    ensures extends { OnOk result (Extends (G.map grid.now) S.NAME passes.old.items passes.new.items) }
-    ensures crossed { OnOk result (is_marked marks.now place ≡ true → IsCrossed (G.map grid.now) S.NAME passes.new.items own (rank_in (ring_round rows.now x) place)) }
+    ensures extends { OnOk result (Extends (G.map grid.now) S.NAME (passes_of S.NAME regions.now.pits crossings.old.items) (passes_of S.NAME regions.now.pits crossings.new.items)) }
+    ensures crossed { OnOk result (is_marked marks.now place ≡ true → IsCrossed (G.map grid.now) S.NAME (passes_of S.NAME regions.now.pits crossings.new.items) own (rank_in (ring_round rows.now x) place)) }
+    ensures pits { OnOk result (All (HasPits regions.now.pits) crossings.old.items → All (HasPits regions.now.pits) crossings.new.items) }
 {
     if marks[place] {
-        cross_to::<S, G>(grid, regions, own, pit, rows.around(x, place), passes)?;
+        cross_to::<S, G>(grid, regions, own, number, rows.around(x, place), crossings)?;
     }
     Ok(())
 }
 
-// Adds the pass at a point to one of its lower neighbours, if that lies in another region.
+// Adds the crossing at a point to one of its lower neighbours, if that lies in another region.
+#[inline]
 fn cross_to<S: Side, G: Heights>(
     grid: &G,
     regions: &Regions,
     own: Rank,
-    pit: Rank,
+    number: u32,
     other: Rank,
-    passes: &mut Vec<Pass>,
+    crossings: &mut Vec<Crossing>,
 ) -> Result<(), Memory>
     requires regions { AreNumbered (G.map grid.now) S.NAME regions.now }
-    requires pit { IsRoot (G.map grid.now) S.NAME own pit }
+    requires number { IsNumberOf (G.map grid.now) S.NAME regions.now.pits own number }
     requires lower { LowerNeighbour (G.map grid.now) S.NAME own other }
-    ensures extends { OnOk result (Extends (G.map grid.now) S.NAME passes.old.items passes.new.items) }
-    ensures crossed { OnOk result (IsCrossed (G.map grid.now) S.NAME passes.new.items own other) }
+    ensures extends { OnOk result (Extends (G.map grid.now) S.NAME (passes_of S.NAME regions.now.pits crossings.old.items) (passes_of S.NAME regions.now.pits crossings.new.items)) }
+    ensures crossed { OnOk result (IsCrossed (G.map grid.now) S.NAME (passes_of S.NAME regions.now.pits crossings.new.items) own other) }
+    ensures pits { OnOk result (All (HasPits regions.now.pits) crossings.old.items → All (HasPits regions.now.pits) crossings.new.items) }
 {
-    if let Some(pass) = pass_to::<S, G>(grid, regions, own, pit, other) {
-        passes.push(pass)?;
+    let there = number_of::<S, G>(grid, regions, other);
+    if number != there {
+        crossings.push(Crossing {
+            a: number,
+            b: there,
+            at: own,
+        })?;
     }
     Ok(())
 }
 
-// The pass at a point, whose pit is known, to one of its lower neighbours, and none if both lie in one
-// region.
-fn pass_to<S: Side, G: Heights>(
-    grid: &G,
-    regions: &Regions,
-    own: Rank,
-    pit: Rank,
-    other: Rank,
-) -> Option<Pass>
-    requires regions { AreNumbered (G.map grid.now) S.NAME regions.now }
-    requires pit { IsRoot (G.map grid.now) S.NAME own pit }
-    requires lower { LowerNeighbour (G.map grid.now) S.NAME own other }
-    ensures { MatchOption result (AreInOne (G.map grid.now) S.NAME own other) (IsPassTo (G.map grid.now) S.NAME own other) }
-{
-    let there = pit_of::<S, G>(grid, regions, other);
-    if pit.index == there.index {
-        return None;
-    }
-    if S::below(pit, there) {
-        Some(Pass {
-            a: pit,
-            b: there,
-            at: own,
-        })
-    } else {
-        Some(Pass {
-            a: there,
-            b: pit,
-            at: own,
-        })
-    }
-}
-
-// The pit in whose region a point lies.
+// The number of the pit in whose region a point lies.
 #[inline]
-fn pit_of<S: Side, G: Heights>(_grid: &G, regions: &Regions, point: Rank) -> Rank
+fn number_of<S: Side, G: Heights>(_grid: &G, regions: &Regions, point: Rank) -> u32
     requires regions { AreNumbered (G.map _grid.now) S.NAME regions.now }
     requires point { IsPoint (G.map _grid.now) point }
-    ensures { IsRoot (G.map _grid.now) S.NAME point result }
+    ensures { IsNumberOf (G.map _grid.now) S.NAME regions.now.pits point result }
 {
-    match regions.pit(point.index as usize) {
-        Some(pit) => pit,
+    match regions.number(point.index as usize) {
+        Some(number) => number,
         None => unreachable!(),
     }
 }

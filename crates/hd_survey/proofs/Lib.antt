@@ -6,6 +6,7 @@ pub mod RootedPoints
 mod Counts
 pub mod MapPits
 mod StopCounts
+mod PitLinks
 mod LowerRanks
 mod PitSaddles
 mod PrunedPits

@@ -2,6 +2,7 @@
 use Rattle.std.specs.Prelude.{◌<◌, ◌^◌, true, ℕ, List, Option, length}
 use Rattle.hd_graph.specs.declared.graph.Low.{Low}
 use Rattle.hd_graph.specs.declared.line.Stop.{Stop}
+use Rattle.hd_graph.specs.declared.links.Link.{Link}
 use Rattle.hd_graph.specs.declared.merges.Merge.{Merge}
 use Rattle.hd_graph.specs.Graph.{Net}
 use Rattle.hd_graph.specs.Line.{IsFloodLine}
@@ -18,10 +19,15 @@ use Rattle.hd_map.specs.Rank.{below_by}
 use Rattle.hd_map.specs.Region.{AreRegions}
 use Rattle.hd_map.specs.Saddle.{SaddleIs}
 use Rattle.hd_prune.specs.Staying.{ranks_of}
+use Rattle.hd_steep.specs.declared.crossing.Crossing.{Crossing}
 
 -- a pit as a low
 abbrev pub low_of : Rank → Low
 low_of pit = record { rank = pit; pit = true }
+
+-- a crossing between two regions as a link between their pits
+abbrev pub link_of : Crossing → Link
+link_of x = record { a = x.a; b = x.b; at = x.at }
 
 -- its lows are the pits of the map in position order; what a flood line of the graph tells are these pits and their
 -- saddles, and its stops are fewer than a u32 counts; its merges are at the saddles of the map

@@ -10,7 +10,7 @@ ghost use Rattle.hd_survey.specs.Findings.{AreFindings, AreKeptAt};
 use crate::graph::flood_line;
 use crate::grid_view::GridView;
 use crate::kept::{KeptPits, keep_pits};
-use crate::merges::{PitMerges, pit_merges};
+use crate::merges::PitMerges;
 use crate::pruned::cells_of;
 use crate::roots::root_at;
 use crate::view::SideView;
@@ -143,19 +143,19 @@ impl<S: Side> Findings<S> {
     {
         if self.merges.is_none() {
             let view = GridView::<S, G>::new(alloc, grid)?;
-            self.find_merges_by(alloc, &view)?;
+            self.find_merges_by(&view)?;
         }
         Ok(())
     }
 
     /// The same by a view of the side.
-    pub fn find_merges_by<V: SideView<S>>(&mut self, alloc: Global, view: &V) -> Result<(), Memory>
+    pub fn find_merges_by<V: SideView<S>>(&mut self, view: &V) -> Result<(), Memory>
         requires { AreFindings (V.map view.now) S.NAME self.old }
         ensures findings { AreFindings (V.map view.now) S.NAME self.new }
         ensures found { OnOk result (is_some self.new.merges ≡ true) }
     {
         if self.merges.is_none() {
-            self.merges = Some(pit_merges::<S, V>(alloc, view)?);
+            self.merges = Some(view.merges()?);
         }
         Ok(())
     }

@@ -3,6 +3,7 @@ ghost use Rattle.std.specs.Prelude.{◌≡◌, IfOk};
 ghost use Rattle.hd_steep.specs.Numbering.{AreNumbered};
 ghost use Rattle.hd_survey.specs.Regions.{AreRegionSizes};
 
+use crate::merges::{PitMerges, merges_of_regions};
 use crate::roots::{graph_of, root_at};
 use crate::sizes::{into_sizes, list_sizes};
 use crate::tallies::region_tallies;
@@ -77,6 +78,10 @@ impl<'a, S: Side, G: Heights> SideView<S> for GridView<'a, S, G> {
 
     fn graph(&self) -> Result<Graph<S>, Memory> {
         graph_of::<S, G>(self.alloc, self.grid, &self.regions)
+    }
+
+    fn merges(&self) -> Result<PitMerges, Memory> {
+        merges_of_regions::<S, G>(self.alloc, self.grid, &self.regions)
     }
 
     fn sizes(&self) -> Result<List<RegionSize>, Memory> {

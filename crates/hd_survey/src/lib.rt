@@ -34,7 +34,7 @@ pub use laws::{
     pruned_regions_are_determined, region_sizes_are_determined, values_are_determined,
 };
 pub use lines::pruned_lines;
-pub use merges::PitMerges;
+pub use merges::{PitMerges, merges_of_graph};
 pub use pruned::{PrunedRegions, pruned_regions, pruned_regions_by};
 pub use roots::graph_of_pits;
 pub use saddles::saddle_between;

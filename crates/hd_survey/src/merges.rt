@@ -1,11 +1,18 @@
 // The pits of a map with their merges.
-ghost use Rattle.std.specs.Prelude.{IfOk};
+ghost use Rattle.std.specs.Prelude.{◌≡◌, IfOk, map};
+ghost use Rattle.hd_steep.specs.Crossings.{passes_of};
+ghost use Rattle.hd_steep.specs.Numbering.{AreNumbered};
 ghost use Rattle.hd_survey.specs.Findings.{ArePitMerges};
+ghost use Rattle.hd_survey.specs.PitGraph.{IsPitGraph, link_of};
 
-use crate::view::SideView;
-use hd_graph::{Low, Merge, merges_of};
+use crate::pits::lows_of;
+use hd_graph::{
+    Graph, Link, Low, Merge, merges_by_links, merges_of, merges_rest_on_the_passes,
+    merges_tell_the_saddles, passes_of_basins_are_a_graph, regions_are_basins,
+};
 use hd_list::{List, Memory};
-use hd_map::Side;
+use hd_map::{Heights, Side};
+use hd_steep::{Crossing, Regions, crossings};
 use std::alloc::Global;
 
 /// The pits of a map on a side in position order, and their merges as the water rises.
@@ -17,13 +24,53 @@ pub struct PitMerges {
     pub merges: List<Merge>,
 }
 
-/// The pits of a view and their merges. `Memory` comes where the graph of the pits, the merges or the pits
-/// are refused their memory.
-pub fn pit_merges<S: Side, V: SideView<S>>(alloc: Global, view: &V) -> Result<PitMerges, Memory>
-    ensures { IfOk result (ArePitMerges (V.map view.now) S.NAME) }
+/// The pits of a graph and their merges. `Memory` comes where the merges or the pits are refused their memory.
+pub fn merges_of_graph<S: Side, G: Heights>(
+    alloc: Global,
+    _grid: &G,
+    graph: &Graph<S>,
+) -> Result<PitMerges, Memory>
+    requires { IsPitGraph (G.map _grid.now) S.NAME graph.now }
+    ensures { IfOk result (ArePitMerges (G.map _grid.now) S.NAME) }
 {
-    let graph = view.graph()?;
-    let merges = merges_of::<S>(alloc, &graph)?;
+    let merges = merges_of::<S>(alloc, graph)?;
     let lows = List::from_slice(alloc, graph.lows())?;
     Ok(PitMerges { lows, merges })
+}
+
+/// The pits of these regions and their merges. `Memory` comes where the passes, the pits or the merges are refused
+/// their memory.
+pub fn merges_of_regions<S: Side, G: Heights>(
+    alloc: Global,
+    grid: &G,
+    regions: &Regions,
+) -> Result<PitMerges, Memory>
+    requires { AreNumbered (G.map grid.now) S.NAME regions.now }
+    ensures { IfOk result (ArePitMerges (G.map grid.now) S.NAME) }
+{
+    let crossings = crossings::<S, G>(alloc, grid, regions)?;
+    let links = links_of(alloc, crossings.as_slice())?;
+    drop(crossings);
+    let lows = lows_of(alloc, regions.pits())?;
+    regions_are_basins();
+    passes_of_basins_are_a_graph();
+    merges_rest_on_the_passes();
+    merges_tell_the_saddles();
+    let merges = merges_by_links::<S>(alloc, lows.as_slice(), links)?;
+    Ok(PitMerges { lows, merges })
+}
+
+// Crossings between regions as links between their pits.
+fn links_of(alloc: Global, crossings: &[Crossing]) -> Result<Vec<Link>, Memory>
+    ensures { IfOk result (λ links. links.items ≡ map link_of crossings.now) }
+{
+    let mut links = Vec::with_capacity(alloc, crossings.len())?;
+    'crossings: for crossing in crossings {
+        links.push(Link {
+            a: crossing.a,
+            b: crossing.b,
+            at: crossing.at,
+        })?;
+    }
+    Ok(links)
 }

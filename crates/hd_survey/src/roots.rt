@@ -14,7 +14,7 @@ use hd_graph::{
 };
 use hd_list::{List, Memory};
 use hd_map::{Heights, Pass, Pos, Rank, Side, index_of, position_of};
-use hd_steep::{Regions, crossings};
+use hd_steep::{Regions, crossings, passes_of};
 use std::alloc::Global;
 
 /// The pit in whose region a present point lies, where the regions are known.
@@ -41,7 +41,9 @@ pub fn graph_of<S: Side, G: Heights>(
     requires { AreNumbered (G.map grid.now) S.NAME regions.now }
     ensures { IfOk result (IsPitGraph (G.map grid.now) S.NAME) }
 {
-    let passes = crossings::<S, G>(alloc, grid, regions)?;
+    let crossings = crossings::<S, G>(alloc, grid, regions)?;
+    let passes = passes_of::<S>(alloc, regions, crossings.as_slice())?;
+    drop(crossings);
     graph_of_pits::<S, G>(alloc, grid, regions.pits(), passes)
 }
 

@@ -1,4 +1,5 @@
 // A side of a map, by what reports ask of it.
+use crate::merges::PitMerges;
 use crate::tally::Tally;
 use hd_graph::Graph;
 use hd_list::{List, Memory};
@@ -10,6 +11,7 @@ pub trait SideView<S: Side> {
     ghost use Rattle.hd_map.specs.Map.{IsMap, Map, Present};
     ghost use Rattle.hd_map.specs.Rank.{rank};
     ghost use Rattle.hd_map.specs.Region.{IsRoot};
+    ghost use Rattle.hd_survey.specs.Findings.{ArePitMerges};
     ghost use Rattle.hd_survey.specs.PitGraph.{IsPitGraph};
     ghost use Rattle.hd_survey.specs.Regions.{AreRegionSizes};
     ghost use Rattle.hd_survey.specs.Tallies.{AreRegionTallies};
@@ -27,6 +29,11 @@ pub trait SideView<S: Side> {
     /// refused its memory.
     fn graph(&self) -> Result<Graph<S>, Memory>
         ensures { IfOk result (IsPitGraph (map self.now) S.NAME) };
+
+    /// The pits in position order, and their merges. `Memory` comes where these, or the passes between the
+    /// regions, are refused their memory.
+    fn merges(&self) -> Result<PitMerges, Memory>
+        ensures { IfOk result (ArePitMerges (map self.now) S.NAME) };
 
     /// The regions with the numbers of their points, in position order of their pits. `Memory` comes
     /// where the list is refused its memory.

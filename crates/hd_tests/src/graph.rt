@@ -6,7 +6,7 @@ ghost use Rattle.hd_tests.specs.Literal.{is_graph};
 
 use crate::shared::list;
 use hd_graph::{FloodLine, Graph, Low, flood, merges_of, tree};
-use hd_map::{Down, Pass, Rank, Side};
+use hd_map::{Down, Pass, Rank, Side, Up};
 use std::process::Abort;
 
 macro_rules! rank {
@@ -151,4 +151,52 @@ fn merges_of_five_lows(rt: HostRuntime) {
     ];
     let graph = graph_of::<Down>(&rt, &lows, &passes);
     expect_merges(&rt, &graph, &[(0, 1, 3), (2, 3, 12), (3, 1, 7), (1, 4, 17)]);
+}
+
+/// The same lows, with their passes by index and as far below 0 as they were above: of two hills' passes of one
+/// height that of the greater index comes first, in whichever order the passes are given.
+#[test]
+fn merges_are_the_same_in_each_order_of_the_passes(rt: HostRuntime) {
+    let lows = [
+        pit!(3, 0),
+        pit!(1, 5),
+        pit!(4, 10),
+        pit!(2, 15),
+        pit!(0, 20),
+    ];
+    let passes = [
+        pass!(rank!(1, 5), rank!(3, 0), rank!(6, 3)),
+        pass!(rank!(1, 5), rank!(4, 10), rank!(7, 7)),
+        pass!(rank!(3, 0), rank!(4, 10), rank!(8, 8)),
+        pass!(rank!(4, 10), rank!(2, 15), rank!(6, 12)),
+        pass!(rank!(2, 15), rank!(0, 20), rank!(9, 17)),
+    ];
+    let graph = graph_of::<Down>(&rt, &lows, &passes);
+    expect_merges(&rt, &graph, &[(0, 1, 3), (2, 3, 12), (3, 1, 7), (1, 4, 17)]);
+    let lows = [
+        pit!(-3, 0),
+        pit!(-1, 5),
+        pit!(-4, 10),
+        pit!(-2, 15),
+        pit!(0, 20),
+    ];
+    let passes = [
+        pass!(rank!(-1, 5), rank!(-3, 0), rank!(-6, 3)),
+        pass!(rank!(-1, 5), rank!(-4, 10), rank!(-7, 7)),
+        pass!(rank!(-3, 0), rank!(-4, 10), rank!(-8, 8)),
+        pass!(rank!(-4, 10), rank!(-2, 15), rank!(-6, 12)),
+        pass!(rank!(-2, 15), rank!(0, 20), rank!(-9, 17)),
+    ];
+    let wanted = [(2, 3, 12), (0, 1, 3), (3, 1, 7), (1, 4, 17)];
+    let graph = graph_of::<Up>(&rt, &lows, &passes);
+    expect_merges(&rt, &graph, &wanted);
+    let turned = [
+        pass!(rank!(-2, 15), rank!(0, 20), rank!(-9, 17)),
+        pass!(rank!(-4, 10), rank!(-2, 15), rank!(-6, 12)),
+        pass!(rank!(-3, 0), rank!(-4, 10), rank!(-8, 8)),
+        pass!(rank!(-1, 5), rank!(-4, 10), rank!(-7, 7)),
+        pass!(rank!(-1, 5), rank!(-3, 0), rank!(-6, 3)),
+    ];
+    let graph = graph_of::<Up>(&rt, &lows, &turned);
+    expect_merges(&rt, &graph, &wanted);
 }

@@ -6,7 +6,7 @@ use hd_map::{
     position_of,
 };
 use hd_num::{push_text, push_unsigned};
-use hd_steep::{crossings, find_regions, next, passes, regions, root};
+use hd_steep::{crossings, find_regions, next, passes, passes_of, regions, root};
 use std::process::Abort;
 
 // The labels of a side, each printed after a blank, and `-` for none.
@@ -149,7 +149,8 @@ fn expect_crossings<S: Side>(
     wanted: &[(u32, u32, u32)],
 ) {
     let regions = find_regions::<S, _>(rt.alloc(), surface).expect(rt, "memory");
-    let found = crossings::<S, _>(rt.alloc(), surface, &regions).expect(rt, "memory");
+    let crossings = crossings::<S, _>(rt.alloc(), surface, &regions).expect(rt, "memory");
+    let found = passes_of::<S>(rt.alloc(), &regions, crossings.as_slice()).expect(rt, "memory");
     assert!(rt; indexes_of(rt, found.as_slice()).as_slice() == wanted);
 }
 

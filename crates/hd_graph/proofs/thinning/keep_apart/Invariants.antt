@@ -5,10 +5,10 @@ use Rattle.hd_graph.proofs.Keeping.{KeptSoFar}
 use Rattle.hd_graph.proofs.Losing.{HasLost}
 use Rattle.hd_graph.proofs.thinning.keep_apart.Given as goal
 
-abbrev pub invariant-loop-link : goal.invariant-loop-link
-invariant-loop-link g l = record {
+abbrev pub invariant-loop-place : goal.invariant-loop-place
+invariant-loop-place g l = record {
   falling : AreFalling l.classes.parents.items;
   long : length l.classes.parents.items ≡ l.count;
   lost : HasLost l.classes.parents.items (length l.kept.items);
-  so : KeptSoFar (below_by g.S.Side.NAME) l.links l.link-index l.classes.parents.items l.kept.items;
+  so : KeptSoFar (below_by g.S.Side.NAME) l.links l.place l.classes.parents.items l.kept.items;
 }

@@ -1,6 +1,7 @@
 use Rattle.std.proofs.Common.{◌≡◌, ◌<◌, ◌+◌, ◌⊎◌, [], ap, subst, inl, inr, arith}
 use Rattle.std.proofs.lemmas.Bool.{cases_lt}
 use Rattle.hd_map.specs.declared.types.Size.{Size}
+use Rattle.hd_steep.specs.Crossings.{passes_of}
 use Rattle.hd_steep.specs.Rows.{IsRowOf}
 use Rattle.hd_steep.proofs.Crossed.{gathers_less, gathers_join}
 use Rattle.hd_steep.proofs.crossing.gather.Goals as goal
@@ -11,7 +12,8 @@ profiles-preserved g c =
     let side = g.S.Side.NAME in
     let y = c.profiles.y in
     let round = c.advance.ensures in
-    let new = c.gather_profile.new.passes.items in
+    let pits = c.args.regions.now.pits in
+    let new = passes_of side pits c.gather_profile.new.crossings.items in
     record {
       rows = record {
         spare = round.above.framed;
@@ -23,14 +25,15 @@ profiles-preserved g c =
             | inl before ↦ inl before
             | inr past ↦ inr (omega (arith, less, past))
           ])
-          (gathers_join m side (λ u. u.y < y) (λ u. u.y ≡ y) [] c.profiles.passes.items new c.profiles.invariant.gathers c.in_ok-gather_profile.ensures);
+          (gathers_join m side (λ u. u.y < y) (λ u. u.y ≡ y) [] (passes_of side pits c.profiles.crossings.items) new c.profiles.invariant.gathers c.in_ok-gather_profile.ensures.gathers);
+      pits = c.in_ok-gather_profile.ensures.pits c.profiles.invariant.pits;
     }
 
-pub returns : goal.returns
-returns g c =
+pub returns-clause-gathers : goal.returns-clause-gathers
+returns-clause-gathers g c =
     let m = g.G.Heights.map c.args.grid.now in
     let side = g.S.Side.NAME in
     let y = c.profiles.y in
     let height : c.size-y-end.result.profiles ≡ m.size.profiles = ap (λ (s : Size). s.profiles) c.size-y-end.ensures in
     let end = c.profiles-test.false in
-    gathers_less m side (λ u. u.y < y) (λ u. u.y < m.size.profiles) [] c.profiles.passes.items (λ u here less. (omega (arith, less, height, end))) c.profiles.invariant.gathers
+    gathers_less m side (λ u. u.y < y) (λ u. u.y < m.size.profiles) [] (passes_of side c.args.regions.now.pits c.profiles.crossings.items) (λ u here less. (omega (arith, less, height, end))) c.profiles.invariant.gathers

@@ -1,6 +1,7 @@
 use Rattle.std.proofs.Common.{◌≡◌, ◌∙◌, List, Bool, sym, refl, arith}
 use Rattle.std.proofs.lemmas.Bool.{OnFalse_at}
 use Rattle.hd_steep.specs.Crossed.{ring_round}
+use Rattle.hd_steep.specs.Crossings.{passes_of}
 use Rattle.hd_steep.specs.Numbering.{roots_of}
 use Rattle.hd_steep.specs.Ring.{marks_of}
 use Rattle.hd_steep.proofs.Served.{IsLooked, read_middle, gathers_absent, present_in_middle, looked_lower, point_in_middle, gathers_crossed, gathers_alone, firsts_at}
@@ -27,9 +28,9 @@ looked g c first first_is =
           (rw (c.deref.ensures.value, c.deref-2.ensures.value, c.deref-3.ensures.value) at c.lower_at-lower.ensures) first_is;
     }
 
-pub returns-then-is_missing : goal.returns-then-is_missing
-returns-then-is_missing g c =
-    gathers_absent (g.G.Heights.map c.args.grid.now) g.S.Side.NAME (g.met.G.Heights.whole c.args.grid.now) c.args.rows.now c.args.at c.requires.inside c.requires.rows c.index-own.result.now c.args.passes.now.items
+pub returns-then-is_missing-clause-gathers : goal.returns-then-is_missing-clause-gathers
+returns-then-is_missing-clause-gathers g c =
+    gathers_absent (g.G.Heights.map c.args.grid.now) g.S.Side.NAME (g.met.G.Heights.whole c.args.grid.now) c.args.rows.now c.args.at c.requires.inside c.requires.rows c.index-own.result.now (passes_of g.S.Side.NAME c.args.regions.now.pits c.args.crossings.now.items)
     (read_middle (g.G.Heights.map c.args.grid.now) g.S.Side.NAME (g.met.G.Heights.whole c.args.grid.now) c.args.rows.now c.args.at c.requires.inside c.requires.rows c.index-own.result.now c.index-own.ensures)
     (sym c.is_missing.ensures ∙ c.if-is_missing.true)
 
@@ -54,12 +55,12 @@ cross-requires-clause-lower g c =
     let before = (goal.at.cross-requires-clause-lower g c).After-lower_at-lower in
     looked_lower _ _ _ _ _ _ _ _ _ _ (looked g before c.marked-marks.result (rw c.adjacency.ensures at c.marked-marks.ensures))
 
-pub returns-in_ok-cross : goal.returns-in_ok-cross
-returns-in_ok-cross g c =
-    let before = (goal.at.returns-in_ok-cross g c).After-lower_at-lower in
-    gathers_crossed _ _ _ _ _ _ _ _ _ _ (looked g before c.marked-marks.result (rw c.adjacency.ensures at c.marked-marks.ensures)) c.args.passes.now.items c.cross.new.passes.items c.in_ok-cross.ensures.extends c.in_ok-cross.ensures.crossed
+pub returns-in_ok-cross-clause-gathers : goal.returns-in_ok-cross-clause-gathers
+returns-in_ok-cross-clause-gathers g c =
+    let before = (goal.at.returns-in_ok-cross-clause-gathers g c).After-lower_at-lower in
+    gathers_crossed _ _ _ _ _ _ _ _ _ _ (looked g before c.marked-marks.result (rw c.adjacency.ensures at c.marked-marks.ensures)) (passes_of g.S.Side.NAME c.args.regions.now.pits c.args.crossings.now.items) (passes_of g.S.Side.NAME c.args.regions.now.pits c.cross.new.crossings.items) c.in_ok-cross.ensures.extends c.in_ok-cross.ensures.crossed
 
-pub returns-else-are_several : goal.returns-else-are_several
-returns-else-are_several g c =
-    let before = (goal.at.returns-else-are_several g c).After-lower_at-lower in
-    gathers_alone _ _ _ _ _ _ _ _ _ _ (looked g before c.marked-marks.result (rw c.adjacency.ensures at c.marked-marks.ensures)) (roots_of c.args.regions.now) c.requires.regions.roots c.args.passes.now.items (OnFalse_at c.if-are_several.false c.are_several.ensures)
+pub returns-else-are_several-clause-gathers : goal.returns-else-are_several-clause-gathers
+returns-else-are_several-clause-gathers g c =
+    let before = (goal.at.returns-else-are_several-clause-gathers g c).After-lower_at-lower in
+    gathers_alone _ _ _ _ _ _ _ _ _ _ (looked g before c.marked-marks.result (rw c.adjacency.ensures at c.marked-marks.ensures)) (roots_of c.args.regions.now) c.requires.regions.roots (passes_of g.S.Side.NAME c.args.regions.now.pits c.args.crossings.now.items) (OnFalse_at c.if-are_several.false c.are_several.ensures)

@@ -3,6 +3,7 @@ use Rattle.std.proofs.lemmas.Bool.{cases_lt}
 use Rattle.hd_map.specs.declared.types.Pos.{Pos}
 use Rattle.hd_map.specs.declared.types.Size.{Size}
 use Rattle.hd_map.proofs.Gather.{same_pos}
+use Rattle.hd_steep.specs.Crossings.{passes_of}
 use Rattle.hd_steep.proofs.Crossed.{gathers_less, gathers_join}
 use Rattle.hd_steep.proofs.crossing.gather_profile.Goals as goal
 
@@ -13,22 +14,26 @@ loop-x-preserved g c =
     let y = c.args.y in
     let x = c.loop-x.x in
     let at : Pos = record { x = x; y = y } in
-    let old = c.args.passes.now.items in
-    let new = c.gather_point.new.passes.items in
-    gathers_less m side (λ u. ((u.y ≡ y) × (u.x < x)) ⊎ (u ≡ at)) (λ u. (u.y ≡ y) × (u.x < x + 1)) old new
+    let pits = c.args.regions.now.pits in
+    let old = passes_of side pits c.args.crossings.now.items in
+    let new = passes_of side pits c.gather_point.new.crossings.items in
+    record {
+    gathers = gathers_less m side (λ u. ((u.y ≡ y) × (u.x < x)) ⊎ (u ≡ at)) (λ u. (u.y ≡ y) × (u.x < x + 1)) old new
     (λ u here chosen. elim (cases_lt u.x x) [
       | inl less ↦ inl (chosen.0, less)
       | inr past ↦ inr (same_pos u at (let less = chosen.1 in omega (arith, less, past)) chosen.0)
     ])
-    (gathers_join m side (λ u. (u.y ≡ y) × (u.x < x)) (λ u. u ≡ at) old c.loop-x.passes.items new c.loop-x.invariant c.in_ok-gather_point.ensures)
+    (gathers_join m side (λ u. (u.y ≡ y) × (u.x < x)) (λ u. u ≡ at) old (passes_of side pits c.loop-x.crossings.items) new c.loop-x.invariant.gathers c.in_ok-gather_point.ensures.gathers);
+    pits = λ all. c.in_ok-gather_point.ensures.pits (c.loop-x.invariant.pits all);
+    }
 
-pub returns : goal.returns
-returns g c =
+pub returns-clause-gathers : goal.returns-clause-gathers
+returns-clause-gathers g c =
     let m = g.G.Heights.map c.args.grid.now in
     let side = g.S.Side.NAME in
     let y = c.args.y in
     let x = c.loop-x.x in
     let width : c.size-x-end.result.points ≡ m.size.points = ap (λ (s : Size). s.points) c.size-x-end.ensures in
     let end = c.loop-x-test.false in
-    gathers_less m side (λ u. (u.y ≡ y) × (u.x < x)) (λ u. u.y ≡ y) c.args.passes.now.items c.loop-x.passes.items
-    (λ u here chosen. (chosen, (let inside = here.in_grid.column in omega (arith, inside, width, end)))) c.loop-x.invariant
+    gathers_less m side (λ u. (u.y ≡ y) × (u.x < x)) (λ u. u.y ≡ y) (passes_of side c.args.regions.now.pits c.args.crossings.now.items) (passes_of side c.args.regions.now.pits c.loop-x.crossings.items)
+    (λ u here chosen. (chosen, (let inside = here.in_grid.column in omega (arith, inside, width, end)))) c.loop-x.invariant.gathers

@@ -1,7 +1,12 @@
 use Rattle.std.proofs.Common.{◌≡◌, ◌<◌}
+use Rattle.std.specs.Prelude.{All}
 use Rattle.hd_steep.specs.Crossed.{Gathers}
+use Rattle.hd_steep.specs.Crossings.{HasPits, passes_of}
 use Rattle.hd_steep.proofs.crossing.gather_profile.Given as goal
 
 -- the points of the columns so far
 abbrev pub invariant-loop-x : goal.invariant-loop-x
-invariant-loop-x g l = Gathers (g.G.Heights.map l.grid) g.S.Side.NAME (λ u. (u.y ≡ l.y) × (u.x < l.x)) l.fn.passes.items l.passes.items
+invariant-loop-x g l = record {
+  gathers : Gathers (g.G.Heights.map l.grid) g.S.Side.NAME (λ u. (u.y ≡ l.y) × (u.x < l.x)) (passes_of g.S.Side.NAME l.regions.pits l.fn.crossings.items) (passes_of g.S.Side.NAME l.regions.pits l.crossings.items);
+  pits : All (HasPits l.regions.pits) l.fn.crossings.items → All (HasPits l.regions.pits) l.crossings.items;
+}

@@ -1,0 +1,39 @@
+-- Crossings by the numbers of the pits in whose regions points lie.
+use Rattle.std.proofs.Common.{◌≡◌, ◌≢◌, ℕ, Bool, true, false, length, slice_index, Some, None, inl, inr, refl, ap}
+use Rattle.std.specs.Prelude.{pos, if◌then◌else◌}
+use Rattle.std.proofs.lemmas.Bool.{lt-ltb}
+use Rattle.hd_map.specs.declared.types.Rank.{Rank}
+use Rattle.hd_map.specs.declared.types.SideName.{SideName}
+use Rattle.hd_map.specs.Map.{Map}
+use Rattle.hd_map.specs.Rank.{IsPoint, below_by}
+use Rattle.hd_steep.specs.Crossed.{AreInOne, IsPassTo}
+use Rattle.hd_steep.specs.Crossings.{IsNumberOf, pass_of, pit_at}
+use Rattle.hd_steep.specs.Numbering.{AreNumbered, Numbering, number_of}
+use Rattle.hd_steep.proofs.Crossed.{in_one, pits_apart}
+use Rattle.hd_steep.proofs.Numbered.{number_of_point}
+use Rattle.hd_steep.proofs.Pits.{rising_apart}
+
+module _ (m : Map) (side : SideName) (regions : Numbering) (are : AreNumbered m side regions) where
+  -- a point has the number of the pit in whose region it lies
+  pub number-of_point : (x : Rank) → IsPoint m x → IsNumberOf m side regions.pits x (slice_index regions.numbers x.index) × (number_of regions.pits (slice_index regions.numbers x.index) ≡ Some (slice_index regions.numbers x.index))
+  number-of_point x point =
+      let found = number_of_point m side regions are x point in
+      let none : Rank = record { height = pos 0; index = 0 } in
+      (record { inside = found.0; root = found.1 none }, ap (λ b. if b then Some (slice_index regions.numbers x.index) else None) (lt-ltb (slice_index regions.numbers x.index) (length regions.pits) found.0))
+
+  module _ (x y : Rank) (a b : ℕ) (from : IsNumberOf m side regions.pits x a) (to : IsNumberOf m side regions.pits y b) where
+    -- points of one number lie in one region
+    pub in_one-numbers : a ≡ b → AreInOne m side x y
+    in_one-numbers same = in_one m side x y (pit_at regions.pits a) (pit_at regions.pits b) from.root to.root (ap (λ n. (pit_at regions.pits n).index) same)
+
+    -- the pass of a crossing at a point to another with another number
+    pub pass-to : a ≢ b → IsPassTo m side x y (pass_of side regions.pits (record { a = a; b = b; at = x }))
+    pass-to apart = go (below_by side (pit_at regions.pits a) (pit_at regions.pits b)) refl
+      where
+        other : (pit_at regions.pits a).index ≡ (pit_at regions.pits b).index → ⊥
+        other same = apart (rising_apart regions.pits are.pits.in_order a b (record { height = pos 0; index = 0 }) from.inside to.inside same)
+
+        go : (below : Bool) → below_by side (pit_at regions.pits a) (pit_at regions.pits b) ≡ below →
+            IsPassTo m side x y (if below then (record { a = pit_at regions.pits a; b = pit_at regions.pits b; at = x }) else (record { a = pit_at regions.pits b; b = pit_at regions.pits a; at = x }))
+        go true e = record { ends = e; at_is = refl; of = inl (from.root, to.root) }
+        go false e = record { ends = pits_apart m side x y (pit_at regions.pits a) (pit_at regions.pits b) from.root to.root other e; at_is = refl; of = inr (from.root, to.root) }
