@@ -9,14 +9,14 @@ use Rattle.std.proofs.lemmas.List.Elements.{All-nil}
 use Rattle.std.proofs.lemmas.List.Folds.{sum_by-replicate}
 use Rattle.hd_map.specs.declared.types.Rank.{Rank}
 use Rattle.hd_map.specs.declared.types.SideName.{SideName}
-use Rattle.hd_map.specs.Map.{Map, cell_count}
+use Rattle.hd_map.specs.Map.{Map, Present, cell_count}
 use Rattle.hd_map.specs.Rank.{IsPoint}
-use Rattle.hd_map.proofs.Points.{place_inside}
+use Rattle.hd_map.proofs.Points.{place_inside, rank_position}
 use Rattle.hd_prune.specs.declared.step.Kept.{Kept}
 use Rattle.hd_prune.specs.Kept.{pits_kept}
 use Rattle.hd_audit.specs.declared.types.AuditLine.{AuditLine}
 use Rattle.hd_audit.specs.declared.waiting.Waiting.{Waiting}
-use Rattle.hd_audit.specs.Flooding.{AreBegun, IsFlooding, kept_line, seen_at, unseen}
+use Rattle.hd_audit.specs.Flooding.{AreBegun, IsFlooding, IsPointAt, kept_line, seen_at, unseen}
 use Rattle.hd_audit.specs.Lines.{line_at, rank_at}
 use Rattle.hd_audit.specs.Listing.{AreShownTo}
 use Rattle.hd_audit.specs.Rules.{IsWithin}
@@ -108,6 +108,17 @@ begun-flooding m kept n seen lines [] e b = record {
   closed = λ k less. absurd (omega arith);
 }
 begun-flooding m kept n seen lines (w ∷ heap) e b = absurd (omega (arith, e))
+
+-- the lines are of present points
+pub begun-points : (m : Map) (kept : List Kept) (seen : List Bool) (lines : List AuditLine) → All (λ (k : Kept). IsPoint m k.pit) kept → AreBegun m kept (length kept) seen lines → (k : ℕ) → k < length lines → IsPointAt m (line_at lines k).index
+begun-points m kept seen lines points b k less =
+    let many = b.many in
+    let inside : k < length kept = omega (arith, less, many) in
+    let r : Rank = (get_or kept k no_kept).pit in
+    let point : IsPoint m r = points k no_kept inside in
+    let cells = place_inside m.size point.at point.present.in_grid in
+    let index = ap (λ (r : Rank). r.index) point.rank_is in
+    subst (λ (x : AuditLine). IsPointAt m x.index) (sym (b.are k no_kept inside)) (record { inside = omega (arith, cells, index); present = subst (Present m) (sym (rank_position m r point.at point.present point.rank_is)) point.present })
 
 -- the first lines are as they are shown
 pub begun-shown : (m : Map) (side : SideName) (thousandths : ℕ) (sz : ℤ) (kept : List Kept) (seen : List Bool) (lines : List AuditLine) → All (λ (k : Kept). IsPoint m k.pit) kept → AreBegun m kept (length kept) seen lines

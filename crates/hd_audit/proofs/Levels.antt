@@ -16,7 +16,7 @@ use Rattle.hd_map.specs.Rank.{IsPoint, below_by}
 use Rattle.hd_map.specs.SideLaws.{below_by-order}
 use Rattle.hd_map.proofs.Items.{Contains-cases, Contains-head, Contains-tail}
 use Rattle.hd_map.proofs.Points.{place_inside, same_index}
-use Rattle.hd_map.proofs.Sides.{below-apart, below-not_above, compare, not_above-along, not_above-refl}
+use Rattle.hd_map.proofs.Sides.{below-apart, below-not_above, compare, not_above-refl}
 use Rattle.hd_prune.specs.declared.step.Kept.{Kept}
 use Rattle.hd_audit.specs.declared.types.AuditLine.{AuditLine}
 use Rattle.hd_audit.specs.declared.waiting.Waiting.{Waiting}
@@ -203,7 +203,7 @@ next-lowest m side ahead points i d order inside passed x p point e =
           let at : get_or points c.0 d ≡ x = get_or_default points c.0 d x c.1 ∙ c.2 in
           subst (λ (r : Rank). IsNotAbove (below_by side) (get_or points i d) r) at (elim (cases_eq i c.0) [
             | inl same ↦ subst (λ j. IsNotAbove (below_by side) (get_or points i d) (get_or points j d)) same (not_above-refl (below_by side) (below_by-order side) (get_or points i d))
-            | inr apart ↦ order.rises i c.0 d (omega arith) c.1
+            | inr apart ↦ below-not_above (below_by side) (below_by-order side) (get_or points i d) (get_or points c.0 d) (order.rises i c.0 d (omega arith) c.1)
           ])
     ]
 
@@ -214,7 +214,7 @@ passed-more m side ahead points i e order inside passed j d less x p point n =
     let below : below_by side (get_or points i d) x ≡ true = subst (λ (r : Rank). below_by side r x ≡ true) (sym at) (passed x p point n) in
     elim (cases_eq j i) [
       | inl same ↦ subst (λ k. below_by side (get_or points k d) x ≡ true) (sym same) below
-      | inr apart ↦ not_above-along (below_by side) (below_by-order side) (get_or points j d) (get_or points i d) x (order.rises j i d (omega arith) inside) below
+      | inr apart ↦ (below_by-order side).transitive (get_or points j d) (get_or points i d) x (order.rises j i d (omega arith) inside) below
     ]
 
 -- a point that does not wait is passed where none below it waits

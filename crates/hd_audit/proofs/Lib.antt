@@ -15,6 +15,7 @@ mod Orders
 mod Begun
 mod NextLines
 mod Levels
+mod Standings
 mod KeptAlone
 mod Heights
 mod Placing

@@ -1,5 +1,5 @@
 -- A flood from the kept pits: the lines so far, the points that are listed or wait, and those that wait.
-use Rattle.std.specs.Prelude.{◌≡◌, ◌<◌, ◌≤◌, ◌+◌, ◌⊎◌, ◌++◌, ℕ, ℤ, Bool, true, false, List, ◌∷◌, length, slice_index_or, slice_set, Option, Some, None, Contains, if◌then◌else◌, nat_eq}
+use Rattle.std.specs.Prelude.{◌≡◌, ◌<◌, ◌≤◌, ◌+◌, ◌⊎◌, ◌++◌, ℕ, ℤ, Bool, true, false, List, ◌∷◌, length, slice_index_or, slice_set, Option, Some, None, AllPairs, Contains, if◌then◌else◌, nat_eq}
 use Rattle.std.specs.BinaryHeap.{IsHeap}
 use Rattle.std.specs.List.{sum_by}
 use Rattle.std.specs.List.Sorted.{IsPermutation}
@@ -138,21 +138,24 @@ AreNotBelow m side ahead point = (x : Rank) (p : ℕ) → IsPoint m x → ahead_
 abbrev pub ArePassed : Map → SideName → List (Option ℕ) → Rank → Type 0
 ArePassed m side ahead point = (x : Rank) (p : ℕ) → IsPoint m x → ahead_at ahead x.index ≡ Some p → below_by side point x ≡ true
 
--- the points with an index below n
+-- the points with an index below n, by index
 pub record ArePointsTo (m : Map) (n : ℕ) (points : List Rank) : Type 0 where
   pub each : (r : Rank) → Contains points r → IsPoint m r
   pub all : (r : Rank) → IsPoint m r → r.index < n → Contains points r
+  pub below : (r : Rank) → Contains points r → r.index < n
+  pub rises : AllPairs (λ (a : Rank) (b : Rank). a.index < b.index) points
 
--- the points of the map
+-- the points of the map, by index
 pub record ArePoints (m : Map) (points : List Rank) : Type 0 where
   pub each : (r : Rank) → Contains points r → IsPoint m r
   pub all : (r : Rank) → IsPoint m r → Contains points r
+  pub rises : AllPairs (λ (a : Rank) (b : Rank). a.index < b.index) points
 
--- the points of the map, of which none is above a later one
+-- the points of the map, of which each is below all later ones
 pub record AreInOrder (m : Map) (side : SideName) (points : List Rank) : Type 0 where
   pub each : (r : Rank) → Contains points r → IsPoint m r
   pub all : (r : Rank) → IsPoint m r → Contains points r
-  pub rises : (i j : ℕ) (d : Rank) → i < j → j < length points → IsNotAbove (below_by side) (slice_index_or points i d) (slice_index_or points j d)
+  pub rises : (i j : ℕ) (d : Rank) → i < j → j < length points → below_by side (slice_index_or points i d) (slice_index_or points j d) ≡ true
 
 -- the line of a kept pit
 abbrev pub kept_line : Kept → AuditLine

@@ -13,3 +13,4 @@ pub mod Leaks
 pub mod HeightKeys
 pub mod LineList
 pub mod Plain
+pub mod Standings

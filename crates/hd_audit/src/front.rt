@@ -1,27 +1,26 @@
 // The points that wait to be listed, and how the unlisted neighbours of a listed point come to wait.
-ghost use Rattle.std.specs.Prelude.{◌≡◌, ◌<◌, ◌≤◌, ◌+◌, MatchOption, OnOk, false, length};
+ghost use Rattle.std.specs.Prelude.{◌≡◌, ◌<◌, ◌≤◌, ◌+◌, MatchOption, OnOk, length};
 ghost use Rattle.std.specs.BinaryHeap.{heap_items};
 ghost use Rattle.hd_map.specs.Map.{InGrid, Present, cell_count, place_of};
 ghost use Rattle.hd_map.specs.Neighbour.{AreBesideUnder};
-ghost use Rattle.hd_map.specs.Rank.{below_by};
-ghost use Rattle.hd_audit.specs.Flooding.{IsLowestFirst, OffersAt, OffersIfPresent, Spreads, SpreadsRound, is_under, seen_at};
-ghost use Rattle.hd_audit.specs.Lines.{line_at};
+ghost use Rattle.hd_audit.specs.Flooding.{IsLowestFirst, OffersAt, OffersIfPresent, SpreadsRound};
+ghost use Rattle.hd_audit.specs.Standings.{AreStanding, seen_of, standing_at};
+ghost use Rattle.hd_audit.specs.declared.standing.Standing.TheVariants.{Under};
 
-use crate::AuditLines;
 use crate::place_table::PlaceTable;
+use crate::standing::Standing;
 use crate::waiting::Waiting;
 use hd_list::Memory;
-use hd_map::{
-    Heights, Pos, Rank, Side, are_beside, contains, index_of, is_present, position_of, rank_of,
-};
+use hd_map::{Heights, Pos, Rank, Side, are_beside, contains, index_of, rank_of};
 use std::collections::BinaryHeap;
 
 /// The points that are listed or wait. Those that wait and are not below a level, which rises, are noted by
-/// index; the few below it, which the flood reaches from above, are in a heap.
+/// index; the few below it, which the flood reaches from above, are in a heap, and of these alone the heights
+/// are asked for.
 #[derive(Drop)]
 pub struct Front<S: Side> {
-    /// By index, whether the point is listed or waits.
-    pub seen: Vec<bool>,
+    /// By index, how the point stands.
+    pub standing: Vec<Standing>,
     /// By index, of a point that waits and is not below the level, the place of the line of its neighbour
     /// that was listed first.
     pub ahead: PlaceTable,
@@ -29,34 +28,8 @@ pub struct Front<S: Side> {
     pub low: BinaryHeap<Waiting<S>>,
 }
 
-/// Lets the unlisted neighbours of the point of a line wait.
+/// Lets the neighbours of a present point wait, as far as they are not seen, behind the line at a place.
 pub fn spread<S: Side, G: Heights>(
-    grid: &G,
-    lines: &AuditLines,
-    place: usize,
-    level: Option<Rank>,
-    front: &mut Front<S>,
-) -> Result<(), Memory>
-    requires inside { place < length lines.now }
-    requires few { length lines.now ≤ cell_count (G.map grid.now).size }
-    requires point { (line_at lines.now place).index < cell_count (G.map grid.now).size }
-    requires seen { length front.old.seen.items ≡ cell_count (G.map grid.now).size }
-    requires ahead { length front.old.ahead ≡ cell_count (G.map grid.now).size }
-    requires heap { IsLowestFirst S.NAME (heap_items front.old.low) }
-    ensures spreads { OnOk result (Spreads (G.map grid.now) S.NAME lines.now place level front.old.seen.items front.old.ahead (heap_items front.old.low) front.new.seen.items front.new.ahead (heap_items front.new.low)) }
-    ensures seen { OnOk result (length front.new.seen.items ≡ cell_count (G.map grid.now).size) }
-    ensures ahead { OnOk result (length front.new.ahead ≡ cell_count (G.map grid.now).size) }
-    ensures heap { OnOk result (IsLowestFirst S.NAME (heap_items front.new.low)) }
-{
-    let at = position_of(grid.size(), lines.at(place).index);
-    if is_present(grid, at) {
-        spread_round(grid, at, place as u32, &level, front)?;
-    }
-    Ok(())
-}
-
-// Lets the neighbours of a present point wait, as far as they are not seen, behind the line at a place.
-fn spread_round<S: Side, G: Heights>(
     grid: &G,
     at: Pos,
     from: u32,
@@ -64,12 +37,12 @@ fn spread_round<S: Side, G: Heights>(
     front: &mut Front<S>,
 ) -> Result<(), Memory>
     requires present { Present (G.map grid.now) at }
-    requires seen { length front.old.seen.items ≡ cell_count (G.map grid.now).size }
+    requires standing { AreStanding (G.map grid.now) S.NAME level.now front.old.standing.items }
     requires ahead { length front.old.ahead ≡ cell_count (G.map grid.now).size }
     requires few { from < 4294967295 }
     requires heap { IsLowestFirst S.NAME (heap_items front.old.low) }
-    ensures spreads { OnOk result (SpreadsRound (G.map grid.now) S.NAME at from level.now front.old.seen.items front.old.ahead (heap_items front.old.low) front.new.seen.items front.new.ahead (heap_items front.new.low)) }
-    ensures seen { OnOk result (length front.new.seen.items ≡ cell_count (G.map grid.now).size) }
+    ensures spreads { OnOk result (SpreadsRound (G.map grid.now) S.NAME at from level.now (seen_of front.old.standing.items) front.old.ahead (heap_items front.old.low) (seen_of front.new.standing.items) front.new.ahead (heap_items front.new.low)) }
+    ensures standing { OnOk result (AreStanding (G.map grid.now) S.NAME level.now front.new.standing.items) }
     ensures ahead { OnOk result (length front.new.ahead ≡ cell_count (G.map grid.now).size) }
     ensures heap { OnOk result (IsLowestFirst S.NAME (heap_items front.new.low)) }
 {
@@ -100,12 +73,12 @@ fn offer_at<S: Side, G: Heights>(
     requires y { y ≤ 2 }
     requires apart { x ≡ 1 → y ≡ 1 → ⊥ }
     requires present { Present (G.map grid.now) at }
-    requires seen { length front.old.seen.items ≡ cell_count (G.map grid.now).size }
+    requires standing { AreStanding (G.map grid.now) S.NAME level.now front.old.standing.items }
     requires ahead { length front.old.ahead ≡ cell_count (G.map grid.now).size }
     requires few { from < 4294967295 }
     requires heap { IsLowestFirst S.NAME (heap_items front.old.low) }
-    ensures offers { OnOk result (OffersAt (G.map grid.now) S.NAME at x y from level.now front.old.seen.items front.old.ahead (heap_items front.old.low) front.new.seen.items front.new.ahead (heap_items front.new.low)) }
-    ensures seen { OnOk result (length front.new.seen.items ≡ cell_count (G.map grid.now).size) }
+    ensures offers { OnOk result (OffersAt (G.map grid.now) S.NAME at x y from level.now (seen_of front.old.standing.items) front.old.ahead (heap_items front.old.low) (seen_of front.new.standing.items) front.new.ahead (heap_items front.new.low)) }
+    ensures standing { OnOk result (AreStanding (G.map grid.now) S.NAME level.now front.new.standing.items) }
     ensures ahead { OnOk result (length front.new.ahead ≡ cell_count (G.map grid.now).size) }
     ensures heap { OnOk result (IsLowestFirst S.NAME (heap_items front.new.low)) }
 {
@@ -148,24 +121,29 @@ fn offer<S: Side, G: Heights>(
     front: &mut Front<S>,
 ) -> Result<(), Memory>
     requires in_grid { InGrid (G.map grid.now).size at }
-    requires seen { length front.old.seen.items ≡ cell_count (G.map grid.now).size }
+    requires standing { AreStanding (G.map grid.now) S.NAME level.now front.old.standing.items }
     requires ahead { length front.old.ahead ≡ cell_count (G.map grid.now).size }
     requires few { from < 4294967295 }
     requires heap { IsLowestFirst S.NAME (heap_items front.old.low) }
-    ensures offers { OnOk result (OffersIfPresent (G.map grid.now) S.NAME at from level.now front.old.seen.items front.old.ahead (heap_items front.old.low) front.new.seen.items front.new.ahead (heap_items front.new.low)) }
-    ensures seen { OnOk result (length front.new.seen.items ≡ cell_count (G.map grid.now).size) }
+    ensures offers { OnOk result (OffersIfPresent (G.map grid.now) S.NAME at from level.now (seen_of front.old.standing.items) front.old.ahead (heap_items front.old.low) (seen_of front.new.standing.items) front.new.ahead (heap_items front.new.low)) }
+    ensures standing { OnOk result (AreStanding (G.map grid.now) S.NAME level.now front.new.standing.items) }
     ensures ahead { OnOk result (length front.new.ahead ≡ cell_count (G.map grid.now).size) }
     ensures heap { OnOk result (IsLowestFirst S.NAME (heap_items front.new.low)) }
 {
     let index = index_of(grid.size(), at);
-    if front.seen[index as usize] {
-        return Ok(());
+    match front.standing[index as usize] {
+        Standing::Absent | Standing::Seen => Ok(()),
+        Standing::Over => {
+            front.standing[index as usize] = Standing::Seen;
+            front.ahead.put(index, from);
+            Ok(())
+        }
+        Standing::Under => offer_low(grid, at, from, level, front),
     }
-    offer_unseen(grid, at, from, level, front)
 }
 
-// The same of a position that is not yet seen.
-fn offer_unseen<S: Side, G: Heights>(
+// Lets a position wait in the heap behind the line at a place, where a point stands below the level.
+fn offer_low<S: Side, G: Heights>(
     grid: &G,
     at: Pos,
     from: u32,
@@ -173,36 +151,17 @@ fn offer_unseen<S: Side, G: Heights>(
     front: &mut Front<S>,
 ) -> Result<(), Memory>
     requires in_grid { InGrid (G.map grid.now).size at }
-    requires seen { length front.old.seen.items ≡ cell_count (G.map grid.now).size }
+    requires standing { AreStanding (G.map grid.now) S.NAME level.now front.old.standing.items }
     requires ahead { length front.old.ahead ≡ cell_count (G.map grid.now).size }
-    requires few { from < 4294967295 }
-    requires unseen { seen_at front.old.seen.items (place_of (G.map grid.now).size at) ≡ false }
+    requires under { standing_at front.old.standing.items (place_of (G.map grid.now).size at) ≡ Under }
     requires heap { IsLowestFirst S.NAME (heap_items front.old.low) }
-    ensures offers { OnOk result (OffersIfPresent (G.map grid.now) S.NAME at from level.now front.old.seen.items front.old.ahead (heap_items front.old.low) front.new.seen.items front.new.ahead (heap_items front.new.low)) }
-    ensures seen { OnOk result (length front.new.seen.items ≡ cell_count (G.map grid.now).size) }
+    ensures offers { OnOk result (OffersIfPresent (G.map grid.now) S.NAME at from level.now (seen_of front.old.standing.items) front.old.ahead (heap_items front.old.low) (seen_of front.new.standing.items) front.new.ahead (heap_items front.new.low)) }
+    ensures standing { OnOk result (AreStanding (G.map grid.now) S.NAME level.now front.new.standing.items) }
     ensures ahead { OnOk result (length front.new.ahead ≡ cell_count (G.map grid.now).size) }
     ensures heap { OnOk result (IsLowestFirst S.NAME (heap_items front.new.low)) }
 {
-    if !is_present(grid, at) {
-        return Ok(());
-    }
     let point = rank_of(grid, at);
-    front.seen[point.index as usize] = true;
-    if !is_under::<S>(level, point) {
-        front.ahead.put(point.index, from);
-        return Ok(());
-    }
+    front.standing[point.index as usize] = Standing::Seen;
     front.low.push(Waiting::new(point, from))?;
     Ok(())
-}
-
-// Whether a point is below the level.
-#[inline]
-fn is_under<S: Side>(level: &Option<Rank>, point: Rank) -> bool
-    ensures { result ≡ is_under (below_by S.NAME) level.now point }
-{
-    match level {
-        Some(level) => S::below(point, *level),
-        None => false,
-    }
 }

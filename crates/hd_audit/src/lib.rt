@@ -19,6 +19,7 @@ mod place_table;
 mod places;
 mod plain;
 mod reading;
+mod standing;
 mod types;
 mod waiting;
 mod words;

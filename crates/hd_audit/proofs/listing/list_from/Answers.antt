@@ -8,6 +8,7 @@ use Rattle.hd_audit.specs.declared.types.AuditLine.{AuditLine}
 use Rattle.hd_audit.specs.Flooding.{IsFront, IsPointAt, ahead_at, next_line, rank_of_waiting}
 use Rattle.hd_audit.specs.Lines.{line_at}
 use Rattle.hd_audit.specs.Listing.{AreShownTo}
+use Rattle.hd_audit.specs.Standings.{seen_of}
 use Rattle.hd_audit.proofs.Levels.{list-level, passed-level}
 use Rattle.hd_audit.proofs.listing.list_from.Goals as goal
 
@@ -15,13 +16,13 @@ pub list_point-requires-clause-from : goal.list_point-requires-clause-from
 list_point-requires-clause-from g c =
     let e : ahead_at c.args.front.now.ahead c.args.point.index ≡ Some c.in-Some.from = sym c.place_at.ensures ∙ c.in-Some.is in
     subst (λ i. i < length c.args.lines.now) (sym c.new-next.ensures.from) (list-level (g.G.Heights.map c.args.grid.now) (g.met.G.Heights.whole c.args.grid.now) g.S.Side.NAME c.args.limit.now.percent.thousandths c.args.limit.now.sz (pits_kept c.args.kept.now) c.requires.firm.exactly
-    c.args.lines.now c.args.front.now.seen.items c.args.front.now.ahead c.requires.shown (heap_items c.args.front.now.low) c.args.point c.in-Some.from c.requires.front c.requires.point c.requires.lowest e).before
+    c.args.lines.now (seen_of c.args.front.now.standing.items) c.args.front.now.ahead c.requires.shown (heap_items c.args.front.now.low) c.args.point c.in-Some.from c.requires.front c.requires.point c.requires.lowest e).before
 
 pub list_point-requires-clause-few : goal.list_point-requires-clause-few
 list_point-requires-clause-few g c =
     let e : ahead_at c.args.front.now.ahead c.args.point.index ≡ Some c.in-Some.from = sym c.place_at.ensures ∙ c.in-Some.is in
     (list-level (g.G.Heights.map c.args.grid.now) (g.met.G.Heights.whole c.args.grid.now) g.S.Side.NAME c.args.limit.now.percent.thousandths c.args.limit.now.sz (pits_kept c.args.kept.now) c.requires.firm.exactly
-    c.args.lines.now c.args.front.now.seen.items c.args.front.now.ahead c.requires.shown (heap_items c.args.front.now.low) c.args.point c.in-Some.from c.requires.front c.requires.point c.requires.lowest e).few
+    c.args.lines.now (seen_of c.args.front.now.standing.items) c.args.front.now.ahead c.requires.shown (heap_items c.args.front.now.low) c.args.point c.in-Some.from c.requires.front c.requires.point c.requires.lowest e).few
 
 pub list_point-requires-clause-point : goal.list_point-requires-clause-point
 list_point-requires-clause-point g c = subst (IsPoint (g.G.Heights.map c.args.grid.now)) (sym c.new-next.ensures.rank) c.requires.point
@@ -30,7 +31,7 @@ pub list_point-requires-clause-cut : goal.list_point-requires-clause-cut
 list_point-requires-clause-cut g c =
     let e : ahead_at c.args.front.now.ahead c.args.point.index ≡ Some c.in-Some.from = sym c.place_at.ensures ∙ c.in-Some.is in
     subst (λ i. (k : ℕ) → (line_at c.args.lines.now i).cut ≡ Some k → IsPointAt (g.G.Heights.map c.args.grid.now) k) (sym c.new-next.ensures.from) (list-level (g.G.Heights.map c.args.grid.now) (g.met.G.Heights.whole c.args.grid.now) g.S.Side.NAME c.args.limit.now.percent.thousandths c.args.limit.now.sz (pits_kept c.args.kept.now) c.requires.firm.exactly
-    c.args.lines.now c.args.front.now.seen.items c.args.front.now.ahead c.requires.shown (heap_items c.args.front.now.low) c.args.point c.in-Some.from c.requires.front c.requires.point c.requires.lowest e).cut
+    c.args.lines.now (seen_of c.args.front.now.standing.items) c.args.front.now.ahead c.requires.shown (heap_items c.args.front.now.low) c.args.point c.in-Some.from c.requires.front c.requires.point c.requires.lowest e).cut
 
 pub list_low-requires-clause-shown : goal.list_low-requires-clause-shown
 list_low-requires-clause-shown g c =
@@ -42,7 +43,7 @@ list_low-requires-clause-shown g c =
     let lines : List AuditLine = c.args.lines.now in
     let e : ahead_at c.args.front.now.ahead c.args.point.index ≡ Some c.in-Some.from = sym c.place_at.ensures ∙ c.in-Some.is in
     let listed = list-level (g.G.Heights.map c.args.grid.now) (g.met.G.Heights.whole c.args.grid.now) g.S.Side.NAME c.args.limit.now.percent.thousandths c.args.limit.now.sz (pits_kept c.args.kept.now) c.requires.firm.exactly
-    c.args.lines.now c.args.front.now.seen.items c.args.front.now.ahead c.requires.shown (heap_items c.args.front.now.low) c.args.point c.in-Some.from c.requires.front c.requires.point c.requires.lowest e in
+    c.args.lines.now (seen_of c.args.front.now.standing.items) c.args.front.now.ahead c.requires.shown (heap_items c.args.front.now.low) c.args.point c.in-Some.from c.requires.front c.requires.point c.requires.lowest e in
     let items : c.list_point.new.lines ≡ lines ++ next_line m side t sz (line_at lines c.in-Some.from) c.args.point ∷ [] = c.in_ok-list_point.ensures.lines
     ∙ ap (λ i. lines ++ next_line m side t sz (line_at lines i) (rank_of_waiting c.new-next.result) ∷ []) c.new-next.ensures.from ∙ ap (λ (r : Rank). lines ++ next_line m side t sz (line_at lines c.in-Some.from) r ∷ []) c.new-next.ensures.rank in
     subst (λ (xs : List AuditLine). AreShownTo m side t sz kept xs (length xs)) (sym items) listed.shown
@@ -58,17 +59,17 @@ list_low-requires-clause-front g c =
     let cleared : c.clear.new.self ≡ set front.ahead c.args.point.index None = c.clear.ensures in
     let e : ahead_at c.args.front.now.ahead c.args.point.index ≡ Some c.in-Some.from = sym c.place_at.ensures ∙ c.in-Some.is in
     let listed = list-level (g.G.Heights.map c.args.grid.now) (g.met.G.Heights.whole c.args.grid.now) g.S.Side.NAME c.args.limit.now.percent.thousandths c.args.limit.now.sz (pits_kept c.args.kept.now) c.requires.firm.exactly
-    c.args.lines.now c.args.front.now.seen.items c.args.front.now.ahead c.requires.shown (heap_items c.args.front.now.low) c.args.point c.in-Some.from c.requires.front c.requires.point c.requires.lowest e in
+    c.args.lines.now (seen_of c.args.front.now.standing.items) c.args.front.now.ahead c.requires.shown (heap_items c.args.front.now.low) c.args.point c.in-Some.from c.requires.front c.requires.point c.requires.lowest e in
     let next : AuditLine = next_line m side t sz (line_at lines c.in-Some.from) c.args.point in
     let items : c.list_point.new.lines ≡ lines ++ next ∷ [] = c.in_ok-list_point.ensures.lines
     ∙ ap (λ i. lines ++ next_line m side t sz (line_at lines i) (rank_of_waiting c.new-next.result) ∷ []) c.new-next.ensures.from ∙ ap (λ (r : Rank). lines ++ next_line m side t sz (line_at lines c.in-Some.from) r ∷ []) c.new-next.ensures.rank in
     let long : length lines + 1 ≡ length c.list_point.new.lines = (let longer = length_push lines next in let same = ap length items in omega (arith, longer, same)) in
     let new = c.list_point.new.front in
-    subst (λ i. IsFront m side c.list_point.new.lines (Some c.args.point) new.seen.items new.ahead (heap_items new.low) i) long
-    (c.in_ok-list_point.ensures.spreads (subst (λ (ahead : List (Option ℕ)). IsFront m side c.list_point.new.lines (Some c.args.point) front.seen.items ahead (heap_items front.low) (length lines)) (sym cleared)
-    (subst (λ (xs : List AuditLine). IsFront m side xs (Some c.args.point) front.seen.items (set front.ahead c.args.point.index None) (heap_items front.low) (length lines)) (sym items) listed.front)))
+    subst (λ i. IsFront m side c.list_point.new.lines (Some c.args.point) (seen_of new.standing.items) new.ahead (heap_items new.low) i) long
+    (c.in_ok-list_point.ensures.spreads (subst (λ (ahead : List (Option ℕ)). IsFront m side c.list_point.new.lines (Some c.args.point) (seen_of front.standing.items) ahead (heap_items front.low) (length lines)) (sym cleared)
+    (subst (λ (xs : List AuditLine). IsFront m side xs (Some c.args.point) (seen_of front.standing.items) (set front.ahead c.args.point.index None) (heap_items front.low) (length lines)) (sym items) listed.front)))
 
 pub returns-clause-passed : goal.returns-clause-passed
 returns-clause-passed g c =
     let new = c.list_low.new.front in
-    passed-level (g.G.Heights.map c.args.grid.now) g.S.Side.NAME c.list_low.new.lines c.args.point new.seen.items new.ahead (heap_items new.low) (length c.list_low.new.lines) c.in_ok-list_low.ensures.front
+    passed-level (g.G.Heights.map c.args.grid.now) g.S.Side.NAME c.list_low.new.lines c.args.point (seen_of new.standing.items) new.ahead (heap_items new.low) (length c.list_low.new.lines) c.in_ok-list_low.ensures.front
