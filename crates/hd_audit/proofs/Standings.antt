@@ -131,14 +131,17 @@ module _ (m : Map) (side : SideName) (points : List Rank) (order : AreInOrder m 
   below-before : (r : Rank) (k : ℕ) (d : Rank) → IsPoint m r → k < length points → below_by side r (get_or points k d) ≡ true → (j : ℕ) × (j < k) × (get_or points j d ≡ r)
   below-before r k d point inside below =
       let c = order.all r point in
-      let at : get_or points c.0 d ≡ r = get_or_default points c.0 d r c.1 ∙ c.2 in
-      (c.0, elim (cases_lt c.0 k) [
-        | inl before ↦ before
-        | inr after ↦ absurd (false≢true (sym (elim (cases_eq k c.0) [
+      let at : get_or points c.0 d ≡ r = get_or_default points c.0 d r c.1 ∙ c.2 in (
+        c.0,
+        elim (cases_lt c.0 k) [
+          | inl before ↦ before
+          | inr after ↦ absurd (false≢true (sym (elim (cases_eq k c.0) [
             | inl same ↦ subst (λ j. below_by side r (get_or points j d) ≡ false) (sym same) (subst (λ (x : Rank). below_by side r x ≡ false) (sym at) ((below_by-order side).irreflexive r))
             | inr apart ↦ below-not_above (below_by side) (below_by-order side) (get_or points k d) r (subst (λ (x : Rank). below_by side (get_or points k d) x ≡ true) at (order.rises k c.0 d (omega (arith, after, apart)) c.1))
           ]) ∙ below))
-      ], at)
+        ],
+        at,
+      )
 
   true-or_false : (b : Bool) → (b ≡ true) ⊎ (b ≡ false)
   true-or_false true = inl refl
@@ -147,10 +150,13 @@ module _ (m : Map) (side : SideName) (points : List Rank) (order : AreInOrder m 
   -- none is below the first
   stands-first : (d : Rank) (q : Pos) (s : Standing) → 0 < length points → Stands m side None q s → Stands m side (Some (get_or points 0 d)) q s
   stands-first d q Absent some stands = stands
-  stands-first d q Over some stands = (stands.0, elim (true-or_false (below_by side (rank m q) (get_or points 0 d))) [
-    | inl below ↦ absurd (let j = below-before (rank m q) 0 d (point-of q stands.0) some below in let less = j.1 in omega (arith, less))
-    | inr above ↦ above
-  ])
+  stands-first d q Over some stands = (
+    stands.0,
+    elim (true-or_false (below_by side (rank m q) (get_or points 0 d))) [
+      | inl below ↦ absurd (let j = below-before (rank m q) 0 d (point-of q stands.0) some below in let less = j.1 in omega (arith, less))
+      | inr above ↦ above
+    ],
+  )
   stands-first d q Under some stands = absurd (false≢true stands.1)
   stands-first d q Seen some stands = tt
 
@@ -174,17 +180,20 @@ module _ (m : Map) (side : SideName) (points : List Rank) (order : AreInOrder m 
   -- of the others none comes to be below it
   stands-next : (k : ℕ) (d : Rank) (q : Pos) (s : Standing) → k + 1 < length points → (place_of m.size q ≡ (get_or points k d).index → ⊥) → Stands m side (Some (get_or points k d)) q s → Stands m side (Some (get_or points (k + 1) d)) q s
   stands-next k d q Absent more apart stands = stands
-  stands-next k d q Over more apart stands = (stands.0, elim (true-or_false (below_by side (rank m q) (get_or points (k + 1) d))) [
-    | inl below ↦ absurd (
-        let j = below-before (rank m q) (k + 1) d (point-of q stands.0) more below in
-        elim (cases_eq j.0 k) [
-          | inl last ↦ apart (ap (λ (r : Rank). r.index) (sym j.2 ∙ ap (λ i. get_or points i d) last))
-          | inr old ↦ (let less = j.1 in
-              let up = order.rises j.0 k d (omega (arith, less, old)) (omega (arith, more)) in
-              false≢true (sym stands.1 ∙ subst (λ (r : Rank). below_by side r (get_or points k d) ≡ true) j.2 up))
-        ])
-    | inr above ↦ above
-  ])
+  stands-next k d q Over more apart stands = (
+    stands.0,
+    elim (true-or_false (below_by side (rank m q) (get_or points (k + 1) d))) [
+      | inl below ↦ absurd (
+          let j = below-before (rank m q) (k + 1) d (point-of q stands.0) more below in
+          elim (cases_eq j.0 k) [
+            | inl last ↦ apart (ap (λ (r : Rank). r.index) (sym j.2 ∙ ap (λ i. get_or points i d) last))
+            | inr old ↦ (let less = j.1 in
+                let up = order.rises j.0 k d (omega (arith, less, old)) (omega (arith, more)) in
+                false≢true (sym stands.1 ∙ subst (λ (r : Rank). below_by side r (get_or points k d) ≡ true) j.2 up))
+          ])
+      | inr above ↦ above
+    ],
+  )
   stands-next k d q Under more apart stands = (stands.0, under-next k d (rank m q) more stands.1)
   stands-next k d q Seen more apart stands = tt
 

@@ -201,9 +201,39 @@ fn cross_four<S: Side, G: Heights>(
     ensures pits { OnOk result (All (HasPits regions.now.pits) crossings.old.items → All (HasPits regions.now.pits) crossings.new.items) }
 {
     cross_if::<S, G>(grid, regions, own, number, rows, x, marks, first, crossings)?;
-    cross_if::<S, G>(grid, regions, own, number, rows, x, marks, first + 1, crossings)?;
-    cross_if::<S, G>(grid, regions, own, number, rows, x, marks, first + 2, crossings)?;
-    cross_if::<S, G>(grid, regions, own, number, rows, x, marks, first + 3, crossings)?;
+    cross_if::<S, G>(
+        grid,
+        regions,
+        own,
+        number,
+        rows,
+        x,
+        marks,
+        first + 1,
+        crossings,
+    )?;
+    cross_if::<S, G>(
+        grid,
+        regions,
+        own,
+        number,
+        rows,
+        x,
+        marks,
+        first + 2,
+        crossings,
+    )?;
+    cross_if::<S, G>(
+        grid,
+        regions,
+        own,
+        number,
+        rows,
+        x,
+        marks,
+        first + 3,
+        crossings,
+    )?;
     Ok(())
 }
 

@@ -18,13 +18,13 @@ loop-x-preserved g c =
     let old = passes_of side pits c.args.crossings.now.items in
     let new = passes_of side pits c.gather_point.new.crossings.items in
     record {
-    gathers = gathers_less m side (λ u. ((u.y ≡ y) × (u.x < x)) ⊎ (u ≡ at)) (λ u. (u.y ≡ y) × (u.x < x + 1)) old new
-    (λ u here chosen. elim (cases_lt u.x x) [
-      | inl less ↦ inl (chosen.0, less)
-      | inr past ↦ inr (same_pos u at (let less = chosen.1 in omega (arith, less, past)) chosen.0)
-    ])
-    (gathers_join m side (λ u. (u.y ≡ y) × (u.x < x)) (λ u. u ≡ at) old (passes_of side pits c.loop-x.crossings.items) new c.loop-x.invariant.gathers c.in_ok-gather_point.ensures.gathers);
-    pits = λ all. c.in_ok-gather_point.ensures.pits (c.loop-x.invariant.pits all);
+      gathers = gathers_less m side (λ u. ((u.y ≡ y) × (u.x < x)) ⊎ (u ≡ at)) (λ u. (u.y ≡ y) × (u.x < x + 1)) old new
+          (λ u here chosen. elim (cases_lt u.x x) [
+            | inl less ↦ inl (chosen.0, less)
+            | inr past ↦ inr (same_pos u at (let less = chosen.1 in omega (arith, less, past)) chosen.0)
+          ])
+          (gathers_join m side (λ u. (u.y ≡ y) × (u.x < x)) (λ u. u ≡ at) old (passes_of side pits c.loop-x.crossings.items) new c.loop-x.invariant.gathers c.in_ok-gather_point.ensures.gathers);
+      pits = λ all. c.in_ok-gather_point.ensures.pits (c.loop-x.invariant.pits all);
     }
 
 pub returns-clause-gathers : goal.returns-clause-gathers
