@@ -21,7 +21,7 @@ use std::alloc::Global;
 /// A pass at a point between two regions, which it names by the numbers of their pits.
 #[derive(Clone, Copy, Debug, PartialEq, Eq)]
 pub struct Crossing {
-    /// The number of the one pit: the point lies in its region.
+    /// The number of the one pit.
     pub a: u32,
     /// The number of the other.
     pub b: u32,
