@@ -54,6 +54,22 @@ module _ (side : SideName) where
       let y = higher-bounds b a in
       order.total (higher_by side a b) (higher_by side b a) (higher-least b a (higher_by side a b) x.1 x.0) (higher-least a b (higher_by side b a) y.1 y.0)
 
+  -- and of three it does not matter which two are taken first
+  pub higher-assoc : (a b c : Rank) → higher_by side a (higher_by side b c) ≡ higher_by side (higher_by side a b) c
+  higher-assoc a b c =
+      let below = below_by side in
+      let left : Rank = higher_by side a (higher_by side b c) in
+      let right : Rank = higher_by side (higher_by side a b) c in
+      let ab = higher-bounds a b in
+      let bc = higher-bounds b c in
+      let l = higher-bounds a (higher_by side b c) in
+      let r = higher-bounds (higher_by side a b) c in
+      let b_left = not_above-trans below order b (higher_by side b c) left bc.0 l.1 in
+      let c_left = not_above-trans below order c (higher_by side b c) left bc.1 l.1 in
+      let a_right = not_above-trans below order a (higher_by side a b) right ab.0 r.0 in
+      let b_right = not_above-trans below order b (higher_by side a b) right ab.1 r.0 in
+      order.total left right (higher-least (higher_by side a b) c left (higher-least a b left l.0 b_left) c_left) (higher-least a (higher_by side b c) right a_right (higher-least b c right b_right r.1))
+
 -- what is not above another, and is another, is below it
 lower-than : (side : SideName) (a b : Rank) → IsNotAbove (below_by side) a b → (a ≡ b → ⊥) → below_by side a b ≡ true
 lower-than side a b low ne = elim (below_by side a b) as (λ v. below_by side a b ≡ v → v ≡ true) [

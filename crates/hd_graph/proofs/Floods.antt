@@ -19,7 +19,7 @@ use Rattle.hd_graph.proofs.Places.{item_at}
 use Rattle.hd_graph.proofs.Rises.{RiseWithin, between-within, within-between}
 
 -- a pass leads both ways
-pub pass-both : (passes : List Pass) (a b w : Rank) → HasPass passes a b w → HasPass passes b a w
+pass-both : (passes : List Pass) (a b w : Rank) → HasPass passes a b w → HasPass passes b a w
 pass-both passes a b w (inl h) = inr h
 pass-both passes a b w (inr h) = inl h
 
@@ -180,13 +180,3 @@ module _ (below : Rank → Rank → Bool) (order : IsStrictOrder below) (passes 
     -- so the line tells the least highest passes
     pub prim-tells : TellsPasses below passes line
     prim-tells i j x y less hx hy = least_is i j x y less hx hy (rise_between below line i j) refl
-
-    -- where these are some of all passes, and join the ends of each within it, the line is one of all
-    pub prim-of_all : (all : List Pass) → ((a b w : Rank) → HasPass passes a b w → HasPass all a b w) → ((a b w : Rank) → HasPass all a b w → Reach (PassStep below passes w) a b) → IsPrimOrder below all line
-    prim-of_all all some spans = record {
-      attaches = λ k x r at rise. (let a = prim.attaches k x r at rise in (a.0, a.1, a.2, a.3, some (a.1).low x.low r a.4));
-      lowest = λ k m l x y z w less le atx aty atz pass.
-          let p = places_joined w m y aty refl (spans y.low z.low w pass) in
-          let same : p.0 ≡ l = once p.0 l p.1 z p.2 atz p.3 in
-          rises-from_joined w m l k x less le atx (subst (λ v. Reach (StepAt w) m v) same p.4);
-    }

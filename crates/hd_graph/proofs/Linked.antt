@@ -7,22 +7,29 @@ use Rattle.hd_map.specs.declared.types.Pass.{Pass}
 use Rattle.hd_map.specs.declared.types.Rank.{Rank}
 use Rattle.hd_map.specs.Order.{IsNotAbove}
 use Rattle.hd_map.specs.Walks.{HasPass}
-use Rattle.hd_map.proofs.Items.{Contains-map}
+use Rattle.hd_map.proofs.Items.{Contains-map, map-Contains}
 use Rattle.hd_map.proofs.Levels.{Reach, here, step}
 use Rattle.hd_graph.specs.declared.graph.Low.{Low}
 use Rattle.hd_graph.specs.declared.links.Link.{Link}
 use Rattle.hd_graph.specs.Links.{HasEnds, IsBetween, pass_of, rank_at}
-use Rattle.hd_graph.specs.Thinning.{LinkStep}
 use Rattle.hd_graph.proofs.Floods.{PassStep}
 use Rattle.hd_graph.proofs.Places.{one_place}
 use Rattle.hd_graph.proofs.Steps.{reach-as}
-use Rattle.hd_graph.proofs.Thinned.{link-pass}
 
 -- a low of this rank has one number
 pub same-low : (lows : List Low) → AllPairs (λ x y. x.rank.index ≢ y.rank.index) lows → (a b : ℕ) → a < length lows → b < length lows → rank_at lows a ≡ rank_at lows b → a ≡ b
 same-low lows different a b inside_a inside_b e =
     let none : Low = record { rank = record { height = pos 0; index = 0 }; pit = false } in
     one_place (λ (z : Low). z.rank.index) lows different a b _ _ (slice_get-get_or lows a none inside_a) (slice_get-get_or lows b none inside_b) (ap (λ (r : Rank). r.index) e)
+
+-- one of the links joins a and b, and is not above t
+abbrev pub LinkStep : (Rank → Rank → Bool) → List Link → Rank → ℕ → ℕ → Type 0
+LinkStep below links t a b = (l : Link) × Contains links l × IsBetween l a b × IsNotAbove below l.at t
+
+-- the pass of a link leads from its one end to the other
+pub link-pass : (lows : List Low) (links : List Link) (l : Link) (a b : ℕ) → Contains links l → IsBetween l a b → HasPass (map (pass_of lows) links) (rank_at lows a) (rank_at lows b) l.at
+link-pass lows links l a b h (inl e) = inl (rw (← e.0, ← e.1) (map-Contains (pass_of lows) links l h))
+link-pass lows links l a b h (inr e) = inr (rw (← e.0, ← e.1) (map-Contains (pass_of lows) links l h))
 
 module _ (below : Rank → Rank → Bool) (lows : List Low) (links : List Link) (t : Rank) where
   -- links that are not above t are passes that are not
@@ -31,7 +38,7 @@ module _ (below : Rank → Rank → Bool) (lows : List Low) (links : List Link) 
 
   module _ (different : AllPairs (λ x y. x.rank.index ≢ y.rank.index) lows) (within : All (HasEnds (length lows)) links) where
     -- a pass from a low is that of a link, which leads to another low
-    link_of : (a : ℕ) (r w : Rank) → a < length lows → HasPass (map (pass_of lows) links) (rank_at lows a) r w → (l : Link) × Contains links l × (l.at ≡ w) × (b : ℕ) × IsBetween l a b × (b < length lows) × (rank_at lows b ≡ r)
+    pub link_of : (a : ℕ) (r w : Rank) → a < length lows → HasPass (map (pass_of lows) links) (rank_at lows a) r w → (l : Link) × Contains links l × (l.at ≡ w) × (b : ℕ) × IsBetween l a b × (b < length lows) × (rank_at lows b ≡ r)
     link_of a r w inside (inl h) =
         let x = Contains-map (pass_of lows) links _ h in
         let l : Link = x.0 in
@@ -54,3 +61,14 @@ module _ (below : Rank → Rank → Bool) (lows : List Low) (links : List Link) 
         let x = link_of a s p.0 inside (subst (λ z. HasPass (map (pass_of lows) links) z s p.0) (sym e) p.1) in
         let more = linked-passes x.3 x.5 x.6 rest in
         (more.0, more.1, more.2, step (x.0, x.1, x.4, subst (λ w. IsNotAbove below w t) (sym x.2) p.2) more.3)
+
+module _ (lows : List Low) (links sorted : List Link) (kept : (l : Link) → Contains links l → Contains sorted l) where
+  pass_permuted : (p : Pass) → Contains (map (pass_of lows) links) p → Contains (map (pass_of lows) sorted) p
+  pass_permuted p h =
+      let x = Contains-map (pass_of lows) links p h in
+      subst (λ q. Contains (map (pass_of lows) sorted) q) x.2 (map-Contains (pass_of lows) sorted x.0 (kept x.0 x.1))
+
+  -- the passes of the same links in another order
+  pub passes-permuted : (a b w : Rank) → HasPass (map (pass_of lows) links) a b w → HasPass (map (pass_of lows) sorted) a b w
+  passes-permuted a b w (inl h) = inl (pass_permuted _ h)
+  passes-permuted a b w (inr h) = inr (pass_permuted _ h)

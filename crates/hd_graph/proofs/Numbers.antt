@@ -1,8 +1,9 @@
 -- The numbers of lows, and the links that name them.
-use Rattle.std.proofs.Common.{◌≡◌, ◌≢◌, ℕ, ◌<◌, ◌≤◌, ◌+◌, inl, inr, List, [], ◌∷◌, ◌++◌, length, map, take, get_or, Some, sym, ◌∙◌, ap, subst, arith, slice_get, set}
-use Rattle.std.specs.Prelude.{All, AllPairs}
+use Rattle.std.proofs.Common.{◌≡◌, ◌≢◌, ℕ, ◌<◌, ◌≤◌, ◌+◌, inl, inr, List, [], ◌∷◌, ◌++◌, length, map, take, get_or, Some, false, refl, sym, ◌∙◌, ap, subst, arith, slice_get, set}
+use Rattle.std.specs.Prelude.{All, AllPairs, pos}
 use Rattle.std.proofs.lemmas.Bool.{cases_eq}
 use Rattle.std.proofs.lemmas.List.{map-append, take_more}
+use Rattle.std.proofs.lemmas.List.Elements.{Contains-get_or}
 use Rattle.std.proofs.lemmas.Option.{slice_get-get_or, slice_get_within, get_or_from_slice_get, same_Some}
 use Rattle.hd_map.specs.declared.types.Pass.{Pass}
 use Rattle.hd_map.specs.declared.types.Rank.{Rank}
@@ -11,6 +12,12 @@ use Rattle.hd_graph.specs.declared.links.Link.{Link}
 use Rattle.hd_graph.specs.Graph.{IsLow}
 use Rattle.hd_graph.specs.Links.{HasEnds, IsNumbering, pass_of, rank_at}
 use Rattle.hd_graph.proofs.Places.{get-set_same, get-set_other, item_at, one_place, place_of}
+
+-- a number within the lows is that of a low
+pub low_at : (lows : List Low) (k : ℕ) → k < length lows → IsLow lows (rank_at lows k)
+low_at lows k inside =
+    let none : Low = record { rank = record { height = pos 0; index = 0 }; pit = false } in
+    (get_or lows k none, Contains-get_or lows k none inside, refl)
 
 -- the indexes of the first n lows are below the room
 abbrev pub AreWithin : List Low → ℕ → ℕ → Type 0

@@ -1,7 +1,7 @@
 -- Items of a list by place, after a push or a write.
-use Rattle.std.proofs.Common.{◌≡◌, ◌≢◌, ℕ, zero, suc, ◌<◌, ◌⊎◌, inl, inr, List, [], ◌∷◌, ◌++◌, length, Some, refl, sym, ◌∙◌, ap, arith, slice_get, set, Bool, true, get_or}
+use Rattle.std.proofs.Common.{◌≡◌, ◌≢◌, ℕ, zero, suc, ◌<◌, ◌⊎◌, inl, inr, List, [], ◌∷◌, ◌++◌, length, Some, refl, sym, ◌∙◌, ap, arith, slice_get, set, get_or}
 use Rattle.std.specs.Prelude.{Contains, AllPairs}
-use Rattle.std.proofs.lemmas.Option.{slice_get-get_or, slice_get_within, get_or_from_slice_get}
+use Rattle.std.proofs.lemmas.Option.{same_Some, slice_get-get_or, slice_get_within, get_or_from_slice_get}
 
 -- items and places after a push or a write
 module _ {X : Type 0} where
@@ -32,17 +32,16 @@ module _ {X : Type 0} where
   get-set_other (a ∷ xs) (suc i) zero v h = refl
   get-set_other (a ∷ xs) (suc i) (suc k) v h = get-set_other xs i k v (λ e. h (ap suc e))
 
+  pub get-set_cases : (xs : List X) (i k : ℕ) (v y : X) → slice_get (set xs i v) k ≡ Some y → ((i ≡ k) × (v ≡ y)) ⊎ ((i ≢ k) × (slice_get xs k ≡ Some y))
+  get-set_cases [] i k v y h = absurd (cc h)
+  get-set_cases (a ∷ xs) zero zero v y h = inl (refl, same_Some v y h)
+  get-set_cases (a ∷ xs) zero (suc k) v y h = inr (λ e. omega (arith, e), h)
+  get-set_cases (a ∷ xs) (suc i) zero v y h = inr (λ e. omega (arith, e), h)
+  get-set_cases (a ∷ xs) (suc i) (suc k) v y h = elim (get-set_cases xs i k v y h) [ inl p ↦ inl (ap suc p.0, p.1) | inr p ↦ inr (λ e. p.0 (omega (arith, e)), p.1) ]
+
   -- what is read within the list is there
   pub get-from_read : (xs : List X) (i : ℕ) (d x : X) → i < length xs → get_or xs i d ≡ x → slice_get xs i ≡ Some x
   get-from_read xs i d x h e = slice_get-get_or xs i d h ∙ ap Some e
-
--- a mark that is set stays
-pub mark_stays : (done : List Bool) (i v : ℕ) → slice_get done v ≡ Some true → slice_get (set done i true) v ≡ Some true
-mark_stays [] i v h = h
-mark_stays (d ∷ ds) zero zero h = refl
-mark_stays (d ∷ ds) zero (suc v) h = h
-mark_stays (d ∷ ds) (suc i) zero h = h
-mark_stays (d ∷ ds) (suc i) (suc v) h = mark_stays ds i v h
 
 -- of two numbers the first is less, or they are one, or it is more
 pub less_same_more : (m n : ℕ) → (m < n) ⊎ ((m ≡ n) ⊎ (n < m))

@@ -1,169 +1,213 @@
--- The visits of a flood, as stops, are the flood line of the graph.
-use Rattle.std.proofs.Common.{◌≡◌, ℕ, ◌+◌, ◌<◌, ◌++◌, ◌∷◌, [], inl, inr, Bool, List, map, length, Option, Some, None, refl, sym, ◌∙◌, ap, subst, arith, slice_get}
-use Rattle.std.specs.Prelude.{◌↔◌, All, Contains}
-use Rattle.std.proofs.lemmas.Bool.{cases_eq}
+-- The line so far, one more stop, and the whole flood line.
+use Rattle.std.proofs.Common.{◌≡◌, ◌≢◌, ℕ, ◌+◌, ◌<◌, ◌++◌, ◌∷◌, [], inl, inr, Bool, true, false, List, length, map, Some, None, sym, ◌∙◌, ap, subst, arith, set, slice_get}
+use Rattle.std.specs.Prelude.{All, AllPairs, Contains}
+use Rattle.std.specs.List.Sorted.{IsSortedBy}
+use Rattle.std.proofs.lemmas.Bool.{false_from_ne_true}
+use Rattle.std.proofs.lemmas.List.{length-set}
 use Rattle.std.proofs.lemmas.List.Elements.{All-contains}
-use Rattle.std.proofs.lemmas.Option.{slice_get_within, same_Some, get_or_from_slice_get}
+use Rattle.std.proofs.lemmas.Option.{get_or_from_slice_get, none-some, same_Some, slice_get_within}
 use Rattle.hd_map.specs.declared.types.Pass.{Pass}
 use Rattle.hd_map.specs.declared.types.Rank.{Rank}
 use Rattle.hd_map.specs.Order.{IsNotAbove, IsStrictOrder}
 use Rattle.hd_map.specs.Walks.{HasPass}
 use Rattle.hd_map.proofs.Items.{Contains-map}
-use Rattle.hd_map.proofs.Levels.{Reach}
-use Rattle.hd_graph.specs.declared.flooding.Visit.{Visit}
+use Rattle.hd_map.proofs.Levels.{here, step}
 use Rattle.hd_graph.specs.declared.graph.Low.{Low}
 use Rattle.hd_graph.specs.declared.line.Stop.{Stop}
 use Rattle.hd_graph.specs.declared.links.Link.{Link}
-use Rattle.hd_graph.specs.declared.ways.Ways.{Ways}
-use Rattle.hd_graph.specs.Flood.{HasWay, ArePrim, IsVisited, IsStopOf}
-use Rattle.hd_graph.specs.Graph.{IsGraph, IsPassOf, IsLow}
-use Rattle.hd_graph.specs.Line.{EachOnce, IsPrimOrder, IsFloodLine}
-use Rattle.hd_graph.specs.Links.{HasEnds, HasLink, IsBetween, IsPassAt, pass_of, rank_at}
-use Rattle.hd_graph.specs.Thinning.{IsThinned}
-use Rattle.hd_graph.proofs.Floods.{PassStep, prim-of_all, prim-tells}
-use Rattle.hd_graph.proofs.Places.{get-push_old, get-push_new, at_place, place_of, item_at, one_place, pairs_from_places}
-use Rattle.hd_graph.proofs.Thinned.{link-pass, thinned-some, thinned-spans}
-use Rattle.hd_graph.proofs.Keeping.{sorted-places}
+use Rattle.hd_graph.specs.Flood.{AreWhole, IsLineSoFar, IsReached, IsStopFor, is_done}
+use Rattle.hd_graph.specs.Line.{IsFloodLine, IsPrimOrder}
+use Rattle.hd_graph.specs.Links.{HasEnds, IsBetween, pass_of, rank_at}
+use Rattle.hd_graph.specs.Onward.{IsOnward}
+use Rattle.hd_graph.specs.Order.{is_lower}
+use Rattle.hd_graph.proofs.Floods.{prim-tells}
+use Rattle.hd_graph.proofs.InOrder.{sorted-places}
+use Rattle.hd_graph.proofs.Linked.{link-pass, link_of}
+use Rattle.hd_graph.proofs.Merged.{least-highest_same}
+use Rattle.hd_graph.proofs.Numbers.{one_low}
+use Rattle.hd_graph.proofs.Places.{at_place, get-push_cases, get-push_new, get-push_old, pairs_from_places, place_of}
+use Rattle.hd_graph.proofs.Reached.{done-cases, done-kept, done-set, link-out}
 
--- the number of a pass
-rise_number : (links : List Link) (o : Option ℕ) (rise : Option Rank) (r : Rank) → IsPassAt links o rise → rise ≡ Some r → (n : ℕ) × (o ≡ Some n) × (l : Link) × (slice_get links n ≡ Some l) × (l.at ≡ r)
-rise_number links None rise r h e = absurd cc
-rise_number links (Some n) rise r h e = (n, refl, h.0, h.1, same_Some (h.0).at r (sym h.2 ∙ e))
+-- the stop for a low has its rank
+stop-rank : (lows : List Low) (v : ℕ) (s : Stop) → IsStopFor lows v s → rank_at lows v ≡ s.low
+stop-rank lows v s h = ap (λ (x : Low). x.rank) (get_or_from_slice_get lows v (record { rank = s.low; pit = s.pit }) _ h)
 
--- and the pass of a number
-number_rise : (links : List Link) (o : Option ℕ) (rise : Option Rank) (n : ℕ) → IsPassAt links o rise → o ≡ Some n → (l : Link) × (slice_get links n ≡ Some l) × (rise ≡ Some l.at)
-number_rise links o rise n h e = subst (λ v. IsPassAt links v rise) e h
+-- nothing is done yet
+pub line-none : (below : Rank → Rank → Bool) (lows : List Low) (passes : List Pass) (done : List Bool) → length done ≡ length lows → ((v : ℕ) → is_done done v ≡ true → ⊥) → IsLineSoFar below lows passes done []
+line-none below lows passes done long none = record {
+  long = long;
+  stops = λ v wet. absurd (none v wet);
+  lows_done = λ k s at. absurd (cc at);
+  once = λ j k x y atx aty e. absurd (cc atx);
+  attaches = λ k x r at rise. absurd (cc at);
+  lowest = λ k m x y v w less atx aty pass apart. absurd (cc atx);
+}
 
--- one more visit as a stop
-pub stops-more : (lows : List Low) (links : List Link) (visits : List Visit) (stops : List Stop) (n : ℕ) (v : Visit) (s : Stop) → slice_get visits n ≡ Some v → IsStopOf lows links v s → length stops ≡ n
-    → ((k : ℕ) (w : Visit) → k < n → slice_get visits k ≡ Some w → (t : Stop) × (slice_get stops k ≡ Some t) × IsStopOf lows links w t)
-    → (k : ℕ) (w : Visit) → k < n + 1 → slice_get visits k ≡ Some w → (t : Stop) × (slice_get (stops ++ s ∷ []) k ≡ Some t) × IsStopOf lows links w t
-stops-more lows links visits stops n v s read is long so k w below at = elim (cases_eq k n) [
-  | inl same ↦ (
-    s,
-    subst (λ i. slice_get (stops ++ s ∷ []) i ≡ Some s) (long ∙ sym same) (get-push_new stops s),
-    subst (λ (u : Visit). IsStopOf lows links u s) (same_Some v w (sym read ∙ ap (λ i. slice_get visits i) (sym same) ∙ at)) is,
-  )
-  | inr apart ↦ (let old = so k w (omega arith) at in (old.0, get-push_old stops s old.0 k old.1, old.2))
-]
+module _ (below : Rank → Rank → Bool) (lows : List Low) (different : AllPairs (λ x y. x.rank.index ≢ y.rank.index) lows) (passes : List Pass) (done : List Bool) (line : List Stop) (so : IsLineSoFar below lows passes done line) where
+  -- one more stop
+  module _ (o : ℕ) (s : Stop) (inside : o < length lows) (not_yet : is_done done o ≡ false) (is : IsStopFor lows o s)
+      (attaches : (r : Rank) → s.rise ≡ Some r → (d : ℕ) × (is_done done d ≡ true) × HasPass passes (rank_at lows d) s.low r)
+      (lowest : (d : ℕ) (v w : Rank) → is_done done d ≡ true → HasPass passes (rank_at lows d) v w → ((k : ℕ) (z : Stop) → slice_get line k ≡ Some z → z.low ≢ v) → (r : Rank) × (s.rise ≡ Some r) × IsNotAbove below r w) where
+    within : o < length done
+    within = (let long = so.long in omega arith)
 
-module _ (below : Rank → Rank → Bool) (order : IsStrictOrder below) (lows : List Low) (passes : List Pass) (graph : IsGraph below lows passes)
-    (links kept : List Link) (stand : map (pass_of lows) links ≡ passes) (within : All (HasEnds (length lows)) links) (thinned : IsThinned below links kept)
-    (ways : Ways) (of : (a b w : ℕ) → HasWay ways a b w ↔ HasLink kept a b w)
-    (visits : List Visit) (prim : ArePrim ways visits) (all : (v : ℕ) → v < length lows → IsVisited visits v)
-    (stops : List Stop) (long : length stops ≡ length visits) (each : (k : ℕ) (v : Visit) → slice_get visits k ≡ Some v → (s : Stop) × (slice_get stops k ≡ Some s) × IsStopOf lows kept v s) where
-  -- the visit of a stop
-  visit_of : (k : ℕ) (s : Stop) → slice_get stops k ≡ Some s → (v : Visit) × (slice_get visits k ≡ Some v) × IsStopOf lows kept v s
-  visit_of k s at =
-      let inside : k < length stops = slice_get_within stops k s at in
-      let v = item_at visits k (omega arith) in
-      let r = each k v.0 v.1 in
-      (v.0, v.1, subst (λ (z : Stop). IsStopOf lows kept v.0 z) (same_Some r.0 s (sym r.1 ∙ at)) r.2)
+    fresh : (k : ℕ) (z : Stop) → slice_get line k ≡ Some z → z.low ≢ s.low
+    fresh k z at e =
+        let d = so.lows_done k z at in
+        let same : d.0 ≡ o = one_low lows different d.0 o (record { rank = z.low; pit = z.pit }) (record { rank = s.low; pit = s.pit }) d.2 is (ap (λ (r : Rank). r.index) e) in
+        let wet : is_done done o ≡ true = subst (λ i. is_done done i ≡ true) same d.1 in
+        cc
 
-  -- one low has one number
-  one_low : (i j : ℕ) (x y : Low) → slice_get lows i ≡ Some x → slice_get lows j ≡ Some y → x.rank ≡ y.rank → i ≡ j
-  one_low i j x y atx aty e = one_place (λ (z : Low). z.rank.index) lows graph.different i j x y atx aty (ap (λ (r : Rank). r.index) e)
+    once_more : (j k : ℕ) (x y : Stop) → slice_get (line ++ s ∷ []) j ≡ Some x → slice_get (line ++ s ∷ []) k ≡ Some y → x.low ≡ y.low → j ≡ k
+    once_more j k x y atx aty e = elim (get-push_cases line s x j atx) [
+      | inl p ↦ elim (get-push_cases line s y k aty) [
+        | inl q ↦ so.once j k x y p q e
+        | inr q ↦ absurd (fresh j x p (e ∙ sym (ap (λ (z : Stop). z.low) q.1)))
+      ]
+      | inr p ↦ elim (get-push_cases line s y k aty) [
+        | inl q ↦ absurd (fresh k y q (sym e ∙ sym (ap (λ (z : Stop). z.low) p.1)))
+        | inr q ↦ p.0 ∙ sym q.0
+      ]
+    ]
 
-  -- the low of the number that a stop's visit has
-  low_at : (v : Visit) (s : Stop) → IsStopOf lows kept v s → (u : Low) → slice_get lows v.low ≡ Some u → u ≡ record { rank = s.low; pit = s.pit }
-  low_at v s h u at = same_Some u (record { rank = s.low; pit = s.pit }) (sym at ∙ h.0)
+    line-more : IsLineSoFar below lows passes (set done o true) (line ++ s ∷ [])
+    line-more = record {
+      long = length-set done o true ∙ so.long;
+      stops = λ v wet. elim (done-cases done o within v wet) [
+        | inl e ↦ (length line, s, get-push_new line s, subst (λ i. IsStopFor lows i s) (sym e) is)
+        | inr was ↦ (let h = so.stops v was in (h.0, h.1, get-push_old line s h.1 h.0 h.2, h.3))
+      ];
+      lows_done = λ k z at. elim (get-push_cases line s z k at) [
+        | inl p ↦ (let h = so.lows_done k z p in (h.0, done-kept done o within h.0 h.1, h.2))
+        | inr p ↦ (o, done-set done o within, subst (λ (y : Stop). IsStopFor lows o y) p.1 is)
+      ];
+      once = once_more;
+      attaches = λ k x r at rise. elim (get-push_cases line s x k at) [
+        | inl p ↦ (let h = so.attaches k x r p rise in (h.0, h.1, h.2, get-push_old line s h.1 h.0 h.3, h.4))
+        | inr p ↦ (
+            let h = attaches r (ap (λ (z : Stop). z.rise) p.1 ∙ rise) in
+            let y = so.stops h.0 h.1 in
+            let before = slice_get_within line y.0 y.1 y.2 in (
+              y.0,
+              y.1,
+              omega (arith, before, p.0),
+              get-push_old line s y.1 y.0 y.2,
+              subst (λ a. HasPass passes a x.low r) (stop-rank lows h.0 y.1 y.3) (subst (λ (z : Stop). HasPass passes (rank_at lows h.0) z.low r) p.1 h.2),
+            ))
+      ];
+      lowest = λ k m x y v w less atx aty pass apart. elim (get-push_cases line s y m aty) [
+        | inr q ↦ absurd (elim (get-push_cases line s x k atx) [
+          | inl p ↦ (let before = slice_get_within line k x p in omega (arith, before, q.0, less))
+          | inr p ↦ omega (arith, p.0, q.0, less)
+        ])
+        | inl q ↦ elim (get-push_cases line s x k atx) [
+          | inl p ↦ so.lowest k m x y v w less p q pass (λ j z before at. apart j z before (get-push_old line s z j at))
+          | inr p ↦ (
+              let d = so.lows_done m y q in
+              let h = lowest d.0 v w d.1 (subst (λ a. HasPass passes a v w) (sym (stop-rank lows d.0 y d.2)) pass)
+              (λ j z at. apart j z (let before = slice_get_within line j z at in omega (arith, before, p.0)) (get-push_old line s z j at)) in
+              (h.0, sym (ap (λ (z : Stop). z.rise) p.1) ∙ h.1, h.2))
+        ]
+      ];
+    }
 
-  pub once : (i j : ℕ) (x y : Stop) → slice_get stops i ≡ Some x → slice_get stops j ≡ Some y → x.low ≡ y.low → i ≡ j
-  once i j x y atx aty e =
-      let v = visit_of i x atx in
-      let w = visit_of j y aty in
-      prim.each_once i j v.0 w.0 v.1 w.1 (one_low (v.0).low (w.0).low (record { rank = x.low; pit = x.pit }) (record { rank = y.low; pit = y.pit }) (v.2).0 (w.2).0 e)
-
-  pub stops-once : EachOnce stops
-  stops-once = pairs_from_places (λ (z : Stop). z.low) stops once
-
-  -- each low is a stop, and each stop a low
-  stop_of : (x : Low) → Contains lows x → (s : Stop) × Contains stops s × (s.low ≡ x.rank) × (s.pit ≡ x.pit)
-  stop_of x at =
-      let p = place_of lows x at in
-      let v = all p.0 (slice_get_within lows p.0 x p.1) in
-      let r = each v.0 v.1 v.2 in
-      let is : record { rank = (r.0).low; pit = (r.0).pit } ≡ x = same_Some (record { rank = (r.0).low; pit = (r.0).pit }) x (sym (r.2).0 ∙ ap (λ k. slice_get lows k) v.3 ∙ p.1) in
-      (r.0, at_place stops v.0 r.0 r.1, ap (λ (z : Low). z.rank) is, ap (λ (z : Low). z.pit) is)
-
-  low_of : (x : Low) → (s : Stop) × Contains stops s × (s.low ≡ x.rank) × (s.pit ≡ x.pit) → Contains lows x
-  low_of x h =
-      let s : Stop = h.0 in
-      let p = place_of stops s h.1 in
-      let v = visit_of p.0 s p.1 in
-      let is : record { rank = s.low; pit = s.pit } ≡ x = same_low s.low x.rank s.pit x.pit h.2 h.3 in
-      subst (λ (z : Low). Contains lows z) is (at_place lows (v.0).low (record { rank = s.low; pit = s.pit }) (v.2).0)
-    where
-      same_low : (a b : Rank) (c d : Bool) → a ≡ b → c ≡ d → ◌≡◌ {A = Low} (record { rank = a; pit = c }) (record { rank = b; pit = d })
-      same_low a b c d e f = cc
-
-  -- the rank of a low by its number
-  rank_is : (k : ℕ) (u : Low) → slice_get lows k ≡ Some u → rank_at lows k ≡ u.rank
-  rank_is k u at = ap (λ (z : Low). z.rank) (get_or_from_slice_get lows k u _ at)
-
-  number_is : (k j : ℕ) (x : Low) → k < length lows → rank_at lows k ≡ x.rank → slice_get lows j ≡ Some x → k ≡ j
-  number_is k j x inside e atx = (let u = item_at lows k inside in one_low k j u.0 x u.1 atx (sym (rank_is k u.0 u.1) ∙ e))
-
-  -- a pass that is kept has a number
-  kept_link : (i j : ℕ) (x y : Low) (w : Rank) → slice_get lows i ≡ Some x → slice_get lows j ≡ Some y → HasPass (map (pass_of lows) kept) x.rank y.rank w → (n : ℕ) × (l : Link) × (slice_get kept n ≡ Some l) × (l.at ≡ w) × IsBetween l i j
-  kept_link i j x y w atx aty h = elim h [
-    | inl there ↦ (let r = named _ there in (r.0, r.1, r.2, ap (λ (p : Pass). p.at) r.5, inl (number_is (r.1).a i x r.3 (ap (λ (p : Pass). p.a) r.5) atx, number_is (r.1).b j y r.4 (ap (λ (p : Pass). p.b) r.5) aty)))
-    | inr back ↦ (let r = named _ back in (r.0, r.1, r.2, ap (λ (p : Pass). p.at) r.5, inr (number_is (r.1).a j y r.3 (ap (λ (p : Pass). p.a) r.5) aty, number_is (r.1).b i x r.4 (ap (λ (p : Pass). p.b) r.5) atx)))
-  ]
-    where
-      named : (p : Pass) → Contains (map (pass_of lows) kept) p → (n : ℕ) × (l : Link) × (slice_get kept n ≡ Some l) × (l.a < length lows) × (l.b < length lows) × (pass_of lows l ≡ p)
-      named p at =
-          let m = Contains-map (pass_of lows) kept p at in
-          let q = place_of kept m.0 m.1 in
-          let ends_in : HasEnds (length lows) m.0 = All-contains (HasEnds (length lows)) links m.0 within (thinned.some m.0 m.1) in
-          (q.0, m.0, q.1, ends_in.0, ends_in.1, m.2)
-
-  kept_prim : IsPrimOrder below (map (pass_of lows) kept) stops
-  kept_prim = record {
-    attaches = λ k x r at rise.
-        let v = visit_of k x at in
-        let n = rise_number kept (v.0).rise x.rise r (v.2).1 rise in
-        let a = prim.attaches k v.0 n.0 v.1 n.1 in
-        let y = each a.0 a.1 a.3 in
-        let h = (of (a.1).low (v.0).low n.0).0 a.4 in
-        let is : h.0 ≡ n.2 = same_Some h.0 n.2 (sym h.1 ∙ n.3) in
-        let pass = link-pass lows kept h.0 (a.1).low (v.0).low (at_place kept n.0 h.0 h.1) h.2 in
-        let ey : rank_at lows (a.1).low ≡ (y.0).low = rank_is (a.1).low (record { rank = (y.0).low; pit = (y.0).pit }) (y.2).0 in
-        let ex : rank_at lows (v.0).low ≡ x.low = rank_is (v.0).low (record { rank = x.low; pit = x.pit }) (v.2).0 in
-        let ew : (h.0).at ≡ r = ap (λ (l : Link). l.at) is ∙ n.4 in
-        (a.0, y.0, a.2, y.1, subst (λ z. HasPass (map (pass_of lows) kept) (y.0).low x.low z) ew (subst (λ z. HasPass (map (pass_of lows) kept) (y.0).low z (h.0).at) ex (subst (λ z. HasPass (map (pass_of lows) kept) z (rank_at lows (v.0).low) (h.0).at) ey pass)));
-    lowest = λ k m l x y z w less le atx aty atz pass.
-        let v = visit_of k x atx in
-        let u = visit_of m y aty in
-        let t = visit_of l z atz in
-        let h = kept_link (u.0).low (t.0).low (record { rank = y.low; pit = y.pit }) (record { rank = z.low; pit = z.pit }) w (u.2).0 (t.2).0 pass in
-        let way = (of (u.0).low (t.0).low h.0).1 (h.1, h.2, h.4) in
-        let r = prim.lowest k m v.0 u.0 (t.0).low h.0 less v.1 u.1 way (λ j a hj at same. (let n = prim.each_once j l a t.0 at t.1 same in omega arith)) in
-        let rise = number_rise kept (v.0).rise x.rise r.0 (v.2).1 r.1 in
-        let low : IsNotAbove below (rise.0).at (h.1).at = sorted-places below order kept thinned.sorted r.0 h.0 rise.0 h.1 r.2 rise.1 h.2 in
-        ((rise.0).at, rise.2, subst (λ s. IsNotAbove below (rise.0).at s) h.3 low);
-  }
-
-  on_line : (r : Rank) → IsLow lows r → (k : ℕ) × (x : Stop) × (slice_get stops k ≡ Some x) × (x.low ≡ r)
-  on_line r low = (let s = stop_of low.0 low.1 in let p = place_of stops s.0 s.1 in (p.0, s.0, p.1, s.2 ∙ low.2))
-
-  on : (a b w : Rank) → HasPass passes a b w → (k : ℕ) × (x : Stop) × (slice_get stops k ≡ Some x) × (x.low ≡ b)
-  on a b w (inl h) = on_line b (All-contains (IsPassOf below lows) passes _ graph.joins h).second
-  on a b w (inr h) = on_line b (All-contains (IsPassOf below lows) passes _ graph.joins h).first
-
-  some : (a b w : Rank) → HasPass (map (pass_of lows) kept) a b w → HasPass passes a b w
-  some a b w h = subst (λ ps. HasPass ps a b w) stand (thinned-some below lows links kept thinned a b w h)
-
-  spans : (a b w : Rank) → HasPass passes a b w → Reach (PassStep below (map (pass_of lows) kept) w) a b
-  spans a b w h = thinned-spans below lows links kept thinned a b w (subst (λ ps. HasPass ps a b w) (sym stand) h)
-
-  stops_prim : IsPrimOrder below passes stops
-  stops_prim = prim-of_all below order (map (pass_of lows) kept) stops once kept_prim (λ a b w h. on a b w (some a b w h)) passes some spans
-
-  pub stops-line : IsFloodLine below lows passes stops
-  stops-line = record {
+  -- where all lows are done, it is the flood line
+  pub line-all : IsStrictOrder below → ((v : ℕ) → v < length lows → is_done done v ≡ true) → ((a b w : Rank) → HasPass passes a b w → (v : ℕ) × (v < length lows) × (rank_at lows v ≡ b)) → IsFloodLine below lows passes line
+  line-all order all ends = record {
     stops = λ x. (stop_of x, low_of x);
-    once = stops-once;
-    prim = stops_prim;
-    tells = prim-tells below order passes stops once stops_prim on;
+    once = pairs_from_places (λ (z : Stop). z.low) line so.once;
+    prim = prim;
+    tells = prim-tells below order passes line so.once prim (λ a b w pass. (
+        let v = ends a b w pass in
+        let h = so.stops v.0 (all v.0 v.1) in
+        (h.0, h.1, h.2, sym (stop-rank lows v.0 h.1 h.3) ∙ v.2)));
   }
+    where
+      prim : IsPrimOrder below passes line
+      prim = record {
+        attaches = so.attaches;
+        lowest = λ k m l x y z w less le atx aty atz pass. so.lowest k m x y z.low w less atx aty pass (λ j u before at same. (let e = so.once j l u z at atz same in omega arith));
+      }
+
+      stop_of : (x : Low) → Contains lows x → (s : Stop) × Contains line s × (s.low ≡ x.rank) × (s.pit ≡ x.pit)
+      stop_of x at =
+          let p = place_of lows x at in
+          let h = so.stops p.0 (all p.0 (slice_get_within lows p.0 x p.1)) in
+          let is : record { rank = (h.1).low; pit = (h.1).pit } ≡ x = same_Some (record { rank = (h.1).low; pit = (h.1).pit }) x (sym h.3 ∙ p.1) in
+          (h.1, at_place line h.0 h.1 h.2, ap (λ (z : Low). z.rank) is, ap (λ (z : Low). z.pit) is)
+
+      low_of : (x : Low) → (s : Stop) × Contains line s × (s.low ≡ x.rank) × (s.pit ≡ x.pit) → Contains lows x
+      low_of x h =
+          let s : Stop = h.0 in
+          let p = place_of line s h.1 in
+          let d = so.lows_done p.0 s p.1 in
+          subst (λ (z : Low). Contains lows z) (same_low s.low x.rank s.pit x.pit h.2 h.3) (at_place lows d.0 (record { rank = s.low; pit = s.pit }) d.2)
+        where
+          same_low : (a b : Rank) (c d : Bool) → a ≡ b → c ≡ d → ◌≡◌ {A = Low} (record { rank = a; pit = c }) (record { rank = b; pit = d })
+          same_low a b c d e f = cc
+
+-- stops over links
+module _ (below : Rank → Rank → Bool) (order : IsStrictOrder below) (lows : List Low) (different : AllPairs (λ x y. x.rank.index ≢ y.rank.index) lows) (links : List Link) (sorted : IsSortedBy (is_lower below) links) (within : All (HasEnds (length lows)) links)
+    (done : List Bool) (line : List Stop) (so : IsLineSoFar below lows (map (pass_of lows) links) done line) where
+  -- a pass from a low that is done to one that is no stop is that of a link to one that is not done
+  link_out : (d : ℕ) (v w : Rank) → is_done done d ≡ true → HasPass (map (pass_of lows) links) (rank_at lows d) v w → ((k : ℕ) (z : Stop) → slice_get line k ≡ Some z → z.low ≢ v) →
+      (k : ℕ) × (m : Link) × (b : ℕ) × (slice_get links k ≡ Some m) × (m.at ≡ w) × IsBetween m d b × (is_done done b ≡ false)
+  link_out d v w wet pass apart =
+      let s = so.stops d wet in
+      let h = link_of below lows links w different within d v w (slice_get_within lows d _ s.3) pass in
+      let p = place_of links h.0 h.1 in (
+        p.0,
+        h.0,
+        h.3,
+        p.1,
+        h.2,
+        h.4,
+        false_from_ne_true (is_done done h.3) (λ wet_too.
+            let z = so.stops h.3 wet_too in
+            apart z.0 z.1 z.2 (sym (stop-rank lows h.3 z.1 z.3) ∙ h.6)),
+      )
+
+  module _ (o : ℕ) (s : Stop) (inside : o < length lows) (not_yet : is_done done o ≡ false) (is : IsStopFor lows o s) where
+    -- the first stop of a part
+    pub line-first : AreWhole links done → s.rise ≡ None → IsLineSoFar below lows (map (pass_of lows) links) (set done o true) (line ++ s ∷ [])
+    line-first whole rise = line-more below lows different (map (pass_of lows) links) done line so o s inside not_yet is (λ r some. absurd (none-some r (sym rise ∙ some)))
+        (λ d v w wet pass apart. (
+        let h = link_out d v w wet pass apart in
+        absurd (whole (h.0 + 1) d h.2 wet h.6 (step (h.0, h.1, omega arith, h.3, h.5) here))))
+
+    -- the next one
+    pub line-next : (x t p : ℕ) → IsReached links done x t → IsOnward links x t p → (l : Link) → slice_get links p ≡ Some l → (d : ℕ) × (is_done done d ≡ true) × IsBetween l d o → s.rise ≡ Some l.at →
+        IsLineSoFar below lows (map (pass_of lows) links) (set done o true) (line ++ s ∷ [])
+    line-next x t p reached onward l at from rise = line-more below lows different (map (pass_of lows) links) done line so o s inside not_yet is
+        (λ r some. (
+          from.0,
+          from.1,
+          subst (λ w. HasPass (map (pass_of lows) links) (rank_at lows from.0) s.low w) (same_Some l.at r (sym rise ∙ some))
+              (subst (λ b. HasPass (map (pass_of lows) links) (rank_at lows from.0) b l.at) (stop-rank lows o s is) (link-pass lows links l from.0 o (at_place links p l at) from.2)),
+        ))
+        (λ d v w wet pass apart. (
+        let h = link_out d v w wet pass apart in
+        let le = link-out links done x t p reached onward h.0 h.1 d h.2 h.3 h.5 wet h.6 in
+        (l.at, rise, subst (λ i. IsNotAbove below l.at i) h.4 (sorted-places below order links sorted p h.0 l h.1 le at h.3))))
+
+-- the ends of passes of links are lows
+pub link-ends : (lows : List Low) (links : List Link) → All (HasEnds (length lows)) links → (a b w : Rank) → HasPass (map (pass_of lows) links) a b w → (v : ℕ) × (v < length lows) × (rank_at lows v ≡ b)
+link-ends lows links within a b w (inl h) =
+    let x = Contains-map (pass_of lows) links _ h in
+    ((x.0).b, (All-contains (HasEnds (length lows)) links x.0 within x.1).1, ap (λ (p : Pass). p.b) x.2)
+link-ends lows links within a b w (inr h) =
+    let x = Contains-map (pass_of lows) links _ h in
+    ((x.0).a, (All-contains (HasEnds (length lows)) links x.0 within x.1).0, ap (λ (p : Pass). p.a) x.2)
+
+-- a flood line of the same passes in another order
+pub line-same_passes : (below : Rank → Rank → Bool) (lows : List Low) (old new : List Pass) → ((a b w : Rank) → HasPass old a b w → HasPass new a b w) → ((a b w : Rank) → HasPass new a b w → HasPass old a b w) →
+    (line : List Stop) → IsFloodLine below lows old line → IsFloodLine below lows new line
+line-same_passes below lows old new forth back line h = record {
+  stops = h.stops;
+  once = h.once;
+  prim = record {
+    attaches = λ k x r at rise. (let a = (h.prim).attaches k x r at rise in (a.0, a.1, a.2, a.3, forth (a.1).low x.low r a.4));
+    lowest = λ k m l x y z w less le atx aty atz pass. (h.prim).lowest k m l x y z w less le atx aty atz (back y.low z.low w pass);
+  };
+  tells = λ i j x y less atx aty. least-highest_same below old new forth back x.low y.low _ (h.tells i j x y less atx aty);
+}

@@ -1,4 +1,4 @@
--- The parts beside the rises of a line, grouped, are its change tree.
+-- Parts that name the classes which saddles join, grouped, are a change tree; so are those beside the rises of a line.
 use Rattle.std.proofs.Common.{◌≡◌, ℕ, ◌-◌, ◌<◌, inl, inr, Bool, true, List, [], ◌∷◌, length, slice_get, refl, sym, ◌∙◌, ap, subst, arith}
 use Rattle.std.specs.Prelude.{Contains, AllPairs, ◌↔◌}
 use Rattle.std.proofs.lemmas.Option.{slice_get_within, same_Some}
@@ -17,18 +17,68 @@ use Rattle.hd_graph.specs.Parts.{AreGrouped, turned_round, IsSidePart}
 use Rattle.hd_graph.proofs.Round.{stop_at, length-round, same_low, lows_of-round, once-round, tells-round}
 use Rattle.hd_graph.proofs.SideParts.{left-is_part, part-from, part-left}
 
+-- parts that name the classes of pits which saddles join
+module _ (below : Rank → Rank → Bool) (order : IsStrictOrder below) (Has : Rank → Rank → Rank → Type 0) (Pit : Rank → Type 0) where
+  -- they are the classes, and each saddle of two pits has one
+  pub record NameClasses (IsOne : Part → Type 0) : Type 0 where
+    pub are : (e : Part) → IsOne e → IsPart below Has Pit e.saddle e.low
+    pub all : (s r : Rank) → IsPart below Has Pit s r → IsOne (record { saddle = s; low = r })
+    pub some : (p q s : Rank) → IsSaddleOfPits below Has Pit p q s → (r : Rank) × IsOne (record { saddle = s; low = r })
+
+  one_join : (joins : List Joining) → AllPairs (λ (a : Joining) (b : Joining). below a.saddle b.saddle ≡ true) joins → (x y : Joining) → Contains joins x → Contains joins y → x.saddle ≡ y.saddle → x ≡ y
+  one_join [] h x y hx hy e = absurd (Contains-none x hx)
+  one_join (z ∷ zs) h x y hx hy e = elim (Contains-cases z x zs hx) [
+    | inl ex ↦ elim (Contains-cases z y zs hy) [
+      | inl ey ↦ ex ∙ sym ey
+      | inr ly ↦ absurd (below-apart below order z.saddle y.saddle (AllPairs-first (λ (a : Joining) (b : Joining). below a.saddle b.saddle ≡ true) z y zs h ly) (sym (ap (λ (w : Joining). w.saddle) ex) ∙ e))
+    ]
+    | inr lx ↦ elim (Contains-cases z y zs hy) [
+      | inl ey ↦ absurd (below-apart below order z.saddle x.saddle (AllPairs-first (λ (a : Joining) (b : Joining). below a.saddle b.saddle ≡ true) z x zs h lx) (sym (ap (λ (w : Joining). w.saddle) ey) ∙ sym e))
+      | inr ly ↦ one_join zs (AllPairs-tail (λ (a : Joining) (b : Joining). below a.saddle b.saddle ≡ true) z zs h) x y lx ly e
+    ]
+  ]
+
+  -- grouped, they are the tree
+  pub tree-of_classes : (IsOne : Part → Type 0) → NameClasses IsOne → (es : List Part) (joins : List Joining) → ((e : Part) → Contains es e ↔ IsOne e) → AreGrouped below es joins → IsTree below Has Pit joins
+  tree-of_classes IsOne name es joins exactly grouped = record {
+    saddles = λ s. (
+      λ h.
+          let x : Joining = h.0 in
+          let f = grouped.filled x h.1 in
+          let e : Part = record { saddle = s; low = f.0 } in
+          let j = (name.are e ((exactly e).0 ((grouped.listed e).1 (x, h.1, h.2, f.1)))).joined in
+          (j.0, j.1, j.3),
+      λ h.
+          let r = name.some h.0 h.1 s h.2 in
+          let e : Part = record { saddle = s; low = r.0 } in
+          let l = (grouped.listed e).0 ((exactly e).1 r.1) in
+          (l.0, l.1, l.2),
+    );
+    each = λ x at. record {
+      exactly = λ r. (
+        λ h. (let e : Part = record { saddle = x.saddle; low = r } in name.are e ((exactly e).0 ((grouped.listed e).1 (x, at, refl, h)))),
+        λ h.
+            let e : Part = record { saddle = x.saddle; low = r } in
+            let l = (grouped.listed e).0 ((exactly e).1 (name.all x.saddle r h)) in
+            subst (λ (z : Joining). Contains z.parts r) (one_join joins grouped.in_order l.0 x l.1 at l.2) l.3,
+      );
+      in_order = grouped.parts_in_order x at;
+    };
+    in_order = grouped.in_order;
+  }
+
 module _ (below : Rank → Rank → Bool) (order : IsStrictOrder below) (IsSaddle : Rank → Rank → Rank → Type 0) (line : List Stop) (tells : TellsHighest below IsSaddle line) (once : OnePlace line) where
   same_lows : Agree below order IsSaddle IsSaddle (IsLowOn (turned_round line)) (IsLowOn line)
   same_lows = record { pits = lows_of-round line; saddles = λ p q s hp hq ne. (λ h. h, λ h. h) }
 
   -- a part beside a rise is one of the tree
-  pub side-is_part : (e : Part) → IsSidePart below line e → IsPart below IsSaddle (IsLowOn line) e.saddle e.low
+  side-is_part : (e : Part) → IsSidePart below line e → IsPart below IsSaddle (IsLowOn line) e.saddle e.low
   side-is_part e (inl h) = left-is_part below order IsSaddle line tells once e h
   side-is_part e (inr h) = part-agrees below order IsSaddle IsSaddle (IsLowOn (turned_round line)) (IsLowOn line) same_lows e.saddle e.low
       (left-is_part below order IsSaddle (turned_round line) (tells-round below IsSaddle line tells) (once-round line once) e h)
 
   -- and the other way round
-  pub part-is_side : (s r : Rank) → IsPart below IsSaddle (IsLowOn line) s r → IsSidePart below line (record { saddle = s; low = r })
+  part-is_side : (s r : Rank) → IsPart below IsSaddle (IsLowOn line) s r → IsSidePart below line (record { saddle = s; low = r })
   part-is_side s r h =
       let j = h.joined in
       let p : Rank = j.0 in
@@ -76,44 +126,6 @@ module _ (below : Rank → Rank → Bool) (order : IsStrictOrder below) (IsSaddl
         ]
       ]
 
-  one_join : (joins : List Joining) → AllPairs (λ (a : Joining) (b : Joining). below a.saddle b.saddle ≡ true) joins → (x y : Joining) → Contains joins x → Contains joins y → x.saddle ≡ y.saddle → x ≡ y
-  one_join [] h x y hx hy e = absurd (Contains-none x hx)
-  one_join (z ∷ zs) h x y hx hy e = elim (Contains-cases z x zs hx) [
-    | inl ex ↦ elim (Contains-cases z y zs hy) [
-      | inl ey ↦ ex ∙ sym ey
-      | inr ly ↦ absurd (below-apart below order z.saddle y.saddle (AllPairs-first (λ (a : Joining) (b : Joining). below a.saddle b.saddle ≡ true) z y zs h ly) (sym (ap (λ (w : Joining). w.saddle) ex) ∙ e))
-    ]
-    | inr lx ↦ elim (Contains-cases z y zs hy) [
-      | inl ey ↦ absurd (below-apart below order z.saddle x.saddle (AllPairs-first (λ (a : Joining) (b : Joining). below a.saddle b.saddle ≡ true) z x zs h lx) (sym (ap (λ (w : Joining). w.saddle) ey) ∙ sym e))
-      | inr ly ↦ one_join zs (AllPairs-tail (λ (a : Joining) (b : Joining). below a.saddle b.saddle ≡ true) z zs h) x y lx ly e
-    ]
-  ]
-
   -- the parts, grouped, are the tree
   pub tree-of_parts : (es : List Part) (joins : List Joining) → ((e : Part) → Contains es e ↔ IsSidePart below line e) → AreGrouped below es joins → IsTree below IsSaddle (IsLowOn line) joins
-  tree-of_parts es joins exactly grouped = record {
-    saddles = λ s. (
-      λ h.
-          let x : Joining = h.0 in
-          let f = grouped.filled x h.1 in
-          let e : Part = record { saddle = s; low = f.0 } in
-          let j = (side-is_part e ((exactly e).0 ((grouped.listed e).1 (x, h.1, h.2, f.1)))).joined in
-          (j.0, j.1, j.3),
-      λ h.
-          let r = some_part h.0 h.1 s h.2 in
-          let e : Part = record { saddle = s; low = r.0 } in
-          let l = (grouped.listed e).0 ((exactly e).1 r.1) in
-          (l.0, l.1, l.2),
-    );
-    each = λ x at. record {
-      exactly = λ r. (
-        λ h. (let e : Part = record { saddle = x.saddle; low = r } in side-is_part e ((exactly e).0 ((grouped.listed e).1 (x, at, refl, h)))),
-        λ h.
-            let e : Part = record { saddle = x.saddle; low = r } in
-            let l = (grouped.listed e).0 ((exactly e).1 (part-is_side x.saddle r h)) in
-            subst (λ (z : Joining). Contains z.parts r) (one_join joins grouped.in_order l.0 x l.1 at l.2) l.3,
-      );
-      in_order = grouped.parts_in_order x at;
-    };
-    in_order = grouped.in_order;
-  }
+  tree-of_parts es joins exactly grouped = tree-of_classes below order IsSaddle (IsLowOn line) (IsSidePart below line) (record { are = side-is_part; all = part-is_side; some = some_part }) es joins exactly grouped

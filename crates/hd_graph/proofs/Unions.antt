@@ -4,7 +4,7 @@ use Rattle.std.proofs.lemmas.Option.{same_Some}
 use Rattle.std.specs.Prelude.{◌↔◌}
 use Rattle.std.proofs.lemmas.Bool.{cases_eq}
 use Rattle.hd_map.proofs.Levels.{Reach, here, step, reach-trans, reach-sym}
-use Rattle.hd_graph.specs.Classes.{AreFalling, AreNext, AreOneClass, AreJoined, Joins, LosesLeast}
+use Rattle.hd_graph.specs.Classes.{AreFalling, AreLeastsOf, AreNext, AreOneClass, AreJoined, Joins}
 use Rattle.hd_graph.proofs.Places.{get-set_same, get-set_other}
 use Rattle.hd_graph.proofs.Steps.{reach-by}
 
@@ -105,6 +105,14 @@ at_least parents least (step {a} {b} {c} e q) =
 pub least-same : (parents : List ℕ) (x y : ℕ) → slice_get parents x ≡ Some x → slice_get parents y ≡ Some y → AreOneClass parents x y → x ≡ y
 least-same parents x y least_x least_y h = sym (at_least parents least_y (to_least parents x least_x h here))
 
+-- two numbers are in one class exactly where the least numbers of their classes are one
+module _ (old new : List ℕ) (a b first second : ℕ) (found : AreLeastsOf old new a b first second) where
+  pub one-class : first ≡ second → AreOneClass new a b
+  one-class e = class-trans new a first b found.one (class-sym new b first (subst (λ k. AreOneClass new b k) (sym e) found.other))
+
+  pub two-classes : first ≢ second → AreOneClass new a b → ⊥
+  two-classes apart h = apart (least-same new first second found.first_least found.second_least (class-trans new first a second (class-sym new a first found.one) (class-trans new a b second h found.other)))
+
 -- of two least numbers one gets the other as its parent
 module _ (parents : List ℕ) (first second : ℕ) (least_first : slice_get parents first ≡ Some first) (least_second : slice_get parents second ≡ Some second)
     (x y : ℕ) (pair : ((x ≡ first) × (y ≡ second)) ⊎ ((x ≡ second) × (y ≡ first))) where
@@ -172,16 +180,6 @@ module _ (parents : List ℕ) (first second : ℕ) (least_first : slice_get pare
     | inl same ↦ subst (λ i. slice_get parents i ≡ Some i) same least-number
     | inr apart ↦ sym (get-set_other parents x k y apart) ∙ h
   ]
-
-  -- the one that gets a parent is the least of its class no more
-  pub loses-set : first ≢ second → LosesLeast parents (set parents x y)
-  loses-set apart = record {
-    lost = x;
-    was = least-number;
-    not_now = λ e. (let is : y ≡ x = same_Some y x (sym (get-set_same parents x y x least-number) ∙ e) in
-        elim pair [ inl p ↦ apart (sym p.0 ∙ sym is ∙ p.1) | inr p ↦ apart (sym p.1 ∙ is ∙ p.0) ]);
-    others = leasts-set;
-  }
 
 -- other parents of the same classes, and the least numbers of those that are put together
 module _ (old parents new : List ℕ) (a b first second : ℕ) (same : AreSame old parents) (one : AreOneClass old a first) (other : AreOneClass old b second) where

@@ -26,9 +26,11 @@ Joins old a b new = (x y : ℕ) → AreOneClass new x y ↔ Reach (AreJoined old
 abbrev pub IsLeast : List ℕ → ℕ → Type 0
 IsLeast parents x = slice_get parents x ≡ Some x
 
--- one number is the least of its class no more, and no other has become that
-pub record LosesLeast (old new : List ℕ) : Type 0 where
-  pub lost : ℕ
-  pub was : IsLeast old lost
-  pub not_now : IsLeast new lost → ⊥
-  pub others : (x : ℕ) → IsLeast new x → IsLeast old x
+-- the least numbers of the classes of a and b, which stay as they are while some numbers get other parents
+pub record AreLeastsOf (old new : List ℕ) (a b first second : ℕ) : Type 0 where
+  pub one : AreOneClass new a first
+  pub other : AreOneClass new b second
+  pub first_least : IsLeast new first
+  pub second_least : IsLeast new second
+  pub leasts : (x : ℕ) → IsLeast new x ↔ IsLeast old x
+  pub same : (x y : ℕ) → AreOneClass new x y ↔ AreOneClass old x y

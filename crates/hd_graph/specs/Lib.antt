@@ -6,9 +6,7 @@ pub mod Basins
 pub mod Links
 pub mod Order
 pub mod Classes
-pub mod Thinning
+pub mod Onward
 pub mod Merges
-pub mod Candidates
-pub mod Ends
 pub mod Flood
 pub mod Parts

@@ -1,5 +1,5 @@
 -- Links: passes by the numbers of the lows that they join.
-use Rattle.std.specs.Prelude.{◌≡◌, ◌<◌, ◌⊎◌, ℕ, List, Option, Some, None, false, pos, get_or, slice_get}
+use Rattle.std.specs.Prelude.{◌≡◌, ◌<◌, ◌⊎◌, ℕ, List, Some, false, pos, get_or, slice_get}
 use Rattle.hd_map.specs.declared.types.Pass.{Pass}
 use Rattle.hd_map.specs.declared.types.Rank.{Rank}
 use Rattle.hd_graph.specs.declared.graph.Low.{Low}
@@ -25,12 +25,3 @@ HasEnds n l = (l.a < n) × (l.b < n)
 -- the link joins a and b, whichever of them it names first
 abbrev pub IsBetween : Link → ℕ → ℕ → Type 0
 IsBetween l a b = ((l.a ≡ a) × (l.b ≡ b)) ⊎ ((l.a ≡ b) × (l.b ≡ a))
-
--- the link of number n joins a and b
-abbrev pub HasLink : List Link → ℕ → ℕ → ℕ → Type 0
-HasLink links a b n = (l : Link) × (slice_get links n ≡ Some l) × IsBetween l a b
-
--- the pass of the link of this number, and none where there is no number
-abbrev pub IsPassAt : List Link → Option ℕ → Option Rank → Type 0
-IsPassAt links None rise = rise ≡ None
-IsPassAt links (Some n) rise = (l : Link) × (slice_get links n ≡ Some l) × (rise ≡ Some l.at)

@@ -1,11 +1,14 @@
 -- The lowest lows on the two sides of the rises of a line, which name the classes that a saddle joins.
-use Rattle.std.specs.Prelude.{◌≡◌, ◌⊎◌, ◌↔◌, ◌<◌, ◌-◌, ℕ, Bool, true, false, if◌then◌else◌, List, [], ◌∷◌, length, reverse, take, slice_get, Option, Some, None, Contains, AllPairs}
+use Rattle.std.specs.Prelude.{◌≡◌, ◌⊎◌, ◌↔◌, ◌<◌, ◌-◌, ℕ, Bool, true, false, if◌then◌else◌, List, [], ◌∷◌, length, reverse, take, slice_get, map, Option, Some, None, Contains, AllPairs}
 use Rattle.hd_map.specs.declared.types.Rank.{Rank}
 use Rattle.hd_map.specs.ChangeTree.{Joining}
+use Rattle.hd_graph.specs.declared.graph.Low.{Low}
 use Rattle.hd_graph.specs.declared.line.Stop.{Stop}
+use Rattle.hd_graph.specs.declared.merges.Merge.{Merge}
 use Rattle.hd_graph.specs.declared.parts.Part.{Part}
 use Rattle.hd_graph.specs.declared.parts.Rise.{Rise}
 use Rattle.hd_graph.specs.Line.{higher_rise}
+use Rattle.hd_graph.specs.Links.{rank_at}
 
 -- the lower of two lows, and the one that is there where the other is none
 abbrev pub lower : (Rank → Rank → Bool) → Option Rank → Option Rank → Option Rank
@@ -78,6 +81,14 @@ right_of x = record { saddle = x.saddle; low = x.right }
 abbrev pub sides_of : List Rise → List Part
 sides_of [] = []
 sides_of (x ∷ xs) = left_of x ∷ right_of x ∷ sides_of xs
+
+-- a merge as a rise between the classes of its two lows
+abbrev pub rise_of : List Low → Merge → Rise
+rise_of lows x = record { saddle = x.at; left = rank_at lows x.into; right = rank_at lows x.low }
+
+-- the merges as rises
+abbrev pub rises_of : List Low → List Merge → List Rise
+rises_of lows merges = map (rise_of lows) merges
 
 -- whether a rise is below another
 abbrev pub comes_before : (Rank → Rank → Bool) → Rise → Rise → Bool

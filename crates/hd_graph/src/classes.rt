@@ -1,6 +1,6 @@
 // Numbers in classes that grow together.
-ghost use Rattle.std.specs.Prelude.{◌≡◌, ◌≢◌, ◌<◌, ◌^◌, ◌↔◌, ℕ, IfOk, true, false, length};
-ghost use Rattle.hd_graph.specs.Classes.{AreFalling, AreOneClass, IsLeast, Joins, LosesLeast};
+ghost use Rattle.std.specs.Prelude.{◌≡◌, ◌<◌, ◌^◌, ◌↔◌, ℕ, IfOk, true, false, length};
+ghost use Rattle.hd_graph.specs.Classes.{AreFalling, AreLeastsOf, AreOneClass, IsLeast, Joins};
 
 use hd_list::Memory;
 use std::alloc::Global;
@@ -36,19 +36,31 @@ impl Classes {
         ensures long { length self.new.parents.items ≡ length self.old.parents.items }
         ensures apart { result ≡ true → AreOneClass self.old.parents.items a b → ⊥ }
         ensures joins { result ≡ true → Joins self.old.parents.items a b self.new.parents.items }
-        ensures loses { result ≡ true → LosesLeast self.old.parents.items self.new.parents.items }
         ensures one { result ≡ false → AreOneClass self.old.parents.items a b }
         ensures same { result ≡ false → (x y : ℕ) → AreOneClass self.new.parents.items x y
             ↔ AreOneClass self.old.parents.items x y }
-        ensures leasts { result ≡ false → (x : ℕ) → IsLeast self.new.parents.items x → IsLeast self.old.parents.items x }
     {
-        let first = self.least_of(a);
-        let second = self.least_of(b);
+        let (first, second) = self.leasts_of(a, b);
         if first == second {
             return false;
         }
         self.unite(first, second);
         true
+    }
+
+    /// The least numbers of the classes of two numbers.
+    pub(crate) fn leasts_of(&mut self, a: u32, b: u32) -> (u32, u32)
+        requires falling { AreFalling self.old.parents.items }
+        requires first { a < length self.old.parents.items }
+        requires second { b < length self.old.parents.items }
+        ensures falling { AreFalling self.new.parents.items }
+        ensures long { length self.new.parents.items ≡ length self.old.parents.items }
+        ensures inside { (result.0 < length self.new.parents.items) × (result.1 < length self.new.parents.items) }
+        ensures found { AreLeastsOf self.old.parents.items self.new.parents.items a b result.0 result.1 }
+    {
+        let first = self.least_of(a);
+        let second = self.least_of(b);
+        (first, second)
     }
 
     /// Puts two classes together, which are given by their least numbers. The answer is the least number of both.
@@ -62,7 +74,6 @@ impl Classes {
         ensures one { AreOneClass self.new.parents.items first result }
         ensures least { IsLeast self.new.parents.items result }
         ensures leasts { (x : ℕ) → IsLeast self.new.parents.items x → IsLeast self.old.parents.items x }
-        ensures loses { first ≢ second → LosesLeast self.old.parents.items self.new.parents.items }
     {
         let least = first.min(second);
         let greater = first.max(second);

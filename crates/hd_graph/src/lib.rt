@@ -2,7 +2,6 @@
 //! that are pits, and the merges of lows as the water rises.
 #![tactic(auto)]
 
-mod candidate;
 mod classes;
 mod flooding;
 mod graph;
@@ -10,12 +9,12 @@ mod laws;
 mod line;
 mod links;
 mod merges;
+mod onward;
 mod order;
 mod parts;
 mod pass_heights;
-mod thinning;
+mod saddles;
 mod trees;
-mod ways;
 
 pub use classes::Classes;
 pub use flooding::flood;
@@ -28,4 +27,5 @@ pub use laws::{
 pub use line::{FloodLine, Stop};
 pub use links::Link;
 pub use merges::{Merge, merges_by_links, merges_of};
-pub use trees::{ChangeTree, Join, tree};
+pub use saddles::saddle_of_merges;
+pub use trees::{ChangeTree, Join, tree, tree_of_merges};

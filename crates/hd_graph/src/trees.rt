@@ -1,14 +1,16 @@
 // Change trees.
-ghost use Rattle.std.specs.Prelude.{◌≡◌, ◌++◌, ◌∷◌, [], IfOk, OnOk};
+ghost use Rattle.std.specs.Prelude.{◌≡◌, ◌<◌, ◌++◌, ◌∷◌, [], IfOk, OnOk, length};
 ghost use Rattle.std.specs.List.Sorted.{IsSortedBy};
 ghost use Rattle.std.specs.Ordering.{is_lt};
 ghost use Rattle.hd_map.specs.ChangeTree.{IsTree, IsChangeTree};
-ghost use Rattle.hd_map.specs.Map.{Map};
+ghost use Rattle.hd_map.specs.Map.{IsMap, Map};
 ghost use Rattle.hd_map.specs.Rank.{below_by};
-ghost use Rattle.hd_graph.specs.Parts.{AreGrouped, comes_before, join_of, sides_of, with_low, with_part};
-ghost use Rattle.hd_graph.specs.Tells.{IsPitOn, IsSaddleOn, TellsSaddles, joins_of};
+ghost use Rattle.hd_graph.specs.Parts.{AreGrouped, comes_before, join_of, left_of, right_of, rise_of, rises_of as rises_of_merges, sides_of, with_low, with_part};
+ghost use Rattle.hd_graph.specs.Tells.{AreMergesOf, IsPitOn, IsSaddleOn, TellsSaddles, joins_of};
 
+use crate::graph::Low;
 use crate::line::FloodLine;
+use crate::merges::Merge;
 use crate::parts::{Part, Rise, pits_line, rises_of};
 use hd_list::{List, Memory};
 use hd_map::{Rank, Side};
@@ -50,6 +52,46 @@ pub fn tree<S: Side>(alloc: Global, line: &FloodLine<S>) -> Result<ChangeTree, M
     })
 }
 
+/// The change tree of a map, by its pits and their merges: a merge joins the classes of its two pits, which are the
+/// lowest of them. `Memory` comes where the joins are refused their memory.
+pub fn tree_of_merges<S: Side>(
+    alloc: Global,
+    lows: &[Low],
+    merges: &[Merge],
+) -> Result<ChangeTree, Memory>
+    requires { (m : Map) × AreMergesOf m S.NAME lows.now merges.now }
+    ensures { IfOk result (λ tree. (m : Map) → IsMap m → AreMergesOf m S.NAME lows.now merges.now
+        → IsChangeTree m S.NAME (joins_of tree.joins)) }
+{
+    let joins = List::from_vec(group_merges::<S>(alloc, lows, merges)?);
+    Ok(ChangeTree { joins })
+}
+
+// The parts that the merges join, those of one saddle put together, each once.
+fn group_merges<S: Side>(alloc: Global, lows: &[Low], merges: &[Merge]) -> Result<Vec<Join>, Memory>
+    requires { (m : Map) × AreMergesOf m S.NAME lows.now merges.now }
+    ensures { IfOk result (λ joins. AreGrouped (below_by S.NAME) (sides_of (rises_of_merges lows.now merges.now)) (joins_of joins.items)) }
+{
+    let mut joins = Vec::with_capacity(alloc, merges.len())?;
+    for merge in merges {
+        add_sides::<S>(alloc, &mut joins, rise_of(lows, *merge))?;
+    }
+    Ok(joins)
+}
+
+// A merge as a rise between the classes of its pits.
+fn rise_of(lows: &[Low], merge: Merge) -> Rise
+    requires low { merge.low < length lows.now }
+    requires into { merge.into < length lows.now }
+    ensures { result ≡ rise_of lows.now merge }
+{
+    Rise {
+        saddle: merge.at,
+        left: lows[merge.into as usize].rank,
+        right: lows[merge.low as usize].rank,
+    }
+}
+
 // The parts on the sides of the sorted rises, those of one saddle put together, each once.
 fn group<S: Side>(alloc: Global, rises: &[Rise]) -> Result<Vec<Join>, Memory>
     requires { IsSortedBy (comes_before (below_by S.NAME)) rises.now }
@@ -57,13 +99,21 @@ fn group<S: Side>(alloc: Global, rises: &[Rise]) -> Result<Vec<Join>, Memory>
 {
     let mut joins = Vec::with_capacity(alloc, rises.len())?;
     for rise in rises {
-        let saddle = rise.saddle;
-        let low = rise.left;
-        add_part::<S>(alloc, &mut joins, Part { saddle, low })?;
-        let low = rise.right;
-        add_part::<S>(alloc, &mut joins, Part { saddle, low })?;
+        add_sides::<S>(alloc, &mut joins, *rise)?;
     }
     Ok(joins)
+}
+
+// Adds the parts on the two sides of a rise.
+fn add_sides<S: Side>(alloc: Global, joins: &mut Vec<Join>, rise: Rise) -> Result<(), Memory>
+    ensures { OnOk result (joins_of joins.new.items ≡ with_part (below_by S.NAME) (right_of rise) (with_part (below_by S.NAME) (left_of rise) (joins_of joins.old.items))) }
+{
+    let saddle = rise.saddle;
+    let low = rise.left;
+    add_part::<S>(alloc, joins, Part { saddle, low })?;
+    let low = rise.right;
+    add_part::<S>(alloc, joins, Part { saddle, low })?;
+    Ok(())
 }
 
 // Adds the part to the last join, where that is not below its saddle, and else a join of its own.

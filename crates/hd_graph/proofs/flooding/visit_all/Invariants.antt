@@ -1,14 +1,12 @@
-use Rattle.std.proofs.Common.{◌≡◌}
-use Rattle.std.specs.BinaryHeap.{heap_items, heap_len, IsHeap}
-use Rattle.hd_graph.specs.Candidates.{lowest_first}
-use Rattle.hd_graph.specs.Flood.{IsFlooded, lows_of}
-use Rattle.hd_graph.proofs.Visits.{AllDone}
+use Rattle.std.proofs.Common.{◌≡◌, ◌<◌, ℕ, true, map}
+use Rattle.hd_map.specs.Rank.{below_by}
+use Rattle.hd_graph.specs.Flood.{AreWhole, IsLineSoFar, is_done}
+use Rattle.hd_graph.specs.Links.{pass_of}
 use Rattle.hd_graph.proofs.flooding.visit_all.Given as goal
 
 abbrev pub invariant-loop-start : goal.invariant-loop-start
-invariant-loop-start l = record {
-  flooded : IsFlooded l.ways (lows_of l.ways) l.done.items l.visits.items (heap_items l.heap);
-  heap : IsHeap lowest_first (heap_items l.heap);
-  empty : heap_len l.heap ≡ 0;
-  all : AllDone l.done.items l.start;
+invariant-loop-start g l = record {
+  whole : AreWhole l.links l.done.items;
+  line : IsLineSoFar (below_by g.S.Side.NAME) l.lows (map (pass_of l.lows) l.links) l.done.items l.stops;
+  all : (v : ℕ) → v < l.start → is_done l.done.items v ≡ true;
 }

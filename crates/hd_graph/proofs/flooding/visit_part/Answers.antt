@@ -1,51 +1,97 @@
-use Rattle.std.proofs.Common.{◌≡◌, ◌<◌, ◌∙◌, sym, length, slice_get, Some, true, false, arith}
-use Rattle.std.specs.BinaryHeap.{heap_items}
-use Rattle.std.proofs.lemmas.Option.{slice_get_within}
-use Rattle.hd_graph.specs.Flood.{lows_of}
-use Rattle.hd_graph.proofs.Places.{get-from_read, get-set_same, mark_stays}
-use Rattle.hd_graph.proofs.Visits.{undone-set, flooded-start, flooded-next, flooded-over, flooded-lows, ways-inside}
+use Rattle.std.proofs.Common.{◌<◌, ◌+◌, inl, inr, refl, ℕ, Bool, List, true, arith, get_or, length, set}
+use Rattle.std.proofs.lemmas.Option.{slice_get-get_or, slice_get_within}
+use Rattle.hd_map.specs.Rank.{below_by}
+use Rattle.hd_graph.specs.declared.links.Link.{Link}
+use Rattle.hd_graph.specs.Links.{HasEnds}
+use Rattle.hd_graph.specs.Onward.{IsOnward}
+use Rattle.hd_graph.proofs.InOrder.{link-each}
+use Rattle.hd_graph.proofs.Reached.{done-kept, done-set, far-from, reached-all, reached-first, reached-next, reached-over, undone, undone-less, undone-set}
+use Rattle.hd_graph.proofs.Stops.{line-first, line-next}
 use Rattle.hd_graph.proofs.flooding.visit_part.Goals as goal
+use Rattle.hd_graph.proofs.flooding.visit_part.Goals.{After-far_end-low}
+use Rattle.hd_graph.proofs.flooding.visit_part.Given.{Over}
 
-pub loop-next-init : goal.loop-next-init
-loop-next-init c =
-    let made = c.in_ok-make_visit.ensures in
-    let inside : c.args.start < length c.args.done.now = omega (arith, c.requires.start, c.requires.flooded.long) in
-    let fresh : slice_get c.args.done.now c.args.start ≡ Some false = get-from_read c.args.done.now c.args.start _ _ inside c.if-done-start.false in
+-- the link that leads on from what the link at a place joins
+next : (g : Over) (c : After-far_end-low g) → IsOnward c.args.links.now c.at-link.result.a (c.loop-place.place + 1) (get_or c.args.onward.now (length c.args.lows.now + c.loop-place.place) 0)
+next g c =
+    let k : ℕ = c.loop-place.place in
+    let l : Link = c.at-link.result in
+    let e : ℕ = length c.args.lows.now + k in
+    let inside = slice_get_within c.args.links.now k l c.at-link.ensures in
+    c.requires.onward.each e l.a (k + 1) _ (inr (k, l, c.at-link.ensures, refl, refl, refl, (c.loop-place.invariant.reached.3).apart l c.at-link.ensures)) (slice_get-get_or c.args.onward.now e 0 (omega (arith, inside, c.requires.onward.long)))
+
+pub loop-place-init : goal.loop-place-init
+loop-place-init g c =
+    let made = c.in_ok-visit.ensures in
+    let o : ℕ = c.args.start in
+    let done : List Bool = c.args.done.now in
+    let inside : o < length done = omega (arith, c.requires.start, c.requires.line.long) in
+    let room : o < length c.args.onward.now = omega (arith, c.requires.start, c.requires.onward.long) in
+    let s = made.stops in
     record {
-      flooded = rw (made.done, made.visits) (flooded-start c.args.ways.now (lows_of c.args.ways.now) (ways-inside c.args.ways.now c.requires.grouped) c.args.done.now c.args.visits.now.items
-          (heap_items c.args.heap.now) (heap_items c.make_visit.new.heap) c.args.start c.requires.flooded fresh (sym c.args.heap.now.data.ok.0 ∙ c.requires.empty) (rw made.done at made.spreads));
-      heap = made.heap;
-      start = rw made.done (get-set_same c.args.done.now c.args.start true _ fresh);
-      kept = λ v h. rw made.done (mark_stays c.args.done.now c.args.start v h);
+      reached = rw made.done (o, 0, reached-first c.args.links.now done o inside c.requires.whole, c.requires.onward.each o o 0 _ (inl (c.requires.start, refl, refl)) (slice_get-get_or c.args.onward.now o 0 room));
+      line = rw (made.done, s.1) (line-first (below_by g.S.Side.NAME) g.met.S.Side.order c.args.lows.now c.requires.different c.args.links.now c.requires.sorted c.requires.within done c.args.stops.now c.requires.line o s.0 c.requires.start c.if-done-start.false s.2 c.requires.whole s.3);
+      start = rw made.done (done-set done o inside);
+      kept = λ v h. rw made.done (done-kept done o inside v h);
     }
 
-pub take_lowest-requires-clause-within : goal.take_lowest-requires-clause-within
-take_lowest-requires-clause-within c =
-    flooded-lows c.args.ways.now (lows_of c.args.ways.now) (ways-inside c.args.ways.now c.requires.grouped) c.loop-next.done c.loop-next.visits.items
-    (heap_items c.loop-next.heap) c.loop-next.invariant.flooded
+pub far_end-low-requires : goal.far_end-low-requires
+far_end-low-requires g c =
+    let ends : HasEnds (length c.args.lows.now) c.at-link.result = link-each (HasEnds (length c.args.lows.now)) c.args.links.now c.loop-place.place c.at-link.result c.requires.within c.at-link.ensures in
+    rw c.loop-place.invariant.line.long ends
 
-pub make_visit-requires-in-Some-clause-within : goal.make_visit-requires-in-Some-clause-within
-make_visit-requires-in-Some-clause-within c =
-    let inside : c.in-Some.next.to < length c.loop-next.done = slice_get_within c.loop-next.done c.in-Some.next.to _ c.in-Some.ensures.takes.fresh in
-    omega (arith, inside, c.loop-next.invariant.flooded.long)
+pub loop-place-smaller-then-done-low : goal.loop-place-smaller-then-done-low
+loop-place-smaller-then-done-low g c =
+    let later = (next g (goal.at.loop-place-smaller-then-done-low g c).After-far_end-low).later in
+    omega (arith, later, c.loop-place-test.true, c.len.ensures)
 
-pub loop-next-smaller : goal.loop-next-smaller
-loop-next-smaller c =
-    let less = undone-set c.loop-next.done c.in-Some.next.to c.in-Some.ensures.takes.fresh in
-    rw c.in_ok-make_visit-2.ensures.done (omega (arith, less))
-
-pub loop-next-preserved : goal.loop-next-preserved
-loop-next-preserved c =
-    let made = c.in_ok-make_visit-2.ensures in
+pub loop-place-preserved-then-done-low : goal.loop-place-preserved-then-done-low
+loop-place-preserved-then-done-low g c =
+    let r = c.loop-place.invariant.reached in
+    let l : Link = c.at-link.result in
     record {
-      flooded = rw (made.done, made.visits) (flooded-next c.args.ways.now (lows_of c.args.ways.now) (ways-inside c.args.ways.now c.requires.grouped) c.loop-next.done c.loop-next.visits.items
-          (heap_items c.loop-next.heap) (heap_items c.take_lowest.new.heap) (heap_items c.make_visit-in-Some.new.heap) c.in-Some.next c.loop-next.invariant.flooded c.in-Some.ensures.takes (rw made.done at made.spreads));
-      heap = made.heap;
-      start = rw made.done (mark_stays c.loop-next.done c.in-Some.next.to c.args.start c.loop-next.invariant.start);
-      kept = λ v h. rw made.done (mark_stays c.loop-next.done c.in-Some.next.to v (c.loop-next.invariant.kept v h));
+      reached = (
+        l.a,
+        c.loop-place.place + 1,
+        reached-over c.args.links.now c.loop-place.done r.0 r.1 c.loop-place.place r.2 r.3 l c.at-link.ensures c.far_end-low.result c.far_end-low.ensures.far c.if-done-low.true,
+        next g (goal.at.loop-place-preserved-then-done-low g c).After-far_end-low,
+      );
+      line = c.loop-place.invariant.line;
+      start = c.loop-place.invariant.start;
+      kept = c.loop-place.invariant.kept;
     }
 
-pub returns-clause-flooded : goal.returns-clause-flooded
-returns-clause-flooded c =
-    flooded-over c.args.ways.now (lows_of c.args.ways.now) (ways-inside c.args.ways.now c.requires.grouped) c.loop-next.done c.loop-next.visits.items
-    (heap_items c.loop-next.heap) (heap_items c.take_lowest.new.heap) c.loop-next.invariant.flooded c.in_default.ensures.takes (sym c.take_lowest.new.heap.data.ok.0 ∙ c.in_default.ensures.empty)
+pub loop-place-smaller : goal.loop-place-smaller
+loop-place-smaller g c =
+    let o : ℕ = c.far_end-low.result in
+    let done : List Bool = c.loop-place.done in
+    rw c.in_ok-visit-2.ensures.done (undone-less (undone (set done o true)) (undone done) (length c.args.links.now) c.loop-place.place _ (undone-set done o c.far_end-low.ensures.inside c.if-done-low.false))
+
+pub loop-place-preserved : goal.loop-place-preserved
+loop-place-preserved g c =
+    let made = c.in_ok-visit-2.ensures in
+    let r = c.loop-place.invariant.reached in
+    let l : Link = c.at-link.result in
+    let o : ℕ = c.far_end-low.result in
+    let done : List Bool = c.loop-place.done in
+    let within : o < length done = c.far_end-low.ensures.inside in
+    let inside : o < length c.args.lows.now = omega (arith, within, c.loop-place.invariant.line.long) in
+    let room : o < length c.args.onward.now = omega (arith, inside, c.requires.onward.long) in
+    let s = made.stops in
+    record {
+      reached = rw made.done (
+        o,
+        0,
+        reached-next c.args.links.now done r.0 r.1 c.loop-place.place r.2 r.3 l c.at-link.ensures o c.far_end-low.ensures.far within,
+        c.requires.onward.each o o 0 _ (inl (inside, refl, refl)) (slice_get-get_or c.args.onward.now o 0 room),
+      );
+      line = rw (made.done, s.1) (line-next (below_by g.S.Side.NAME) g.met.S.Side.order c.args.lows.now c.requires.different c.args.links.now c.requires.sorted c.requires.within done c.loop-place.stops c.loop-place.invariant.line o s.0 inside c.if-done-low.false s.2
+          r.0 r.1 c.loop-place.place r.2 r.3 l c.at-link.ensures (far-from c.args.links.now done r.0 r.1 c.loop-place.place r.2 r.3 l c.at-link.ensures o c.far_end-low.ensures.far) s.3);
+      start = rw made.done (done-kept done o within c.args.start c.loop-place.invariant.start);
+      kept = λ v h. rw made.done (done-kept done o within v (c.loop-place.invariant.kept v h));
+    }
+
+pub returns-clause-whole : goal.returns-clause-whole
+returns-clause-whole g c =
+    let r = c.loop-place.invariant.reached in
+    reached-all c.args.links.now c.loop-place.done r.0 r.1 c.loop-place.place r.2 r.3 (omega (arith, c.loop-place-test.false, c.len.ensures))

@@ -1,17 +1,18 @@
-use Rattle.std.proofs.Common.{◌≡◌, ℕ, slice_get, Some, true}
-use Rattle.std.specs.BinaryHeap.{heap_items, IsHeap}
-use Rattle.hd_graph.specs.Candidates.{lowest_first}
-use Rattle.hd_graph.specs.Flood.{IsFlooded, lows_of}
-use Rattle.hd_graph.proofs.Visits.{undone}
+use Rattle.std.proofs.Common.{◌≡◌, ◌+◌, ◌*◌, ◌-◌, ℕ, true, length, map}
+use Rattle.hd_map.specs.Rank.{below_by}
+use Rattle.hd_graph.specs.Flood.{IsLineSoFar, IsReached, is_done}
+use Rattle.hd_graph.specs.Links.{pass_of}
+use Rattle.hd_graph.specs.Onward.{IsOnward}
+use Rattle.hd_graph.proofs.Reached.{undone}
 use Rattle.hd_graph.proofs.flooding.visit_part.Given as goal
 
-abbrev pub invariant-loop-next : goal.invariant-loop-next
-invariant-loop-next l = record {
-  flooded : IsFlooded l.ways (lows_of l.ways) l.done l.visits.items (heap_items l.heap);
-  heap : IsHeap lowest_first (heap_items l.heap);
-  start : slice_get l.done l.start ≡ Some true;
-  kept : (v : ℕ) → slice_get l.fn.done v ≡ Some true → slice_get l.done v ≡ Some true;
+abbrev pub invariant-loop-place : goal.invariant-loop-place
+invariant-loop-place g l = record {
+  reached : (x : ℕ) × (t : ℕ) × IsReached l.links l.done x t × IsOnward l.links x t l.place;
+  line : IsLineSoFar (below_by g.S.Side.NAME) l.lows (map (pass_of l.lows) l.links) l.done l.stops;
+  start : is_done l.done l.start ≡ true;
+  kept : (v : ℕ) → is_done l.fn.done v ≡ true → is_done l.done v ≡ true;
 }
 
-abbrev pub decreases-loop-next : goal.decreases-loop-next
-decreases-loop-next l = undone l.done
+abbrev pub decreases-loop-place : goal.decreases-loop-place
+decreases-loop-place g l = undone l.done * (length l.links + 1) + (length l.links - l.place)
