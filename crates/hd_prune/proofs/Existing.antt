@@ -1,27 +1,31 @@
--- What there is on every map: roots and pits that take over, which are found, and saddles: that there is none cannot be.
-use Rattle.std.proofs.Common.{◌≡◌, ◌≢◌, ℕ, zero, suc, ◌<◌, ◌⊎◌, inl, inr, Bool, true, false, List, [], ◌∷◌, Option, Some, None, refl, sym, ◌∙◌, ap, subst, arith}
-use Rattle.std.specs.Prelude.{Contains}
+-- What there is on every map: roots, pits that take over, all pits in a list, and saddles or none.
+use Rattle.std.proofs.Common.{◌≢◌, ℕ, zero, suc, ◌<◌, ◌⊎◌, inl, inr, Bool, List, [], ◌∷◌, Option, Some, None, refl, sym, ◌∙◌, ap, subst, arith}
+use Rattle.std.specs.Prelude.{Contains, ◌↔◌}
+use Rattle.hd_map.specs.declared.types.Pos.{Pos}
 use Rattle.hd_map.specs.declared.types.Rank.{Rank}
 use Rattle.hd_map.specs.declared.types.SideName.{SideName}
-use Rattle.hd_map.specs.Map.{Map, IsMap}
+use Rattle.hd_map.specs.declared.types.SideName.TheVariants.{Dales}
+use Rattle.hd_map.specs.Map.{Map, IsMap, InGrid, Present, position_at}
 use Rattle.hd_map.specs.Order.{IsNotAbove, IsStrictOrder}
+use Rattle.hd_map.specs.Path.{Leads}
 use Rattle.hd_map.specs.Pruning.{IsBeyond, IsTakenOver}
-use Rattle.hd_map.specs.Rank.{below_by, IsPoint, Near}
+use Rattle.hd_map.specs.Rank.{below_by, IsPoint, Near, rank}
 use Rattle.hd_map.specs.Region.{LowerNeighbour, IsNext, IsPit, IsRoot}
 use Rattle.hd_map.specs.SideLaws.{below_by-order}
-use Rattle.hd_map.proofs.Depth.{depth_by, depth_falls}
-use Rattle.hd_map.proofs.Levels.{Contains-head, Contains-tail, Contains-cases, Contains-none, same_or_not, top_of, top-not_above, reach-from_path, path-from_reach}
+use Rattle.hd_map.proofs.Decided.{IsDecided, in_grid_or_not, near_or_not}
+use Rattle.hd_map.proofs.Depth.{depth_by}
+use Rattle.hd_map.proofs.Levels.{Reach, here, step, Contains-head, Contains-tail, Contains-cases, Contains-none, same_or_not}
 use Rattle.hd_map.proofs.Nexts.{next-falls, root-pit, root-step, root-unique}
-use Rattle.hd_map.proofs.Points.{Near-from, Near-to}
+use Rattle.hd_map.proofs.Points.{Near-from, Near-to, present_or_not, rank_position, ranks_of, point-listed}
+use Rattle.hd_map.proofs.Saddles.{saddle-exists}
 use Rattle.hd_map.proofs.Sides.{not_above-trans}
-use Rattle.hd_prune.proofs.Levels.{IsSaddle}
 use Rattle.hd_prune.proofs.Levels.{SaddleIs as LevelIs}
 use Rattle.hd_prune.specs.Taken.{HasBeyond}
 use Rattle.hd_prune.proofs.Firsts.{first_of}
 use Rattle.hd_prune.proofs.LowerNeighbours.{lower_neighbours}
-use Rattle.hd_prune.proofs.MapLine.{path_points}
-use Rattle.hd_prune.proofs.Nearest.{not_above-along, not_above-total}
-use Rattle.hd_prune.proofs.Points.{JoinedBy, not_above_level}
+use Rattle.hd_prune.proofs.Nearest.{not_above-total}
+use Rattle.hd_prune.proofs.Points.{JoinedBy, by_levels}
+use Rattle.hd_prune.proofs.Reachable.{reach_or_not}
 
 -- of the items of a list for which something holds, one is the lowest, or it holds for none
 lowest_of : {V : Type 0} (below : V → V → Bool) → IsStrictOrder below → (P : V → Type 0) (xs : List V) → ((x : V) → Contains xs x → P x ⊎ (P x → ⊥)) →
@@ -86,62 +90,83 @@ module _ (m : Map) (whole : IsMap m) (side : SideName) where
             absurd (none has.0 ((lower.1 has.0).1 has.1) (root.0, record { lower = has.1; root = root.1; not_own = has.2 root.0 root.1 }))
       ]
 
--- what cannot fail at each item of a list cannot fail at all of them
-pub at_all : {V : Type 0} (xs : List V) (P : V → Type 0) → ((x : V) → Contains xs x → (P x → ⊥) → ⊥) → (((x : V) → Contains xs x → P x) → ⊥) → ⊥
-at_all [] P f k = k (λ x at. absurd (Contains-none x at))
-at_all (x ∷ xs) P f k = f x (Contains-head x xs) (λ here. at_all xs P (λ y at. f y (Contains-tail x y xs at)) (λ rest. k (λ y at. elim (Contains-cases x y xs at) [
-  | inl e ↦ subst (λ z. P z) (sym e) here
-  | inr later ↦ rest y later
-])))
+module _ (m : Map) (side : SideName) where
+  leads-from_reach : {p q : Rank} → Reach (Near m) p q → (xs : List Rank) × Leads (Near m) p xs q
+  leads-from_reach here = ([], refl)
+  leads-from_reach (step {a} {b} {c} n r) = (let rest = leads-from_reach r in (b ∷ rest.0, (n, rest.1)))
+
+  reach-from_joined : (t : Rank) {p q : Rank} → JoinedBy m side t p q → Reach (Near m) p q
+  reach-from_joined t here = here
+  reach-from_joined t (step s r) = step s.0 (reach-from_joined t r)
+
+  -- two points have a saddle, or are joined at no level
+  pub saddle_of_two : (p q : Rank) → IsPoint m p → q ≢ p → (o : Option Rank) × LevelIs (below_by side) (JoinedBy m side) p q o
+  saddle_of_two p q point ne = elim (reach_or_not (Near m) (same_or_not (below_by side) (below_by-order side)) (near_or_not m) (ranks_of m) (λ a b n. point-listed m b (Near-to m a b n)) p q) [
+    | inl r ↦
+        let path = leads-from_reach r in
+        let s = saddle-exists m side p q path.0 (record { point = point; leads = path.1 }) in
+        (Some s.0, by_levels m side p q s.0 ne s.1)
+    | inr not ↦ (None, λ t j. not (reach-from_joined t j))
+  ]
+
+-- whether a rank is one of a point
+point_or_not : (m : Map) (r : Rank) → IsDecided (IsPoint m r)
+point_or_not m r =
+    let p : Pos = position_at m.size r.index in
+    elim (in_grid_or_not m.size p) [
+      | inl inside ↦ elim (present_or_not m p inside) [
+        | inl there ↦ elim (same_or_not (below_by Dales) (below_by-order Dales) r (rank m p)) [
+          | inl e ↦ inl (record { at = p; present = there; rank_is = e })
+          | inr apart ↦ inr (λ h. apart (h.rank_is ∙ ap (rank m) (sym (rank_position m r h.at h.present h.rank_is))))
+        ]
+        | inr absent ↦ inr (λ h. absent (subst (Present m) (sym (rank_position m r h.at h.present h.rank_is)) h.present))
+      ]
+      | inr outside ↦ inr (λ h. outside (subst (InGrid m.size) (sym (rank_position m r h.at h.present h.rank_is)) h.present.in_grid))
+    ]
+
+-- those of a list for which something holds
+those_of : {V : Type 0} (P : V → Type 0) (xs : List V) → ((x : V) → IsDecided (P x)) → (ys : List V) × ((y : V) → Contains ys y ↔ (Contains xs y × P y))
+those_of P [] decided = ([], λ y. (λ h. absurd (Contains-none y h), λ h. h.0))
+those_of P (x ∷ xs) decided =
+    let rest = those_of P xs decided in
+    elim (decided x) [
+      | inl holds ↦ (
+        x ∷ rest.0,
+        λ y. (
+          λ h. elim (Contains-cases x y rest.0 h) [
+            | inl e ↦ subst (λ z. Contains (x ∷ xs) z × P z) (sym e) (Contains-head x xs, holds)
+            | inr later ↦ (let k = (rest.1 y).0 later in (Contains-tail x y xs k.0, k.1))
+          ],
+          λ h. elim (Contains-cases x y xs h.0) [
+            | inl e ↦ subst (λ z. Contains (x ∷ rest.0) z) (sym e) (Contains-head x rest.0)
+            | inr later ↦ Contains-tail x y rest.0 ((rest.1 y).1 (later, h.1))
+          ],
+        ),
+      )
+      | inr fails ↦ (
+        rest.0,
+        λ y. (
+          λ h. (let k = (rest.1 y).0 h in (Contains-tail x y xs k.0, k.1)),
+          λ h. elim (Contains-cases x y xs h.0) [
+            | inl e ↦ absurd (fails (subst P e h.1))
+            | inr later ↦ (rest.1 y).1 (later, h.1)
+          ],
+        ),
+      )
+    ]
 
 module _ (m : Map) (whole : IsMap m) (side : SideName) where
-  -- a point at which two are joined, and not above t
-  pub record IsTopAt (p q t v : Rank) : Type 0 where
-    pub point : IsPoint m v
-    pub joined : JoinedBy m side v p q
-    pub not_above : IsNotAbove (below_by side) v t
+  pit_or_not : (r : Rank) → IsDecided (IsPit m side r)
+  pit_or_not r = elim (point_or_not m r) [
+    | inl point ↦ elim (next_or_pit m whole side r point) [
+      | inl next ↦ inr (λ pit. pit.alone next.0 next.1.lower)
+      | inr pit ↦ inl pit
+    ]
+    | inr not ↦ inr (λ pit. not pit.point)
+  ]
 
-  top_at : (p q t : Rank) → IsPoint m p → q ≢ p → JoinedBy m side t p q → (v : Rank) × IsTopAt p q t v
-  top_at p q t point ne j =
-      let path = path-from_reach (Near m) (below_by side) (below_by-order side) t (not_above_level m side t p q ne j) j in
-      let top = top_of (below_by side) (below_by-order side) p path.0 in (
-        top.0,
-        record {
-          point = path_points m p q top.0 path.0 point path.1 top.1.one_of;
-          joined = reach-from_path (Near m) (below_by side) (below_by-order side) top.0 p q path.0 path.1 top.1.none_above;
-          not_above = top-not_above (below_by side) (below_by-order side) top.0 t (p ∷ path.0) top.1 path.2;
-        },
-      )
-
-  -- where two are joined at u, they have a saddle
-  saddle_from : (n : ℕ) (p q u : Rank) → IsPoint m p → q ≢ p → depth_by side u < n → IsPoint m u → JoinedBy m side u p q → ((s : Rank) → IsSaddle (below_by side) (JoinedBy m side) p q s → ⊥) → ⊥
-  saddle_from zero p q u point ne small at j none = omega arith
-  saddle_from (suc n) p q u point ne small at j none = none u (record {
-    joined = j;
-    least = λ t k. elim (below_by side t u) as (λ b. below_by side t u ≡ b → b ≡ false) [
-      | true ↦ λ low. absurd (let v = top_at p q t point ne k in
-          let less : below_by side v.0 u ≡ true = not_above-along (below_by side) (below_by-order side) v.0 t u v.1.not_above low in
-          let falls = depth_falls m side v.0 u whole v.1.point at less in
-          saddle_from n p q v.0 point ne (omega arith) v.1.point v.1.joined none)
-      | false ↦ λ e. refl
-    ] refl;
-  })
-
-  saddle_of_two : (p q : Rank) → IsPoint m p → q ≢ p → (((o : Option Rank) × LevelIs (below_by side) (JoinedBy m side) p q o) → ⊥) → ⊥
-  saddle_of_two p q point ne k = k (
-    None,
-    λ t j. (let v = top_at p q t point ne j in
-        saddle_from (suc (depth_by side v.0)) p q v.0 point ne (omega arith) v.1.point v.1.joined (λ s h. k (Some s, h))),
-  )
-
-  -- any two of these points have a saddle, or are joined at no level
-  abbrev pub HaveSaddles : List Rank → Type 0
-  HaveSaddles pits = (p : Rank) → Contains pits p → (q : Rank) → Contains pits q → q ≢ p → (o : Option Rank) × LevelIs (below_by side) (JoinedBy m side) p q o
-
-  pub have_saddles : (pits : List Rank) → ((p : Rank) → Contains pits p → IsPoint m p) → (HaveSaddles pits → ⊥) → ⊥
-  have_saddles pits points k = at_all pits (λ p. (q : Rank) → Contains pits q → q ≢ p → (o : Option Rank) × LevelIs (below_by side) (JoinedBy m side) p q o)
-      (λ p hp f. at_all pits (λ q. q ≢ p → (o : Option Rank) × LevelIs (below_by side) (JoinedBy m side) p q o)
-      (λ q hq g. elim (same_or_not (below_by side) (below_by-order side) q p) [
-        | inl e ↦ g (λ ne. absurd (ne e))
-        | inr ne ↦ saddle_of_two p q (points p hp) ne (λ x. g (λ other. x))
-      ]) f) k
+  -- all pits in a list
+  pub list_of_pits : (pits : List Rank) × ((p : Rank) → Contains pits p ↔ IsPit m side p)
+  list_of_pits =
+      let found = those_of (IsPit m side) (ranks_of m) pit_or_not in
+      (found.0, λ p. (λ h. ((found.1 p).0 h).1, λ pit. (found.1 p).1 (point-listed m p pit.point, pit)))

@@ -17,6 +17,6 @@ mod taking;
 pub use around::Around;
 pub use keeping::keep;
 pub use laws::{pruning_is_nested, pruning_keeps_what_is_not_undercut};
-pub use pruning::{Pruned, prune};
+pub use pruning::{Pruned, prune, prune_by_merges};
 pub use span::height_span;
 pub use step::{Kept, Owned, Step};

@@ -5,12 +5,14 @@ ghost use Rattle.hd_map.specs.declared.types.Rank.{Rank};
 ghost use Rattle.hd_map.specs.Region.{IsPit};
 ghost use Rattle.hd_prune.specs.Line.{pits_of};
 ghost use Rattle.hd_prune.specs.Pruned.{AreInOrder, index_less, owned_by};
+ghost use Rattle.hd_prune.specs.Staying.{ranks_of};
 ghost use Rattle.hd_prune.specs.Taken.{IsLinked};
 
 use crate::around::Around;
 use crate::line::PitStop;
 use crate::step::Owned;
 use crate::taking::owner_of;
+use hd_graph::Low;
 use hd_list::{List, Memory};
 use hd_map::{Rank, Side};
 use std::alloc::Global;
@@ -24,6 +26,17 @@ pub fn pits_in_order(alloc: Global, line: &[PitStop]) -> Result<Vec<Rank>, Memor
     let mut pits = pit_ranks(alloc, line)?;
     pits.sort_unstable_by(|a, b| compare_indexes(a, b));
     Ok(pits)
+}
+
+/// The ranks of lows.
+pub fn low_ranks(alloc: Global, lows: &[Low]) -> Result<Vec<Rank>, Memory>
+    ensures { IfOk result (λ ranks. ranks.items ≡ ranks_of lows.now) }
+{
+    let mut ranks = Vec::with_capacity(alloc, lows.len())?;
+    for low in lows {
+        ranks.push(low.rank)?;
+    }
+    Ok(ranks)
 }
 
 /// The pits with their owners by the links.

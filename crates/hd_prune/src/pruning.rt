@@ -1,18 +1,23 @@
 // Wolf pruning.
 ghost use Rattle.std.specs.Prelude.{◌≡◌, IfOk};
-ghost use Rattle.hd_map.specs.Pruning.{SzIs};
+ghost use Rattle.hd_map.specs.Pruning.{ArePits, SzIs};
+ghost use Rattle.hd_map.specs.Rank.{below_by};
+ghost use Rattle.hd_map.specs.Saddle.{SaddleIs};
+ghost use Rattle.hd_graph.specs.Merges.{AreMerges};
 ghost use Rattle.hd_graph.specs.Tells.{TellsSaddles};
 ghost use Rattle.hd_prune.specs.Answer.{IsPruned};
 ghost use Rattle.hd_prune.specs.Kept.{AreNotUndercut};
+ghost use Rattle.hd_prune.specs.Staying.{ranks_of};
 
 use crate::around::Around;
+use crate::keeping::keep;
 use crate::kept::kept_in_order;
-use crate::leaving::{Limit, steps};
+use crate::leaving::{Limit, steps, steps_by_merges};
 use crate::line::{left_line, pit_line};
-use crate::order::{owners, pits_in_order};
+use crate::order::{low_ranks, owners, pits_in_order};
 use crate::step::{Kept, Owned, Step};
 use crate::taking::take_over;
-use hd_graph::FloodLine;
+use hd_graph::{FloodLine, Low, Merge};
 use hd_list::{List, Memory};
 use hd_map::Side;
 use hd_num::Percent;
@@ -66,11 +71,41 @@ fn prune_below<S: Side, A: Around>(
 {
     let pits = pit_line::<S>(alloc, line.stops())?;
     let leavers = steps::<S>(alloc, &pits, limit)?;
-    let mut taken = take_over::<S, A>(alloc, around, line, limit, &leavers)?;
+    let mut taken = take_over::<S, A>(alloc, around, &leavers)?;
     let left = left_line::<S>(alloc, line.stops(), &taken.links)?;
     let kept = kept_in_order::<S>(alloc, &left)?;
     let sorted = pits_in_order(alloc, &pits)?;
     let owners = owners::<S, A>(alloc, around, &mut taken.links, &sorted)?;
+    Ok(Pruned {
+        steps: taken.steps,
+        kept,
+        owners,
+    })
+}
+
+/// The same pruning as `prune` gives, without a line: from the merges of all pits of the map, which stand in
+/// position order. `sz` is the greatest height of a present point less the least, in steps. `Memory` comes
+/// where the steps, the kept pits or the owners are refused their memory.
+pub fn prune_by_merges<S: Side, A: Around>(
+    alloc: Global,
+    lows: &[Low],
+    merges: &[Merge],
+    around: &A,
+    percent: Percent,
+    sz: i64,
+) -> Result<Pruned, Memory>
+    requires side { A.side around.now ≡ S.NAME }
+    requires pits { ArePits (A.map around.now) S.NAME (ranks_of lows.now) }
+    requires merges { AreMerges (below_by S.NAME) (SaddleIs (A.map around.now) S.NAME) lows.now merges.now }
+    requires sz { SzIs (A.map around.now) sz }
+    ensures pruned { IfOk result (λ pruned. IsPruned (A.map around.now) S.NAME percent.thousandths pruned.steps pruned.kept pruned.owners) }
+    ensures undercut { IfOk result (λ pruned. AreNotUndercut (A.map around.now) S.NAME percent.thousandths sz pruned.kept) }
+{
+    let leavers = steps_by_merges::<S>(alloc, lows, merges, &Limit { percent, sz })?;
+    let mut taken = take_over::<S, A>(alloc, around, &leavers)?;
+    let kept = keep::<S>(alloc, lows, merges, percent, sz)?;
+    let pits = low_ranks(alloc, lows)?;
+    let owners = owners::<S, A>(alloc, around, &mut taken.links, &pits)?;
     Ok(Pruned {
         steps: taken.steps,
         kept,
