@@ -25,3 +25,4 @@ mod NumberedCrossings
 pub mod Served
 mod Windows
 mod Taken
+mod Inside

@@ -1,11 +1,12 @@
 // The passes at points whose lower neighbours fall into several groups.
-ghost use Rattle.std.specs.Prelude.{◌≡◌, ◌<◌, ◌≤◌, ◌+◌, ℕ, [], true, All, IfOk, OnOk};
-ghost use Rattle.hd_map.specs.Map.{InGrid};
+ghost use Rattle.std.specs.Prelude.{◌≡◌, ◌<◌, ◌≤◌, ◌+◌, ℕ, [], true, length, All, IfOk, OnOk};
+ghost use Rattle.std.specs.Bool.{OnTrue};
+ghost use Rattle.hd_map.specs.Map.{InGrid, cell_count, place_of};
 ghost use Rattle.hd_map.specs.Crossings.{AreCrossingsUnder};
 ghost use Rattle.hd_map.specs.Rank.{IsPoint};
 ghost use Rattle.hd_map.specs.Region.{LowerNeighbour};
 ghost use Rattle.hd_steep.specs.Crossings.{HasPits, IsNumberOf, pass_of, passes_of};
-ghost use Rattle.hd_steep.specs.Numbering.{AreNumbered, roots_of};
+ghost use Rattle.hd_steep.specs.Numbering.{AreNumbered, AreOneAround, roots_of};
 ghost use Rattle.hd_steep.specs.Rows.{rank_in};
 ghost use Rattle.hd_steep.specs.Ring.{is_marked};
 ghost use Rattle.hd_steep.specs.Crossed.{AreRowsRound, AreWide, ring_round, Extends, IsCrossed, AreCrossedTo, Gathers};
@@ -17,6 +18,10 @@ use crate::rolling::Rows;
 use hd_list::{List, Memory};
 use hd_map::{Heights, Pass, Pos, Rank, Side};
 use std::alloc::Global;
+
+// Where pits have more points than this, it saves time to look first whether a point lies inside a
+// region.
+const POINTS_A_PIT: usize = 64;
 
 /// A pass at a point between two regions, which it names by the numbers of their pits.
 #[derive(Clone, Copy, Debug, PartialEq, Eq)]
@@ -117,20 +122,22 @@ fn gather_profile<S: Side, G: Heights>(
     ensures gathers { OnOk result (Gathers (G.map grid.now) S.NAME (λ u. u.y ≡ y) (passes_of S.NAME regions.now.pits crossings.old.items) (passes_of S.NAME regions.now.pits crossings.new.items)) }
     ensures pits { OnOk result (All (HasPits regions.now.pits) crossings.old.items → All (HasPits regions.now.pits) crossings.new.items) }
 {
+    let are_pits_few = regions.pits().len() < regions.len() / POINTS_A_PIT;
     for x in 0..grid.size().points {
-        gather_point::<S, G>(grid, regions, rows, Pos { x, y }, crossings)?;
+        gather_point::<S, G>(grid, regions, rows, Pos { x, y }, are_pits_few, crossings)?;
     }
     Ok(())
 }
 
 // Adds the crossings at a point, if it is present. Where its lower neighbours are one group, they are
-// joined below it.
+// joined below it; and where it lies inside a region, they all lie in that one.
 #[inline]
 fn gather_point<S: Side, G: Heights>(
     grid: &G,
     regions: &Regions,
     rows: &Rows,
     at: Pos,
+    are_pits_few: bool,
     crossings: &mut Vec<Crossing>,
 ) -> Result<(), Memory>
     requires regions { AreNumbered (G.map grid.now) S.NAME regions.now }
@@ -144,12 +151,28 @@ fn gather_point<S: Side, G: Heights>(
     if is_missing::<S>(own) {
         return Ok(());
     }
+    if are_pits_few && lies_inside(grid, regions, at, own.index as usize) {
+        return Ok(());
+    }
     let lower = lower_at::<S>(&rows.above, &rows.level, &rows.below, x, own);
     let marks = marked(grid.adjacency(), &lower);
     if are_several(&marks) {
         cross::<S, G>(grid, regions, own, rows, x, &marks, crossings)?;
     }
     Ok(())
+}
+
+// Whether the eight positions round one are all in the grid and have the number of its index.
+#[inline]
+fn lies_inside<G: Heights>(grid: &G, regions: &Regions, at: Pos, index: usize) -> bool
+    requires inside { InGrid (G.map grid.now).size at }
+    requires index { index ≡ place_of (G.map grid.now).size at }
+    requires numbers { length regions.now.numbers ≡ cell_count (G.map grid.now).size }
+    ensures { OnTrue result (AreOneAround regions.now.numbers (G.map grid.now).size.points index) }
+{
+    let size = grid.size();
+    let is_inner = (0 < at.x) & (at.x + 1 < size.points) & (0 < at.y) & (at.y + 1 < size.profiles);
+    is_inner && regions.are_one_around(index, size.points as usize)
 }
 
 // Adds the crossings at a point to the marked ones of its lower neighbours.

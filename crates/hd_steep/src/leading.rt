@@ -13,18 +13,35 @@ use std::alloc::Global;
 // Heights without any order have about one pit for nine points: memory is reserved for as many.
 const POINTS_A_PIT: usize = 8;
 
-/// Leads each link on by one link, from the first point to the last.
-pub fn sweep<S: Side, G: Heights>(grid: &G, links: &mut [u32])
+/// Leads links on along their ways, most of them to the roots.
+///
+/// Where a sweep leads few of them on, as on a rough map, the ways are short, and it leaves little to be walked.
+/// Where it leads on more than half, two more sweeps follow.
+pub fn lead_on<S: Side, G: Heights>(grid: &G, links: &mut [u32])
     requires { AreLinks (G.map grid.now) S.NAME links.old }
     ensures { AreLinks (G.map grid.now) S.NAME links.new }
 {
-    for index in 0..links.len() {
-        lead_once::<S, G>(grid, links, index);
+    let led = sweep::<S, G>(grid, links);
+    if led > links.len() / 2 {
+        sweep_back::<S, G>(grid, links);
+        sweep::<S, G>(grid, links);
     }
 }
 
-/// Leads each link on by one link, from the last point to the first.
-pub fn sweep_back<S: Side, G: Heights>(grid: &G, links: &mut [u32])
+// Leads each link on by one link, from the first point to the last, and counts those that change by that.
+fn sweep<S: Side, G: Heights>(grid: &G, links: &mut [u32]) -> usize
+    requires { AreLinks (G.map grid.now) S.NAME links.old }
+    ensures { AreLinks (G.map grid.now) S.NAME links.new }
+{
+    let mut led = 0;
+    for index in 0..links.len() {
+        led += usize::from(lead_once::<S, G>(grid, links, index));
+    }
+    led
+}
+
+// Leads each link on by one link, from the last point to the first.
+fn sweep_back<S: Side, G: Heights>(grid: &G, links: &mut [u32])
     requires { AreLinks (G.map grid.now) S.NAME links.old }
     ensures { AreLinks (G.map grid.now) S.NAME links.new }
 {
@@ -33,9 +50,9 @@ pub fn sweep_back<S: Side, G: Heights>(grid: &G, links: &mut [u32])
     }
 }
 
-// Leads the link at an index on by one link.
+// Leads the link at an index on by one link, and tells whether it changes by that.
 #[inline]
-fn lead_once<S: Side, G: Heights>(_grid: &G, links: &mut [u32], index: usize)
+fn lead_once<S: Side, G: Heights>(_grid: &G, links: &mut [u32], index: usize) -> bool
     requires links { AreLinks (G.map _grid.now) S.NAME links.old }
     requires inside { index < length links.old }
     ensures { AreLinks (G.map _grid.now) S.NAME links.new }
@@ -47,6 +64,7 @@ fn lead_once<S: Side, G: Heights>(_grid: &G, links: &mut [u32], index: usize)
         link as usize
     };
     links[index] = links[onward];
+    links[index] != link
 }
 
 /// Leads the link of each point to its root, and lists the pits in position order.

@@ -1,8 +1,9 @@
 // The regions of all points, by the numbers of their pits.
-ghost use Rattle.std.specs.Prelude.{◌≡◌, ◌<◌, IfOk, length, slice_get, slice_index};
-ghost use Rattle.hd_steep.specs.Numbering.{AreNumbered, number_of, root_of, roots_of};
+ghost use Rattle.std.specs.Prelude.{◌≡◌, ◌<◌, ◌≤◌, ◌+◌, IfOk, length, slice_get, slice_index};
+ghost use Rattle.std.specs.Bool.{OnTrue};
+ghost use Rattle.hd_steep.specs.Numbering.{AreNumbered, AreThree, AreOneAround, number_of, root_of, roots_of};
 
-use crate::leading::{lead_to_roots, sweep, sweep_back};
+use crate::leading::{lead_on, lead_to_roots};
 use crate::links::first_links;
 use crate::numbers::{number_pits, number_points};
 use hd_list::{List, Memory};
@@ -67,12 +68,36 @@ impl Regions {
         self.pits.get(self.numbers[index] as usize).copied()
     }
 
+    /// Whether an index and the eight round it have one number. All nine are in the grid, which has this
+    /// width.
+    #[inline]
+    pub(crate) fn are_one_around(&self, index: usize, width: usize) -> bool
+        requires before { width < index }
+        requires after { index + width + 1 < length self.now.numbers }
+        ensures { OnTrue result (AreOneAround self.now.numbers width index) }
+    {
+        let number = self.numbers[index];
+        are_three(&self.numbers, index - width, number)
+            & are_three(&self.numbers, index, number)
+            & are_three(&self.numbers, index + width, number)
+    }
+
     /// The pits in position order. The numbers of the points are given up.
     pub fn into_pits(self) -> List<Rank>
         ensures { result ≡ self.pits }
     {
         List::from_vec(self.pits)
     }
+}
+
+// Whether an index and the two beside it have this number. It is told without a branch.
+#[inline]
+fn are_three(numbers: &[u32], middle: usize, number: u32) -> bool
+    requires before { 1 ≤ middle }
+    requires after { middle + 1 < length numbers.now }
+    ensures { OnTrue result (AreThree numbers.now middle number) }
+{
+    (numbers[middle - 1] == number) & (numbers[middle] == number) & (numbers[middle + 1] == number)
 }
 
 /// The regions of a side of a grid.
@@ -85,8 +110,7 @@ pub fn find_regions<S: Side, G: Heights>(alloc: Global, grid: &G) -> Result<Regi
     ensures { IfOk result (AreNumbered (G.map grid.now) S.NAME) }
 {
     let mut numbers = first_links::<S, G>(alloc, grid)?;
-    sweep::<S, G>(grid, &mut numbers);
-    sweep_back::<S, G>(grid, &mut numbers);
+    lead_on::<S, G>(grid, &mut numbers);
     let pits = lead_to_roots::<S, G>(alloc, grid, &mut numbers)?;
     number_pits::<S, G>(grid, &pits, &mut numbers);
     number_points::<S, G>(grid, &pits, &mut numbers);
