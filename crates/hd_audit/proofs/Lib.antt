@@ -26,5 +26,6 @@ mod Leaking
 mod Determined
 mod Blank
 mod HeightOrder
+mod Placed
 mod LineList
 mod PlainLines

@@ -14,3 +14,4 @@ pub mod HeightKeys
 pub mod LineList
 pub mod Plain
 pub mod Standings
+pub mod Placed

@@ -14,7 +14,7 @@ ghost use Rattle.hd_audit.specs.Standings.{AreStanding, seen_of};
 
 use crate::front::{Front, spread};
 use crate::limit::{Limit, is_within};
-use crate::order::points_in_order;
+use crate::order::{Placed, placed_at, points_in_order};
 use crate::place_table::PlaceTable;
 use crate::standing::{Standing, pass, standings};
 use crate::waiting::Waiting;
@@ -121,12 +121,15 @@ fn list_others<S: Side, G: Heights>(
     ensures { OnOk result (AreShownLines (G.map grid.now) S.NAME limit.now.percent.thousandths limit.now.sz (pits_kept kept.now) lines.new) }
 {
     let points = points_in_order::<S, G>(alloc, grid)?;
+    let mut next = placed_at::<S, G>(grid, points.as_slice(), 0);
     for place in 0..points.len() {
-        let index = points[place];
-        let at = position_of(grid.size(), index);
-        let point = rank_of(grid, at);
-        list_from(grid, limit, kept, point, at, lines, front)?;
-        pass(&mut front.standing, index);
+        let Some(Placed { rank, at }) = next else {
+            unreachable!();
+        };
+        // The next height is asked for before this point is listed, so that memory has time to answer.
+        next = placed_at::<S, G>(grid, points.as_slice(), place + 1);
+        list_from(grid, limit, kept, rank, at, lines, front)?;
+        pass(&mut front.standing, rank.index);
     }
     Ok(())
 }
