@@ -1,21 +1,20 @@
 -- A flood, entry by entry.
-use Rattle.std.proofs.Common.{◌≡◌, ◌<◌, ◌≤◌, ◌+◌, ◌*◌, ℕ, Bool, false, List, [], ◌∷◌, ◌++◌, length, get_or, set, replicate, Option, Some, None, IsSome, ◌⊎◌, inl, inr, ap, ◌∙◌, refl, sym, subst, arith}
+use Rattle.std.proofs.Common.{◌≡◌, ◌<◌, ◌≤◌, ◌+◌, ◌*◌, ◌%◌, ◌/◌, ℕ, zero, suc, List, [], ◌∷◌, ◌++◌, length, get_or, set, map, replicate, Option, Some, None, IsSome, ◌⊎◌, inl, inr, ap, ◌∙◌, refl, sym, subst, arith}
 use Rattle.std.proofs.Math.ListN.{length-set}
-use Rattle.std.proofs.lemmas.List.{get_or-set_same, get_or-set_other, get_or_append_left, get_or_push, length_push, get_or-replicate, length-replicate, get_or_default}
+use Rattle.std.proofs.lemmas.List.{get_or-set_same, get_or-set_other, get_or_append_left, get_or_push, length_push, get_or-replicate, length-replicate, length-map, get_or-map, map-append, map-set}
 use Rattle.std.proofs.lemmas.List.Sums.{sum_by-set}
 use Rattle.std.proofs.lemmas.List.Folds.{sum_by-replicate}
 use Rattle.std.proofs.lemmas.Bool.{cases_lt, cases_eq, false≢true}
-use Rattle.hd_map.specs.declared.types.Adjacency.{Adjacency}
 use Rattle.hd_map.specs.declared.types.Pos.{Pos}
 use Rattle.hd_map.specs.declared.types.Size.{Size}
 use Rattle.hd_map.specs.Map.{Map, InGrid, Present, place_of, cell_count}
-use Rattle.hd_map.specs.Neighbour.{Neighbour}
+use Rattle.hd_map.specs.Neighbour.{Neighbour, AreBesideUnder}
 use Rattle.hd_map.specs.Path.{Leads}
 use Rattle.hd_map.proofs.Gather.{same_pos}
 use Rattle.hd_map.proofs.Points.{neighbour-sym, same_place, place_inside}
-use Rattle.hd_cert.specs.declared.flood.Reached.{Reached}
-use Rattle.hd_cert.specs.Steps.{IsOpen, IsWanted, OpenArePresent, OpenStep, steps_at, AreSteps, Reaches, IsAtStep, IsLookedAt, LooksAt}
-use Rattle.hd_cert.specs.Flood.{entry_of, is_free, IsWithin, IsEntry, IsFlood}
+use Rattle.hd_cert.specs.Residues.{residue_of, residue_at, AreResidues, Reaches, ReachesAt}
+use Rattle.hd_cert.specs.Steps.{IsWanted, OpenStep, steps_at, AreSteps}
+use Rattle.hd_cert.specs.Flood.{Reached, entry_of, is_free, places_of, IsWithin, IsEntry, IsFlood, IsFlooding}
 
 -- an option that is something is something
 pub some_of : (o : Option ℕ) → IsSome o → (n : ℕ) × (o ≡ Some n)
@@ -23,25 +22,27 @@ some_of (Some n) h = (n, refl)
 some_of None h = absurd (false≢true h)
 
 -- a step from a neighbour
-pub turned : (m : Map) (marks : List Bool) (p q : Pos) → OpenStep m marks p q → OpenStep m marks q p
-turned m marks p q s = record { neighbour = neighbour-sym m p q s.neighbour; from = s.to; to = s.from }
+pub turned : (m : Map) (IsOpen : Pos → Type 0) (p q : Pos) → OpenStep m IsOpen p q → OpenStep m IsOpen q p
+turned m IsOpen p q s = record { neighbour = neighbour-sym m p q s.neighbour; from = s.to; to = s.from }
 
--- reaching a position leaves the length of the list
-pub reaches_whole : (s : Size) (marks : List Bool) (at : Pos) (n : ℕ) (steps : List (Option ℕ)) (queue : List Reached) (steps' : List (Option ℕ)) (queue' : List Reached)
-    → Reaches s marks at n steps queue steps' queue' → length steps' ≡ length steps
-reaches_whole s marks at n steps queue steps' queue' reaches = elim reaches [
-  | inl left ↦ ap length left.1
-  | inr noted ↦ ap length noted.2 ∙ length-set steps (place_of s at) (Some n)
-]
+-- what is told apart from none by its residue
+pub some_residue : (o : Option ℕ) → 1 ≤ residue_of o → IsSome o
+some_residue None h = absurd (omega (arith, h))
+some_residue (Some n) h = refl
 
-pub looks_whole : (s : Size) (adjacency : Adjacency) (marks : List Bool) (at : Pos) (step n : ℕ) (steps : List (Option ℕ)) (queue : List Reached) (steps' : List (Option ℕ)) (queue' : List Reached)
-    → LooksAt s adjacency marks at step n steps queue steps' queue' → length steps' ≡ length steps
-looks_whole s adjacency marks at step n steps queue steps' queue' looks = elim looks [
-  | inl none ↦ ap length none.1
-  | inr one ↦ reaches_whole s marks one.0 n steps queue steps' queue' one.2
-]
+none_residue : (o : Option ℕ) → residue_of o ≡ 0 → o ≡ None
+none_residue None e = refl
+none_residue (Some n) e = absurd (omega (arith, e))
 
-module _ (m : Map) (marks : List Bool) (start : Pos) where
+none_reached : (n : ℕ) → map residue_of (replicate n None) ≡ replicate n 0
+none_reached zero = refl
+none_reached (suc n) = ap (λ (rest : List ℕ). 0 ∷ rest) (none_reached n)
+
+-- the residue that is noted for a point is that of its steps
+pub residue_read : (s : Size) (steps : List (Option ℕ)) (p : Pos) → place_of s p < length steps → residue_at s (map residue_of steps) p ≡ residue_of (steps_at s steps p)
+residue_read s steps p inside = get_or-map residue_of steps (place_of s p) None 0 inside
+
+module _ (m : Map) (IsOpen : Pos → Type 0) (start : Pos) where
   -- a point is noted
   noted_more : (steps : List (Option ℕ)) (at p : Pos) (n k : ℕ) → length steps ≡ cell_count m.size → InGrid m.size at → InGrid m.size p → steps_at m.size steps at ≡ None
       → steps_at m.size steps p ≡ Some k → steps_at m.size (set steps (place_of m.size at) (Some n)) p ≡ Some k
@@ -62,9 +63,9 @@ module _ (m : Map) (marks : List Bool) (start : Pos) where
   ]
 
   -- an open neighbour of the entry at the head is queued
-  flood_push : (steps : List (Option ℕ)) (queue : List Reached) (head : ℕ) (at : Pos) (n : ℕ) → IsFlood m marks start steps queue head → head < length queue
-      → Neighbour m (entry_of queue head).at at → (entry_of queue head).steps + 1 ≡ n → IsOpen m marks at → steps_at m.size steps at ≡ None
-      → IsFlood m marks start (set steps (place_of m.size at) (Some n)) (queue ++ record { at = at; steps = n } ∷ []) head
+  flood_push : (steps : List (Option ℕ)) (queue : List Reached) (head : ℕ) (at : Pos) (n : ℕ) → IsFlood m IsOpen start steps queue head → head < length queue
+      → Neighbour m (entry_of queue head).at at → (entry_of queue head).steps + 1 ≡ n → IsOpen at → steps_at m.size steps at ≡ None
+      → IsFlood m IsOpen start (set steps (place_of m.size at) (Some n)) (queue ++ record { at = at; steps = n } ∷ []) head
   flood_push steps queue head at n f begun near count is_open free =
       let steps' = set steps (place_of m.size at) (Some n) in
       let e : Reached = record { at = at; steps = n } in
@@ -77,7 +78,7 @@ module _ (m : Map) (marks : List Bool) (start : Pos) where
       let first = f.entries head begun in
       let more : (p : Pos) (k : ℕ) → InGrid m.size p → steps_at m.size steps p ≡ Some k → steps_at m.size steps' p ≡ Some k = λ p k there noted.
       noted_more steps at p n k f.whole near.to.in_grid there free noted in
-      let step : OpenStep m marks at (entry_of queue head).at = turned m marks (entry_of queue head).at at (record { neighbour = near; from = first.is_open; to = is_open }) in
+      let step : OpenStep m IsOpen at (entry_of queue head).at = turned m IsOpen (entry_of queue head).at at (record { neighbour = near; from = first.is_open; to = is_open }) in
       record {
         whole = length-set steps (place_of m.size at) (Some n) ∙ f.whole;
         start_inside = f.start_inside;
@@ -124,30 +125,38 @@ module _ (m : Map) (marks : List Bool) (start : Pos) where
           | inr last ↦ let is : length queue ≡ k = omega (arith, longer) in rw (new k is, old head begun) (omega (arith, count))
         ];
         closed = λ k before h q s. (let less : k < length queue = omega (arith, before, begun) in
-            let s' : OpenStep m marks (entry_of queue k).at q = subst (λ (r : Reached). OpenStep m marks r.at q) (old k less) s in
+            let s' : OpenStep m IsOpen (entry_of queue k).at q = subst (λ (r : Reached). OpenStep m IsOpen r.at q) (old k less) s in
             let w = f.closed k before less q s' in
             rw (old k less) (w.0, w.1, more q w.0 s.neighbour.to.in_grid w.2));
       }
 
-  -- a flood after a position was looked at
-  pub record GoesOn (steps : List (Option ℕ)) (queue : List Reached) (head : ℕ) (at : Pos) (n : ℕ) (steps' : List (Option ℕ)) (queue' : List Reached) : Type 0 where
-    pub flood : IsFlood m marks start steps' queue' head
+  -- a flood after a position was looked at, with the residues and indexes that are kept of it
+  pub record GoesOn (steps : List (Option ℕ)) (queue : List Reached) (head : ℕ) (at : Pos) (n : ℕ) (residues' places' : List ℕ) : Type 0 where
+    pub steps' : List (Option ℕ)
+    pub queue' : List Reached
+    pub residues_are : residues' ≡ map residue_of steps'
+    pub places_are : places' ≡ places_of m.size queue'
+    pub flood : IsFlood m IsOpen start steps' queue' head
     pub begun : head < length queue'
     pub same : entry_of queue' head ≡ entry_of queue head
     pub kept : (p : Pos) (k : ℕ) → InGrid m.size p → steps_at m.size steps p ≡ Some k → steps_at m.size steps' p ≡ Some k
-    pub found : IsOpen m marks at → IsWithin m steps' at n
+    pub found : IsOpen at → IsWithin m steps' at n
 
   -- a position that is closed, or has its steps
-  goes_on_same : (steps : List (Option ℕ)) (queue : List Reached) (head : ℕ) (at : Pos) (n : ℕ) → IsFlood m marks start steps queue head → head < length queue
+  goes_on_same : (steps : List (Option ℕ)) (queue : List Reached) (head : ℕ) (at : Pos) (n : ℕ) → IsFlood m IsOpen start steps queue head → head < length queue
       → InGrid m.size at → (entry_of queue head).steps + 1 ≡ n
-      → (get_or marks (place_of m.size at) false ≡ false) ⊎ IsSome (steps_at m.size steps at) → GoesOn steps queue head at n steps queue
+      → (IsOpen at → ⊥) ⊎ IsSome (steps_at m.size steps at) → GoesOn steps queue head at n (map residue_of steps) (places_of m.size queue)
   goes_on_same steps queue head at n f begun inside count why = record {
+    steps' = steps;
+    queue' = queue;
+    residues_are = refl;
+    places_are = refl;
     flood = f;
     begun = begun;
     same = refl;
     kept = λ p k there noted. noted;
     found = λ is_open. elim why [
-      | inl closed ↦ absurd (false≢true (sym closed ∙ is_open))
+      | inl closed ↦ absurd (closed is_open)
       | inr noted ↦
           let k = some_of (steps_at m.size steps at) noted in
           let h = f.queued at inside k.0 k.1 in
@@ -157,33 +166,62 @@ module _ (m : Map) (marks : List Bool) (start : Pos) where
     ];
   }
 
-  pub goes_on : (steps : List (Option ℕ)) (queue : List Reached) (head : ℕ) (at : Pos) (n : ℕ) (steps' : List (Option ℕ)) (queue' : List Reached) → IsFlood m marks start steps queue head
-      → head < length queue → InGrid m.size at → (IsOpen m marks at → steps_at m.size steps at ≡ None → Neighbour m (entry_of queue head).at at) → (entry_of queue head).steps + 1 ≡ n
-      → Reaches m.size marks at n steps queue steps' queue' → GoesOn steps queue head at n steps' queue'
-  goes_on steps queue head at n steps' queue' f begun there beside count reaches = elim reaches [
-    | inl left ↦ rw (left.1, left.2) (goes_on_same steps queue head at n f begun there count left.0)
-    | inr noted ↦
-        let near : Neighbour m (entry_of queue head).at at = beside noted.0 noted.1 in
-        let inside : place_of m.size at < length steps = rw f.whole (place_inside m.size at near.to.in_grid) in
-        rw (noted.2, noted.3) (record {
-          flood = flood_push steps queue head at n f begun near count noted.0 noted.1;
-          begun = rw (length_push queue (record { at = at; steps = n })) (omega (arith, begun));
-          same = get_or_append_left queue (record { at = at; steps = n } ∷ []) (record { at = record { x = 0; y = 0 }; steps = 0 }) head begun;
-          kept = λ p k there was. noted_more steps at p n k f.whole near.to.in_grid there noted.1 was;
-          found = λ _. (n, omega arith, get_or-set_same steps (place_of m.size at) (Some n) None inside);
-        })
-  ]
+  -- an open neighbour that has no steps
+  goes_on_push : (steps : List (Option ℕ)) (queue : List Reached) (head : ℕ) (at : Pos) (n : ℕ) → IsFlood m IsOpen start steps queue head → head < length queue
+      → Neighbour m (entry_of queue head).at at → (entry_of queue head).steps + 1 ≡ n → IsOpen at → steps_at m.size steps at ≡ None
+      → GoesOn steps queue head at n (set (map residue_of steps) (place_of m.size at) (residue_of (Some n))) (places_of m.size queue ++ place_of m.size at ∷ [])
+  goes_on_push steps queue head at n f begun near count is_open free =
+      let e : Reached = record { at = at; steps = n } in
+      let inside : place_of m.size at < length steps = rw f.whole (place_inside m.size at near.to.in_grid) in
+      record {
+        steps' = set steps (place_of m.size at) (Some n);
+        queue' = queue ++ e ∷ [];
+        residues_are = sym (map-set residue_of steps (place_of m.size at) (Some n));
+        places_are = sym (map-append (λ (r : Reached). place_of m.size r.at) queue (e ∷ []));
+        flood = flood_push steps queue head at n f begun near count is_open free;
+        begun = rw (length_push queue e) (omega (arith, begun));
+        same = get_or_append_left queue (e ∷ []) (record { at = record { x = 0; y = 0 }; steps = 0 }) head begun;
+        kept = λ p k there was. noted_more steps at p n k f.whole near.to.in_grid there free was;
+        found = λ _. (n, omega arith, get_or-set_same steps (place_of m.size at) (Some n) None inside);
+      }
+
+  goes_on : (steps : List (Option ℕ)) (queue : List Reached) (head : ℕ) (at : Pos) (n residue : ℕ) (residues places residues' places' : List ℕ) → IsFlood m IsOpen start steps queue head
+      → head < length queue → residues ≡ map residue_of steps → places ≡ places_of m.size queue → InGrid m.size at
+      → (IsOpen at → steps_at m.size steps at ≡ None → Neighbour m (entry_of queue head).at at) → (entry_of queue head).steps + 1 ≡ n → residue ≡ residue_of (Some n)
+      → Reaches m.size IsOpen at residue residues places residues' places' → GoesOn steps queue head at n residues' places'
+  goes_on steps queue head at n residue residues places residues' places' f begun residues_are places_are there beside count residue_is reaches =
+      let inside : place_of m.size at < length steps = rw f.whole (place_inside m.size at there) in
+      let read : residue_at m.size residues at ≡ residue_of (steps_at m.size steps at) = ap (λ rs. residue_at m.size rs at) residues_are ∙ residue_read m.size steps at inside in
+      elim reaches [
+        | inl left ↦
+            let why : (IsOpen at → ⊥) ⊎ IsSome (steps_at m.size steps at) = elim left.0 [
+              | inl closed ↦ inl closed
+              | inr some ↦ inr (some_residue (steps_at m.size steps at) (rw (← read) some))
+            ] in
+            rw (left.1, left.2, residues_are, places_are) (goes_on_same steps queue head at n f begun there count why)
+        | inr noted ↦
+            let free : steps_at m.size steps at ≡ None = none_residue (steps_at m.size steps at) (sym read ∙ noted.1) in
+            rw (noted.2, noted.3, residues_are, places_are, residue_is) (goes_on_push steps queue head at n f begun (beside noted.0 free) count noted.0 free)
+      ]
 
   -- the number of a position among the nine round another comes before this step
   abbrev pub IsBefore : Pos → ℕ → Pos → Type 0
   IsBefore at step q = 3 * q.y + q.x + 4 < 3 * at.y + at.x + step
 
-  -- the flood while the positions round the entry at its head are looked at, step by step
-  pub record IsRound (here : Reached) (steps : List (Option ℕ)) (queue : List Reached) (head step : ℕ) : Type 0 where
-    pub flood : IsFlood m marks start steps queue head
+  -- the position of this step of the nine round another
+  abbrev pub IsAtStep : Pos → ℕ → Pos → Type 0
+  IsAtStep at step q = (q.x + 1 ≡ at.x + step % 3) × (q.y + 1 ≡ at.y + step / 3)
+
+  -- the flood while the positions round the point at its head are looked at, step by step
+  pub record IsRound (here : Pos) (n : ℕ) (residues places : List ℕ) (head step : ℕ) : Type 0 where
+    pub steps : List (Option ℕ)
+    pub queue : List Reached
+    pub residues_are : residues ≡ map residue_of steps
+    pub places_are : places ≡ places_of m.size queue
+    pub flood : IsFlood m IsOpen start steps queue head
     pub begun : head < length queue
-    pub here_is : entry_of queue head ≡ here
-    pub found : (q : Pos) → Neighbour m here.at q → IsBefore here.at step q → IsOpen m marks q → IsWithin m steps q (here.steps + 1)
+    pub here_is : entry_of queue head ≡ record { at = here; steps = n }
+    pub found : (q : Pos) → Neighbour m here q → IsBefore here step q → IsOpen q → IsWithin m steps q (n + 1)
 
   -- a neighbour that is not before a step, and before the next, is at the step
   at_step : (at q : Pos) (step : ℕ) → step < 9 → Neighbour m at q → IsBefore at (step + 1) q → (IsBefore at step q → ⊥) → IsAtStep at step q
@@ -196,101 +234,159 @@ module _ (m : Map) (marks : List Bool) (start : Pos) where
       by_number x x' y y' e = (omega (arith, x, x', y, y', e, below), omega (arith, x, x', y, y', e, below))
 
   -- an open position round the head that is not noted is its neighbour
-  beside_head : OpenArePresent m marks → (steps : List (Option ℕ)) (queue : List Reached) (head : ℕ) (q : Pos) (step : ℕ) → step < 9 → IsFlood m marks start steps queue head → head < length queue
-      → IsLookedAt m.size m.adjacency (entry_of queue head).at step q → IsOpen m marks q → steps_at m.size steps q ≡ None → Neighbour m (entry_of queue head).at q
-  beside_head open_present steps queue head q step below f begun looked is_open free =
+  beside_head : ((p : Pos) → IsOpen p → Present m p) → (steps : List (Option ℕ)) (queue : List Reached) (head : ℕ) (q : Pos) (step : ℕ) → step < 9 → IsFlood m IsOpen start steps queue head → head < length queue
+      → IsAtStep (entry_of queue head).at step q → AreBesideUnder m.adjacency (entry_of queue head).at q → IsOpen q → steps_at m.size steps q ≡ None → Neighbour m (entry_of queue head).at q
+  beside_head open_present steps queue head q step below f begun at beside is_open free =
       let e = f.entries head begun in
       let noted = e.noted in
-      let x = looked.at_step.0 in
-      let y = looked.at_step.1 in
+      let x = at.0 in
+      let y = at.1 in
       record {
         from = e.present;
-        to = open_present q looked.in_grid is_open;
+        to = open_present q is_open;
         columns = (omega (arith, x, below), omega (arith, x, below));
         rows = (omega (arith, y, below), omega (arith, y, below));
         different = λ same. (let both : Some (entry_of queue head).steps ≡ None = sym noted ∙ ap (steps_at m.size steps) same ∙ free in cc);
-        beside = looked.beside;
+        beside = beside;
       }
 
-  pub round_more : OpenArePresent m marks → (here : Reached) (steps : List (Option ℕ)) (queue : List Reached) (head step : ℕ) (steps' : List (Option ℕ)) (queue' : List Reached)
-      → step < 9 → LooksAt m.size m.adjacency marks here.at step (here.steps + 1) steps queue steps' queue' → IsRound here steps queue head step → IsRound here steps' queue' head (step + 1)
-  round_more open_present here steps queue head step steps' queue' below looks r = elim looks [
-    | inl none ↦ rw (none.1, none.2) (record {
-      flood = r.flood;
-      begun = r.begun;
-      here_is = r.here_is;
-      found = λ q n before is_open. elim (cases_lt (3 * q.y + q.x + 4) (3 * here.at.y + here.at.x + step)) [
-        | inl less ↦ r.found q n less is_open
-        | inr more ↦ absurd (none.0 q (record { at_step = at_step here.at q step below n before (λ less. omega (arith, less, more)); in_grid = n.to.in_grid; beside = n.beside }))
-      ];
-    })
-    | inr one ↦
-        let p : Pos = one.0 in
-        let looked : IsLookedAt m.size m.adjacency here.at step p = one.1 in
-        let at : IsAtStep here.at step p = looked.at_step in
-        let there : InGrid m.size p = looked.in_grid in
-        let from_head = subst (λ (e : Reached). IsLookedAt m.size m.adjacency e.at step p) (sym r.here_is) looked in
-        let g = goes_on steps queue head p (here.steps + 1) steps' queue' r.flood r.begun there
-        (λ is_open free. beside_head open_present steps queue head p step below r.flood r.begun from_head is_open free) (ap (λ (e : Reached). e.steps + 1) r.here_is) one.2 in
+  pub round_more : ((p : Pos) → IsOpen p → Present m p) → (here : Pos) (n residue : ℕ) (residues places : List ℕ) (head step : ℕ) (residues' places' : List ℕ) → step < 9 → residue ≡ residue_of (Some (n + 1))
+      → ReachesAt m IsOpen here (step % 3) (step / 3) residue residues places residues' places' → IsRound here n residues places head step → IsRound here n residues' places' head (step + 1)
+  round_more open_present here n residue residues places head step residues' places' below residue_is reaches r = elim reaches [
+    | inl (p, x, y, there, beside, one) ↦
+        let at : IsAtStep here step p = (x, y) in
+        let head_at : (entry_of r.queue head).at ≡ here = ap (λ (e : Reached). e.at) r.here_is in
+        let at' : IsAtStep (entry_of r.queue head).at step p = subst (λ (q : Pos). IsAtStep q step p) (sym head_at) at in
+        let beside' : AreBesideUnder m.adjacency (entry_of r.queue head).at p = subst (λ (q : Pos). AreBesideUnder m.adjacency q p) (sym head_at) beside in
+        let g = goes_on r.steps r.queue head p (n + 1) residue residues places residues' places' r.flood r.begun r.residues_are r.places_are there
+        (λ is_open free. beside_head open_present r.steps r.queue head p step below r.flood r.begun at' beside' is_open free) (ap (λ (e : Reached). e.steps + 1) r.here_is) residue_is one in
         record {
+          steps = g.steps';
+          queue = g.queue';
+          residues_are = g.residues_are;
+          places_are = g.places_are;
           flood = g.flood;
           begun = g.begun;
           here_is = g.same ∙ r.here_is;
-          found = λ q n before is_open. elim (cases_lt (3 * q.y + q.x + 4) (3 * here.at.y + here.at.x + step)) [
-            | inl less ↦ let w = r.found q n less is_open in (w.0, w.1, g.kept q w.0 n.to.in_grid w.2)
+          found = λ q near before is_open. elim (cases_lt (3 * q.y + q.x + 4) (3 * here.y + here.x + step)) [
+            | inl less ↦ let w = r.found q near less is_open in (w.0, w.1, g.kept q w.0 near.to.in_grid w.2)
             | inr more ↦
-                let is = at_step here.at q step below n before (λ less. omega (arith, less, more)) in
-                let x = is.0 in
-                let y = is.1 in
-                let same : p ≡ q = same_pos p q (omega (arith, x, at.0)) (omega (arith, y, at.1)) in
-                subst (λ (o : Pos). IsOpen m marks o → IsWithin m steps' o (here.steps + 1)) same g.found is_open
+                let is = at_step here q step below near before (λ less. omega (arith, less, more)) in
+                let x' = is.0 in
+                let y' = is.1 in
+                let same : p ≡ q = same_pos p q (omega (arith, x', x)) (omega (arith, y', y)) in
+                subst (λ (o : Pos). IsOpen o → IsWithin m g.steps' o (n + 1)) same g.found is_open
           ];
         }
+    | inr none ↦ rw (none.1, none.2) (record {
+      steps = r.steps;
+      queue = r.queue;
+      residues_are = r.residues_are;
+      places_are = r.places_are;
+      flood = r.flood;
+      begun = r.begun;
+      here_is = r.here_is;
+      found = λ q near before is_open. elim (cases_lt (3 * q.y + q.x + 4) (3 * here.y + here.x + step)) [
+        | inl less ↦ r.found q near less is_open
+        | inr more ↦ absurd (let is = at_step here q step below near before (λ less. omega (arith, less, more)) in none.0 q is.0 is.1 near.to.in_grid near.beside)
+      ];
+    })
   ]
 
+  -- the middle of the nine is the point itself
+  pub round_centre : (here : Pos) (n : ℕ) (residues places : List ℕ) (head step : ℕ) → step ≡ 4 → IsRound here n residues places head step → IsRound here n residues places head (step + 1)
+  round_centre here n residues places head step centre r = record {
+    steps = r.steps;
+    queue = r.queue;
+    residues_are = r.residues_are;
+    places_are = r.places_are;
+    flood = r.flood;
+    begun = r.begun;
+    here_is = r.here_is;
+    found = λ q near before is_open. elim (cases_lt (3 * q.y + q.x + 4) (3 * here.y + here.x + step)) [
+      | inl less ↦ r.found q near less is_open
+      | inr more ↦ absurd (let is = at_step here q step (omega (arith, centre)) near before (λ less. omega (arith, less, more)) in
+          let x = is.0 in
+          let y = is.1 in
+          near.different (same_pos here q (omega (arith, x, centre)) (omega (arith, y, centre))))
+    ];
+  }
+
   -- all steps were made
-  pub round_end : (here : Reached) (steps : List (Option ℕ)) (queue : List Reached) (head step : ℕ) → 9 ≤ step → IsRound here steps queue head step → IsFlood m marks start steps queue (head + 1)
-  round_end here steps queue head step done r =
+  pub round_end : (here : Pos) (n : ℕ) (residues places : List ℕ) (head step : ℕ) → 9 ≤ step → IsRound here n residues places head step → IsFlooding m IsOpen start residues places (head + 1)
+  round_end here n residues places head step done r =
       let f = r.flood in
+      let queue = r.queue in
       record {
-        whole = f.whole;
-        start_inside = f.start_inside;
-        begun = f.begun;
-        room = f.room;
-        entries = f.entries;
-        queued = f.queued;
-        rising = f.rising;
-        narrow = λ i h h'. (let low = f.narrow i h r.begun in let up = f.rising head (head + 1) (omega arith) h' in omega (arith, low, up));
-        closed = λ i before h q s. elim (cases_lt i head) [
-          | inl less ↦ f.closed i less h q s
-          | inr last ↦
-              let e : head ≡ i = omega arith in
-              let is : entry_of queue i ≡ here = ap (entry_of queue) (sym e) ∙ r.here_is in
-              let near : Neighbour m here.at q = subst (λ (x : Reached). Neighbour m x.at q) is s.neighbour in
-              let x = near.columns.1 in
-              let y = near.rows.1 in
-              let w' : IsWithin m steps q (here.steps + 1) = r.found q near (omega (arith, x, y, done)) s.to in
-              subst (λ (x : Reached). IsWithin m steps q (x.steps + 1)) (sym is) w'
-        ];
+        steps = r.steps;
+        queue = queue;
+        residues_are = r.residues_are;
+        places_are = r.places_are;
+        flood = record {
+          whole = f.whole;
+          start_inside = f.start_inside;
+          begun = f.begun;
+          room = f.room;
+          entries = f.entries;
+          queued = f.queued;
+          rising = f.rising;
+          narrow = λ i h h'. (let low = f.narrow i h r.begun in let up = f.rising head (head + 1) (omega arith) h' in omega (arith, low, up));
+          closed = λ i before h q s. elim (cases_lt i head) [
+            | inl less ↦ f.closed i less h q s
+            | inr last ↦
+                let e : head ≡ i = omega arith in
+                let is : entry_of queue i ≡ record { at = here; steps = n } = ap (entry_of queue) (sym e) ∙ r.here_is in
+                let near : Neighbour m here q = subst (λ (x : Reached). Neighbour m x.at q) is s.neighbour in
+                let x = near.columns.1 in
+                let y = near.rows.1 in
+                let w' : IsWithin m r.steps q (n + 1) = r.found q near (omega (arith, x, y, done)) s.to in
+                subst (λ (x : Reached). IsWithin m r.steps q (x.steps + 1)) (sym is) w'
+          ];
+        };
       }
 
+  -- the point at the head of a flood
+  head_at : (residues places : List ℕ) (head : ℕ) (f : IsFlooding m IsOpen start residues places head) → head < length places → (here : Pos) → InGrid m.size here → get_or places head 0 ≡ place_of m.size here
+      → (head < length f.queue) × ((entry_of f.queue head).at ≡ here)
+  head_at residues places head f begun here inside is =
+      let place = λ (e : Reached). place_of m.size e.at in
+      let long : length places ≡ length f.queue = ap length f.places_are ∙ length-map f.queue place in
+      let begun' : head < length f.queue = omega (arith, begun, long) in
+      let first : Reached = record { at = record { x = 0; y = 0 }; steps = 0 } in
+      let read : get_or places head 0 ≡ place_of m.size (entry_of f.queue head).at = ap (λ (ps : List ℕ). get_or ps head 0) f.places_are ∙ get_or-map place f.queue head first 0 begun' in
+      (begun', same_place m.size (entry_of f.queue head).at here (f.flood.entries head begun').present.in_grid inside (sym read ∙ is))
+
   -- the round begins
-  pub round_begin : (here : Reached) (steps : List (Option ℕ)) (queue : List Reached) (head : ℕ) → IsFlood m marks start steps queue head → head < length queue → entry_of queue head ≡ here
-      → IsRound here steps queue head 0
-  round_begin here steps queue head f begun is = record {
-    flood = f;
-    begun = begun;
-    here_is = is;
-    found = λ q n before. absurd (let x = n.columns.0 in let y = n.rows.0 in omega (arith, before, x, y));
-  }
+  pub round_begin : (here : Pos) (residues places : List ℕ) (head : ℕ) → IsFlooding m IsOpen start residues places head → head < length places → InGrid m.size here → get_or places head 0 ≡ place_of m.size here
+      → (n : ℕ) × (residue_at m.size residues here % 3 + 1 ≡ residue_of (Some (n + 1))) × IsRound here n residues places head 0
+  round_begin here residues places head f begun inside is =
+      let at = head_at residues places head f begun here inside is in
+      let entry = entry_of f.queue head in
+      let here_is : entry ≡ record { at = here; steps = entry.steps } = ap (λ (p : Pos). record { at = p; steps = entry.steps }) at.1 in
+      let noted : steps_at m.size f.steps here ≡ Some entry.steps = subst (λ (p : Pos). steps_at m.size f.steps p ≡ Some entry.steps) at.1 (f.flood.entries head at.0).noted in
+      let inside' : place_of m.size here < length f.steps = rw f.flood.whole (place_inside m.size here inside) in
+      let read : residue_at m.size residues here ≡ entry.steps % 3 + 1 = ap (λ (rs : List ℕ). residue_at m.size rs here) f.residues_are ∙ residue_read m.size f.steps here inside' ∙ ap residue_of noted in (
+        entry.steps,
+        omega (arith, read),
+        record {
+          steps = f.steps;
+          queue = f.queue;
+          residues_are = f.residues_are;
+          places_are = f.places_are;
+          flood = f.flood;
+          begun = at.0;
+          here_is = here_is;
+          found = λ q near before. absurd (let x = near.columns.0 in let y = near.rows.0 in omega (arith, before, x, y));
+        },
+      )
 
   -- what holds of 0 holds of each number below 1
   only : (P : ℕ → Type 0) → P 0 → (k : ℕ) → k < 1 → P k
   only P h k below = let e : 0 ≡ k = omega (arith, below) in subst P e h
 
   -- the start alone
-  pub flood_begin : Present m start → IsOpen m marks start
-      → IsFlood m marks start (set (replicate (cell_count m.size) None) (place_of m.size start) (Some 0)) (record { at = start; steps = 0 } ∷ []) 0
+  flood_begin : Present m start → IsOpen start
+      → IsFlood m IsOpen start (set (replicate (cell_count m.size) None) (place_of m.size start) (Some 0)) (record { at = start; steps = 0 } ∷ []) 0
   flood_begin present is_open =
       let blank : List (Option ℕ) = replicate (cell_count m.size) None in
       let length_is : length blank ≡ cell_count m.size = length-replicate (cell_count m.size) None in
@@ -307,7 +403,7 @@ module _ (m : Map) (marks : List Bool) (start : Pos) where
             let all = sum_by-replicate is_free (cell_count m.size) None in
             let free : is_free (get_or blank (place_of m.size start) None) ≡ 1 = ap is_free unnoted in
             omega (arith, sum, all, free));
-        entries = λ k h. only (λ k. IsEntry m marks start steps (entry_of queue k) k) (record {
+        entries = λ k h. only (λ k. IsEntry m IsOpen start steps (entry_of queue k) k) (record {
           present = present;
           is_open = is_open;
           noted = here;
@@ -324,48 +420,98 @@ module _ (m : Map) (marks : List Bool) (start : Pos) where
         closed = λ k before. absurd (omega arith);
       }
 
+  pub flooding_begin : Present m start → IsOpen start → IsFlooding m IsOpen start (set (replicate (cell_count m.size) 0) (place_of m.size start) 1) (place_of m.size start ∷ []) 0
+  flooding_begin present is_open =
+      let blank : List (Option ℕ) = replicate (cell_count m.size) None in
+      record {
+        steps = set blank (place_of m.size start) (Some 0);
+        queue = record { at = start; steps = 0 } ∷ [];
+        flood = flood_begin present is_open;
+        residues_are = ap (λ (rs : List ℕ). set rs (place_of m.size start) 1) (sym (none_reached (cell_count m.size))) ∙ sym (map-set residue_of blank (place_of m.size start) (Some 0));
+        places_are = refl;
+      }
+
+  -- the steps of two neighbours differ by at most one
+  flood_close : (steps : List (Option ℕ)) (queue : List Reached) (head : ℕ) → IsFlood m IsOpen start steps queue head → (p q : Pos) → Neighbour m p q → (a b : ℕ) → steps_at m.size steps p ≡ Some a
+      → steps_at m.size steps q ≡ Some b → b ≤ a + 1
+  flood_close steps queue head f p q near a b here there =
+      let h = f.queued p near.from.in_grid a here in
+      let k = f.queued q near.to.in_grid b there in
+      let a_is = h.steps_is in
+      let b_is = k.steps_is in
+      elim (cases_lt h.place head) [
+        | inl less ↦
+            let is_open : IsOpen p = subst IsOpen h.at_is (f.entries h.place h.inside).is_open in
+            let is_open' : IsOpen q = subst IsOpen k.at_is (f.entries k.place k.inside).is_open in
+            let step : OpenStep m IsOpen (entry_of queue h.place).at q = subst (λ (r : Pos). OpenStep m IsOpen r q) (sym h.at_is) (record { neighbour = near; from = is_open; to = is_open' }) in
+            let w = f.closed h.place less h.inside q step in
+            let le = w.1 in
+            let both : Some b ≡ Some w.0 = sym there ∙ w.2 in
+            let same : b ≡ w.0 = cc in
+            omega (arith, le, same, a_is)
+        | inr more ↦
+            let inside = h.inside in
+            let up = f.rising head h.place more inside in
+            let low = f.narrow k.place k.inside (omega (arith, more, inside)) in
+            omega (arith, up, low, a_is, b_is)
+      ]
+
+  -- there are fewer steps than points
+  flood_few : (steps : List (Option ℕ)) (queue : List Reached) (head : ℕ) → IsFlood m IsOpen start steps queue head → (p : Pos) → InGrid m.size p → (n : ℕ) → steps_at m.size steps p ≡ Some n → n < cell_count m.size
+  flood_few steps queue head f p there n noted =
+      let h = f.queued p there n noted in
+      let inside = h.inside in
+      let is = h.steps_is in
+      let few = (f.entries h.place inside).few in
+      let room = f.room in
+      omega (arith, inside, is, few, room)
+
   -- where all entries were at the head, all steps are noted
-  pub flood_end : (steps : List (Option ℕ)) (queue : List Reached) (head : ℕ) → IsFlood m marks start steps queue head → length queue ≤ head → (goal : Option Pos) → AreSteps m marks start goal steps
+  flood_end : (steps : List (Option ℕ)) (queue : List Reached) (head : ℕ) → IsFlood m IsOpen start steps queue head → length queue ≤ head → (goal : Option Pos) → AreSteps m IsOpen start goal steps
   flood_end steps queue head f done goal = record {
     whole = f.whole;
     reached = λ p there n noted.
         (let h = f.queued p there n noted in
         let w = (f.entries h.place h.inside).walk in
-        (w.0, subst (λ (q : Pos). Leads (OpenStep m marks) q w.0 start) h.at_is w.1, w.2 ∙ h.steps_is));
+        (w.0, subst (λ (q : Pos). Leads (OpenStep m IsOpen) q w.0 start) h.at_is w.1, w.2 ∙ h.steps_is));
     least = λ p xs l want. least p xs l;
+    close = flood_close steps queue head f;
+    few = flood_few steps queue head f;
   }
     where
-      least : (p : Pos) (xs : List Pos) → Leads (OpenStep m marks) p xs start → (n : ℕ) × (n ≤ length xs) × (steps_at m.size steps p ≡ Some n)
+      least : (p : Pos) (xs : List Pos) → Leads (OpenStep m IsOpen) p xs start → (n : ℕ) × (n ≤ length xs) × (steps_at m.size steps p ≡ Some n)
       least p [] l = (0, omega arith, ap (steps_at m.size steps) l ∙ f.begun)
       least p (x ∷ xs) l =
           let r = least x xs l.1 in
           let low = r.1 in
           let h = f.queued x l.0.neighbour.to.in_grid r.0 r.2 in
           let inside = h.inside in
-          let back : OpenStep m marks (entry_of queue h.place).at p = subst (λ (q : Pos). OpenStep m marks q p) (sym h.at_is) (turned m marks p x l.0) in
+          let back : OpenStep m IsOpen (entry_of queue h.place).at p = subst (λ (q : Pos). OpenStep m IsOpen q p) (sym h.at_is) (turned m IsOpen p x l.0) in
           let w = f.closed h.place (omega (arith, inside, done)) inside p back in
           let near = w.1 in
           let is = h.steps_is in
           (w.0, omega (arith, near, is, low), w.2)
 
   -- where the goal is at the head, all steps up to its own are noted
-  pub flood_stop : (steps : List (Option ℕ)) (queue : List Reached) (head : ℕ) (here : Reached) (goal : Option Pos) → IsFlood m marks start steps queue head → head < length queue
-      → entry_of queue head ≡ here → goal ≡ Some here.at → AreSteps m marks start goal steps
+  flood_stop : (steps : List (Option ℕ)) (queue : List Reached) (head : ℕ) (here : Reached) (goal : Option Pos) → IsFlood m IsOpen start steps queue head → head < length queue
+      → entry_of queue head ≡ here → goal ≡ Some here.at → AreSteps m IsOpen start goal steps
   flood_stop steps queue head here goal f begun here_is is = record {
     whole = f.whole;
     reached = λ p there n noted.
         (let h = f.queued p there n noted in
         let w = (f.entries h.place h.inside).walk in
-        (w.0, subst (λ (q : Pos). Leads (OpenStep m marks) q w.0 start) h.at_is w.1, w.2 ∙ h.steps_is));
+        (w.0, subst (λ (q : Pos). Leads (OpenStep m IsOpen) q w.0 start) h.at_is w.1, w.2 ∙ h.steps_is));
     least = λ p xs l want.
         (let noted : steps_at m.size steps here.at ≡ Some here.steps = subst (λ (e : Reached). steps_at m.size steps e.at ≡ Some e.steps) here_is (f.entries head begun).noted in
         let wanted : IsWanted m.size steps (Some here.at) (length xs) = subst (λ (g : Option Pos). IsWanted m.size steps g (length xs)) is want in
         let count : here.steps ≡ (entry_of queue head).steps = ap (λ (e : Reached). e.steps) (sym here_is) in
         let le = wanted here.steps noted in
         least p xs l (omega (arith, le, count)));
+    close = flood_close steps queue head f;
+    few = flood_few steps queue head f;
   }
     where
-      least : (p : Pos) (xs : List Pos) → Leads (OpenStep m marks) p xs start → length xs ≤ (entry_of queue head).steps → (n : ℕ) × (n ≤ length xs) × (steps_at m.size steps p ≡ Some n)
+      least : (p : Pos) (xs : List Pos) → Leads (OpenStep m IsOpen) p xs start → length xs ≤ (entry_of queue head).steps → (n : ℕ) × (n ≤ length xs) × (steps_at m.size steps p ≡ Some n)
       least p [] l le = (0, omega arith, ap (steps_at m.size steps) l ∙ f.begun)
       least p (x ∷ xs) l le =
           let r = least x xs l.1 (omega (arith, le)) in
@@ -377,11 +523,39 @@ module _ (m : Map) (marks : List Bool) (start : Pos) where
             | inl less ↦ less
             | inr more ↦ absurd (let up = f.rising head h.place more inside in omega (arith, up, is', low, le))
           ] in
-          let back : OpenStep m marks (entry_of queue h.place).at p = subst (λ (q : Pos). OpenStep m marks q p) (sym h.at_is) (turned m marks p x l.0) in
+          let back : OpenStep m IsOpen (entry_of queue h.place).at p = subst (λ (q : Pos). OpenStep m IsOpen q p) (sym h.at_is) (turned m IsOpen p x l.0) in
           let w = f.closed h.place before inside p back in
           let near = w.1 in
           (w.0, omega (arith, near, is', low), w.2)
 
--- the entry that is read at the head
-pub head_entry : (queue : List Reached) (head : ℕ) (e : Reached) → head < length queue → e ≡ get_or queue head e → entry_of queue head ≡ e
-head_entry queue head e inside is = get_or_default queue head (record { at = record { x = 0; y = 0 }; steps = 0 }) e inside ∙ sym is
+  -- so are their residues
+  pub flooding_end : (residues places : List ℕ) (head : ℕ) → IsFlooding m IsOpen start residues places head → length places ≤ head → (goal : Option Pos) → AreResidues m IsOpen start goal residues
+  flooding_end residues places head f done goal =
+      let long : length places ≡ length f.queue = ap length f.places_are ∙ length-map f.queue (λ (e : Reached). place_of m.size e.at) in
+      record { steps = f.steps; are = flood_end f.steps f.queue head f.flood (omega (arith, done, long)) goal; residues_are = f.residues_are }
+
+  pub flooding_stop : (residues places : List ℕ) (head : ℕ) → IsFlooding m IsOpen start residues places head → head < length places → (here : Pos) → InGrid m.size here
+      → get_or places head 0 ≡ place_of m.size here → (goal : Option Pos) → goal ≡ Some here → AreResidues m IsOpen start goal residues
+  flooding_stop residues places head f begun here inside is goal goal_is =
+      let at = head_at residues places head f begun here inside is in
+      record {
+        steps = f.steps;
+        are = flood_stop f.steps f.queue head (entry_of f.queue head) goal f.flood at.0 refl (goal_is ∙ ap Some (sym at.1));
+        residues_are = f.residues_are;
+      }
+
+  -- all points fit in the queue
+  pub flooding_room : (residues places : List ℕ) (head : ℕ) → IsFlooding m IsOpen start residues places head → length places ≤ cell_count m.size
+  flooding_room residues places head f =
+      let long : length places ≡ length f.queue = ap length f.places_are ∙ length-map f.queue (λ (e : Reached). place_of m.size e.at) in
+      let room = f.flood.room in
+      omega (arith, long, room)
+
+  -- each index in the queue is of a point
+  pub flooding_index : (residues places : List ℕ) (head : ℕ) → IsFlooding m IsOpen start residues places head → (k : ℕ) → k < length places → get_or places k 0 < cell_count m.size
+  flooding_index residues places head f k inside =
+      let place = λ (e : Reached). place_of m.size e.at in
+      let long : length places ≡ length f.queue = ap length f.places_are ∙ length-map f.queue place in
+      let inside' : k < length f.queue = omega (arith, inside, long) in
+      let read : get_or places k 0 ≡ place_of m.size (entry_of f.queue k).at = ap (λ (ps : List ℕ). get_or ps k 0) f.places_are ∙ get_or-map place f.queue k (record { at = record { x = 0; y = 0 }; steps = 0 }) 0 inside' in
+      rw read (place_inside m.size (entry_of f.queue k).at (f.flood.entries k inside').present.in_grid)

@@ -2,7 +2,6 @@ mod Walks
 mod Flooding
 mod Nearest
 mod Listing
-mod Marking
 mod Shown
 mod Sound
 mod Ranks

@@ -18,7 +18,7 @@ use Rattle.hd_check.specs.declared.types.Certificate.{Certificate}
 use Rattle.hd_check.specs.Rules.{point_of}
 use Rattle.hd_check.proofs.Paths.{path_leads}
 use Rattle.hd_check.proofs.Searching.{place_at, rises_far}
-use Rattle.hd_cert.specs.Marks.{within}
+use Rattle.hd_cert.specs.Within.{within}
 use Rattle.hd_cert.specs.Routes.{IsRouteOver, IsShownRoute, IsLowStep, IsRouteCut, IsMade}
 use Rattle.hd_cert.specs.Shown.{AreTwoPits, IsPathAt, IsCutAt, IsShownCertificate}
 use Rattle.hd_cert.proofs.Shown.{leads_present}

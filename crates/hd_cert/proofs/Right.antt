@@ -16,7 +16,7 @@ use Rattle.hd_map.proofs.Points.{point_at, same_point}
 use Rattle.hd_check.specs.declared.types.Certificate.{Certificate}
 use Rattle.hd_check.specs.Rules.{IsRight}
 use Rattle.hd_check.proofs.Searching.{place_found}
-use Rattle.hd_cert.specs.Marks.{within}
+use Rattle.hd_cert.specs.Within.{within}
 use Rattle.hd_cert.specs.Routes.{IsRouteOver, IsLowStep, IsRouteCut}
 use Rattle.hd_cert.specs.Shown.{AreTwoPits, IsPathAt, IsCutAt, IsShownCertificate}
 use Rattle.hd_cert.proofs.Determined.{same_places}

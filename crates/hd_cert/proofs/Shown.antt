@@ -1,7 +1,7 @@
 -- The shown path and the shown cut.
-use Rattle.std.proofs.Common.{◌≡◌, ◌<◌, ◌≤◌, ◌+◌, ◌-◌, ℕ, zero, suc, Bool, true, false, List, [], ◌∷◌, length, get_or, map, Option, Some, None, IsSome, ◌⊎◌, inl, inr, ap, ◌∙◌, refl, sym, subst, arith}
-use Rattle.std.specs.Prelude.{not, Result, Ok, Err, IfOk, unwrap_or}
-use Rattle.std.proofs.lemmas.List.{get_or_default, get_or-map, length-map}
+use Rattle.std.proofs.Common.{◌≡◌, ◌<◌, ◌≤◌, ◌+◌, ◌-◌, ◌%◌, ℕ, zero, suc, Bool, true, false, List, [], ◌∷◌, length, get_or, map, Option, Some, None, ◌⊎◌, inl, inr, ap, ◌∙◌, refl, sym, subst, arith}
+use Rattle.std.specs.Prelude.{not, Result, Ok, Err, IfOk}
+use Rattle.std.proofs.lemmas.List.{get_or-map, length-map}
 use Rattle.std.proofs.lemmas.List.Elements.{All-head, All-tail}
 use Rattle.std.proofs.lemmas.Bool.{cases_lt, false≢true}
 use Rattle.hd_map.specs.declared.types.Pos.{Pos}
@@ -21,13 +21,14 @@ use Rattle.hd_map.proofs.Points.{same_place, same_point, point_at, place_inside}
 use Rattle.hd_map.specs.SideLaws.{below_by-order}
 use Rattle.hd_map.proofs.Saddles.{saddle-above_pit}
 use Rattle.hd_map.specs.Saddle.{IsSaddle, SaddleIs}
-use Rattle.hd_cert.specs.Steps.{IsOpen, IsWanted, OpenStep, steps_at, AreSteps}
-use Rattle.hd_cert.specs.Marks.{within, AreMarks}
-use Rattle.hd_cert.specs.Nearer.{IsNearer, IsFirstNearer, GoesNearer}
+use Rattle.hd_cert.specs.Residues.{residue_at, residue_of, AreResidues}
+use Rattle.hd_cert.specs.Steps.{IsWanted, OpenStep, steps_at, AreSteps}
+use Rattle.hd_cert.specs.Within.{within, LiesWithin}
+use Rattle.hd_cert.specs.Nearer.{IsNearer, IsFirst, GoesNearer, LeadsDown}
 use Rattle.hd_cert.specs.Listed.{AreListed}
 use Rattle.hd_cert.specs.Routes.{IsRouteOver, IsShownRoute, IsLowStep, IsRouteCut}
 use Rattle.hd_map.specs.Shown.{IsNotAfter}
-use Rattle.hd_cert.proofs.Flooding.{turned, some_of}
+use Rattle.hd_cert.proofs.Flooding.{turned, some_of, some_residue, residue_read}
 use Rattle.hd_cert.proofs.Walks.{leads_turn, leads_of}
 
 -- a number is noted, or none
@@ -44,25 +45,17 @@ pub if_ok_more : {T E : Type 0} (P Q : T → Type 0) (r : Result T E) → ((x : 
 if_ok_more P Q (Ok x) f h = f x h
 if_ok_more P Q (Err e) f h = tt
 
--- the number that is read from a list
-pub counted : (steps : List (Option ℕ)) (i : ℕ) (o : Option ℕ) (count n : ℕ) → i < length steps → o ≡ get_or steps i o → count ≡ unwrap_or o 0 → get_or steps i None ≡ Some n
-    → get_or steps i None ≡ Some count
-counted steps i o count n inside read is noted =
-    let e : o ≡ Some n = read ∙ get_or_default steps i o None inside ∙ noted in
-    let same : count ≡ n = is ∙ ap (λ (v : Option ℕ). unwrap_or v 0) e in
-    noted ∙ ap Some (sym same)
-
 not_true : (b : Bool) → not b ≡ true → b ≡ false
 not_true true h = absurd (false≢true h)
 not_true false h = refl
 
-module _ (m : Map) (marks : List Bool) (start : Pos) (goal : Option Pos) (steps : List (Option ℕ)) (are : AreSteps m marks start goal steps) where
+module _ (m : Map) (IsOpen : Pos → Type 0) (start : Pos) (goal : Option Pos) (steps : List (Option ℕ)) (are : AreSteps m IsOpen start goal steps) where
   -- so many steps are wanted
   abbrev AreWanted : ℕ → Type 0
   AreWanted n = (j : ℕ) → j ≤ n → IsWanted m.size steps goal j
 
   -- the number of a step's end is at least one less
-  step_falls : (p q : Pos) (n : ℕ) (xs : List Pos) → AreWanted (n + 1) → OpenStep m marks p q → Leads (OpenStep m marks) q xs start → length xs ≡ n → steps_at m.size steps p ≡ Some (n + 1) → steps_at m.size steps q ≡ Some n
+  step_falls : (p q : Pos) (n : ℕ) (xs : List Pos) → AreWanted (n + 1) → OpenStep m IsOpen p q → Leads (OpenStep m IsOpen) q xs start → length xs ≡ n → steps_at m.size steps p ≡ Some (n + 1) → steps_at m.size steps q ≡ Some n
   step_falls p q n xs want s l e noted =
       let r = are.least q xs l (want (length xs) (omega (arith, e))) in
       let w = are.reached q s.neighbour.to.in_grid r.0 r.2 in
@@ -76,7 +69,7 @@ module _ (m : Map) (marks : List Bool) (start : Pos) (goal : Option Pos) (steps 
       let is : r.0 ≡ n = omega (arith, low, high, long, same, e) in
       r.2 ∙ ap Some is
 
-  next_nearer : (p : Pos) (n : ℕ) (xs : List Pos) → AreWanted (n + 1) → steps_at m.size steps p ≡ Some (n + 1) → Leads (OpenStep m marks) p xs start → length xs ≡ n + 1 → (q : Pos) × IsNearer m steps n p q
+  next_nearer : (p : Pos) (n : ℕ) (xs : List Pos) → AreWanted (n + 1) → steps_at m.size steps p ≡ Some (n + 1) → Leads (OpenStep m IsOpen) p xs start → length xs ≡ n + 1 → (q : Pos) × IsNearer m steps n p q
   next_nearer p n [] want noted l e = absurd (omega (arith, e))
   next_nearer p n (q ∷ xs) want noted l e = (q, record { neighbour = l.0.neighbour; noted = step_falls p q n xs want l.0 l.1 (omega (arith, e)) noted })
 
@@ -84,15 +77,15 @@ module _ (m : Map) (marks : List Bool) (start : Pos) (goal : Option Pos) (steps 
   pub nearer_exists : (p : Pos) (n : ℕ) → AreWanted (n + 1) → Present m p → steps_at m.size steps p ≡ Some (n + 1) → (q : Pos) × IsNearer m steps n p q
   nearer_exists p n want here noted = let w = are.reached p here.in_grid (n + 1) noted in next_nearer p n w.0 want noted w.1 w.2
 
-  walk_open : (p : Pos) (xs : List Pos) → IsOpen m marks start → Leads (OpenStep m marks) p xs start → IsOpen m marks p
-  walk_open p [] is_open l = subst (IsOpen m marks) (sym l) is_open
+  walk_open : (p : Pos) (xs : List Pos) → IsOpen start → Leads (OpenStep m IsOpen) p xs start → IsOpen p
+  walk_open p [] is_open l = subst (IsOpen) (sym l) is_open
   walk_open p (x ∷ xs) is_open l = l.0.from
 
   -- what has steps is open
-  noted_open : (p : Pos) (n : ℕ) → IsOpen m marks start → InGrid m.size p → steps_at m.size steps p ≡ Some n → IsOpen m marks p
+  noted_open : (p : Pos) (n : ℕ) → IsOpen start → InGrid m.size p → steps_at m.size steps p ≡ Some n → IsOpen p
   noted_open p n is_open there noted = let w = are.reached p there n noted in walk_open p w.0 is_open w.1
 
-  walk_none : (p : Pos) (xs : List Pos) → Leads (OpenStep m marks) p xs start → length xs ≡ 0 → p ≡ start
+  walk_none : (p : Pos) (xs : List Pos) → Leads (OpenStep m IsOpen) p xs start → length xs ≡ 0 → p ≡ start
   walk_none p [] l e = l
   walk_none p (x ∷ xs) l e = absurd (omega (arith, e))
 
@@ -103,22 +96,22 @@ module _ (m : Map) (marks : List Bool) (start : Pos) (goal : Option Pos) (steps 
   -- each point is the first nearer to the one before
   abbrev Takes : Pos → List Pos → Type 0
   Takes x [] = Unit {0}
-  Takes x (y ∷ ys) = IsFirstNearer m steps (length ys) x y × Takes y ys
+  Takes x (y ∷ ys) = IsFirst m (IsNearer m steps (length ys) x) y × Takes y ys
 
-  takes_of : (x : Pos) (xs : List Pos) → ((k : ℕ) → k < length xs → IsFirstNearer m steps (length xs - (k + 1)) (point_of (x ∷ xs) k) (point_of (x ∷ xs) (k + 1))) → Takes x xs
+  takes_of : (x : Pos) (xs : List Pos) → ((k : ℕ) → k < length xs → IsFirst m (IsNearer m steps (length xs - (k + 1)) (point_of (x ∷ xs) k)) (point_of (x ∷ xs) (k + 1))) → Takes x xs
   takes_of x [] h = tt
   takes_of x (y ∷ ys) h =
       let head : length (y ∷ ys) - 1 ≡ length ys = omega arith in (
-        subst (λ (n : ℕ). IsFirstNearer m steps n x y) head (h 0 (omega arith)),
+        subst (λ (n : ℕ). IsFirst m (IsNearer m steps n x) y) head (h 0 (omega arith)),
         takes_of y ys (λ k inside.
             (let e : suc k + 1 ≡ suc (k + 1) = omega arith in
             let f : length (y ∷ ys) - suc (k + 1) ≡ length ys - (k + 1) = omega arith in
-            subst (λ (n : ℕ). IsFirstNearer m steps n (point_of (y ∷ ys) k) (point_of (y ∷ ys) (k + 1))) f
-            (subst (λ (j : ℕ). IsFirstNearer m steps (length (y ∷ ys) - j) (point_of (y ∷ ys) k) (point_of (x ∷ y ∷ ys) j)) e (h (suc k) (omega (arith, inside)))))),
+            subst (λ (n : ℕ). IsFirst m (IsNearer m steps n (point_of (y ∷ ys) k)) (point_of (y ∷ ys) (k + 1))) f
+            (subst (λ (j : ℕ). IsFirst m (IsNearer m steps (length (y ∷ ys) - j) (point_of (y ∷ ys) k)) (point_of (x ∷ y ∷ ys) j)) e (h (suc k) (omega (arith, inside)))))),
       )
 
   -- no path with as few steps comes before it
-  not_after : (x : Pos) (xs ys : List Pos) → AreWanted (length xs) → Takes x xs → steps_at m.size steps x ≡ Some (length xs) → Leads (OpenStep m marks) x ys start → length ys ≡ length xs
+  not_after : (x : Pos) (xs ys : List Pos) → AreWanted (length xs) → Takes x xs → steps_at m.size steps x ≡ Some (length xs) → Leads (OpenStep m IsOpen) x ys start → length ys ≡ length xs
       → IsNotAfter (map (place_of m.size) xs) (map (place_of m.size) ys)
   not_after x [] ys want h noted l e = tt
   not_after x (y ∷ xs) [] want h noted l e = absurd (omega (arith, e))
@@ -131,8 +124,8 @@ module _ (m : Map) (marks : List Bool) (start : Pos) (goal : Option Pos) (steps 
         | inl less ↦ inl less
         | inr not_less ↦
             let same : place_of m.size y ≡ place_of m.size z = omega (arith, le) in
-            let is : z ≡ y = same_place m.size z y l.0.neighbour.to.in_grid h.0.nearer.neighbour.to.in_grid (sym same) in
-            inr (same, not_after y xs ys (λ j le. want j (omega (arith, le, count))) h.1 h.0.nearer.noted (subst (λ (p : Pos). Leads (OpenStep m marks) p ys start) is l.1) long)
+            let is : z ≡ y = same_place m.size z y l.0.neighbour.to.in_grid h.0.kind.neighbour.to.in_grid (sym same) in
+            inr (same, not_after y xs ys (λ j le. want j (omega (arith, le, count))) h.1 h.0.kind.noted (subst (λ (p : Pos). Leads (OpenStep m IsOpen) p ys start) is l.1) long)
       ]
 
 -- no listed rank is above
@@ -142,24 +135,28 @@ none_above-at m side t ps n k inside =
     let read : get_or (map (rank m) ps) k (rank m first) ≡ rank m (point_of ps k) = get_or-map (rank m) ps k first (rank m first) inside in
     subst (λ (r : Rank). IsNotAbove (below_by side) r t) read (n k (rank m first) (rw (length-map ps (rank m)) inside))
 
-module _ (m : Map) (side : SideName) (s : Rank) (marks : List Bool) (are : AreMarks m side (Some s) false marks) where
-  open_of : (p : Pos) → Present m p → IsNotAbove (below_by side) (rank m p) s → IsOpen m marks p
-  open_of p here low = are.marked p here ∙ ap not low
+module _ (m : Map) (side : SideName) (s : Rank) where
+  -- open are the points not above the saddle
+  abbrev pub NotAbove : Pos → Type 0
+  NotAbove = LiesWithin m side (Some s) false
 
-  low_of : (p : Pos) → Present m p → IsOpen m marks p → IsNotAbove (below_by side) (rank m p) s
-  low_of p here is_open = not_true (below_by side s (rank m p)) (sym (are.marked p here) ∙ is_open)
+  open_of : (p : Pos) → Present m p → IsNotAbove (below_by side) (rank m p) s → NotAbove p
+  open_of p here low = record { present = here; low = ap not low }
+
+  low_of : (p : Pos) → NotAbove p → IsNotAbove (below_by side) (rank m p) s
+  low_of p is_open = not_true (below_by side s (rank m p)) is_open.low
 
   -- a path of ranks none of which is above the saddle is a path of open points
   pub open_path : (a : Pos) (xs : List Rank) (b : Pos) → Present m a → Present m b → Leads (Near m) (rank m a) xs (rank m b) → NoneAbove (below_by side) s (rank m a ∷ xs)
-      → (ps : List Pos) × Leads (OpenStep m marks) a ps b × IsOpen m marks b
-  open_path a [] b here there l n = let e : a ≡ b = same_point m a b here there l in ([], e, subst (IsOpen m marks) e (open_of a here (All-head (λ r. IsNotAbove (below_by side) r s) (rank m a) [] n)))
+      → (ps : List Pos) × Leads (OpenStep m NotAbove) a ps b × NotAbove b
+  open_path a [] b here there l n = let e : a ≡ b = same_point m a b here there l in ([], e, subst (NotAbove) e (open_of a here (All-head (λ r. IsNotAbove (below_by side) r s) (rank m a) [] n)))
   open_path a (x ∷ xs) b here there l n =
       let P : Rank → Type 0 = λ r. IsNotAbove (below_by side) r s in
       let near = l.0 in
       let same : near.from ≡ a = same_point m near.from a near.neighbour.from here (sym near.from_rank) in
       let low = subst (λ (r : Rank). NoneAbove (below_by side) s (r ∷ xs)) near.to_rank (All-tail P (rank m a) (x ∷ xs) n) in
       let rest = open_path near.to xs b near.neighbour.to there (subst (λ (r : Rank). Leads (Near m) r xs (rank m b)) near.to_rank l.1) low in
-      let step : OpenStep m marks a near.to = record {
+      let step : OpenStep m NotAbove a near.to = record {
         neighbour = subst (λ (p : Pos). Neighbour m p near.to) same near.neighbour;
         from = open_of a here (All-head P (rank m a) (x ∷ xs) n);
         to = open_of near.to near.neighbour.to (All-head P (rank m near.to) xs low);
@@ -167,18 +164,18 @@ module _ (m : Map) (side : SideName) (s : Rank) (marks : List Bool) (are : AreMa
       (near.to ∷ rest.0, (step, rest.1), rest.2)
 
   -- the other paths over the saddle are paths of open points
-  other_path : (a b : Pos) (path : List Pos) → IsRouteOver m side a b s path → (ps : List Pos) × (path ≡ a ∷ ps) × Leads (OpenStep m marks) a ps b
+  other_path : (a b : Pos) (path : List Pos) → IsRouteOver m side a b s path → (ps : List Pos) × (path ≡ a ∷ ps) × Leads (OpenStep m NotAbove) a ps b
   other_path a b [] over = let some = over.some in absurd (omega (arith, some))
   other_path a b (p ∷ ps) over =
       let none = over.top.none_above in
-      let step : (k : ℕ) → k < length (p ∷ ps) - 1 → OpenStep m marks (point_of (p ∷ ps) k) (point_of (p ∷ ps) (k + 1)) = λ k inside.
+      let step : (k : ℕ) → k < length (p ∷ ps) - 1 → OpenStep m NotAbove (point_of (p ∷ ps) k) (point_of (p ∷ ps) (k + 1)) = λ k inside.
       (let near = over.steps k inside in record {
         neighbour = near;
         from = open_of (point_of (p ∷ ps) k) near.from (none_above-at m side s (p ∷ ps) none k (omega (arith, inside)));
         to = open_of (point_of (p ∷ ps) (k + 1)) near.to (none_above-at m side s (p ∷ ps) none (k + 1) (omega (arith, inside)));
       }) in
-      let leads = leads_of (OpenStep m marks) p ps step in
-      (ps, ap (λ (q : Pos). q ∷ ps) over.begins, subst (λ (q : Pos). Leads (OpenStep m marks) q ps b) over.begins (subst (λ (q : Pos). Leads (OpenStep m marks) p ps q) over.ends leads))
+      let leads = leads_of (OpenStep m NotAbove) p ps step in
+      (ps, ap (λ (q : Pos). q ∷ ps) over.begins, subst (λ (q : Pos). Leads (OpenStep m NotAbove) q ps b) over.begins (subst (λ (q : Pos). Leads (OpenStep m NotAbove) p ps q) over.ends leads))
 
   -- a path between two points none of whose points is above their saddle has it as its top
   top_is : (a b : Pos) (ps : List Pos) → Present m a → IsSaddle m side (rank m a) (rank m b) s → Leads (Near m) (rank m a) (map (rank m) ps) (rank m b)
@@ -190,34 +187,47 @@ module _ (m : Map) (side : SideName) (s : Rank) (marks : List Bool) (are : AreMa
       let high = saddle.least (map (rank m) ps) u.0 (record { point = point_at m a here; leads = l }) u.1 in
       subst (λ (t : Rank). IsTop (below_by side) t (rank m a ∷ map (rank m) ps)) (laws.total u.0 s high low) u.1
 
-module _ (m : Map) (side : SideName) (s : Rank) (marks : List Bool) (marked : AreMarks m side (Some s) false marks) (a b : Pos) (steps : List (Option ℕ)) (are : AreSteps m marks b (Some a) steps)
+module _ (m : Map) (side : SideName) (s : Rank) (a b : Pos) (steps : List (Option ℕ)) (are : AreSteps m (NotAbove m side s) b (Some a) steps)
     (here : Present m a) (there : Present m b) (saddle : IsSaddle m side (rank m a) (rank m b) s) where
   -- the first point has steps
   pub begin_noted : (n : ℕ) × (steps_at m.size steps a ≡ Some n)
   begin_noted =
       let r = saddle.reached in
-      let w = open_path m side s marks marked a r.0 b here there r.1.leads r.2.none_above in
+      let w = open_path m side s a r.0 b here there r.1.leads r.2.none_above in
       elim (noted_or_free (steps_at m.size steps a)) [
         | inl noted ↦ noted
         | inr free ↦ (let l = are.least a w.0 w.1 (λ k e. absurd (let both : None ≡ Some k = sym free ∙ e in cc)) in (l.0, l.2))
       ]
 
+  -- its steps lead down to the second
+  pub leads_down : (residues : List ℕ) (count : ℕ) → residues ≡ map residue_of steps → steps_at m.size steps a ≡ Some count → LeadsDown m residues a b steps count
+  leads_down residues count residues_are noted = record {
+    whole = are.whole;
+    residues_are = residues_are;
+    noted = noted;
+    few = are.few a here.in_grid count noted;
+    begun = (let r = are.least b [] refl (λ k e. omega arith) in let none = r.1 in let zero' : r.0 ≡ 0 = omega (arith, none) in r.2 ∙ ap Some zero');
+    ends = noted_zero m (NotAbove m side s) b (Some a) steps are;
+    close = are.close;
+    falls = λ p n less there' noted'. nearer_exists m (NotAbove m side s) b (Some a) steps are p n (λ j le k e. (let same = same_some (steps_at m.size steps a) count k noted e in omega (arith, le, less, same))) there' noted';
+  }
+
   module _ (path : List Pos) (count : ℕ) (noted : steps_at m.size steps a ≡ Some count) (goes : GoesNearer m steps a count path count) where
-    is_open_end : IsOpen m marks b
-    is_open_end = (let r = saddle.reached in (open_path m side s marks marked a r.0 b here there r.1.leads r.2.none_above).2)
+    is_open_end : NotAbove m side s b
+    is_open_end = (let r = saddle.reached in (open_path m side s a r.0 b here there r.1.leads r.2.none_above).2)
 
     goes_noted : (k : ℕ) → k ≤ count → Present m (point_of path k) × (steps_at m.size steps (point_of path k) ≡ Some (count - k))
     goes_noted zero h = (subst (Present m) (sym goes.begins) here, ap (steps_at m.size steps) goes.begins ∙ noted ∙ ap Some (let e : count ≡ count - zero = omega arith in e))
     goes_noted (suc j) h =
         let e : j + 1 ≡ suc j = omega arith in
         let f = goes.nearer j (omega (arith, h)) in
-        subst (λ (k : ℕ). Present m (point_of path k) × (steps_at m.size steps (point_of path k) ≡ Some (count - k))) e (f.nearer.neighbour.to, f.nearer.noted)
+        subst (λ (k : ℕ). Present m (point_of path k) × (steps_at m.size steps (point_of path k) ≡ Some (count - k))) e (f.kind.neighbour.to, f.kind.noted)
 
     goes_low : (k : ℕ) → k < length path → IsNotAbove (below_by side) (rank m (point_of path k)) s
     goes_low k inside =
         let long = goes.long in
         let n = goes_noted k (omega (arith, inside, long)) in
-        low_of m side s marks marked (point_of path k) n.0 (noted_open m marks b (Some a) steps are (point_of path k) (count - k) is_open_end n.0.in_grid n.1)
+        low_of m side s (point_of path k) (noted_open m (NotAbove m side s) b (Some a) steps are (point_of path k) (count - k) is_open_end n.0.in_grid n.1)
 
     goes_ends : point_of path (length path - 1) ≡ b
     goes_ends =
@@ -225,11 +235,11 @@ module _ (m : Map) (side : SideName) (s : Rank) (marks : List Bool) (marked : Ar
         let e : count ≡ length path - 1 = omega (arith, long) in
         let n = goes_noted count (omega arith) in
         let zero' : count - count ≡ 0 = omega arith in
-        let last : point_of path count ≡ b = noted_zero m marks b (Some a) steps are (point_of path count) n.0.in_grid (n.1 ∙ ap Some zero') in
+        let last : point_of path count ≡ b = noted_zero m (NotAbove m side s) b (Some a) steps are (point_of path count) n.0.in_grid (n.1 ∙ ap Some zero') in
         ap (point_of path) (sym e) ∙ last
 
     goes_steps : (k : ℕ) → k < length path - 1 → Neighbour m (point_of path k) (point_of path (k + 1))
-    goes_steps k inside = let long = goes.long in (goes.nearer k (omega (arith, inside, long))).nearer.neighbour
+    goes_steps k inside = let long = goes.long in (goes.nearer k (omega (arith, inside, long))).kind.neighbour
 
   goes_top : (path : List Pos) (count : ℕ) → steps_at m.size steps a ≡ Some count → GoesNearer m steps a count path count → IsTop (below_by side) s (map (rank m) path)
   goes_top [] count noted goes = let long = goes.long in absurd (omega (arith, long))
@@ -241,23 +251,23 @@ module _ (m : Map) (side : SideName) (s : Rank) (marks : List Bool) (marked : Ar
       subst (λ (x : Rank). Leads (Near m) x (map (rank m) ps) (rank m b)) begins
       (subst (λ (y : Rank). Leads (Near m) (rank m p) (map (rank m) ps) y) (ap (rank m) (goes_ends (p ∷ ps) count noted goes)) leads) in
       let none' = subst (λ (x : Rank). NoneAbove (below_by side) s (x ∷ map (rank m) ps)) begins none in
-      subst (λ (x : Rank). IsTop (below_by side) s (x ∷ map (rank m) ps)) (sym begins) (top_is m side s marks marked a b ps here saddle leads' none')
+      subst (λ (x : Rank). IsTop (below_by side) s (x ∷ map (rank m) ps)) (sym begins) (top_is m side s a b ps here saddle leads' none')
 
   goes_first : (path : List Pos) (count : ℕ) → steps_at m.size steps a ≡ Some count → GoesNearer m steps a count path count → (other : List Pos) → IsRouteOver m side a b s other
       → length other ≡ length path → IsNotAfter (map (place_of m.size) path) (map (place_of m.size) other)
   goes_first [] count noted goes other over e = tt
   goes_first (p ∷ ps) count noted goes other over e =
-      let w = other_path m side s marks marked a b other over in
+      let w = other_path m side s a b other over in
       let begins : p ≡ a = goes.begins in
       let long : length (p ∷ ps) ≡ count + 1 = goes.long in
       let short : length ps ≡ count = omega (arith, long) in
       let same : length (a ∷ w.0) ≡ length (p ∷ ps) = ap length (sym w.1) ∙ e in
       let same' : length w.0 ≡ length ps = omega (arith, same) in
-      let takes : Takes m marks b (Some a) steps are p ps = takes_of m marks b (Some a) steps are p ps (λ k inside. subst (λ (n : ℕ). IsFirstNearer m steps (n - (k + 1)) (point_of (p ∷ ps) k) (point_of (p ∷ ps) (k + 1))) (sym short)
+      let takes : Takes m (NotAbove m side s) b (Some a) steps are p ps = takes_of m (NotAbove m side s) b (Some a) steps are p ps (λ k inside. subst (λ (n : ℕ). IsFirst m (IsNearer m steps (n - (k + 1)) (point_of (p ∷ ps) k)) (point_of (p ∷ ps) (k + 1))) (sym short)
       (goes.nearer k (omega (arith, inside, short)))) in
       let noted' : steps_at m.size steps p ≡ Some (length ps) = ap (steps_at m.size steps) begins ∙ noted ∙ ap Some (sym short) in
-      let leads : Leads (OpenStep m marks) p w.0 b = subst (λ (q : Pos). Leads (OpenStep m marks) q w.0 b) (sym begins) w.2 in
-      let first = not_after m marks b (Some a) steps are p ps w.0 (λ j le k e. (let eq = same_some (steps_at m.size steps a) count k noted e in omega (arith, le, eq, short))) takes noted' leads same' in
+      let leads : Leads (OpenStep m (NotAbove m side s)) p w.0 b = subst (λ (q : Pos). Leads (OpenStep m (NotAbove m side s)) q w.0 b) (sym begins) w.2 in
+      let first = not_after m (NotAbove m side s) b (Some a) steps are p ps w.0 (λ j le k e. (let eq = same_some (steps_at m.size steps a) count k noted e in omega (arith, le, eq, short))) takes noted' leads same' in
       subst (λ (qs : List Pos). IsNotAfter (map (place_of m.size) (p ∷ ps)) (map (place_of m.size) qs)) (sym w.1) (inr (ap (place_of m.size) begins, first))
 
   pub path_shown : (path : List Pos) (count : ℕ) → steps_at m.size steps a ≡ Some count → GoesNearer m steps a count path count → IsShownRoute m side a b s path
@@ -272,7 +282,7 @@ module _ (m : Map) (side : SideName) (s : Rank) (marks : List Bool) (marked : Ar
           top = goes_top path count noted goes;
         };
         fewest = λ other over.
-            (let w = other_path m side s marks marked a b other over in
+            (let w = other_path m side s a b other over in
             let is : length other ≡ length (a ∷ w.0) = ap length w.1 in
             elim (cases_lt count (length w.0)) [
               | inl less ↦ omega (arith, long, less, is)
@@ -296,38 +306,42 @@ pub pit_within : (m : Map) (side : SideName) (a b : Pos) (saddle : Option Rank) 
 pit_within m side a b (Some s) here there pit apart is = pit_below m side a b s here there pit apart is
 pit_within m side a b None here there pit apart is = refl
 
-some_is : (o : Option ℕ) (n : ℕ) → o ≡ Some n → IsSome o
-some_is (Some k) n e = refl
-some_is None n e = cc
-
 pub leads_present : (m : Map) (side : SideName) (saddle : Option Rank) (a : Pos) (xs : List Pos) (p : Pos) → Present m a → Leads (IsLowStep m side saddle) a xs p → Present m p
 leads_present m side saddle a [] p here l = subst (Present m) l here
 leads_present m side saddle a (x ∷ xs) p here l = leads_present m side saddle x xs p l.0.neighbour.to l.1
 
--- the points that have steps are those that are joined below the saddle
-pub cut_shown : (m : Map) (side : SideName) (saddle : Option Rank) (marks : List Bool) (a : Pos) (steps : List (Option ℕ)) (cut : List Pos) → AreMarks m side saddle true marks
-    → AreSteps m marks a None steps → AreListed m.size steps (cell_count m.size) cut → Present m a → within side saddle true (rank m a) ≡ true → IsRouteCut m side saddle a cut
-cut_shown m side saddle marks a steps cut marked are listed here low = record {
+-- the points that are reached are those that are joined below the saddle
+pub cut_shown : (m : Map) (side : SideName) (saddle : Option Rank) (a : Pos) (residues : List ℕ) (cut : List Pos) → AreResidues m (LiesWithin m side saddle true) a None residues
+    → AreListed m.size residues (cell_count m.size) cut → Present m a → within side saddle true (rank m a) ≡ true → IsRouteCut m side saddle a cut
+cut_shown m side saddle a residues cut known listed here low = record {
   rises = listed.rises;
   low = low;
   all = λ p. (
     λ c.
         (let f = place_found cut p c in
         let inside : InGrid m.size p = subst (InGrid m.size) f.2 (listed.inside f.0 f.1) in
-        let noted : IsSome (steps_at m.size steps p) = subst (λ (q : Pos). IsSome (steps_at m.size steps q)) f.2 (listed.noted f.0 f.1) in
-        let n = some_of (steps_at m.size steps p) noted in
-        let w = are.reached p inside n.0 n.1 in
-        leads_turn (OpenStep m marks) (IsLowStep m side saddle) (λ x y s. (let t = turned m marks x y s in record { neighbour = t.neighbour; from = low_at y t.neighbour.from t.from; to = low_at x t.neighbour.to t.to })) p w.0 a w.1),
+        let reached : 1 ≤ residue_at m.size residues p = subst (λ (q : Pos). 1 ≤ residue_at m.size residues q) f.2 (listed.reached f.0 f.1) in
+        let n = some_of (steps_at m.size steps p) (some_residue (steps_at m.size steps p) (subst (λ (r : ℕ). 1 ≤ r) (read p inside) reached)) in
+        let w = known.are.reached p inside n.0 n.1 in
+        leads_turn (OpenStep m IsLow) (IsLowStep m side saddle) (λ x y s. (let t = turned m IsLow x y s in record { neighbour = t.neighbour; from = t.from.low; to = t.to.low })) p w.0 a w.1),
     λ w.
         (let there = leads_present m side saddle a w.0 p here w.1 in
-        let back = leads_turn (IsLowStep m side saddle) (OpenStep m marks) (λ x y s. turned m marks x y (record { neighbour = s.neighbour; from = marked.marked x s.neighbour.from ∙ s.from; to = marked.marked y s.neighbour.to ∙ s.to })) a w.0 p w.1 in
-        let r = are.least p back.0 back.1 tt in
-        listed.all p there.in_grid (place_inside m.size p there.in_grid) (some_is (steps_at m.size steps p) r.0 r.2)),
+        let back = leads_turn (IsLowStep m side saddle) (OpenStep m IsLow)
+        (λ x y s. turned m IsLow x y (record { neighbour = s.neighbour; from = record { present = s.neighbour.from; low = s.from }; to = record { present = s.neighbour.to; low = s.to } })) a w.0 p w.1 in
+        let r = known.are.least p back.0 back.1 tt in
+        let is : residue_at m.size residues p ≡ r.0 % 3 + 1 = read p there.in_grid ∙ ap residue_of r.2 in
+        listed.all p there.in_grid (place_inside m.size p there.in_grid) (omega (arith, is))),
   );
 }
   where
-    low_at : (p : Pos) → Present m p → IsOpen m marks p → within side saddle true (rank m p) ≡ true
-    low_at p there is_open = sym (marked.marked p there) ∙ is_open
+    IsLow : Pos → Type 0
+    IsLow = LiesWithin m side saddle true
+
+    steps : List (Option ℕ)
+    steps = known.steps
+
+    read : (p : Pos) → InGrid m.size p → residue_at m.size residues p ≡ residue_of (steps_at m.size steps p)
+    read p inside = ap (λ (rs : List ℕ). residue_at m.size rs p) known.residues_are ∙ residue_read m.size steps p (rw known.are.whole (place_inside m.size p inside))
 
 -- the position of the index of a point is that point
 pub written_point : (m : Map) (s : Rank) (p : Pos) → IsPoint m s → InGrid m.size p → place_of m.size p ≡ s.index → Present m p × (rank m p ≡ s)

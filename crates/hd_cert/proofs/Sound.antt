@@ -19,7 +19,7 @@ use Rattle.hd_check.specs.Certified.{position_only}
 use Rattle.hd_check.specs.Rules.{point_of, IsBelowLevel, IsLeak, IsRight}
 use Rattle.hd_check.proofs.Searching.{place_found}
 use Rattle.hd_map.specs.Saddle.{SaddleIs}
-use Rattle.hd_cert.specs.Marks.{within}
+use Rattle.hd_cert.specs.Within.{within}
 use Rattle.hd_cert.specs.Routes.{IsRouteOver, IsLowStep, IsRouteCut}
 use Rattle.hd_cert.specs.Shown.{IsWritten}
 use Rattle.hd_cert.proofs.Shown.{leads_present, none_above-at}

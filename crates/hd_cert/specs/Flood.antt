@@ -1,11 +1,17 @@
 -- The queue of a flood: points with their steps, in the order in which they were reached.
-use Rattle.std.specs.Prelude.{◌≡◌, ◌<◌, ◌≤◌, ◌+◌, ℕ, Bool, List, length, slice_index_or, Option, Some, None}
+use Rattle.std.specs.Prelude.{◌≡◌, ◌<◌, ◌≤◌, ◌+◌, ℕ, List, length, map, slice_index_or, Option, Some, None}
 use Rattle.std.specs.List.{sum_by}
 use Rattle.hd_map.specs.declared.types.Pos.{Pos}
-use Rattle.hd_map.specs.Map.{Map, InGrid, Present, cell_count}
+use Rattle.hd_map.specs.declared.types.Size.{Size}
+use Rattle.hd_map.specs.Map.{Map, InGrid, Present, cell_count, place_of}
 use Rattle.hd_map.specs.Path.{Leads}
-use Rattle.hd_cert.specs.declared.flood.Reached.{Reached}
-use Rattle.hd_cert.specs.Steps.{IsOpen, OpenStep, steps_at}
+use Rattle.hd_cert.specs.Residues.{residue_of}
+use Rattle.hd_cert.specs.Steps.{OpenStep, steps_at}
+
+-- a point that is reached, and in how many steps
+pub record Reached : Type 0 where
+  pub at : Pos
+  pub steps : ℕ
 
 -- the entry at a place of the queue
 abbrev pub entry_of : List Reached → ℕ → Reached
@@ -21,12 +27,12 @@ abbrev pub IsWithin : Map → List (Option ℕ) → Pos → ℕ → Type 0
 IsWithin m steps p n = (k : ℕ) × (k ≤ n) × (steps_at m.size steps p ≡ Some k)
 
 -- the steps of an entry are noted, they are no more than its place, and so many steps lead to the start
-pub record IsEntry (m : Map) (marks : List Bool) (start : Pos) (steps : List (Option ℕ)) (e : Reached) (k : ℕ) : Type 0 where
+pub record IsEntry (m : Map) (IsOpen : Pos → Type 0) (start : Pos) (steps : List (Option ℕ)) (e : Reached) (k : ℕ) : Type 0 where
   pub present : Present m e.at
-  pub is_open : IsOpen m marks e.at
+  pub is_open : IsOpen e.at
   pub noted : steps_at m.size steps e.at ≡ Some e.steps
   pub few : e.steps ≤ k
-  pub walk : (xs : List Pos) × Leads (OpenStep m marks) e.at xs start × (length xs ≡ e.steps)
+  pub walk : (xs : List Pos) × Leads (OpenStep m IsOpen) e.at xs start × (length xs ≡ e.steps)
 
 -- the entry of a point whose steps are noted
 pub record HasEntry (queue : List Reached) (p : Pos) (n : ℕ) : Type 0 where
@@ -36,18 +42,30 @@ pub record HasEntry (queue : List Reached) (p : Pos) (n : ℕ) : Type 0 where
   pub steps_is : (entry_of queue place).steps ≡ n
 
 -- the neighbours of the entries before head are reached; each entry is at most one step farther than that at head
-pub record IsFlood (m : Map) (marks : List Bool) (start : Pos) (steps : List (Option ℕ)) (queue : List Reached) (head : ℕ) : Type 0 where
+pub record IsFlood (m : Map) (IsOpen : Pos → Type 0) (start : Pos) (steps : List (Option ℕ)) (queue : List Reached) (head : ℕ) : Type 0 where
   pub whole : length steps ≡ cell_count m.size
   pub start_inside : InGrid m.size start
   pub begun : steps_at m.size steps start ≡ Some 0
   pub room : length queue + sum_by is_free steps ≡ cell_count m.size
-  pub entries : (k : ℕ) → k < length queue → IsEntry m marks start steps (entry_of queue k) k
+  pub entries : (k : ℕ) → k < length queue → IsEntry m IsOpen start steps (entry_of queue k) k
   pub queued : (p : Pos) → InGrid m.size p → (n : ℕ) → steps_at m.size steps p ≡ Some n → HasEntry queue p n
   pub rising : (i j : ℕ) → i ≤ j → j < length queue → (entry_of queue i).steps ≤ (entry_of queue j).steps
   pub narrow : (k : ℕ) → k < length queue → head < length queue → (entry_of queue k).steps ≤ (entry_of queue head).steps + 1
-  pub closed : (k : ℕ) → k < head → k < length queue → (q : Pos) → OpenStep m marks (entry_of queue k).at q → IsWithin m steps q ((entry_of queue k).steps + 1)
+  pub closed : (k : ℕ) → k < head → k < length queue → (q : Pos) → OpenStep m IsOpen (entry_of queue k).at q → IsWithin m steps q ((entry_of queue k).steps + 1)
 
--- a flood goes on by the entry at its head
-abbrev pub FloodsRound : Map → List Bool → Reached → List (Option ℕ) → List Reached → List (Option ℕ) → List Reached → Type 0
-FloodsRound m marks here steps queue steps' queue' = (start : Pos) (head : ℕ) → IsFlood m marks start steps queue head → head < length queue → entry_of queue head ≡ here
-    → IsFlood m marks start steps' queue' (head + 1)
+-- the indexes of the points of a queue
+abbrev pub places_of : Size → List Reached → List ℕ
+places_of s queue = map (λ (e : Reached). place_of s e.at) queue
+
+-- a flood of which the residues are kept, and the indexes of its queue
+pub record IsFlooding (m : Map) (IsOpen : Pos → Type 0) (start : Pos) (residues places : List ℕ) (head : ℕ) : Type 0 where
+  pub steps : List (Option ℕ)
+  pub queue : List Reached
+  pub flood : IsFlood m IsOpen start steps queue head
+  pub residues_are : residues ≡ map residue_of steps
+  pub places_are : places ≡ places_of m.size queue
+
+-- such a flood goes on by the point at its head
+abbrev pub FloodsRound : Map → (Pos → Type 0) → Pos → List ℕ → List ℕ → List ℕ → List ℕ → Type 0
+FloodsRound m IsOpen here residues places residues' places' = (start : Pos) (head : ℕ) → IsFlooding m IsOpen start residues places head → head < length places → InGrid m.size here
+    → slice_index_or places head 0 ≡ place_of m.size here → IsFlooding m IsOpen start residues' places' (head + 1)

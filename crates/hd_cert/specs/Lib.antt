@@ -1,6 +1,7 @@
 pub mod Shown
 pub mod Steps
-pub mod Marks
+pub mod Residues
+pub mod Within
 pub mod Flood
 pub mod Nearer
 pub mod Listed

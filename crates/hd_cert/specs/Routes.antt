@@ -10,7 +10,7 @@ use Rattle.hd_map.specs.Path.{Leads, IsTop}
 use Rattle.hd_map.specs.Rank.{rank, below_by}
 use Rattle.hd_check.specs.declared.types.Certificate.{Certificate}
 use Rattle.hd_map.specs.Shown.{IsNotAfter}
-use Rattle.hd_cert.specs.Marks.{within}
+use Rattle.hd_cert.specs.Within.{within}
 use Rattle.hd_cert.specs.Shown.{IsWritten}
 use Rattle.hd_check.specs.Rules.{point_of}
 

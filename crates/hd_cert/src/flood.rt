@@ -1,120 +1,114 @@
-// In how many steps points are reached: a queue of points, each with the steps that lead to it.
-ghost use Rattle.std.specs.Prelude.{◌≡◌, ◌<◌, ◌+◌, ◌*◌, ◌≤◌, IfOk, OnOk, MatchOption, length};
-ghost use Rattle.hd_map.specs.Map.{IsSize, InGrid, Present, cell_count};
-ghost use Rattle.hd_cert.specs.Steps.{IsOpen, OpenArePresent, AreSteps, LooksAt, Reaches};
+// In how many steps points are reached, modulo 3: a queue of points that are reached.
+ghost use Rattle.std.specs.Prelude.{◌≡◌, ◌<◌, ◌+◌, ◌%◌, ◌≤◌, IfOk, OnOk, MatchOption, length};
+ghost use Rattle.hd_map.specs.Map.{InGrid, cell_count};
+ghost use Rattle.hd_map.specs.Neighbour.{AreBesideUnder};
 ghost use Rattle.hd_cert.specs.Flood.{FloodsRound};
+ghost use Rattle.hd_cert.specs.Residues.{AreResidues, Reaches, ReachesAt};
+ghost use Rattle.hd_cert.specs.Within.{LiesWithin};
 
+use crate::bound::{Bound, lies_within};
 use hd_list::Memory;
-use hd_map::{Adjacency, Heights, Pos, Size, are_beside, contains, index_of};
+use hd_map::{Heights, Pos, Side, are_beside, contains, index_of, position_of};
 use std::alloc::Global;
 
-/// A point that is reached, and in how many steps.
-#[derive(Clone, Copy)]
-pub struct Reached {
-    /// The point.
-    pub at: Pos,
-    /// The steps.
-    pub steps: u32,
-}
-
-/// By index the fewest steps in which an open point is reached from the start by way of open points,
-/// and none for the others. It ends at the goal, if there is one: points that are further may have
-/// none. It takes time in proportion to the points.
-pub fn steps_from<G: Heights>(
+/// By index one more than the fewest steps, modulo 3, in which a point within a bound is reached from the
+/// start by way of such points, and 0 for a point that is not reached. It ends at the goal, if there is one:
+/// points that are further may have 0. It takes five bytes a point, and time in proportion to the points.
+pub fn residues_from<S: Side, G: Heights>(
     alloc: Global,
     grid: &G,
-    marks: &[bool],
+    bound: Bound,
     start: Pos,
     goal: Option<Pos>,
-) -> Result<Vec<Option<u32>>, Memory>
-    requires whole { length marks.now ≡ cell_count (G.map grid.now).size }
-    requires start { Present (G.map grid.now) start }
-    requires open { IsOpen (G.map grid.now) marks.now start }
-    requires present { OpenArePresent (G.map grid.now) marks.now }
-    ensures { IfOk result (λ steps. AreSteps (G.map grid.now) marks.now start goal steps.items) }
+) -> Result<Vec<u8>, Memory>
+    requires { LiesWithin (G.map grid.now) S.NAME bound.level bound.strict start }
+    ensures { IfOk result (λ residues. AreResidues (G.map grid.now) (LiesWithin (G.map grid.now) S.NAME bound.level bound.strict) start goal residues.items) }
 {
     let size = grid.size();
     let count = size.profiles * size.points;
-    let mut steps = vec![in alloc; None; count as usize]?;
+    let mut residues = vec![in alloc; 0u8; count as usize]?;
     let mut queue = Vec::with_capacity(alloc, count as usize)?;
-    queue.push(Reached {
-        at: start,
-        steps: 0,
-    })?;
-    steps[index_of(size, start) as usize] = Some(0);
+    let first = index_of(size, start);
+    queue.push(first)?;
+    residues[first as usize] = 1;
     for head in 0..count {
         if head as usize >= queue.len() {
-            return Ok(steps);
+            return Ok(residues);
         }
-        let here = queue[head as usize];
-        if goal == Some(here.at) {
-            return Ok(steps);
+        let here = position_of(size, queue[head as usize]);
+        if goal == Some(here) {
+            return Ok(residues);
         }
-        reach_round(grid, marks, here, &mut steps, &mut queue)?;
+        reach_round::<S, G>(grid, bound, here, &mut residues, &mut queue)?;
     }
-    Ok(steps)
+    Ok(residues)
+}
+
+/// What is kept of one step more.
+#[inline]
+pub fn residue_after(residue: u8) -> u8
+    ensures { result ≡ residue % 3 + 1 }
+{
+    residue % 3 + 1
 }
 
 // Reaches the neighbours of a point.
-fn reach_round<G: Heights>(
+fn reach_round<S: Side, G: Heights>(
     grid: &G,
-    marks: &[bool],
-    here: Reached,
-    steps: &mut Vec<Option<u32>>,
-    queue: &mut Vec<Reached>,
+    bound: Bound,
+    here: Pos,
+    residues: &mut Vec<u8>,
+    queue: &mut Vec<u32>,
 ) -> Result<(), Memory>
-    requires whole { length marks.now ≡ cell_count (G.map grid.now).size }
-    requires present { OpenArePresent (G.map grid.now) marks.now }
-    requires steps { length steps.old.items ≡ cell_count (G.map grid.now).size }
-    requires here { Present (G.map grid.now) here.at }
-    requires few { here.steps < 4194304 }
-    ensures { OnOk result (FloodsRound (G.map grid.now) marks.now here steps.old.items queue.old.items steps.new.items queue.new.items) }
+    requires here { InGrid (G.map grid.now).size here }
+    requires whole { length residues.old.items ≡ cell_count (G.map grid.now).size }
+    ensures { OnOk result (FloodsRound (G.map grid.now) (LiesWithin (G.map grid.now) S.NAME bound.level bound.strict) here residues.old.items queue.old.items residues.new.items queue.new.items) }
 {
-    let size = grid.size();
-    let adjacency = grid.adjacency();
-    for step in 0..9u32 {
-        reach_beside(size, adjacency, marks, here, step, steps, queue)?;
-    }
+    let residue = residue_after(residues[index_of(grid.size(), here) as usize]);
+    reach_at::<S, G>(grid, bound, here, 0, 0, residue, residues, queue)?;
+    reach_at::<S, G>(grid, bound, here, 1, 0, residue, residues, queue)?;
+    reach_at::<S, G>(grid, bound, here, 2, 0, residue, residues, queue)?;
+    reach_at::<S, G>(grid, bound, here, 0, 1, residue, residues, queue)?;
+    reach_at::<S, G>(grid, bound, here, 2, 1, residue, residues, queue)?;
+    reach_at::<S, G>(grid, bound, here, 0, 2, residue, residues, queue)?;
+    reach_at::<S, G>(grid, bound, here, 1, 2, residue, residues, queue)?;
+    reach_at::<S, G>(grid, bound, here, 2, 2, residue, residues, queue)?;
     Ok(())
 }
 
-// Reaches the position of a step of the nine round a point, if it lies in the grid and is beside the
-// point under the setting.
-fn reach_beside(
-    size: Size,
-    adjacency: Adjacency,
-    marks: &[bool],
-    here: Reached,
-    step: u32,
-    steps: &mut Vec<Option<u32>>,
-    queue: &mut Vec<Reached>,
+// Reaches the position at a step from a point, if it lies in the grid and is beside the point.
+#[inline(always)]
+fn reach_at<S: Side, G: Heights>(
+    grid: &G,
+    bound: Bound,
+    here: Pos,
+    x: u32,
+    y: u32,
+    residue: u8,
+    residues: &mut Vec<u8>,
+    queue: &mut Vec<u32>,
 ) -> Result<(), Memory>
-    requires limits { IsSize size }
-    requires whole { length marks.now ≡ cell_count size }
-    requires steps { length steps.old.items ≡ cell_count size }
-    requires here { InGrid size here.at }
-    requires few { here.steps < 4194304 }
-    requires step { step < 9 }
-    ensures { OnOk result (LooksAt size adjacency marks.now here.at step (here.steps + 1) steps.old.items queue.old.items steps.new.items queue.new.items) }
-{
-    let Some(at) = position_beside(size, here.at, step % 3, step / 3) else {
-        return Ok(());
-    };
-    if !are_beside(adjacency, here.at, at) {
-        return Ok(());
-    }
-    reach(size, marks, at, here.steps + 1, steps, queue)?;
-    Ok(())
-}
-
-// The position so many columns and profiles after the one before another, if it lies in the grid.
-fn position_beside(size: Size, at: Pos, x: u32, y: u32) -> Option<Pos>
-    requires limits { IsSize size }
-    requires at { InGrid size at }
+    requires here { InGrid (G.map grid.now).size here }
     requires x { x ≤ 2 }
     requires y { y ≤ 2 }
-    ensures { MatchOption result ((q : _) → q.x + 1 ≡ at.x + x → q.y + 1 ≡ at.y + y → InGrid size q → ⊥)
-        (λ q. (q.x + 1 ≡ at.x + x) × (q.y + 1 ≡ at.y + y) × InGrid size q) }
+    requires whole { length residues.old.items ≡ cell_count (G.map grid.now).size }
+    ensures reaches { OnOk result (ReachesAt (G.map grid.now) (LiesWithin (G.map grid.now) S.NAME bound.level bound.strict) here x y residue residues.old.items queue.old.items residues.new.items queue.new.items) }
+    ensures whole { OnOk result (length residues.new.items ≡ cell_count (G.map grid.now).size) }
+{
+    match beside_at(grid, here, x, y) {
+        Some(at) => reach::<S, G>(grid, bound, at, residue, residues, queue),
+        None => Ok(()),
+    }
+}
+
+// The position at a step from a point, if it lies in the grid and is beside the point.
+#[inline]
+fn beside_at<G: Heights>(grid: &G, at: Pos, x: u32, y: u32) -> Option<Pos>
+    requires at { InGrid (G.map grid.now).size at }
+    requires x { x ≤ 2 }
+    requires y { y ≤ 2 }
+    ensures { MatchOption result ((q : _) → q.x + 1 ≡ at.x + x → q.y + 1 ≡ at.y + y → InGrid (G.map grid.now).size q → AreBesideUnder (G.map grid.now).adjacency at q → ⊥)
+        (λ q. (q.x + 1 ≡ at.x + x) × (q.y + 1 ≡ at.y + y) × InGrid (G.map grid.now).size q × AreBesideUnder (G.map grid.now).adjacency at q) }
 {
     if at.x + x == 0 || at.y + y == 0 {
         return None;
@@ -123,29 +117,33 @@ fn position_beside(size: Size, at: Pos, x: u32, y: u32) -> Option<Pos>
         x: at.x + x - 1,
         y: at.y + y - 1,
     };
-    if contains(size, q) { Some(q) } else { None }
+    if contains(grid.size(), q) && are_beside(grid.adjacency(), at, q) {
+        Some(q)
+    } else {
+        None
+    }
 }
 
-// Reaches a position, if it is open and not yet reached.
-fn reach(
-    size: Size,
-    marks: &[bool],
+// Reaches a position, if it lies within the bound and is not yet reached.
+#[inline(always)]
+fn reach<S: Side, G: Heights>(
+    grid: &G,
+    bound: Bound,
     at: Pos,
-    count: u32,
-    steps: &mut Vec<Option<u32>>,
-    queue: &mut Vec<Reached>,
+    residue: u8,
+    residues: &mut Vec<u8>,
+    queue: &mut Vec<u32>,
 ) -> Result<(), Memory>
-    requires limits { IsSize size }
-    requires whole { length marks.now ≡ cell_count size }
-    requires steps { length steps.old.items ≡ cell_count size }
-    requires at { InGrid size at }
-    ensures { OnOk result (Reaches size marks.now at count steps.old.items queue.old.items steps.new.items queue.new.items) }
+    requires at { InGrid (G.map grid.now).size at }
+    requires whole { length residues.old.items ≡ cell_count (G.map grid.now).size }
+    ensures reaches { OnOk result (Reaches (G.map grid.now).size (LiesWithin (G.map grid.now) S.NAME bound.level bound.strict) at residue residues.old.items queue.old.items residues.new.items queue.new.items) }
+    ensures whole { OnOk result (length residues.new.items ≡ cell_count (G.map grid.now).size) }
 {
-    let place = index_of(size, at) as usize;
-    if !marks[place] || steps[place].is_some() {
+    let index = index_of(grid.size(), at);
+    if residues[index as usize] != 0 || !lies_within::<S, G>(grid, bound, at) {
         return Ok(());
     }
-    queue.push(Reached { at, steps: count })?;
-    steps[place] = Some(count);
+    queue.push(index)?;
+    residues[index as usize] = residue;
     Ok(())
 }

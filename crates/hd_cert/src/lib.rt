@@ -2,6 +2,7 @@
 //! the first below it, found by two floods.
 #![tactic(auto)]
 
+mod bound;
 mod flood;
 mod laws;
 mod listed_points;

@@ -21,12 +21,12 @@ pub loop-index-preserved : goal.loop-index-preserved
 loop-index-preserved c =
     let so = c.loop-index.invariant.0 in
     let found = c.loop-index.found.items in
-    let lists = subst (λ (n : ℕ). Lists c.args.size c.args.steps.now n found c.list_one.new.found.items) so.place c.in_ok-list_one.ensures in (
+    let lists = subst (λ (n : ℕ). Lists c.args.size c.args.residues.now n found c.list_one.new.found.items) so.place c.in_ok-list_one.ensures in (
       at-next c.args.size c.args.size c.loop-index.index c.loop-index.at c.position_after-at.result refl so c.position_after-at.ensures.column c.position_after-at.ensures.place,
-      listed_more c.args.size c.args.steps.now c.loop-index.index found c.list_one.new.found.items lists c.loop-index.invariant.1,
+      listed_more c.args.size c.args.residues.now c.loop-index.index found c.list_one.new.found.items lists c.loop-index.invariant.1,
     )
 
 pub returns : goal.returns
 returns c =
     let e : c.loop-index.index ≡ cell_count c.args.size = omega arith in
-    rw c.from_vec.ensures (subst (λ (n : ℕ). AreListed c.args.size c.args.steps.now n c.loop-index.found.items) e c.loop-index.invariant.1)
+    rw c.from_vec.ensures (subst (λ (n : ℕ). AreListed c.args.size c.args.residues.now n c.loop-index.found.items) e c.loop-index.invariant.1)

@@ -3,4 +3,4 @@ use Rattle.hd_map.proofs.Walks.{IsAt}
 use Rattle.hd_cert.proofs.listed_points.listed.Given as goal
 
 abbrev pub invariant-loop-index : goal.invariant-loop-index
-invariant-loop-index l = IsAt l.size l.index l.at × AreListed l.size l.steps l.index l.found.items
+invariant-loop-index l = IsAt l.size l.index l.at × AreListed l.size l.residues l.index l.found.items

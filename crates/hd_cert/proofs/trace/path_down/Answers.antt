@@ -1,32 +1,40 @@
-use Rattle.std.proofs.Common.{◌≡◌, ◌-◌, ◌+◌, ◌∙◌, ap, subst, arith, ℕ, Some}
-use Rattle.hd_cert.specs.Nearer.{IsFirstNearer, GoesNearer}
-use Rattle.hd_cert.proofs.Nearest.{goes_more}
+use Rattle.std.proofs.Common.{◌≡◌, ◌≤◌, ◌+◌, ◌%◌, ◌∙◌, rules, ap, subst, get_or}
+use Rattle.hd_map.specs.declared.types.Size.{Size}
+use Rattle.hd_map.specs.Map.{place_of, cell_count}
+use Rattle.hd_cert.specs.Residues.{residue_at}
+use Rattle.hd_cert.proofs.Nearest.{different, down_begin, down_more, down_end, down_past}
 use Rattle.hd_cert.proofs.trace.path_down.Goals as goal
 
-pub first_nearer-here-requires-clause-exists : goal.first_nearer-here-requires-clause-exists
-first_nearer-here-requires-clause-exists g c =
-    let below = c.loop-gone-test.true in
-    let e : c.args.count - c.loop-gone.gone ≡ c.args.count - c.loop-gone.gone - 1 + 1 = omega (arith, below) in
-    c.requires.falls c.loop-gone.here (c.args.count - c.loop-gone.gone - 1) (omega (arith, below)) c.loop-gone.invariant.present (c.loop-gone.invariant.noted ∙ ap Some e)
+pub returns-then-eq : goal.returns-then-eq
+returns-then-eq g c steps count leads =
+    let m = g.G.Heights.map c.args.grid.now in
+    let is : c.loop-gone.here ≡ c.args.to = search rules in
+    rw c.from_vec.ensures (down_end m c.args.residues.now c.args.from c.args.to steps count leads c.loop-gone.path.items c.loop-gone.here c.loop-gone.gone is (c.loop-gone.invariant.going steps count leads))
+
+pub loop-gone-init : goal.loop-gone-init
+loop-gone-init g c =
+    let m = g.G.Heights.map c.args.grid.now in
+    record { present = c.requires.from; going = λ steps count leads. rw c.in_ok-path.ensures.items (down_begin m c.args.residues.now c.args.from c.args.to steps count leads) }
 
 pub loop-gone-preserved : goal.loop-gone-preserved
 loop-gone-preserved g c =
     let m = g.G.Heights.map c.args.grid.now in
-    let steps = c.args.steps.now in
-    let e : c.args.count - c.loop-gone.gone - 1 ≡ c.args.count - (c.loop-gone.gone + 1) = omega arith in
-    let first : IsFirstNearer m steps (c.args.count - (c.loop-gone.gone + 1)) c.loop-gone.here c.first_nearer-here.result =
-    subst (λ (n : ℕ). IsFirstNearer m steps n c.loop-gone.here c.first_nearer-here.result) e c.first_nearer-here.ensures in
-    let more = goes_more m steps c.args.from c.args.count c.loop-gone.gone c.loop-gone.path.items c.loop-gone.here c.first_nearer-here.result c.loop-gone.invariant.goes c.loop-gone.invariant.last first in
-    let pushed = c.in_ok-push-2.ensures.items in
+    let residues = c.args.residues.now in
+    let here = c.loop-gone.here in
+    let present = c.loop-gone.invariant.present in
+    let place : c.index_of.result ≡ place_of m.size here = c.index_of.ensures.value ∙ ap (λ (s : Size). place_of s here) c.size-size.ensures in
+    let read : get_or residues c.index_of.result 0 ≡ residue_at m.size residues here = ap (λ i. get_or residues i 0) place in
+    let residue : c.residue_after-residue.result ≡ (residue_at m.size residues here % 3 + 1) % 3 + 1 =
+    c.residue_after-residue.ensures ∙ ap (λ r. r % 3 + 1) c.residue_after.ensures ∙ ap (λ r. (r % 3 + 1) % 3 + 1) read in
+    let apart : here ≡ c.args.to → ⊥ = different here c.args.to c.eq.result c.eq.ensures c.if-eq.false in
     record {
-      goes = rw pushed more.0;
-      last = rw pushed more.1;
-      present = first.nearer.neighbour.to;
-      noted = first.nearer.noted;
+      present = c.first_beside-here.ensures.present;
+      going = λ steps count leads. rw c.in_ok-push.ensures.items (down_more m residues c.args.from c.args.to steps count leads c.loop-gone.path.items here c.first_beside-here.result c.loop-gone.gone c.residue_after-residue.result
+          present apart residue c.first_beside-here.ensures.first (c.loop-gone.invariant.going steps count leads));
     }
 
 pub returns : goal.returns
-returns g c =
+returns g c steps count leads =
     let m = g.G.Heights.map c.args.grid.now in
-    let e : c.loop-gone.gone ≡ c.args.count = omega arith in
-    rw c.from_vec.ensures (subst (λ (n : ℕ). GoesNearer m c.args.steps.now c.args.from c.args.count c.loop-gone.path.items n) e c.loop-gone.invariant.goes)
+    let past : cell_count m.size ≤ c.loop-gone.gone = subst (λ (s : Size). cell_count s ≤ c.loop-gone.gone) c.size-size.ensures c.loop-gone-test.false in
+    absurd (down_past m c.args.residues.now c.args.from c.args.to steps count leads c.loop-gone.path.items c.loop-gone.here c.loop-gone.gone past (c.loop-gone.invariant.going steps count leads))
