@@ -14,8 +14,6 @@ use std::alloc::Global;
 pub(crate) enum Need {
     /// The regions with the numbers of their points.
     Regions,
-    /// The flood line of the pits.
-    Line,
     /// The merges of the pits.
     Merges,
 }
@@ -40,7 +38,6 @@ pub(crate) fn find_by_pool<S: Side, G: Grid>(
     let view = pool.view(alloc, tiles);
     match need {
         Need::Regions => findings.find_sizes_by(&view),
-        Need::Line => findings.find_line_by(alloc, &view),
         Need::Merges => findings.find_merges_by(&view),
     }
 }

@@ -194,10 +194,9 @@ impl<G: Grid> Surveyed<G> {
             Command::Tree { side }
             | Command::Saddle { side, .. }
             | Command::Prune { side, .. }
-            | Command::Lines { side, .. } => self.find_by_pool(*side, Need::Line),
-            Command::Audit { side, .. } | Command::Fill { side, .. } => {
-                self.find_by_pool(*side, Need::Merges)
-            }
+            | Command::Lines { side, .. }
+            | Command::Audit { side, .. }
+            | Command::Fill { side, .. } => self.find_by_pool(*side, Need::Merges),
             _ => Ok(()),
         }
     }

@@ -5,10 +5,9 @@ ghost use Rattle.hd_basin.specs.InStep.{IsPoolOf};
 use crate::crossed::{passes_between_regions, pits_among};
 use crate::told::{sizes_told, tallies_told};
 use hd_basin::Basins;
-use hd_graph::Graph;
 use hd_list::{List, Memory};
 use hd_map::{Heights, Pos, RegionSize, Side};
-use hd_survey::{PitMerges, SideView, Tally, graph_of_pits, merges_of_graph};
+use hd_survey::{PitMerges, SideView, Tally, merges_of_passes};
 use std::alloc::Global;
 use std::marker::Model;
 
@@ -53,7 +52,7 @@ impl<'a, S: Side, G: Heights> SideView<S> for PoolView<'a, S, G> {
         }
     }
 
-    fn graph(&self) -> Result<Graph<S>, Memory> {
+    fn merges(&self) -> Result<PitMerges, Memory> {
         let roots = self.pool.find_roots()?;
         let basins = self.pool.as_graph()?;
         let passes = passes_between_regions::<S, G>(
@@ -64,12 +63,7 @@ impl<'a, S: Side, G: Heights> SideView<S> for PoolView<'a, S, G> {
             basins.passes(),
         )?;
         let pits = pits_among(self.alloc, basins.lows())?;
-        graph_of_pits::<S, G>(self.alloc, self.grid, pits.as_slice(), passes)
-    }
-
-    fn merges(&self) -> Result<PitMerges, Memory> {
-        let graph = self.graph()?;
-        merges_of_graph::<S, G>(self.alloc, self.grid, &graph)
+        merges_of_passes::<S, G>(self.alloc, self.grid, pits.as_slice(), passes)
     }
 
     fn sizes(&self) -> Result<List<RegionSize>, Memory> {

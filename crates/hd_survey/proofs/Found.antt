@@ -1,33 +1,28 @@
 -- What was found stays right when more is found.
 use Rattle.std.proofs.Common.{◌≡◌, ℕ, List, Some, rules, subst}
-use Rattle.hd_graph.specs.declared.line.Stop.{Stop}
 use Rattle.hd_map.specs.declared.types.RegionSize.{RegionSize}
 use Rattle.hd_map.specs.declared.types.SideName.{SideName}
 use Rattle.hd_map.specs.Map.{Map}
 use Rattle.hd_steep.specs.Numbering.{AreNumbered, Numbering}
 use Rattle.hd_survey.specs.declared.kept.KeptPits.{KeptPits}
 use Rattle.hd_survey.specs.declared.merges.PitMerges.{PitMerges}
-use Rattle.hd_survey.specs.Findings.{AreFindings, AreKeptAt, AreKeptPits, ArePitMerges, AreSizes, Found, IsPitLine}
+use Rattle.hd_survey.specs.Findings.{AreFindings, AreKeptAt, AreKeptPits, ArePitMerges, AreSizes, Found}
 
 pub with_sizes : (m : Map) (side : SideName) (f : Found) (sizes : List RegionSize) → AreFindings m side f → AreSizes m side sizes
-    → AreFindings m side (record { sizes = Some sizes; line = f.line; merges = f.merges; kept = f.kept; regions = f.regions })
-with_sizes m side f sizes are new = record { sizes = search rules; line = are.line; merges = are.merges; kept = are.kept; regions = are.regions }
-
-pub with_line : (m : Map) (side : SideName) (f : Found) (line : List Stop) → AreFindings m side f → IsPitLine m side line
-    → AreFindings m side (record { sizes = f.sizes; line = Some line; merges = f.merges; kept = f.kept; regions = f.regions })
-with_line m side f line are new = record { sizes = are.sizes; line = search rules; merges = are.merges; kept = are.kept; regions = are.regions }
+    → AreFindings m side (record { sizes = Some sizes; merges = f.merges; kept = f.kept; regions = f.regions })
+with_sizes m side f sizes are new = record { sizes = search rules; merges = are.merges; kept = are.kept; regions = are.regions }
 
 pub with_merges : (m : Map) (side : SideName) (f : Found) (merges : PitMerges) → AreFindings m side f → ArePitMerges m side merges
-    → AreFindings m side (record { sizes = f.sizes; line = f.line; merges = Some merges; kept = f.kept; regions = f.regions })
-with_merges m side f merges are new = record { sizes = are.sizes; line = are.line; merges = search rules; kept = are.kept; regions = are.regions }
+    → AreFindings m side (record { sizes = f.sizes; merges = Some merges; kept = f.kept; regions = f.regions })
+with_merges m side f merges are new = record { sizes = are.sizes; merges = search rules; kept = are.kept; regions = are.regions }
 
 pub with_kept : (m : Map) (side : SideName) (f : Found) (kept : KeptPits) → AreFindings m side f → AreKeptPits m side kept.percent.thousandths kept.pits
-    → AreFindings m side (record { sizes = f.sizes; line = f.line; merges = f.merges; kept = Some kept; regions = f.regions })
-with_kept m side f kept are new = record { sizes = are.sizes; line = are.line; merges = are.merges; kept = search rules; regions = are.regions }
+    → AreFindings m side (record { sizes = f.sizes; merges = f.merges; kept = Some kept; regions = f.regions })
+with_kept m side f kept are new = record { sizes = are.sizes; merges = are.merges; kept = search rules; regions = are.regions }
 
 pub with_regions : (m : Map) (side : SideName) (f : Found) (regions : Numbering) → AreFindings m side f → AreNumbered m side regions
-    → AreFindings m side (record { sizes = f.sizes; line = f.line; merges = f.merges; kept = f.kept; regions = Some regions })
-with_regions m side f regions are new = record { sizes = are.sizes; line = are.line; merges = are.merges; kept = are.kept; regions = search rules }
+    → AreFindings m side (record { sizes = f.sizes; merges = f.merges; kept = f.kept; regions = Some regions })
+with_regions m side f regions are new = record { sizes = are.sizes; merges = are.merges; kept = are.kept; regions = search rules }
 
 -- the kept pits that were found at a percent are those of its pruning
 pub kept_known : (m : Map) (side : SideName) (thousandths : ℕ) (f : Found) (x : KeptPits) → AreFindings m side f → AreKeptAt thousandths f.kept → f.kept ≡ Some x

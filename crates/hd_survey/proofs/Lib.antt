@@ -5,10 +5,8 @@ pub mod Found
 pub mod RootedPoints
 mod Counts
 pub mod MapPits
-mod StopCounts
 mod PitLinks
 mod LowerRanks
-mod PitSaddles
 mod PrunedPits
 mod FeaturePoints
 mod Numbers
@@ -22,3 +20,4 @@ mod FeatureLists
 mod FeatureNeeds
 mod ValuesDetermined
 mod PrunedLines
+pub mod MapMerges

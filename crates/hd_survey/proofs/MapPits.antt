@@ -23,7 +23,7 @@ use Rattle.hd_prune.specs.Staying.{ranks_of}
 use Rattle.hd_map.proofs.Prunings.{pits-unique}
 use Rattle.hd_steep.specs.Numbering.{AreNumbered, Numbering, roots_of}
 use Rattle.hd_steep.proofs.Pits.{ArePitsBefore, pits_all, pits_none, pits_pass, pits_push}
-use Rattle.hd_survey.specs.PitGraph.{low_of}
+use Rattle.hd_survey.specs.PitLinks.{low_of}
 use Rattle.hd_survey.specs.Regions.{AreRegionSizes, names, pit_ranks, rank_at, region_size}
 use Rattle.hd_survey.proofs.Counts.{pits_from, pits_from-other, pits_from-own}
 use Rattle.hd_survey.proofs.Inside.{point_inside}

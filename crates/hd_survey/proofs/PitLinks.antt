@@ -14,7 +14,7 @@ use Rattle.hd_map.specs.Walks.{HasPass}
 use Rattle.hd_map.proofs.Items.{Contains-map, map-Contains}
 use Rattle.hd_steep.specs.declared.crossing.Crossing.{Crossing}
 use Rattle.hd_steep.specs.Crossings.{HasPits, pass_of, passes_of, pit_at}
-use Rattle.hd_survey.specs.PitGraph.{link_of, low_of}
+use Rattle.hd_survey.specs.PitLinks.{link_of, low_of}
 
 -- a pass from its other end
 abbrev turned : Pass → Pass

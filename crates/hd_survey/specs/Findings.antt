@@ -1,9 +1,7 @@
 -- What reports find of a side of a map.
-use Rattle.std.specs.Prelude.{◌≡◌, ◌<◌, ◌^◌, ℕ, List, length, Option, Some, None, All}
+use Rattle.std.specs.Prelude.{◌≡◌, ◌<◌, ℕ, List, Option, Some, None, All}
 use Rattle.std.specs.Option.{ForSome}
-use Rattle.hd_graph.specs.declared.line.Stop.{Stop}
 use Rattle.hd_graph.specs.Merges.{AreMerges}
-use Rattle.hd_graph.specs.Tells.{TellsSaddles}
 use Rattle.hd_map.specs.declared.types.RegionSize.{RegionSize}
 use Rattle.hd_map.specs.declared.types.SideName.{SideName}
 use Rattle.hd_map.specs.Map.{Map, cell_count}
@@ -17,13 +15,6 @@ use Rattle.hd_steep.specs.Numbering.{AreNumbered, Numbering}
 use Rattle.hd_survey.specs.declared.kept.KeptPits.{KeptPits}
 use Rattle.hd_survey.specs.declared.merges.PitMerges.{PitMerges}
 use Rattle.hd_survey.specs.Regions.{AreRegionSizes}
-
--- a flood line that tells the pits of the map and their saddles; a u32 counts its stops
-pub record IsPitLine (m : Map) (side : SideName) (line : List Stop) : Type 0 where
-  pub roots : List (Option ℕ)
-  pub regions : AreRegions m side roots
-  pub tells : TellsSaddles m side line
-  pub few : length line < 2 ^ 32
 
 -- the pits of the map in position order, and their merges
 pub record ArePitMerges (m : Map) (side : SideName) (x : PitMerges) : Type 0 where
@@ -49,11 +40,10 @@ abbrev pub AreKeptAt : ℕ → Option KeptPits → Type 0
 AreKeptAt thousandths None = ⊥
 AreKeptAt thousandths (Some x) = x.percent.thousandths ≡ thousandths
 
--- the regions with the numbers of their points, the flood line of the pits, their merges, the pits that the last
--- pruning keeps, and the region of each point, each where it was found
+-- the regions with the numbers of their points, the merges of the pits, the pits that the last pruning keeps, and the
+-- region of each point, each where it was found
 pub record Found : Type 0 where
   pub sizes : Option (List RegionSize)
-  pub line : Option (List Stop)
   pub merges : Option PitMerges
   pub kept : Option KeptPits
   pub regions : Option Numbering
@@ -61,7 +51,6 @@ pub record Found : Type 0 where
 -- what was found is that of the map on the side
 pub record AreFindings (m : Map) (side : SideName) (found : Found) : Type 0 where
   pub sizes : ForSome found.sizes (AreSizes m side)
-  pub line : ForSome found.line (IsPitLine m side)
   pub merges : ForSome found.merges (ArePitMerges m side)
   pub kept : ForSome found.kept (λ x. AreKeptPits m side x.percent.thousandths x.pits)
   pub regions : ForSome found.regions (AreNumbered m side)

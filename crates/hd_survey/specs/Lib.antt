@@ -1,7 +1,7 @@
 pub mod Regions
 pub mod Edges
 pub mod Tallies
-pub mod PitGraph
+pub mod PitLinks
 pub mod Falls
 pub mod Inside
 pub mod Owned

@@ -1,11 +1,10 @@
--- The places of pits on a flood line.
-use Rattle.std.specs.Prelude.{◌≡◌, ℕ, true, List, Some, slice_get}
-use Rattle.hd_graph.specs.declared.line.Stop.{Stop}
+-- The places of pits in their list.
+use Rattle.std.specs.Prelude.{◌≡◌, ◌<◌, ℕ, List, length}
+use Rattle.hd_graph.specs.declared.graph.Low.{Low}
+use Rattle.hd_graph.specs.Links.{rank_at}
 use Rattle.hd_map.specs.declared.types.Rank.{Rank}
 
--- the pit stands at this place of the line
-pub record IsPlaceOf (line : List Stop) (pit : Rank) (place : ℕ) : Type 0 where
-  pub stop : Stop
-  pub at_place : slice_get line place ≡ Some stop
-  pub low : stop.low ≡ pit
-  pub is_pit : stop.pit ≡ true
+-- the pit stands at this place
+pub record IsPlaceOf (lows : List Low) (pit : Rank) (place : ℕ) : Type 0 where
+  pub inside : place < length lows
+  pub low : rank_at lows place ≡ pit

@@ -20,8 +20,8 @@ use hd_prune::Kept;
 use std::alloc::Global;
 
 /// The regions of the kept pits after the pruning of a grid at a percent, in position order, by a view of
-/// one of its sides and what was found of it, to which the flood line is added. The range is that of the heights of the grid. `Memory` comes where the pruning or the
-/// list is refused its memory.
+/// one of its sides and what was found of it, to which the merges of the pits are added. The range is that of the
+/// heights of the grid. `Memory` comes where the merges, the pruning or the list are refused their memory.
 pub fn features<S: Side, G: Heights, V: SideView<S>>(
     alloc: Global,
     grid: &G,
@@ -39,9 +39,9 @@ pub fn features<S: Side, G: Heights, V: SideView<S>>(
     ensures few { IfOk result (λ list. length list ≤ 4194304) }
     ensures findings { AreFindings (G.map grid.now) S.NAME findings.new }
 {
-    findings.find_line_by(alloc, view)?;
-    let line = findings.line();
-    let pruned = pruned_pits::<S, G, V>(alloc, grid, view, line, percent, range)?;
+    findings.find_merges_by(view)?;
+    let merges = findings.merges();
+    let pruned = pruned_pits::<S, G, V>(alloc, grid, view, merges, percent, range)?;
     let tallies = view.tallies()?;
     let owned = owned_tallies(alloc, cells_of(grid), &pruned, tallies.as_slice())?;
     list_features(

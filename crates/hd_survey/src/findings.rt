@@ -7,7 +7,6 @@ ghost use Rattle.hd_map.specs.Rank.{rank};
 ghost use Rattle.hd_map.specs.Region.{IsRoot};
 ghost use Rattle.hd_survey.specs.Findings.{AreFindings, AreKeptAt};
 
-use crate::graph::flood_line;
 use crate::grid_view::GridView;
 use crate::kept::{KeptPits, keep_pits};
 use crate::merges::PitMerges;
@@ -15,26 +14,25 @@ use crate::pruned::cells_of;
 use crate::roots::root_at;
 use crate::view::SideView;
 use crate::way::end_of_way;
-use hd_graph::FloodLine;
 use hd_list::{List, Memory};
 use hd_map::{HeightRange, Heights, Pos, RegionSize, Side};
 use hd_num::Percent;
 use hd_steep::{Regions, find_regions};
 use std::alloc::Global;
-use std::marker::Model;
+use std::marker::{Model, PhantomData};
 
 /// What reports found of a side of a map, for later ones on the same map under the same setting: the regions
-/// with the numbers of their points, the flood line of the pits, their merges, the pits that the last pruning
-/// keeps, and the region of each point. It takes at most 160 bytes a pit, and 4 a point for these regions, which are
-/// found only where many points were asked. Contracts see it as what was found.
+/// with the numbers of their points, the merges of the pits, the pits that the last pruning keeps, and the region of
+/// each point. It takes at most 112 bytes a pit, and 4 a point for these regions, which are found only where many
+/// points were asked. Contracts see it as what was found.
 #[derive(Drop)]
 pub struct Findings<S: Side> {
     sizes: Option<List<RegionSize>>,
-    line: Option<FloodLine<S>>,
     merges: Option<PitMerges>,
     kept: Option<KeptPits>,
     regions: Option<Regions>,
     walked: u64,
+    side: PhantomData<S>,
 }
 
 impl<S: Side> Model for Findings<S> {
@@ -42,7 +40,7 @@ impl<S: Side> Model for Findings<S> {
 
     ghost Value = { Found };
 
-    ghost view = { λ f. record { sizes = f.sizes; line = f.line; merges = f.merges; kept = f.kept; regions = f.regions } };
+    ghost view = { λ f. record { sizes = f.sizes; merges = f.merges; kept = f.kept; regions = f.regions } };
 }
 
 impl<S: Side> Findings<S> {
@@ -52,11 +50,11 @@ impl<S: Side> Findings<S> {
     {
         Findings {
             sizes: None,
-            line: None,
             merges: None,
             kept: None,
             regions: None,
             walked: 0,
+            side: PhantomData,
         }
     }
 
@@ -79,7 +77,7 @@ impl<S: Side> Findings<S> {
         requires { AreFindings (V.map view.now) S.NAME self.old }
         ensures findings { AreFindings (V.map view.now) S.NAME self.new }
         ensures found { OnOk result (is_some self.new.sizes ≡ true) }
-        ensures line { self.new.line ≡ self.old.line }
+        ensures merges { self.new.merges ≡ self.old.merges }
     {
         if self.sizes.is_none() {
             self.sizes = Some(view.sizes()?);
@@ -94,42 +92,6 @@ impl<S: Side> Findings<S> {
     {
         match &self.sizes {
             Some(sizes) => sizes.as_slice(),
-            None => unreachable!(),
-        }
-    }
-
-    /// Finds the flood line of the pits, where it is not found. `Memory` comes where it is refused its memory.
-    pub fn find_line<G: Heights>(&mut self, alloc: Global, grid: &G) -> Result<(), Memory>
-        requires { AreFindings (G.map grid.now) S.NAME self.old }
-        ensures findings { AreFindings (G.map grid.now) S.NAME self.new }
-        ensures found { OnOk result (is_some self.new.line ≡ true) }
-    {
-        if self.line.is_none() {
-            let view = GridView::<S, G>::new(alloc, grid)?;
-            self.find_line_by(alloc, &view)?;
-        }
-        Ok(())
-    }
-
-    /// The same by a view of the side.
-    pub fn find_line_by<V: SideView<S>>(&mut self, alloc: Global, view: &V) -> Result<(), Memory>
-        requires { AreFindings (V.map view.now) S.NAME self.old }
-        ensures findings { AreFindings (V.map view.now) S.NAME self.new }
-        ensures found { OnOk result (is_some self.new.line ≡ true) }
-    {
-        if self.line.is_none() {
-            self.line = Some(flood_line::<S, V>(alloc, view)?);
-        }
-        Ok(())
-    }
-
-    /// The flood line of the pits, which was found.
-    pub fn line(&self) -> &FloodLine<S>
-        requires { is_some self.now.line ≡ true }
-        ensures { self.now.line ≡ Some result.now }
-    {
-        match &self.line {
-            Some(line) => line,
             None => unreachable!(),
         }
     }

@@ -4,12 +4,11 @@ ghost use Rattle.hd_steep.specs.Numbering.{AreNumbered};
 ghost use Rattle.hd_survey.specs.Regions.{AreRegionSizes};
 
 use crate::merges::{PitMerges, merges_of_regions};
-use crate::roots::{graph_of, root_at};
+use crate::roots::root_at;
 use crate::sizes::{into_sizes, list_sizes};
 use crate::tallies::region_tallies;
 use crate::tally::Tally;
 use crate::view::SideView;
-use hd_graph::Graph;
 use hd_list::{List, Memory};
 use hd_map::{Heights, Pos, RegionSize, Side};
 use hd_steep::{Regions, find_regions};
@@ -74,10 +73,6 @@ impl<'a, S: Side, G: Heights> SideView<S> for GridView<'a, S, G> {
 
     fn root(&self, at: Pos) -> Pos {
         root_at::<S, G>(self.grid, &self.regions, at)
-    }
-
-    fn graph(&self) -> Result<Graph<S>, Memory> {
-        graph_of::<S, G>(self.alloc, self.grid, &self.regions)
     }
 
     fn merges(&self) -> Result<PitMerges, Memory> {

@@ -1,12 +1,11 @@
-//! What reports are made of: the regions of a map on a side with their points, the graph of its pits
-//! and their flood line, the pruning of the pits, and the values of parameters.
+//! What reports are made of: the regions of a map on a side with their points, its pits with their merges
+//! and their change tree, the pruning of the pits, and the values of parameters.
 #![tactic(auto)]
 
 mod edges;
 mod falls;
 mod features;
 mod findings;
-mod graph;
 mod grid_view;
 mod kept;
 mod laws;
@@ -22,23 +21,23 @@ mod sizes;
 mod survey;
 mod tallies;
 mod tally;
+mod tree;
 mod values;
 mod view;
 mod way;
 
 pub use findings::Findings;
-pub use graph::change_tree;
 pub use kept::KeptPits;
 pub use laws::{
     features_are_determined, kept_pits_are_determined, pruned_lines_are_determined,
     pruned_regions_are_determined, region_sizes_are_determined, values_are_determined,
 };
 pub use lines::pruned_lines;
-pub use merges::{PitMerges, merges_of_graph};
+pub use merges::{PitMerges, merges_of_passes};
 pub use pruned::{PrunedRegions, pruned_regions, pruned_regions_by};
-pub use roots::graph_of_pits;
 pub use saddles::saddle_between;
 pub use survey::Survey;
 pub use tally::Tally;
+pub use tree::change_tree;
 pub use values::{notation_regions, notation_value, parameter_value};
 pub use view::SideView;

@@ -14,8 +14,8 @@ use hd_num::Percent;
 use std::alloc::Global;
 
 /// The border lines of the pruning of a grid on a side at a percent: for dales the ridge lines, for hills
-/// the course lines of ISO 25178-2; by what was found of the side, to which the flood line is added. `Memory`
-/// comes where the regions, the pruning or the lines are refused their memory.
+/// the course lines of ISO 25178-2; by what was found of the side, to which the merges of the pits are
+/// added. `Memory` comes where the regions, the merges, the pruning or the lines are refused their memory.
 pub fn pruned_lines<S: Side, G: Heights>(
     alloc: Global,
     grid: &G,
@@ -29,8 +29,10 @@ pub fn pruned_lines<S: Side, G: Heights>(
 {
     let view = GridView::<S, G>::new(alloc, grid)?;
     let range = presence_of(grid).range;
-    findings.find_line_by(alloc, &view)?;
-    let line = findings.line();
-    let pruned = pruned_pits::<S, G, GridView<'_, S, G>>(alloc, grid, &view, line, percent, range)?;
+    findings.find_merges_by(&view)?;
+    let merges = findings.merges();
+    let pruned = pruned_pits::<S, G, GridView<'_, S, G>>(
+        alloc, grid, &view, merges, percent, range,
+    )?;
     border_lines::<S, G>(alloc, grid, view.regions(), &pruned)
 }

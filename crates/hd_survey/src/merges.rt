@@ -1,9 +1,10 @@
 // The pits of a map with their merges.
 ghost use Rattle.std.specs.Prelude.{◌≡◌, IfOk, map};
+ghost use Rattle.hd_map.specs.Pruning.{ArePits};
 ghost use Rattle.hd_steep.specs.Crossings.{passes_of};
 ghost use Rattle.hd_steep.specs.Numbering.{AreNumbered};
 ghost use Rattle.hd_survey.specs.Findings.{ArePitMerges};
-ghost use Rattle.hd_survey.specs.PitGraph.{IsPitGraph, link_of};
+ghost use Rattle.hd_survey.specs.PitLinks.{AreRegionCrossings, link_of};
 
 use crate::pits::lows_of;
 use hd_graph::{
@@ -11,7 +12,7 @@ use hd_graph::{
     merges_tell_the_saddles, passes_of_basins_are_a_graph, regions_are_basins,
 };
 use hd_list::{List, Memory};
-use hd_map::{Heights, Side};
+use hd_map::{Heights, Pass, Rank, Side};
 use hd_steep::{Crossing, Regions, crossings};
 use std::alloc::Global;
 
@@ -24,16 +25,24 @@ pub struct PitMerges {
     pub merges: List<Merge>,
 }
 
-/// The pits of a graph and their merges. `Memory` comes where the merges or the pits are refused their memory.
-pub fn merges_of_graph<S: Side, G: Heights>(
+/// The pits of a map, in position order, and their merges by the crossings between their regions. `Memory` comes
+/// where the pits or the merges are refused their memory.
+pub fn merges_of_passes<S: Side, G: Heights>(
     alloc: Global,
     _grid: &G,
-    graph: &Graph<S>,
+    pits: &[Rank],
+    passes: List<Pass>,
 ) -> Result<PitMerges, Memory>
-    requires { IsPitGraph (G.map _grid.now) S.NAME graph.now }
+    requires pits { ArePits (G.map _grid.now) S.NAME pits.now }
+    requires passes { AreRegionCrossings (G.map _grid.now) S.NAME passes }
     ensures { IfOk result (ArePitMerges (G.map _grid.now) S.NAME) }
 {
-    let merges = merges_of::<S>(alloc, graph)?;
+    let lows = lows_of(alloc, pits)?;
+    regions_are_basins();
+    passes_of_basins_are_a_graph();
+    merges_tell_the_saddles();
+    let graph = Graph::<S>::new(lows, passes);
+    let merges = merges_of::<S>(alloc, &graph)?;
     let lows = List::from_slice(alloc, graph.lows())?;
     Ok(PitMerges { lows, merges })
 }

@@ -1,6 +1,6 @@
 // The pits of a map as the lows of a graph.
 ghost use Rattle.std.specs.Prelude.{◌≡◌, map, IfOk};
-ghost use Rattle.hd_survey.specs.PitGraph.{low_of};
+ghost use Rattle.hd_survey.specs.PitLinks.{low_of};
 
 use hd_graph::Low;
 use hd_list::{List, Memory};

@@ -4,7 +4,7 @@ ghost use Rattle.hd_map.specs.Map.{IsMap, Map, cell_count};
 ghost use Rattle.hd_map.specs.Presence.{present_heights, range_of};
 ghost use Rattle.hd_prune.specs.Answer.{IsPruned};
 ghost use Rattle.hd_prune.specs.Pruned.{leavings_of};
-ghost use Rattle.hd_survey.specs.Findings.{AreFindings, IsPitLine};
+ghost use Rattle.hd_survey.specs.Findings.{AreFindings, ArePitMerges};
 ghost use Rattle.hd_survey.specs.Inside.{IsStepOn};
 ghost use Rattle.hd_survey.specs.Owned.{ArePrunedRegions};
 ghost use Rattle.hd_survey.specs.Regions.{AreRegionSizes};
@@ -12,13 +12,13 @@ ghost use Rattle.hd_survey.specs.Regions.{AreRegionSizes};
 use crate::falls::Falls;
 use crate::findings::Findings;
 use crate::grid_view::GridView;
+use crate::merges::PitMerges;
 use crate::owned::owned_sizes;
 use crate::view::SideView;
-use hd_graph::FloodLine;
 use hd_list::{List, Memory};
 use hd_map::{HeightRange, Heights, RegionSize, Side, presence_of};
 use hd_num::Percent;
-use hd_prune::{Pruned, Step, height_span, prune};
+use hd_prune::{Pruned, Step, height_span, prune_by_merges};
 use std::alloc::Global;
 
 /// What a pruning does, and the regions that it leaves.
@@ -31,7 +31,7 @@ pub struct PrunedRegions {
 }
 
 /// The pruning of a grid on a side at a percent (Wolf pruning of ISO 25178-2), by what was found of the side,
-/// to which the flood line and the regions are added. `Memory` comes where the regions or the pruning are
+/// to which the merges of the pits and the regions are added. `Memory` comes where the regions or the pruning are
 /// refused their memory.
 pub fn pruned_regions<S: Side, G: Heights>(
     alloc: Global,
@@ -64,11 +64,11 @@ pub fn pruned_regions_by<S: Side, G: Heights, V: SideView<S>>(
     ensures kept { IfOk result (λ pruned. All (λ region. region.pit.index < cell_count (G.map grid.now).size) pruned.kept) }
     ensures findings { AreFindings (G.map grid.now) S.NAME findings.new }
 {
-    findings.find_line_by(alloc, view)?;
+    findings.find_merges_by(view)?;
     findings.find_sizes_by(view)?;
     let range = presence_of(grid).range;
-    let line = findings.line();
-    let pruned = pruned_pits::<S, G, V>(alloc, grid, view, line, percent, range)?;
+    let merges = findings.merges();
+    let pruned = pruned_pits::<S, G, V>(alloc, grid, view, merges, percent, range)?;
     regions_left::<S, G>(alloc, grid, pruned, findings.sizes(), percent)
 }
 
@@ -93,23 +93,30 @@ fn regions_left<S: Side, G: Heights>(
     })
 }
 
-/// The pruning of the pits of a grid by a view of one of its sides and the flood line of its pits. The range is
-/// that of the heights of the grid. `Memory` comes where the pruning is refused its memory.
+/// The pruning of the pits of a grid by a view of one of its sides and the merges of its pits. The range is that of
+/// the heights of the grid. `Memory` comes where the pruning is refused its memory.
 pub fn pruned_pits<S: Side, G: Heights, V: SideView<S>>(
     alloc: Global,
     grid: &G,
     view: &V,
-    line: &FloodLine<S>,
+    merges: &PitMerges,
     percent: Percent,
     range: Option<HeightRange>,
 ) -> Result<Pruned, Memory>
     requires view { V.map view.now ≡ G.map grid.now }
-    requires line { IsPitLine (G.map grid.now) S.NAME line.now }
+    requires merges { ArePitMerges (G.map grid.now) S.NAME merges.now }
     requires range { range ≡ range_of (present_heights (G.map grid.now)) }
     ensures { IfOk result (λ pruned. IsPruned (G.map grid.now) S.NAME percent.thousandths pruned.steps pruned.kept pruned.owners) }
 {
     let falls = Falls::<'_, S, G, V>::new(alloc, grid, view);
-    prune::<S, Falls<'_, S, G, V>>(alloc, line, &falls, percent, height_span(range))
+    prune_by_merges::<S, Falls<'_, S, G, V>>(
+        alloc,
+        merges.lows.as_slice(),
+        merges.merges.as_slice(),
+        &falls,
+        percent,
+        height_span(range),
+    )
 }
 
 /// How many cells a grid has.

@@ -1,7 +1,6 @@
 // A side of a map, by what reports ask of it.
 use crate::merges::PitMerges;
 use crate::tally::Tally;
-use hd_graph::Graph;
 use hd_list::{List, Memory};
 use hd_map::{Pos, RegionSize, Side};
 
@@ -12,7 +11,6 @@ pub trait SideView<S: Side> {
     ghost use Rattle.hd_map.specs.Rank.{rank};
     ghost use Rattle.hd_map.specs.Region.{IsRoot};
     ghost use Rattle.hd_survey.specs.Findings.{ArePitMerges};
-    ghost use Rattle.hd_survey.specs.PitGraph.{IsPitGraph};
     ghost use Rattle.hd_survey.specs.Regions.{AreRegionSizes};
     ghost use Rattle.hd_survey.specs.Tallies.{AreRegionTallies};
 
@@ -24,11 +22,6 @@ pub trait SideView<S: Side> {
         requires { Present (map self.now) at }
         ensures present { Present (map self.now) result }
         ensures root { IsRoot (map self.now) S.NAME (rank (map self.now) at) (rank (map self.now) result) };
-
-    /// The graph of the pits and of the passes between their regions. `Memory` comes where it is
-    /// refused its memory.
-    fn graph(&self) -> Result<Graph<S>, Memory>
-        ensures { IfOk result (IsPitGraph (map self.now) S.NAME) };
 
     /// The pits in position order, and their merges. `Memory` comes where these, or the passes between the
     /// regions, are refused their memory.

@@ -11,7 +11,7 @@ use Rattle.hd_map.specs.Saddle.{SaddleIs}
 use Rattle.hd_prune.specs.Staying.{ranks_of}
 use Rattle.hd_steep.specs.Crossings.{passes_of}
 use Rattle.hd_steep.specs.Numbering.{roots_of}
-use Rattle.hd_survey.specs.PitGraph.{link_of, low_of}
+use Rattle.hd_survey.specs.PitLinks.{link_of, low_of}
 use Rattle.hd_survey.proofs.MapPits.{lows_apart, lows_pits, lows_ranks}
 use Rattle.hd_survey.proofs.PitLinks.{links-inside, links-passes}
 use Rattle.hd_survey.proofs.merges.merges_of_regions.Given.{Over}

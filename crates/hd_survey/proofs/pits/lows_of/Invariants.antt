@@ -1,5 +1,5 @@
 use Rattle.std.proofs.Common.{◌≡◌, map, take}
-use Rattle.hd_survey.specs.PitGraph.{low_of}
+use Rattle.hd_survey.specs.PitLinks.{low_of}
 use Rattle.hd_survey.proofs.pits.lows_of.Given as goal
 
 -- the lows so far

@@ -12,7 +12,7 @@ use Rattle.hd_pool.specs.Crossed.{AreBetweenRoots, pits_of}
 use Rattle.hd_pool.proofs.Labels.{regions_of}
 use Rattle.hd_pool.proofs.Pits.{pits-among}
 use Rattle.hd_pool.proofs.Rooted.{between-crossings}
-use Rattle.hd_pool.proofs.pool_view.PoolViewSideView.graph.Goals as goal
+use Rattle.hd_pool.proofs.pool_view.PoolViewSideView.merges.Goals as goal
 
 pub passes_between_regions-requires-clause-ends : goal.passes_between_regions-requires-clause-ends
 passes_between_regions-requires-clause-ends g c = λ p at. (
@@ -23,8 +23,8 @@ passes_between_regions-requires-clause-ends g c = λ p at. (
     let meeting = (is.each p (subst (λ (ps : List Pass). Contains ps p) c.passes.ensures at)).meeting in
     ((sink-is_sink m side t meeting.from p.a meeting.from_in).point, (sink-is_sink m side t meeting.to p.b meeting.to_in).point))
 
-pub graph_of_pits-requires-clause-pits : goal.graph_of_pits-requires-clause-pits
-graph_of_pits-requires-clause-pits g c =
+pub merges_of_passes-requires-clause-pits : goal.merges_of_passes-requires-clause-pits
+merges_of_passes-requires-clause-pits g c =
     let m = g.G.Heights.map c.self.inside.grid.now in
     let side = g.S.Side.NAME in
     let is = c.in_ok-basins.ensures m (g.met.G.Heights.whole c.self.inside.grid.now) c.self.invariant in
@@ -33,8 +33,8 @@ graph_of_pits-requires-clause-pits g c =
     subst (ArePits m side) (sym c.as_slice.ensures)
     (pits-among m side (IsSinkOf m side c.self.inside.pool.now.side) is.basins net.lows is.lows c.in_ok-pits.pits c.lows.ensures.whole.different ordered)
 
-pub graph_of_pits-requires-clause-passes : goal.graph_of_pits-requires-clause-passes
-graph_of_pits-requires-clause-passes g c =
+pub merges_of_passes-requires-clause-passes : goal.merges_of_passes-requires-clause-passes
+merges_of_passes-requires-clause-passes g c =
     let m = g.G.Heights.map c.self.inside.grid.now in
     let side = g.S.Side.NAME in
     let t = c.self.inside.pool.now.side in
