@@ -6,8 +6,8 @@ use Rattle.hd_map.specs.declared.types.Size.{Size}
 use Rattle.hd_map.specs.declared.types.SideName.{SideName}
 use Rattle.hd_map.specs.declared.types.SideName.TheVariants.{Dales, Hills}
 use Rattle.hd_map.specs.Map.{cell_count}
-use Rattle.hd_num.specs.Percent.{percent_text}
-use Rattle.hd_report.specs.Place.{point_text, rank_text, side_text}
+use Rattle.hd_report.specs.Place.{point_text, rank_text}
+use Rattle.hd_report.specs.Heading.{counted_heading}
 
 -- the two pits and the pass are points of a grid of this size
 abbrev pub IsBorderInside : Size → BorderLine → Type 0
@@ -37,8 +37,7 @@ border_line side size line = between_text side size line ++ across_text size lin
 
 -- `lines S P K`
 abbrev pub borders_heading : SideName → ℕ → ℕ → List ℕ
-borders_heading side thousandths count = codes "lines " ++ side_text side ++ 32 ∷ [] ++ percent_text thousandths
-    ++ 32 ∷ [] ++ decimal count ++ 10 ∷ []
+borders_heading = counted_heading (codes "lines ")
 
 -- how many borders there are, and a line for each
 abbrev pub borders_text : SideName → ℕ → Size → List BorderLine → List ℕ

@@ -1,4 +1,5 @@
 pub mod Place
+pub mod Heading
 pub mod Points
 pub mod Lines
 pub mod Forms

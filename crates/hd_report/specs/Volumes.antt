@@ -1,13 +1,13 @@
 -- The lines of fill volumes.
-use Rattle.std.specs.Prelude.{◌++◌, ℕ, List, [], ◌∷◌, length, Option, codes, decimal}
+use Rattle.std.specs.Prelude.{◌++◌, ℕ, List, [], ◌∷◌, length, Option, codes}
 use Rattle.hd_map.specs.declared.types.Rank.{Rank}
 use Rattle.hd_map.specs.declared.types.Size.{Size}
 use Rattle.hd_map.specs.declared.types.SideName.{SideName}
 use Rattle.hd_num.specs.declared.frac.Frac.{Frac}
-use Rattle.hd_num.specs.Percent.{percent_text}
 use Rattle.hd_prune.specs.declared.step.Kept.{Kept}
-use Rattle.hd_report.specs.Place.{point_text, side_text}
+use Rattle.hd_report.specs.Place.{point_text}
 use Rattle.hd_report.specs.Values.{value_text}
+use Rattle.hd_report.specs.Heading.{counted_heading}
 
 -- `volume X Y VALUE`
 abbrev pub volume_line : Size → Rank → Option Frac → List ℕ
@@ -21,8 +21,7 @@ volume_lines size (k ∷ kept) (v ∷ volumes) = volume_line size k.pit v ++ vol
 
 -- `fill S P KEPT`
 abbrev pub fill_heading : SideName → ℕ → ℕ → List ℕ
-fill_heading side thousandths count = codes "fill " ++ side_text side ++ 32 ∷ [] ++ percent_text thousandths
-    ++ 32 ∷ [] ++ decimal count ++ 10 ∷ []
+fill_heading = counted_heading (codes "fill ")
 
 -- how many pits are kept, and a line for each with its volume
 abbrev pub fill_text : SideName → ℕ → Size → List Kept → List (Option Frac) → List ℕ

@@ -2,13 +2,14 @@
 ghost use Rattle.std.specs.Prelude.{◌≡◌, ◌++◌, ◌<◌, All, IfOk, OnOk};
 ghost use Rattle.std.specs.List.{flat_map};
 ghost use Rattle.hd_map.specs.Map.{cell_count};
-ghost use Rattle.hd_report.specs.Borders.{IsBorderInside, across_text, between_text, border_line, border_word, borders_heading, borders_text, pass_word};
+ghost use Rattle.hd_report.specs.Borders.{IsBorderInside, across_text, between_text, border_line, border_word, borders_text, pass_word};
 
-use crate::place::{push_point, push_rank, push_side};
+use crate::heading::push_heading;
+use crate::place::{push_point, push_rank};
 use hd_lines::BorderLine;
 use hd_list::{List, Memory};
 use hd_map::{SideName, Size};
-use hd_num::{Percent, push_percent, push_text, push_unsigned};
+use hd_num::{Percent, push_text, push_unsigned};
 use std::alloc::Global;
 
 // So many bytes are reserved for the line of a border.
@@ -29,28 +30,9 @@ pub fn list_borders(
     ensures { IfOk result (λ text. text ≡ borders_text side percent.thousandths size lines.now) }
 {
     let mut text = List::with_capacity(alloc, lines.len().saturating_mul(BORDER_BYTES))?;
-    push_heading(&mut text, side, percent, lines.len())?;
+    push_heading(&mut text, b"lines ".as_slice(), side, percent, lines.len())?;
     push_borders(&mut text, side, size, lines)?;
     Ok(text)
-}
-
-// Adds `lines S P K`.
-fn push_heading(
-    text: &mut List<u8>,
-    side: SideName,
-    percent: Percent,
-    count: usize,
-) -> Result<(), Memory>
-    ensures { OnOk result (text.new ≡ text.old ++ borders_heading side percent.thousandths count) }
-{
-    push_text(text, b"lines ".as_slice())?;
-    push_side(text, side)?;
-    push_text(text, b" ".as_slice())?;
-    push_percent(text, percent)?;
-    push_text(text, b" ".as_slice())?;
-    push_unsigned(text, count as u64)?;
-    push_text(text, b"\n".as_slice())?;
-    Ok(())
 }
 
 // Adds a line for each border.

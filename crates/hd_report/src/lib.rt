@@ -6,6 +6,7 @@ mod distributions;
 mod edits;
 mod elements;
 mod forms;
+mod heading;
 mod info;
 mod lines;
 mod notations;

@@ -1,13 +1,14 @@
 // The lines of fill volumes.
 ghost use Rattle.std.specs.Prelude.{◌≡◌, ◌++◌, ◌<◌, All, length, IfOk, OnOk};
 ghost use Rattle.hd_map.specs.Map.{cell_count};
-ghost use Rattle.hd_report.specs.Volumes.{fill_heading, fill_text, volume_line, volume_lines};
+ghost use Rattle.hd_report.specs.Volumes.{fill_text, volume_line, volume_lines};
 
-use crate::place::{push_point, push_side};
+use crate::heading::push_heading;
+use crate::place::push_point;
 use crate::values::push_value;
 use hd_list::{List, Memory};
 use hd_map::{Rank, SideName, Size};
-use hd_num::{Frac, Percent, push_percent, push_text, push_unsigned};
+use hd_num::{Frac, Percent, push_text};
 use hd_prune::Kept;
 use std::alloc::Global;
 
@@ -27,28 +28,9 @@ pub fn list_volumes(
     ensures { IfOk result (λ text. text ≡ fill_text side percent.thousandths size kept.now volumes.now) }
 {
     let mut text = List::new(alloc);
-    push_heading(&mut text, side, percent, kept.len())?;
+    push_heading(&mut text, b"fill ".as_slice(), side, percent, kept.len())?;
     push_volumes(&mut text, size, kept, volumes)?;
     Ok(text)
-}
-
-// Adds `fill S P KEPT`.
-fn push_heading(
-    text: &mut List<u8>,
-    side: SideName,
-    percent: Percent,
-    count: usize,
-) -> Result<(), Memory>
-    ensures { OnOk result (text.new ≡ text.old ++ fill_heading side percent.thousandths count) }
-{
-    push_text(text, b"fill ".as_slice())?;
-    push_side(text, side)?;
-    push_text(text, b" ".as_slice())?;
-    push_percent(text, percent)?;
-    push_text(text, b" ".as_slice())?;
-    push_unsigned(text, count as u64)?;
-    push_text(text, b"\n".as_slice())?;
-    Ok(())
 }
 
 // Adds a line for each kept pit.
