@@ -10,9 +10,11 @@ use Rattle.hd_map.specs.declared.types.Rank.{Rank}
 use Rattle.hd_map.specs.SideLaws.{same_rank as rank_from}
 use Rattle.hd_map.proofs.Items.{Contains-head, Contains-tail}
 use Rattle.hd_graph.specs.declared.graph.Low.{Low}
+use Rattle.hd_graph.specs.declared.links.Link.{Link}
 use Rattle.hd_graph.specs.declared.merges.Merge.{Merge}
 use Rattle.hd_graph.specs.Graph.{IsGraph, IsPassOf, IsLow}
-use Rattle.hd_tests.specs.Literal.{same_rank, has_low, lacks_index, are_different, is_pass, are_passes, is_graph, are_within}
+use Rattle.hd_graph.specs.Links.{HasEnds}
+use Rattle.hd_tests.specs.Literal.{same_rank, has_low, lacks_index, are_different, is_pass, are_passes, is_graph, are_within, have_ends, are_linked}
 
 -- the parts of a test of two
 first : (a b : Bool) → (a && b) ≡ true → a ≡ true
@@ -95,3 +97,24 @@ is_within count (x ∷ xs) e (suc k) d inside = is_within count xs (second (nat_
 -- merges that are written down
 pub within-from : (count : ℕ) (xs : List Merge) → are_within count xs ≡ true → All (λ x. (x.low < count) × (x.into < count)) xs
 within-from count xs e = λ k d inside. is_within count xs e k d inside
+
+has_ends : (count : ℕ) (xs : List Link) → have_ends count xs ≡ true → (k : ℕ) (d : Link) → k < length xs → HasEnds count (get_or xs k d)
+has_ends count [] e k d inside = absurd (omega arith)
+has_ends count (x ∷ xs) e zero d inside =
+    let ends : (nat_lt x.a count && nat_lt x.b count) ≡ true = first (nat_lt x.a count && nat_lt x.b count) (have_ends count xs) e in
+    (ltb-true x.a count (first (nat_lt x.a count) (nat_lt x.b count) ends), ltb-true x.b count (second (nat_lt x.a count) (nat_lt x.b count) ends))
+has_ends count (x ∷ xs) e (suc k) d inside = has_ends count xs (second (nat_lt x.a count && nat_lt x.b count) (have_ends count xs) e) k d (omega arith)
+
+-- lows and links that are written down
+module _ (lows : List Low) (links : List Link) (e : are_linked lows links ≡ true) where
+  lows-are : (nat_lt (length lows) 2147483648 && are_different lows) ≡ true
+  lows-are = first (nat_lt (length lows) 2147483648 && are_different lows) (have_ends (length lows) links) e
+
+  pub few-linked : length lows < 2147483648
+  few-linked = ltb-true (length lows) 2147483648 (first (nat_lt (length lows) 2147483648) (are_different lows) lows-are)
+
+  pub different-linked : AllPairs (λ x y. x.rank.index ≢ y.rank.index) lows
+  different-linked = different-from lows (second (nat_lt (length lows) 2147483648) (are_different lows) lows-are)
+
+  pub ends-linked : All (HasEnds (length lows)) links
+  ends-linked = λ k d inside. has_ends (length lows) links (second (nat_lt (length lows) 2147483648 && are_different lows) (have_ends (length lows) links) e) k d inside

@@ -4,6 +4,7 @@ use Rattle.std.specs.Ordering.{int_eq}
 use Rattle.hd_map.specs.declared.types.Pass.{Pass}
 use Rattle.hd_map.specs.declared.types.Rank.{Rank}
 use Rattle.hd_graph.specs.declared.graph.Low.{Low}
+use Rattle.hd_graph.specs.declared.links.Link.{Link}
 use Rattle.hd_graph.specs.declared.merges.Merge.{Merge}
 
 abbrev pub same_rank : Rank → Rank → Bool
@@ -38,3 +39,12 @@ is_graph below lows passes = nat_lt (length lows) 2147483648 && are_different lo
 abbrev pub are_within : ℕ → List Merge → Bool
 are_within count [] = true
 are_within count (x ∷ xs) = (nat_lt x.low count && nat_lt x.into count) && are_within count xs
+
+-- the links are between lows whose numbers are below this one
+abbrev pub have_ends : ℕ → List Link → Bool
+have_ends count [] = true
+have_ends count (x ∷ xs) = (nat_lt x.a count && nat_lt x.b count) && have_ends count xs
+
+-- the lows are few and have different indexes, and each link joins two of them
+abbrev pub are_linked : List Low → List Link → Bool
+are_linked lows links = (nat_lt (length lows) 2147483648 && are_different lows) && have_ends (length lows) links

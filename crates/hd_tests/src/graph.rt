@@ -2,10 +2,11 @@
 // passes between their stops, and their merges.
 ghost use Rattle.std.specs.Prelude.{◌<◌, IsTrue};
 ghost use Rattle.hd_map.specs.Rank.{below_by};
-ghost use Rattle.hd_tests.specs.Literal.{is_graph};
+ghost use Rattle.hd_tests.specs.Literal.{are_linked, is_graph};
 
 use crate::shared::list;
-use hd_graph::{FloodLine, Graph, Low, flood, merges_of, tree};
+use hd_graph::{FloodLine, Graph, Link, Low, Merge, flood, merges_by_links, merges_of, tree};
+use hd_list::List;
 use hd_map::{Down, Pass, Rank, Side, Up};
 use std::process::Abort;
 
@@ -30,6 +31,16 @@ macro_rules! pit {
 macro_rules! pass {
     ($a:expr, $b:expr, $at:expr) => {
         Pass {
+            a: $a,
+            b: $b,
+            at: $at,
+        }
+    };
+}
+
+macro_rules! link {
+    ($a:expr, $b:expr, $at:expr) => {
+        Link {
             a: $a,
             b: $b,
             at: $at,
@@ -115,13 +126,8 @@ fn parts_of_a_graph(rt: HostRuntime) {
     assert!(rt; rise_between(&rt, &line, 0, 4).is_none());
 }
 
-// Compares the merges of a graph, each by the numbers of its lows and the index of its pass.
-fn expect_merges<S: Side>(
-    rt: &(impl Abort + AllocGlobal),
-    graph: &Graph<S>,
-    wanted: &[(u32, u32, u32)],
-) {
-    let merges = merges_of(rt.alloc(), graph).expect(rt, "memory");
+// Compares merges, each by the numbers of its lows and the index of its pass.
+fn expect_list(rt: &(impl Abort + AllocGlobal), merges: &List<Merge>, wanted: &[(u32, u32, u32)]) {
     let mut found = Vec::new(rt.alloc());
     for merge in merges.as_slice() {
         found
@@ -129,6 +135,42 @@ fn expect_merges<S: Side>(
             .expect(rt, "memory");
     }
     assert!(rt; found.as_slice() == wanted);
+}
+
+// Compares the merges of a graph.
+fn expect_merges<S: Side>(
+    rt: &(impl Abort + AllocGlobal),
+    graph: &Graph<S>,
+    wanted: &[(u32, u32, u32)],
+) {
+    let merges = merges_of(rt.alloc(), graph).expect(rt, "memory");
+    expect_list(rt, &merges, wanted);
+}
+
+// Compares the merges of lows that these links join.
+fn expect_linked<S: Side>(
+    rt: &(impl Abort + AllocGlobal),
+    lows: &[Low],
+    links: &[Link],
+    wanted: &[(u32, u32, u32)],
+)
+    requires { IsTrue (are_linked lows.now links.now) }
+{
+    let links = list(rt, links).into_vec();
+    let merges = merges_by_links::<S>(rt.alloc(), lows, links).expect(rt, "memory");
+    expect_list(rt, &merges, wanted);
+}
+
+/// Links name the lows by their places and come in any order. One of them joins lows that have run together.
+#[test]
+fn merges_of_linked_lows(rt: HostRuntime) {
+    let lows = [pit!(0, 0), pit!(1, 2), pit!(2, 7)];
+    let links = [
+        link!(0, 1, rank!(9, 1)),
+        link!(1, 2, rank!(5, 5)),
+        link!(2, 0, rank!(4, 3)),
+    ];
+    expect_linked::<Down>(&rt, &lows, &links, &[(2, 0, 3), (1, 0, 5)]);
 }
 
 /// Five lows. Of two passes of one height that of the lesser index comes first; a higher pass between lows

@@ -10,6 +10,8 @@ mod base;
 #[cfg(test)]
 mod basin;
 #[cfg(test)]
+mod by_key;
+#[cfg(test)]
 mod check;
 #[cfg(test)]
 mod corridor;
@@ -39,6 +41,8 @@ mod layouts;
 mod lines;
 #[cfg(test)]
 mod map;
+#[cfg(test)]
+mod merges;
 #[cfg(test)]
 mod morph;
 #[cfg(test)]

@@ -3,12 +3,11 @@ ghost use Rattle.std.specs.Prelude.{◌≡◌};
 ghost use Rattle.hd_tiles.specs.Tile.{IsTileSide};
 
 use crate::basin::noise;
-use crate::told::{joins_of, place_of, roots_of, wanted_extents};
+use crate::told::{place_of, roots_of, wanted_extents};
 use hd_basin::Extent;
-use hd_graph::{flood, tree};
 use hd_map::{Down, HeightRange, Side, Surface, Up, is_present, position_of};
 use hd_pool::{Choice, PoolView, Question, SidePool};
-use hd_survey::{Findings, SideView, change_tree};
+use hd_survey::{Findings, PitMerges, SideView};
 use hd_tiles::Tiles;
 use std::process::Abort;
 
@@ -34,23 +33,34 @@ fn expect_roots<S: Side>(
     }
 }
 
-// Compares the pits of the graph, and the joins of its tree with those that are found by the whole surface.
-fn expect_graph<S: Side>(
+// The index of the pass at which each pit runs together with a lower one, by the place of the pit.
+fn passes_by_pit(rt: &(impl Abort + AllocGlobal), pits: &PitMerges) -> Vec<Option<u32>> {
+    let mut passes = vec![in rt.alloc(); None; pits.lows.as_slice().len()].expect(rt, "memory");
+    for merge in pits.merges.as_slice() {
+        let pass = passes.get_mut(merge.low as usize).expect(rt, "a pit");
+        *pass = Some(merge.at.index);
+    }
+    passes
+}
+
+// Compares the pits, and the passes of their merges with those that are found by the whole surface.
+fn expect_merges<S: Side>(
     rt: &(impl Abort + AllocGlobal),
     surface: &Surface,
     view: &PoolView<'_, S, Tiles<Surface>>,
     extents: &[Extent],
 ) {
-    let graph = view.graph().expect(rt, "memory");
-    assert!(rt; graph.lows().len() == extents.len());
-    for (low, extent) in graph.lows().iter().zip(extents) {
+    let pits = view.merges().expect(rt, "memory");
+    assert!(rt; pits.lows.as_slice().len() == extents.len());
+    for (low, extent) in pits.lows.as_slice().iter().zip(extents) {
         assert!(rt; low.pit && low.rank == extent.pit);
     }
-    let line = flood(rt.alloc(), &graph).expect(rt, "memory");
-    let found = tree(rt.alloc(), &line).expect(rt, "memory");
-    let wanted = change_tree::<S, _>(rt.alloc(), surface, &mut Findings::new());
-    let wanted = joins_of(rt, &wanted.expect(rt, "memory"));
-    assert!(rt; joins_of(rt, &found) == wanted);
+    let mut findings = Findings::<S>::new();
+    findings
+        .find_merges(rt.alloc(), surface)
+        .expect(rt, "memory");
+    let wanted = passes_by_pit(rt, findings.merges());
+    assert!(rt; passes_by_pit(rt, &pits) == wanted);
 }
 
 // Compares the regions with the numbers of their points, and their tallies.
@@ -84,7 +94,7 @@ fn expect_side<S: Side>(rt: &(impl Abort + AllocGlobal), surface: Surface, side:
     let labels = roots_of::<S>(rt, tiles.surface());
     let extents = wanted_extents(rt, tiles.surface(), &labels);
     expect_roots(rt, &tiles, &view, &labels);
-    expect_graph(rt, tiles.surface(), &view, &extents);
+    expect_merges(rt, tiles.surface(), &view, &extents);
     expect_regions(rt, &view, &extents);
 }
 
