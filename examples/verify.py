@@ -230,20 +230,31 @@ def faults(surface, file):
     return saddle_faults(surface, *lines.saddle_certificate(*head))
 
 
+def cannot_read(error, name):
+    print("read fault")
+    print(f'verify.py: cannot read "{name}": {error.strerror}', file=sys.stderr)
+    return 5
+
+
 def main(names):
     if len(names) != 2:
-        sys.exit("usage: verify.py SURFACE CERT")
+        print("usage: verify.py SURFACE CERT", file=sys.stderr)
+        return 2
     try:
         surface = Surface(names[0])
+    except OSError as error:
+        return cannot_read(error, names[0])
     except (AttributeError, KeyError, TypeError, ValueError, OverflowError):
         print("surface not read: `hilldale dales` tells why")
         return 3
-    with open(names[1], "rb") as file:
-        try:
+    try:
+        with open(names[1], "rb") as file:
             rule, at = next(faults(surface, file), (0, None))
-        except Unreadable as line:
-            print(f"certificate unreadable: line {line}")
-            return 4
+    except OSError as error:
+        return cannot_read(error, names[1])
+    except Unreadable as line:
+        print(f"certificate unreadable: line {line}")
+        return 4
     if not rule:
         print("certificate accepted")
         return 0

@@ -1,28 +1,29 @@
 -- The lines of the kept pits, with which a shown certificate begins.
-use Rattle.std.proofs.Common.{◌≡◌, ◌∙◌, ◌<◌, ◌+◌, ◌*◌, ℕ, zero, suc, ℤ, Bool, true, false, List, [], ◌∷◌, ◌++◌, length, get_or, replicate, set, None, ◌⊎◌, inl, inr, refl, sym, ap, subst, arith}
+use Rattle.std.proofs.Common.{◌≡◌, ◌∙◌, ◌<◌, ◌+◌, ◌*◌, ℕ, zero, suc, ℤ, Bool, true, false, List, [], ◌∷◌, ◌++◌, length, get_or, replicate, set, None, inl, inr, refl, sym, ap, subst, arith}
 use Rattle.std.specs.Prelude.{All, AllPairs, Contains, pos}
 use Rattle.std.specs.List.{sum_by}
 use Rattle.std.proofs.Math.ListN.{length-set}
-use Rattle.std.proofs.lemmas.Bool.{cases_lt, false≢true}
+use Rattle.std.proofs.lemmas.Bool.{cases_lt, false_from_ne_true, false≢true}
 use Rattle.std.proofs.lemmas.List.{get_or-map, get_or_default, length-map, length-replicate, length_push}
 use Rattle.std.proofs.lemmas.List.Elements.{All-nil}
 use Rattle.std.proofs.lemmas.List.Folds.{sum_by-replicate}
 use Rattle.hd_map.specs.declared.types.Rank.{Rank}
 use Rattle.hd_map.specs.declared.types.SideName.{SideName}
-use Rattle.hd_map.specs.Map.{Map, Present, cell_count}
+use Rattle.hd_map.specs.Map.{Map, cell_count}
 use Rattle.hd_map.specs.Rank.{IsPoint}
-use Rattle.hd_map.proofs.Points.{place_inside, rank_position}
 use Rattle.hd_prune.specs.declared.step.Kept.{Kept}
 use Rattle.hd_prune.specs.Kept.{pits_kept}
+use Rattle.hd_map.proofs.Points.{point_inside}
 use Rattle.hd_audit.specs.declared.types.AuditLine.{AuditLine}
 use Rattle.hd_audit.specs.declared.waiting.Waiting.{Waiting}
-use Rattle.hd_audit.specs.Flooding.{AreBegun, IsFlooding, IsPointAt, kept_line, seen_at, unseen}
-use Rattle.hd_audit.specs.Lines.{line_at, rank_at}
+use Rattle.hd_audit.specs.Flooding.{AreBegun, IsFlooding, kept_line, seen_at, unseen}
+use Rattle.hd_audit.specs.Lines.{IsPointAt, line_at, rank_at}
 use Rattle.hd_audit.specs.Listing.{AreShownTo}
 use Rattle.hd_audit.specs.Rules.{IsWithin}
 use Rattle.hd_audit.specs.Shown.{CutIs}
 use Rattle.hd_audit.proofs.Listed.{rank_of_index}
 use Rattle.hd_audit.proofs.Marks.{seen-here, seen-kept, seen-cases, unseen-less, line-old, line-new}
+use Rattle.hd_audit.proofs.PointAt.{point-indexed}
 
 -- a kept pit for places past the end
 abbrev pub no_kept : Kept
@@ -32,10 +33,6 @@ none_seen : (n i : ℕ) → seen_at (replicate n false) i ≡ false
 none_seen zero i = refl
 none_seen (suc n) zero = refl
 none_seen (suc n) (suc i) = none_seen n i
-
-true_or_false : (b : Bool) → (b ≡ true) ⊎ (b ≡ false)
-true_or_false true = inl refl
-true_or_false false = inr refl
 
 pub begun-none : (m : Map) (kept : List Kept) (seen : List Bool) (lines : List AuditLine) → seen ≡ replicate (cell_count m.size) false → lines ≡ [] → AreBegun m kept 0 seen lines
 begun-none m kept seen lines blank empty =
@@ -57,21 +54,17 @@ pub begun-more : (m : Map) (kept : List Kept) (n : ℕ) (seen : List Bool) (line
 begun-more m kept n seen lines points in_order inside b =
     let k : Kept = get_or kept n no_kept in
     let i : ℕ = k.pit.index in
-    let point : IsPoint m k.pit = points n no_kept inside in
     let whole = b.whole in
     let many = b.many in
     let room = b.room in
-    let cell : i < length seen = (let place = place_inside m.size point.at point.present.in_grid in let index = ap (λ (r : Rank). r.index) point.rank_is in omega (arith, place, index, whole)) in
-    let free : seen_at seen i ≡ false = elim (true_or_false (seen_at seen i)) [
-      | inl taken ↦ absurd (
-          let at = b.found i taken in
-          let before : at.0 < n = (let less = at.1 in omega (arith, less, many)) in
-          let is = ap (λ (x : AuditLine). x.index) (b.are at.0 no_kept before) in
-          let rises = in_order at.0 n no_kept before inside in
-          let e = at.2 in
-          omega (arith, is, rises, e))
-      | inr free ↦ free
-    ] in
+    let cell : i < length seen = (let place = point_inside m k.pit (points n no_kept inside) in omega (arith, place, whole)) in
+    let free : seen_at seen i ≡ false = false_from_ne_true (seen_at seen i) (λ taken.
+    let at = b.found i taken in
+    let before : at.0 < n = (let less = at.1 in omega (arith, less, many)) in
+    let is = ap (λ (x : AuditLine). x.index) (b.are at.0 no_kept before) in
+    let rises = in_order at.0 n no_kept before inside in
+    let e = at.2 in
+    omega (arith, is, rises, e)) in
     let x : AuditLine = kept_line k in
     let longer = length_push lines x in
     let less = unseen-less seen i cell free in
@@ -114,11 +107,7 @@ pub begun-points : (m : Map) (kept : List Kept) (seen : List Bool) (lines : List
 begun-points m kept seen lines points b k less =
     let many = b.many in
     let inside : k < length kept = omega (arith, less, many) in
-    let r : Rank = (get_or kept k no_kept).pit in
-    let point : IsPoint m r = points k no_kept inside in
-    let cells = place_inside m.size point.at point.present.in_grid in
-    let index = ap (λ (r : Rank). r.index) point.rank_is in
-    subst (λ (x : AuditLine). IsPointAt m x.index) (sym (b.are k no_kept inside)) (record { inside = omega (arith, cells, index); present = subst (Present m) (sym (rank_position m r point.at point.present point.rank_is)) point.present })
+    subst (λ (x : AuditLine). IsPointAt m x.index) (sym (b.are k no_kept inside)) (point-indexed m (get_or kept k no_kept).pit (points k no_kept inside))
 
 -- the first lines are as they are shown
 pub begun-shown : (m : Map) (side : SideName) (thousandths : ℕ) (sz : ℤ) (kept : List Kept) (seen : List Bool) (lines : List AuditLine) → All (λ (k : Kept). IsPoint m k.pit) kept → AreBegun m kept (length kept) seen lines

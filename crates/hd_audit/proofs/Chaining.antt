@@ -8,6 +8,7 @@ use Rattle.std.proofs.Math.ListN.{length-set}
 use Rattle.std.proofs.lemmas.Bool.Decides.{nat_tests}
 use Rattle.std.proofs.lemmas.Int.{ints}
 use Rattle.std.proofs.lemmas.List.{get_or-set_other, get_or-set_same, get_or_default}
+use Rattle.std.proofs.lemmas.Option.{none-some, same_Some}
 use Rattle.hd_map.specs.declared.types.Rank.{Rank}
 use Rattle.hd_map.specs.declared.types.SideName.{SideName}
 use Rattle.hd_map.specs.declared.types.SideName.TheVariants.{Dales, Hills}
@@ -28,7 +29,6 @@ use Rattle.hd_audit.specs.declared.types.AuditLine.{AuditLine}
 use Rattle.hd_audit.specs.Chains.{AreTopHeights, IsChainTop, IsTopHeight, higher_height}
 use Rattle.hd_audit.specs.Lines.{line_at, rank_at, AreParents, IsLineOf, SaysKept}
 use Rattle.hd_audit.specs.Rules.{IsChainWithin, IsEarlierNeighbour, IsNewPoint, IsWithin, ParentsEarlier, rise_over}
-use Rattle.hd_audit.proofs.Tests.{none_some, some_same}
 
 -- the height of the higher of two points is that of their heights
 height_of-higher : (side : SideName) (a b : Rank) → (higher_by side a b).height ≡ higher_height side a.height b.height
@@ -179,10 +179,10 @@ module _ (m : Map) (side : SideName) (lines : List AuditLine) where
     -- a point has one chain
     one_chain : (i : ℕ) (ps qs : List ℕ) → AreParents lines i ps → AreParents lines i qs → ps ≡ qs
     one_chain i [] [] a b = refl
-    one_chain i [] (q ∷ qs) a b = absurd (none_some q (sym a.2 ∙ ap (λ (z : AuditLine). z.parent) (one_line i a.0 b.0 a.1 b.1) ∙ b.2))
-    one_chain i (p ∷ ps) [] a b = absurd (none_some p (sym b.2 ∙ ap (λ (z : AuditLine). z.parent) (one_line i b.0 a.0 b.1 a.1) ∙ a.2))
+    one_chain i [] (q ∷ qs) a b = absurd (none-some q (sym a.2 ∙ ap (λ (z : AuditLine). z.parent) (one_line i a.0 b.0 a.1 b.1) ∙ b.2))
+    one_chain i (p ∷ ps) [] a b = absurd (none-some p (sym b.2 ∙ ap (λ (z : AuditLine). z.parent) (one_line i b.0 a.0 b.1 a.1) ∙ a.2))
     one_chain i (p ∷ ps) (q ∷ qs) a b =
-        let same : p ≡ q = some_same p q (sym a.2 ∙ ap (λ (z : AuditLine). z.parent) (one_line i a.0 b.0 a.1 b.1) ∙ b.2) in
+        let same : p ≡ q = same_Some p q (sym a.2 ∙ ap (λ (z : AuditLine). z.parent) (one_line i a.0 b.0 a.1 b.1) ∙ b.2) in
         ap₂ (λ (x : ℕ) (xs : List ℕ). x ∷ xs) same (one_chain q ps qs (subst (λ (j : ℕ). AreParents lines j ps) same a.3) b.3)
 
     one_top : (t u : Rank) (xs : List Rank) → IsTop (below_by side) t xs → IsTop (below_by side) u xs → t ≡ u

@@ -3,7 +3,7 @@ use Rattle.std.proofs.Common.{◌≡◌, ◌∙◌, ◌<◌, ◌+◌, ℕ, Bool,
 use Rattle.std.specs.Prelude.{Contains}
 use Rattle.std.specs.List.Sorted.{IsPermutation}
 use Rattle.std.proofs.Math.ListN.{length-set}
-use Rattle.std.proofs.lemmas.Bool.{cases_lt, cases_eq}
+use Rattle.std.proofs.lemmas.Bool.{cases_lt, cases_eq, false≢true}
 use Rattle.std.proofs.lemmas.List.{length_push}
 use Rattle.std.proofs.lemmas.List.Sorted.{Contains-permutation, IsPermutation-sym, length_permutation, sum_by-IsPermutation}
 use Rattle.hd_map.specs.declared.types.Pos.{Pos}
@@ -18,9 +18,6 @@ use Rattle.hd_audit.specs.declared.waiting.Waiting.{Waiting}
 use Rattle.hd_audit.specs.Flooding.{Adds, IsFlooding, IsWaiting, rank_of_waiting, seen_at, waits_at}
 use Rattle.hd_audit.specs.Lines.{line_at, point_at}
 use Rattle.hd_audit.proofs.Marks.{seen-here, seen-kept, seen-cases, unseen-less, line-old, line-new, waits-one, waits-none, waits-few, waits-cons, some-wait, none-wait}
-
-not_both : (b : Bool) → b ≡ true → b ≡ false → ⊥
-not_both b t f = cc
 
 module _ {S : Type 0} (m : Map) where
   -- the index of a waiting point
@@ -55,10 +52,10 @@ module _ {S : Type 0} (m : Map) where
             | inl same ↦ subst (λ (z : Waiting S). IsWaiting m lines z) (sym same) (record {
               point = q;
               rank_is = adds.rank_is;
-              unlisted = λ k before e. not_both (seen_at seen i) (subst (λ j. seen_at seen j ≡ true) (e ∙ index) (f.listed k before)) free;
+              unlisted = λ k before e. false≢true (sym free ∙ subst (λ j. seen_at seen j ≡ true) (e ∙ index) (f.listed k before));
               before = subst (λ j. j < length lines) (sym adds.from_is) inside;
               neighbour = subst (λ j. Neighbour m q (point_at m lines j)) (sym adds.from_is) (subst (λ (p : Pos). Neighbour m q p) (sym is_at) (neighbour-sym m at q near));
-              first = λ k before n. not_both (seen_at seen i) (f.closed k (subst (λ j. k < j) adds.from_is before) q (neighbour-sym m q (point_at m lines k) n)) free;
+              first = λ k before n. false≢true (sym free ∙ f.closed k (subst (λ j. k < j) adds.from_is before) q (neighbour-sym m q (point_at m lines k) n));
             })
             | inr was ↦ f.waiting v was
           ];
@@ -66,7 +63,7 @@ module _ {S : Type 0} (m : Map) where
               (let sum = sum_by-IsPermutation (waits_at j) (w ∷ heap) heap' adds.moved in
               elim (cases_eq w.index j) [
                 | inl same ↦
-                    let none = none-wait heap j (λ v h e. not_both (seen_at seen i) (subst (λ l. seen_at seen l ≡ true) (e ∙ sym same ∙ index) (f.waits_seen v h)) free) in
+                    let none = none-wait heap j (λ v h e. false≢true (sym free ∙ subst (λ l. seen_at seen l ≡ true) (e ∙ sym same ∙ index) (f.waits_seen v h))) in
                     let few = waits-few w j in
                     let cons = waits-cons w heap j in
                     omega (arith, sum, none, few, cons)

@@ -2,10 +2,11 @@
 use Rattle.std.proofs.Common.{◌≡◌, ◌∙◌, ◌<◌, ◌≤◌, ◌+◌, ◌*◌, ◌/◌, ◌%◌, ℕ, Bool, true, false, List, [], ◌∷◌, ◌++◌, length, set, Option, Some, None, ◌⊎◌, inl, inr, refl, sym, ap, subst, arith}
 use Rattle.std.specs.Prelude.{Contains}
 use Rattle.std.proofs.Math.ListN.{length-set}
-use Rattle.std.proofs.lemmas.Bool.{cases_eq, cases_lt}
+use Rattle.std.proofs.lemmas.Bool.{cases_eq, cases_lt, false≢true}
 use Rattle.std.proofs.lemmas.List.{get_or-set_same, get_or-set_other}
 use Rattle.std.proofs.lemmas.List.Elements.{Contains-append_right, Contains-push_cases}
 use Rattle.std.proofs.lemmas.List.Sorted.{Contains-permutation, IsPermutation-append_left, IsPermutation-middle, IsPermutation-sym}
+use Rattle.std.proofs.lemmas.Option.{same_Some}
 use Rattle.hd_map.specs.declared.types.Pos.{Pos}
 use Rattle.hd_map.specs.declared.types.Rank.{Rank}
 use Rattle.hd_map.specs.declared.types.SideName.{SideName}
@@ -13,7 +14,7 @@ use Rattle.hd_map.specs.Map.{Map, Present, place_of}
 use Rattle.hd_map.specs.Neighbour.{AreBesideUnder, Neighbour}
 use Rattle.hd_map.specs.Rank.{rank, below_by}
 use Rattle.hd_map.specs.SideLaws.{below_by-order}
-use Rattle.hd_map.proofs.Gather.{same_pos}
+use Rattle.hd_map.proofs.Gather.{same_pos, step_neighbour, step_of}
 use Rattle.hd_map.proofs.Items.{Contains-cases, Contains-head, Contains-none, Contains-tail}
 use Rattle.hd_map.proofs.Points.{place_inside}
 use Rattle.hd_map.proofs.Sides.{compare}
@@ -28,40 +29,16 @@ none_or_some : (o : Option ℕ) → (o ≡ None) ⊎ ((p : ℕ) × (o ≡ Some p
 none_or_some None = inl refl
 none_or_some (Some p) = inr (p, refl)
 
-not_both : (b : Bool) → b ≡ true → b ≡ false → ⊥
-not_both b t f = cc
-
 -- what is not below the level, and is not its point, is above it
 over-unless_under : (side : SideName) (level : Option Rank) (x : Rank) → ((l : Rank) → level ≡ Some l → x ≡ l → ⊥) → is_under (below_by side) level x ≡ false → IsOver (below_by side) level x
 over-unless_under side None x apart h = tt
 over-unless_under side (Some l) x apart h = elim (compare (below_by side) (below_by-order side) l x) [
   | inl up ↦ up
   | inr rest ↦ elim rest [
-    | inl down ↦ absurd (not_both (below_by side x l) down h)
+    | inl down ↦ absurd (false≢true (sym h ∙ down))
     | inr same ↦ absurd (apart l refl (sym same))
   ]
 ]
-
-same_from : (p q : ℕ) → ◌≡◌ {A = Option ℕ} (Some p) (Some q) → p ≡ q
-same_from p q e = cc
-
-some_none : (o : Option ℕ) (p : ℕ) → o ≡ Some p → o ≡ None → ⊥
-some_none o p e f = cc
-
--- the step to a neighbour of this number
-step-of : (m : Map) (at q : Pos) (step : ℕ) → Neighbour m at q → step < 9 → 3 * q.y + q.x + 4 ≡ 3 * at.y + at.x + step → (q.x + 1 ≡ at.x + step % 3) × (q.y + 1 ≡ at.y + step / 3)
-step-of m at q step n below e = (omega (arith, n.columns, n.rows, below, e), omega (arith, n.columns, n.rows, below, e))
-
--- what is present and beside the point at a step is a neighbour
-step-neighbour : (m : Map) (at q : Pos) (step : ℕ) → Present m at → Present m q → AreBesideUnder m.adjacency at q → step < 9 → (step ≡ 4 → ⊥) → q.x + 1 ≡ at.x + step % 3 → q.y + 1 ≡ at.y + step / 3 → Neighbour m at q
-step-neighbour m at q step here there beside below apart ex ey = record {
-  from = here;
-  to = there;
-  columns = (omega (arith, below, ex, ey), omega (arith, below, ex, ey));
-  rows = (omega (arith, below, ex, ey), omega (arith, below, ex, ey));
-  different = λ e. apart (let x : at.x ≡ q.x = ap (λ (p : Pos). p.x) e in let y : at.y ≡ q.y = ap (λ (p : Pos). p.y) e in omega (arith, below, ex, ey, x, y));
-  beside = beside;
-}
 
 module _ {S : Type 0} (m : Map) (side : SideName) (lines : List AuditLine) (level : Option Rank) where
   module _ (from : ℕ) (inside : from < length lines) (at : Pos) (is_at : point_at m lines from ≡ at) where
@@ -98,7 +75,7 @@ module _ {S : Type 0} (m : Map) (side : SideName) (lines : List AuditLine) (leve
         let cells = place_inside m.size q near.to.in_grid in
         let cell : i < length seen = (let whole = f.flooding.whole in omega (arith, cells, whole)) in
         let place : i < length ahead = (let whole = f.whole in omega (arith, cells, whole)) in
-        let unseen : (v : Waiting S) → Contains f.high v → v.index ≡ i → ⊥ = λ v h e. not_both (seen_at seen i) (subst (λ j. seen_at seen j ≡ true) e (f.flooding.waits_seen v (Contains-append_right low f.high v h))) free in
+        let unseen : (v : Waiting S) → Contains f.high v → v.index ≡ i → ⊥ = λ v h e. false≢true (sym free ∙ subst (λ j. seen_at seen j ≡ true) e (f.flooding.waits_seen v (Contains-append_right low f.high v h))) in
         record {
           high = w ∷ f.high;
           flooding = flood-add m lines from inside at is_at seen (low ++ f.high) (low ++ w ∷ f.high) q near free
@@ -109,13 +86,13 @@ module _ {S : Type 0} (m : Map) (side : SideName) (lines : List AuditLine) (leve
             | inr old ↦ get_or-set_other ahead i v.index (Some from) None (unseen v old) ∙ f.noted v old
           ];
           only = λ k p e. elim (cases_eq k i) [
-            | inl same ↦ (w, Contains-head w f.high, sym same, same_from from p (sym (get_or-set_same ahead i (Some from) None place) ∙ ap (ahead_at (set ahead i (Some from))) (sym same) ∙ e))
+            | inl same ↦ (w, Contains-head w f.high, sym same, same_Some from p (sym (get_or-set_same ahead i (Some from) None place) ∙ ap (ahead_at (set ahead i (Some from))) (sym same) ∙ e))
             | inr other ↦ (let v = f.only k p (sym (get_or-set_other ahead i k (Some from) None other) ∙ e) in (v.0, Contains-tail w v.0 f.high v.1, v.2, v.3))
           ];
           under = f.under;
           over = λ v h. elim (Contains-cases w v f.high h) [
             | inl same ↦ subst (λ (z : Waiting S). IsOver (below_by side) level (rank_of_waiting z)) (sym same)
-                (over-unless_under side level (rank m q) (λ l e x. not_both (seen_at seen i) (subst (λ (r : Rank). seen_at seen r.index ≡ true) (sym x) (f.level_seen l e)) free) above)
+                (over-unless_under side level (rank m q) (λ l e x. false≢true (sym free ∙ subst (λ (r : Rank). seen_at seen r.index ≡ true) (sym x) (f.level_seen l e))) above)
             | inr old ↦ f.over v old
           ];
           level_seen = λ l e. seen-kept seen i cell l.index (f.level_seen l e);
@@ -159,7 +136,7 @@ module _ {S : Type 0} (m : Map) (side : SideName) (lines : List AuditLine) (leve
     round-more here step seen ahead low seen' ahead' low' below apart offers r = elim offers [
       | inl one ↦
           let q : Pos = one.0 in
-          let near : Neighbour m at q = step-neighbour m at q step here one.3 one.4 below apart one.1 one.2 in
+          let near : Neighbour m at q = step_neighbour m at q step here one.3 one.4 below apart one.1 one.2 in
           let more : (p : Pos) → seen_at seen (place_of m.size p) ≡ true → IsSpreading m side lines level seen' ahead' low' from (p ∷ q ∷ []) = λ p old. spread-more seen ahead low seen' ahead' low' (p ∷ []) q near one.5 (record {
             front = r.front;
             all_seen = λ z h. elim (Contains-cases p z [] h) [
@@ -172,7 +149,7 @@ module _ {S : Type 0} (m : Map) (side : SideName) (lines : List AuditLine) (leve
             front = last.front;
             covered = λ p n before. elim (cases_lt (3 * p.y + p.x + 4) (3 * at.y + at.x + step)) [
               | inl old ↦ (more p (r.covered p n old)).all_seen p (Contains-head p (q ∷ []))
-              | inr new ↦ (let is = step-of m at p step n below (omega (arith, before, new)) in
+              | inr new ↦ (let is = step_of m at p step n below (omega (arith, before, new)) in
                   subst (λ (x : Pos). seen_at seen' (place_of m.size x) ≡ true) (same_pos q p (let a = one.1 in let b = is.0 in omega (arith, a, b)) (let a = one.2 in let b = is.1 in omega (arith, a, b))) (last.all_seen q (Contains-head q [])))
             ];
           }
@@ -180,7 +157,7 @@ module _ {S : Type 0} (m : Map) (side : SideName) (lines : List AuditLine) (leve
         front = r.front;
         covered = λ p n before. elim (cases_lt (3 * p.y + p.x + 4) (3 * at.y + at.x + step)) [
           | inl old ↦ r.covered p n old
-          | inr new ↦ absurd (let is = step-of m at p step n below (omega (arith, before, new)) in none.0 p is.0 is.1 n.to n.beside)
+          | inr new ↦ absurd (let is = step_of m at p step n below (omega (arith, before, new)) in none.0 p is.0 is.1 n.to n.beside)
         ];
       })
     ]
@@ -191,7 +168,7 @@ module _ {S : Type 0} (m : Map) (side : SideName) (lines : List AuditLine) (leve
       front = r.front;
       covered = λ p n before. elim (cases_lt (3 * p.y + p.x + 4) (3 * at.y + at.x + step)) [
         | inl old ↦ r.covered p n old
-        | inr new ↦ absurd (let is = step-of m at p step n (omega (arith, centre)) (omega (arith, before, new)) in let a = is.0 in let b = is.1 in n.different (same_pos at p (omega (arith, a, centre)) (omega (arith, b, centre))))
+        | inr new ↦ absurd (let is = step_of m at p step n (omega (arith, centre)) (omega (arith, before, new)) in let a = is.0 in let b = is.1 in n.different (same_pos at p (omega (arith, a, centre)) (omega (arith, b, centre))))
       ];
     }
 

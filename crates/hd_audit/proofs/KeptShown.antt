@@ -2,19 +2,20 @@
 use Rattle.std.proofs.Common.{◌≡◌, ◌∙◌, ◌<◌, ℕ, ℤ, true, false, List, [], ◌∷◌, length, map, Some, None, inl, inr, refl, sym, ap, subst, arith}
 use Rattle.std.specs.Prelude.{◌↔◌, All, Contains, MatchOption}
 use Rattle.std.proofs.lemmas.Bool.{cases_lt, false≢true}
+use Rattle.std.proofs.lemmas.Option.{none-some}
 use Rattle.std.proofs.lemmas.List.{get_or_default}
 use Rattle.std.proofs.lemmas.List.Elements.{All-head, All-tail, All-weaker}
 use Rattle.hd_map.specs.declared.types.Pos.{Pos}
 use Rattle.hd_map.specs.declared.types.Rank.{Rank}
 use Rattle.hd_map.specs.declared.types.SideName.{SideName}
-use Rattle.hd_map.specs.Map.{Map, IsMap, Present, cell_count, position_at}
+use Rattle.hd_map.specs.Map.{Map, IsMap, position_at}
 use Rattle.hd_map.specs.Neighbour.{Neighbour}
 use Rattle.hd_map.specs.Order.{IsNotAbove}
 use Rattle.hd_map.specs.Rank.{Near, below_by}
 use Rattle.hd_map.specs.Region.{IsPit}
 use Rattle.hd_map.specs.SideLaws.{below_by-order}
 use Rattle.hd_map.proofs.Levels.{here, step}
-use Rattle.hd_map.proofs.Points.{Near-at, place_inside, position_at-place, rank_position}
+use Rattle.hd_map.proofs.Points.{Near-at, position_at-place, rank_position}
 use Rattle.hd_map.proofs.Sides.{compare, below-not_above, not_above-refl}
 use Rattle.hd_check.specs.declared.types.Verdict.TheVariants.{Yes}
 use Rattle.hd_check.specs.Judged.{TriedFrom}
@@ -24,7 +25,7 @@ use Rattle.hd_audit.specs.Rules.{rules_of, IsWithin, IsEarlierNeighbour, IsKeptP
 use Rattle.hd_audit.proofs.Within.{within-lower, ReachesWithin, reach-back, reach-higher, reach-point}
 use Rattle.hd_audit.proofs.Firm.{AreFirm, undercuts-from_reach}
 use Rattle.hd_audit.proofs.Listed.{rank_of_index}
-use Rattle.hd_audit.proofs.ShownRules.{some_or_none}
+use Rattle.hd_audit.proofs.PointAt.{point-indexed}
 use Rattle.hd_audit.proofs.ShownChains.{undercut-within}
 
 -- the place of a line in the list
@@ -165,7 +166,7 @@ module _ (m : Map) (whole : IsMap m) (side : SideName) (thousandths : ℕ) (sz :
       kept-root : x.parent ≡ None
       kept-root = elim x.parent as (λ o. x.parent ≡ o → x.parent ≡ None) [
         | None ↦ λ e. e
-        | Some q ↦ λ e. (let has : x.parent ≡ None → ⊥ = λ none. some_or_none x.parent q e none in
+        | Some q ↦ λ e. (let has : x.parent ≡ None → ⊥ = λ none. none-some q (sym none ∙ e) in
             let k = line-place lines x line.listed in
             let index : (line_at lines k.0).index ≡ i = ap (λ (z : AuditLine). z.index) k.2 ∙ line.index in
             let pit = subst (λ j. IsPit m side (rank_at m j)) (sym index) ((firm (rank_at m i)).0 at).0 in
@@ -178,9 +179,8 @@ module _ (m : Map) (whole : IsMap m) (side : SideName) (thousandths : ℕ) (sz :
     kept-shown p at =
         let point = ((firm p).0 at).0.point in
         let back : rank_at m p.index ≡ p = rank_of_index m p point in
-        let inside : p.index < cell_count m.size = subst (λ (r : Rank). r.index < cell_count m.size) (sym point.rank_is) (place_inside m.size point.at point.present.in_grid) in
-        let here : Present m (position_at m.size p.index) = subst (Present m) (sym (rank_position m p point.at point.present point.rank_is)) point.present in
-        let h : IsListed lines p.index = rules.1.0 p.index inside here in
+        let here = point-indexed m p point in
+        let h : IsListed lines p.index = rules.1.0 p.index here.inside here.present in
         (h.0, h.1.listed, kept-root p.index h.0 h.1 (subst (Contains kept) (sym back) at), sym back ∙ ap (rank_at m) (sym h.1.index))
 
     -- the kept pits are the points of the lines without a parent

@@ -3,6 +3,7 @@ use Rattle.std.proofs.Common.{◌≡◌, ◌<◌, ℕ, ℤ, List, Option, Some, 
 use Rattle.std.specs.Prelude.{◌↔◌}
 use Rattle.std.specs.List.{AllPairs, Contains}
 use Rattle.std.proofs.lemmas.Bool.{cases_lt, cases_eq}
+use Rattle.std.proofs.lemmas.Option.{none-some, same_Some}
 use Rattle.hd_map.specs.declared.types.Pos.{Pos}
 use Rattle.hd_map.specs.declared.types.SideName.{SideName}
 use Rattle.hd_map.specs.Map.{Map, place_of}
@@ -14,7 +15,6 @@ use Rattle.hd_audit.specs.declared.types.AuditLine.{AuditLine}
 use Rattle.hd_audit.specs.Leaks.{FirstLeakRound, FirstLeaking, LeaksTo}
 use Rattle.hd_audit.specs.Lines.{line_at, point_at}
 use Rattle.hd_audit.specs.Rules.{FirstLeak}
-use Rattle.hd_audit.proofs.Tests.{none_some, some_same}
 
 module _ (m : Map) (side : SideName) (thousandths : ℕ) (sz : ℤ) (lines : List AuditLine) where
   -- the first of all neighbours that the cut leaks to
@@ -44,15 +44,15 @@ module _ (m : Map) (side : SideName) (thousandths : ℕ) (sz : ℤ) (lines : Lis
   -- a line with a cut leaks where its cut does
   pub line_leak : (k cut : ℕ) → (line_at lines k).cut ≡ Some cut → (o : Option Pos) → FirstLeakRound m side thousandths sz lines cut (point_at m lines k) o → FirstLeak m side thousandths sz lines k o
   line_leak k cut is None none = λ q leak.
-      (let same : leak.cut ≡ cut = some_same leak.cut cut (sym leak.cut_is ∙ is) in
+      (let same : leak.cut ≡ cut = same_Some leak.cut cut (sym leak.cut_is ∙ is) in
       none q leak.neighbour (subst (λ (c : ℕ). LeaksTo m side thousandths sz lines c q) same (record { within = leak.within; outside = leak.outside })))
   line_leak k cut is (Some q) (near, leak, first) = (
     record { cut = cut; cut_is = is; neighbour = near; within = leak.within; outside = leak.outside },
     λ r other.
-        (let same : other.cut ≡ cut = some_same other.cut cut (sym other.cut_is ∙ is) in
+        (let same : other.cut ≡ cut = same_Some other.cut cut (sym other.cut_is ∙ is) in
         first r other.neighbour (subst (λ (c : ℕ). LeaksTo m side thousandths sz lines c r) same (record { within = other.within; outside = other.outside }))),
   )
 
   -- a line without a cut does not leak
   pub no_leak : (k : ℕ) → (line_at lines k).cut ≡ None → FirstLeak m side thousandths sz lines k None
-  no_leak k none = λ q leak. none_some leak.cut (sym none ∙ leak.cut_is)
+  no_leak k none = λ q leak. none-some leak.cut (sym none ∙ leak.cut_is)

@@ -8,6 +8,7 @@ use Rattle.std.proofs.lemmas.Bool.{cases_eq, cases_lt, false≢true}
 use Rattle.std.proofs.lemmas.List.{get_or_default, get_or-set_same, get_or-set_other, length-replicate, length_push}
 use Rattle.std.proofs.lemmas.List.Elements.{Contains-append_cases, Contains-append_left, Contains-append_right}
 use Rattle.std.proofs.lemmas.List.Sorted.{Contains-permutation, IsPermutation-append_left, IsPermutation-remove, IsPermutation-sym, length_permutation}
+use Rattle.std.proofs.lemmas.Option.{none-some, same_Some}
 use Rattle.hd_map.specs.declared.types.Rank.{Rank}
 use Rattle.hd_map.specs.declared.types.SideName.{SideName}
 use Rattle.hd_map.specs.Map.{IsMap, Map, cell_count}
@@ -15,15 +16,16 @@ use Rattle.hd_map.specs.Order.{IsNotAbove}
 use Rattle.hd_map.specs.Rank.{IsPoint, below_by}
 use Rattle.hd_map.specs.SideLaws.{below_by-order}
 use Rattle.hd_map.proofs.Items.{Contains-cases, Contains-head, Contains-tail}
-use Rattle.hd_map.proofs.Points.{place_inside, same_index}
+use Rattle.hd_map.proofs.Points.{same_index, point_inside}
 use Rattle.hd_map.proofs.Sides.{below-apart, below-not_above, compare, not_above-refl}
 use Rattle.hd_prune.specs.declared.step.Kept.{Kept}
 use Rattle.hd_audit.specs.declared.types.AuditLine.{AuditLine}
 use Rattle.hd_audit.specs.declared.waiting.Waiting.{Waiting}
-use Rattle.hd_audit.specs.Flooding.{AreBegun, AreInOrder, AreNotBelow, ArePassed, IsFlooding, IsFront, IsFrontAt, IsPointAt, IsWaiting, ahead_at, next_line, rank_of_waiting, seen_at}
-use Rattle.hd_audit.specs.Lines.{line_at}
+use Rattle.hd_audit.specs.Flooding.{AreBegun, AreNotBelow, ArePassed, IsFlooding, IsFront, IsFrontAt, IsWaiting, ahead_at, next_line, rank_of_waiting, seen_at}
+use Rattle.hd_audit.specs.Lines.{IsPointAt, line_at}
 use Rattle.hd_audit.specs.Listing.{AreShownTo}
 use Rattle.hd_audit.specs.LowestFirst.{lowest_first}
+use Rattle.hd_audit.specs.Orders.{AreInOrder}
 use Rattle.hd_audit.specs.Shown.{AreShownLines}
 use Rattle.hd_audit.proofs.Begun.{begun-flooding}
 use Rattle.hd_audit.proofs.Firm.{AreFirm}
@@ -36,14 +38,8 @@ none_ahead zero i p e = cc
 none_ahead (suc n) zero p e = cc
 none_ahead (suc n) (suc i) p e = none_ahead n i p e
 
-some_none : (o : Option ℕ) (p : ℕ) → o ≡ Some p → o ≡ None → ⊥
-some_none o p e f = cc
-
-same_level : (a b : Rank) → ◌≡◌ {A = Option Rank} (Some a) (Some b) → a ≡ b
-same_level a b e = cc
-
 seen_level : (point l : Rank) (seen : List Bool) → ◌≡◌ {A = Option Rank} (Some point) (Some l) → seen_at seen point.index ≡ true → seen_at seen l.index ≡ true
-seen_level point l seen e h = subst (λ (r : Rank). seen_at seen r.index ≡ true) (same_level point l e) h
+seen_level point l seen e h = subst (λ (r : Rank). seen_at seen r.index ≡ true) (same_Some point l e) h
 
 nothing : {X : Type 0} (xs : List X) (x : X) → length xs ≡ 0 → Contains xs x → ⊥
 nothing xs x empty h = let inside : h.0 < length xs = h.1 in omega (arith, inside, empty)
@@ -138,7 +134,7 @@ module _ {S : Type 0} (m : Map) (whole : IsMap m) (side : SideName) (thousandths
       let in_high : (v : Waiting S) → Contains rest v → Contains high v = λ v h. Contains-permutation (w ∷ rest) high v (IsPermutation-sym high (w ∷ rest) popped) (Contains-tail w v rest h) in
       let longer = length_push lines line in
       let other : (v : Waiting S) → Contains rest v → v.index ≡ point.index → ⊥ = λ v h e. (listed-so.waiting v h).unlisted (length lines) (omega (arith, longer)) (ap (λ (x : AuditLine). x.index) (line-new lines line (length lines) refl) ∙ index ∙ sym e) in
-      let place : point.index < length ahead = (let cells = place_inside m.size is_point.at is_point.present.in_grid in let is = ap (λ (r : Rank). r.index) is_point.rank_is in let long = f.whole in omega (arith, cells, is, long)) in
+      let place : point.index < length ahead = (let cells = point_inside m point is_point in let long = f.whole in omega (arith, cells, long)) in
       let front : IsFront m side (lines ++ line ∷ []) (Some point) seen (set ahead point.index None) [] (length lines) = record {
         high = rest;
         flooding = listed-so;
@@ -146,7 +142,7 @@ module _ {S : Type 0} (m : Map) (whole : IsMap m) (side : SideName) (thousandths
         noted = λ v h. get_or-set_other ahead point.index v.index None None (other v h) ∙ noted v (in_high v h);
         only = λ k p e. elim (cases_eq k point.index) [
           | inl same ↦ absurd (let none = get_or-set_same ahead point.index None None place in let got : ahead_at (set ahead point.index None) point.index ≡ Some p = ap (ahead_at (set ahead point.index None)) (sym same) ∙ e in
-              some_none (ahead_at (set ahead point.index None) point.index) p got none)
+              none-some p (sym none ∙ got))
           | inr apart ↦
               let v = only k p (sym (get_or-set_other ahead point.index k None None apart) ∙ e) in
               elim (Contains-cases w v.0 rest (Contains-permutation high (w ∷ rest) v.0 popped v.1)) [
@@ -216,16 +212,6 @@ passed-more m side ahead points i e order inside passed j d less x p point n =
       | inl same ↦ subst (λ k. below_by side (get_or points k d) x ≡ true) (sym same) below
       | inr apart ↦ (below_by-order side).transitive (get_or points j d) (get_or points i d) x (order.rises j i d (omega arith) inside) below
     ]
-
--- a point that does not wait is passed where none below it waits
-pub passed-absent : (m : Map) (side : SideName) (ahead : List (Option ℕ)) (point : Rank) → IsPoint m point → AreNotBelow m side ahead point → ahead_at ahead point.index ≡ None → ArePassed m side ahead point
-passed-absent m side ahead point is_point lowest none x p at e = elim (compare (below_by side) (below_by-order side) point x) [
-  | inl up ↦ up
-  | inr either ↦ elim either [
-    | inl down ↦ absurd (false≢true (sym (lowest x p at e) ∙ down))
-    | inr same ↦ absurd (some_none (ahead_at ahead x.index) p e (ap (λ (r : Rank). ahead_at ahead r.index) (sym same) ∙ none))
-  ]
-]
 
 -- at the level all below it are passed
 pub passed-level : {S : Type 0} (m : Map) (side : SideName) (lines : List AuditLine) (point : Rank) (seen : List Bool) (ahead : List (Option ℕ)) (low : List (Waiting S)) (n : ℕ) → IsFront m side lines (Some point) seen ahead low n → ArePassed m side ahead point

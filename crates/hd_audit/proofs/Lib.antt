@@ -11,6 +11,7 @@ mod ShownRight
 mod Marks
 mod Flooded
 mod Fronts
+mod PointAt
 mod Orders
 mod Begun
 mod NextLines

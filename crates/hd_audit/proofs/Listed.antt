@@ -49,9 +49,6 @@ module _ (m : Map) (lines : List AuditLine) (k : ℕ) (p : Pos) (line : IsLineAt
   pub line-rank : rank_at m (line_at lines k).index ≡ rank m p
   line-rank = ap (rank m) line-position
 
-  pub line-point : IsPoint m (rank_at m (line_at lines k).index)
-  line-point = record { at = p; present = line.present; rank_is = line-rank }
-
 module _ (m : Map) (side : SideName) (thousandths : ℕ) (sz : ℤ) (kept : List Rank) where
   module _ (lines : List AuditLine) where
     pub reached-line_at : (k : ℕ) (line : IsReachedLine m side thousandths sz kept lines k) → IsLineAt m lines k line.point

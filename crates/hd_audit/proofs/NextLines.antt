@@ -11,16 +11,16 @@ use Rattle.std.proofs.lemmas.List.Elements.{All-contains, All-from_recursion}
 use Rattle.hd_map.specs.declared.types.Pos.{Pos}
 use Rattle.hd_map.specs.declared.types.Rank.{Rank}
 use Rattle.hd_map.specs.declared.types.SideName.{SideName}
-use Rattle.hd_map.specs.Map.{Map, IsMap, Present, cell_count, place_of, position_at}
+use Rattle.hd_map.specs.Map.{Map, IsMap, place_of, position_at}
 use Rattle.hd_map.specs.Neighbour.{Neighbour}
 use Rattle.hd_map.specs.Order.{IsNotAbove}
 use Rattle.hd_map.specs.Rank.{IsPoint, rank, below_by}
-use Rattle.hd_map.proofs.Points.{neighbour-sym, place_inside, position_at-of, same_place}
+use Rattle.hd_map.proofs.Points.{neighbour-sym, same_place}
 use Rattle.hd_num.specs.Percent.{is_percent_less}
 use Rattle.hd_audit.specs.declared.types.AuditLine.{AuditLine}
 use Rattle.hd_audit.specs.declared.waiting.Waiting.{Waiting}
-use Rattle.hd_audit.specs.Flooding.{IsFlooding, IsPointAt, IsWaiting, rank_of_waiting, next_cut, next_line}
-use Rattle.hd_audit.specs.Lines.{line_at, point_at, rank_at}
+use Rattle.hd_audit.specs.Flooding.{IsFlooding, IsWaiting, rank_of_waiting, next_cut, next_line}
+use Rattle.hd_audit.specs.Lines.{IsPointAt, line_at, point_at, rank_at}
 use Rattle.hd_audit.specs.Listing.{AreShownTo}
 use Rattle.hd_audit.specs.LowestFirst.{lowest_first}
 use Rattle.hd_audit.specs.Rules.{IsWithin, rise_over}
@@ -30,6 +30,7 @@ use Rattle.hd_audit.proofs.Flooded.{popped-in}
 use Rattle.hd_audit.proofs.Listed.{kept-moved, next_to-moved, rank_of_index, reached-moved}
 use Rattle.hd_audit.proofs.Marks.{line-old, line-new}
 use Rattle.hd_audit.proofs.NextCuts.{cut-same, cut-left, cut-none}
+use Rattle.hd_audit.proofs.PointAt.{point-indexed}
 
 not_lower : (a b : Bool) → is_lt (cond a Less (cond b Greater Equal)) ≡ false → a ≡ false
 not_lower true b e = cc
@@ -55,12 +56,7 @@ module _ {S : Type 0} (m : Map) (whole : IsMap m) (side : SideName) (thousandths
   pub cut-point : (j c : ℕ) → j < length lines → (line_at lines j).cut ≡ Some c → IsPointAt m c
   cut-point j c before e =
       let h : CutIs m side thousandths sz kept (rank_at m (line_at lines j).index) (Some c) = subst (λ o. CutIs m side thousandths sz kept (rank_at m (line_at lines j).index) o) e (so.cuts j before) in
-      let point = ((firm h.0).0 h.1).0.point in
-      let place : place_of m.size point.at ≡ c = ap (λ (r : Rank). r.index) (sym point.rank_is) ∙ h.2 in
-      record {
-        inside = subst (λ i. i < cell_count m.size) place (place_inside m.size point.at point.present.in_grid);
-        present = subst (Present m) (sym (position_at-of m.size point.at point.present.in_grid) ∙ ap (position_at m.size) place) point.present;
-      }
+      subst (IsPointAt m) h.2 (point-indexed m h.0 ((firm h.0).0 h.1).0.point)
 
   -- where none waits all is listed
   pub all-shown : ((w : Waiting S) → Contains heap w → ⊥) → AreShownLines m side thousandths sz kept lines
@@ -159,10 +155,3 @@ module _ {S : Type 0} (m : Map) (whole : IsMap m) (side : SideName) (thousandths
                 subst (λ (x : AuditLine). CutIs m side thousandths sz kept (rank_at m x.index) x.cut) (sym (ap (line_at (lines ++ line ∷ [])) (sym e) ∙ here)) there
           ];
         }
-
--- the line that is made of these is the next line
-pub next-line_is : (m : Map) (side other : SideName) (thousandths : ℕ) (sz : ℤ) (lines : List AuditLine) (from : ℕ) (parent made : AuditLine) (point r : Rank) → other ≡ side → from < length lines → parent ≡ get_or lines from parent → point ≡ r
-    → made ≡ next_line m other thousandths sz parent point → made ≡ next_line m side thousandths sz (line_at lines from) r
-next-line_is m side other thousandths sz lines from parent made point r s inside read p e =
-    let is : parent ≡ line_at lines from = read ∙ get_or_default lines from parent (record { index = 0; parent = None; cut = None }) inside in
-    e ∙ ap (λ (z : SideName). next_line m z thousandths sz parent point) s ∙ ap (λ (x : AuditLine). next_line m side thousandths sz x point) is ∙ ap (λ (z : Rank). next_line m side thousandths sz (line_at lines from) z) p

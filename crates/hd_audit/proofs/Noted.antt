@@ -1,31 +1,24 @@
 -- What is noted of the lines of present points.
 use Rattle.std.proofs.Common.{◌≡◌, ◌<◌, ℕ, List, length, Option, Some, None, sym, subst, ap, ◌∙◌, arith}
+use Rattle.std.proofs.lemmas.Option.{none-some, same_Some}
 use Rattle.hd_map.specs.Map.{Map, Present, cell_count, position_at}
 use Rattle.hd_audit.specs.declared.types.AuditLine.{AuditLine}
 use Rattle.hd_audit.specs.Lines.{line_at, IsLineOf, HasCut, SaysKept}
 use Rattle.hd_audit.specs.Places.{AreAllPlaces, place_at}
 use Rattle.hd_audit.specs.Rules.{IsEarlierNeighbour, IsNewPoint}
 use Rattle.hd_audit.proofs.Placing.{line_of_place, place_of_line}
-use Rattle.hd_audit.proofs.Tests.{none_some, some_same}
 
 module _ (m : Map) (lines : List AuditLine) (places : List (Option ℕ)) (are : AreAllPlaces m lines places) where
   -- the noted line is the only one of its point
   pub only_line : (i k : ℕ) (x : AuditLine) → place_at places i ≡ Some k → IsLineOf lines i x → line_at lines k ≡ x
   only_line i k x at is =
       let found = place_of_line m lines places are i x is in
-      let same : found.0 ≡ k = some_same found.0 k (sym found.3 ∙ at) in
+      let same : found.0 ≡ k = same_Some found.0 k (sym found.3 ∙ at) in
       ap (line_at lines) (sym same) ∙ found.2
-
-  -- where none is noted no line says that the point is kept
-  pub none_kept : (i : ℕ) → place_at places i ≡ None → SaysKept lines i → ⊥
-  none_kept i none kept = let found = place_of_line m lines places are i kept.0 kept.1 in none_some found.0 (sym none ∙ found.3)
 
   -- the noted line says that its point is kept where any does
   pub kept_at : (i k : ℕ) → place_at places i ≡ Some k → SaysKept lines i → (line_at lines k).parent ≡ None
   kept_at i k at kept = ap (λ (y : AuditLine). y.parent) (only_line i k kept.0 at kept.1) ∙ kept.2
-
-  pub says_kept : (i k : ℕ) → place_at places i ≡ Some k → (line_at lines k).parent ≡ None → SaysKept lines i
-  says_kept i k at none = (line_at lines k, line_of_place m lines places are i k at, none)
 
   -- the noted line has a cut where any line of its point has it
   pub cut_at : (i k c : ℕ) → place_at places i ≡ Some k → HasCut lines i c → (line_at lines k).cut ≡ Some c
@@ -35,22 +28,9 @@ module _ (m : Map) (lines : List AuditLine) (places : List (Option ℕ)) (are : 
   has_cut_at i k c at cut = (line_at lines k, line_of_place m lines places are i k at, cut)
 
   pub no_cut_at : (i c : ℕ) → place_at places i ≡ None → HasCut lines i c → ⊥
-  no_cut_at i c none has = let found = place_of_line m lines places are i has.0 has.1 in none_some found.0 (sym none ∙ found.3)
-
-  -- the number of the line of an earlier neighbour
-  pub earlier_at : (k p j : ℕ) → place_at places p ≡ Some j → k < length lines → IsEarlierNeighbour m lines k p → j < k
-  earlier_at k p j at inside near =
-      let noted : place_at places p ≡ Some near.earlier = subst (λ (i : ℕ). place_at places i ≡ Some near.earlier) near.index (are.noted.each near.earlier (less near.earlier k (length lines) near.before inside)) in
-      let same : near.earlier ≡ j = some_same near.earlier j (sym noted ∙ at) in
-      subst (λ (i : ℕ). i < k) same near.before
-    where
-      less : (a b c : ℕ) → a < b → b < c → a < c
-      less a b c h k = omega (arith, h, k)
+  no_cut_at i c none has = let found = place_of_line m lines places are i has.0 has.1 in none-some found.0 (sym none ∙ found.3)
 
   module _ (new : (k : ℕ) → k < length lines → IsNewPoint m lines k) where
     -- the point of a noted line is present
     pub present_at : (i k : ℕ) → place_at places i ≡ Some k → Present m (position_at m.size i)
     present_at i k at = let found = are.noted.only i k at in subst (λ (j : ℕ). Present m (position_at m.size j)) found.1 (new k found.0).present
-
-    pub inside_at : (i k : ℕ) → place_at places i ≡ Some k → i < cell_count m.size
-    inside_at i k at = let found = are.noted.only i k at in subst (λ (j : ℕ). j < cell_count m.size) found.1 (new k found.0).inside

@@ -6,12 +6,12 @@ use Rattle.std.proofs.lemmas.List.Elements.{Contains-get_or}
 use Rattle.std.proofs.lemmas.List.{get_or_default, length-replicate, length-set}
 use Rattle.std.proofs.lemmas.List.Folds.{sum_by-replicate}
 use Rattle.std.proofs.lemmas.List.Sums.{count_by-le-length, sum_by-set}
+use Rattle.std.proofs.lemmas.Option.{none-some, same_Some}
 use Rattle.hd_map.specs.Map.{Map, Present, cell_count}
 use Rattle.hd_audit.specs.declared.types.AuditLine.{AuditLine}
 use Rattle.hd_audit.specs.Lines.{line_at, point_at, IsLineOf, IsListed}
 use Rattle.hd_audit.specs.Places.{AreAllPlaces, ArePlaces, place_at}
 use Rattle.hd_audit.specs.Rules.{IsNewPoint}
-use Rattle.hd_audit.proofs.Tests.{none_some, some_same}
 
 -- the first n lines are noted, and each is of a present point that no earlier line has
 pub record ArePlacedBefore (m : Map) (lines : List AuditLine) (places : List (Option ℕ)) (n : ℕ) : Type 0 where
@@ -25,35 +25,13 @@ none_noted zero i = refl
 none_noted (suc n) zero = refl
 none_noted (suc n) (suc i) = none_noted n i
 
-none_counted : (n : ℕ) → count_by is_some (replicate {A = Option ℕ} n None) ≡ 0
-none_counted n = sum_by-replicate (λ (o : Option ℕ). cond (is_some o) 1 0) n None ∙ no_times n
-  where
-    no_times : (n : ℕ) → n * 0 ≡ 0
-    no_times n = omega arith
-
--- none is noted at first
-pub placed_none : (m : Map) (lines : List AuditLine) (places : List (Option ℕ)) → places ≡ replicate (cell_count m.size) None → ArePlacedBefore m lines places 0
-placed_none m lines places is = record {
-  whole = ap length is ∙ length-replicate {A = Option ℕ} (cell_count m.size) None;
-  noted = record {
-    each = λ k below. absurd (omega arith);
-    only = λ i k at. absurd (none_some k (sym (ap (λ (xs : List (Option ℕ)). place_at xs i) is ∙ none_noted (cell_count m.size) i) ∙ at));
-  };
-  new = λ k below. absurd (omega arith);
-  count = ap (count_by is_some) is ∙ none_counted (cell_count m.size);
-}
-
 -- the index of a line at which none is noted is that of no earlier line
 module _ (m : Map) (lines : List AuditLine) (places : List (Option ℕ)) (n : ℕ) (before : ArePlacedBefore m lines places n) where
-  -- not more lines are noted than there are cells
-  pub few_placed : n ≤ cell_count m.size
-  few_placed = omega (arith, count_by-le-length is_some places, before.count, before.whole)
-
   abbrev index_of : ℕ → ℕ
   index_of k = (line_at lines k).index
 
   fresh : place_at places (index_of n) ≡ None → (i : ℕ) → i < n → index_of i ≡ index_of n → ⊥
-  fresh none i below same = none_some i (sym (ap (place_at places) same ∙ none) ∙ before.noted.each i below)
+  fresh none i below same = none-some i (sym (ap (place_at places) same ∙ none) ∙ before.noted.each i below)
 
   -- one more is noted
   pub placed_more : index_of n < cell_count m.size → Present m (point_at m lines n) → place_at places (index_of n) ≡ None → ArePlacedBefore m lines (set places (index_of n) (Some n)) (n + 1)
@@ -68,7 +46,7 @@ module _ (m : Map) (lines : List AuditLine) (places : List (Option ℕ)) (n : �
                 subst (λ (j : ℕ). place_at (set places (index_of n) (Some n)) (index_of j) ≡ Some j) same (get_or-set_same places (index_of n) (Some n) None within))
           ];
           only = λ i k at. elim (cases_eq i (index_of n)) [
-            | inl here ↦ (let e : n ≡ k = some_same n k (sym (get_or-set_same places (index_of n) (Some n) None within) ∙ ap (place_at (set places (index_of n) (Some n))) (sym here) ∙ at) in
+            | inl here ↦ (let e : n ≡ k = same_Some n k (sym (get_or-set_same places (index_of n) (Some n) None within) ∙ ap (place_at (set places (index_of n) (Some n))) (sym here) ∙ at) in
                 (omega (arith, e), ap index_of (sym e) ∙ sym here))
             | inr other ↦ (let old = before.noted.only i k (sym (get_or-set_other places (index_of n) i (Some n) None other) ∙ at) in (let low = old.0 in omega (arith, low), old.1))
           ];
@@ -113,4 +91,4 @@ module _ (m : Map) (lines : List AuditLine) (places : List (Option ℕ)) (are : 
   listed_at i k at = (line_at lines k, line_of_place i k at)
 
   pub unlisted_at : (i : ℕ) → place_at places i ≡ None → IsListed lines i → ⊥
-  unlisted_at i none listed = let found = place_of_line i listed.0 listed.1 in none_some found.0 (sym none ∙ found.3)
+  unlisted_at i none listed = let found = place_of_line i listed.0 listed.1 in none-some found.0 (sym none ∙ found.3)

@@ -2,6 +2,7 @@
 use Rattle.std.proofs.Common.{◌≡◌, ◌∙◌, ◌<◌, ℕ, ℤ, List, [], ◌∷◌, length, get_or, Option, Some, None, inl, inr, refl, sym, ap, subst, arith}
 use Rattle.std.specs.Prelude.{AllPairs, MatchOption}
 use Rattle.std.proofs.lemmas.Bool.{cases_lt}
+use Rattle.std.proofs.lemmas.Option.{none-some}
 use Rattle.std.proofs.lemmas.List.Elements.{All-nil, Contains-get_or}
 use Rattle.hd_map.specs.declared.types.Pos.{Pos}
 use Rattle.hd_map.specs.declared.types.Rank.{Rank}
@@ -29,9 +30,6 @@ no_line = record { index = 0; parent = None; cut = None }
 -- the line at a place is one of the lines
 pub line-listed : (lines : List AuditLine) (k i : ℕ) → k < length lines → (line_at lines k).index ≡ i → IsLineOf lines i (line_at lines k)
 line-listed lines k i inside e = record { listed = Contains-get_or lines k (record { index = 0; parent = None; cut = None }) inside; index = e }
-
-pub some_or_none : (o : Option ℕ) (a : ℕ) → o ≡ Some a → o ≡ None → ⊥
-some_or_none o a e f = cc
 
 module _ (m : Map) (whole : IsMap m) (side : SideName) (thousandths : ℕ) (sz : ℤ) (kept : List Rank) (firm : AreFirm m side thousandths sz kept) (in_order : AllPairs (λ (a : Rank) (b : Rank). a.index < b.index) kept)
     (lines : List AuditLine) (shown : AreShownLines m side thousandths sz kept lines) where
@@ -123,7 +121,7 @@ module _ (m : Map) (whole : IsMap m) (side : SideName) (thousandths : ℕ) (sz :
           pit = subst (IsPit m side) (sym is) pit;
           own = cut-unique m whole side thousandths sz kept firm x (line_at lines k).cut (Some (line_at lines k).index) (shown.cuts k inside) own;
         }
-    | inr more ↦ absurd (let reached = shown.others k more inside in some_or_none (line_at lines k).parent (line_at lines reached.next_to.listed).index reached.parent none)
+    | inr more ↦ absurd (let reached = shown.others k more inside in none-some (line_at lines reached.next_to.listed).index (sym none ∙ reached.parent))
   ]
 
   -- a cut is that of a kept pit, which is not above the point

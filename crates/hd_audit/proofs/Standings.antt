@@ -2,7 +2,7 @@
 use Rattle.std.proofs.Common.{◌≡◌, ◌∙◌, ◌<◌, ◌≤◌, ◌+◌, ℕ, zero, suc, Bool, true, false, List, [], ◌∷◌, length, get_or, replicate, set, Option, Some, None, ◌⊎◌, inl, inr, refl, sym, ap, subst, arith}
 use Rattle.std.proofs.Math.ListN.{length-set}
 use Rattle.std.proofs.Math.Seq.{map-set_same}
-use Rattle.std.proofs.lemmas.Bool.{cases_eq, cases_lt, false≢true}
+use Rattle.std.proofs.lemmas.Bool.{cases_eq, cases_lt, false_from_ne_true, false≢true}
 use Rattle.std.proofs.lemmas.List.{get_or-set_same, get_or-set_other, get_or_default, length-replicate, map-set}
 use Rattle.std.proofs.lemmas.List.Elements.{Contains-get_or}
 use Rattle.hd_map.specs.declared.types.Pos.{Pos}
@@ -16,7 +16,8 @@ use Rattle.hd_map.proofs.Sides.{below-not_above}
 use Rattle.hd_audit.specs.declared.standing.Standing.{Standing}
 use Rattle.hd_audit.specs.declared.standing.Standing.TheVariants.{Absent, Over, Under, Seen}
 use Rattle.hd_audit.specs.declared.waiting.Waiting.{Waiting}
-use Rattle.hd_audit.specs.Flooding.{Adds, AreInOrder, OffersIfPresent, seen_at}
+use Rattle.hd_audit.specs.Flooding.{Adds, OffersIfPresent, seen_at}
+use Rattle.hd_audit.specs.Orders.{AreInOrder}
 use Rattle.hd_audit.specs.Standings.{AreStanding, AreStandingTo, Stands, is_seen, passed, seen_of, standing_at}
 
 -- what is seen is so by index
@@ -103,16 +104,6 @@ module _ (m : Map) (n : ℕ) (standings : List Standing) (inside : n < cell_coun
     rest = λ i from. are.rest i (omega (arith, from));
   }
 
--- all points stand so at the end
-pub standing-all : (m : Map) (n : ℕ) (standings : List Standing) → cell_count m.size ≤ n → AreStandingTo m n standings → (side : SideName) → AreStanding m side None standings
-standing-all m n standings end are side = record {
-  whole = are.whole;
-  each = λ q inside. elim (are.each q inside (let cells = place_inside m.size q inside in omega (arith, cells, end))) [
-    | inl over ↦ subst (Stands m side None q) (sym over.0) (over.1, refl)
-    | inr absent ↦ subst (Stands m side None q) (sym absent.0) absent.1
-  ];
-}
-
 passed-seen : (s : Standing) → is_seen (passed s) ≡ is_seen s
 passed-seen Absent = refl
 passed-seen Over = refl
@@ -143,19 +134,12 @@ module _ (m : Map) (side : SideName) (points : List Rank) (order : AreInOrder m 
         at,
       )
 
-  true-or_false : (b : Bool) → (b ≡ true) ⊎ (b ≡ false)
-  true-or_false true = inl refl
-  true-or_false false = inr refl
-
   -- none is below the first
   stands-first : (d : Rank) (q : Pos) (s : Standing) → 0 < length points → Stands m side None q s → Stands m side (Some (get_or points 0 d)) q s
   stands-first d q Absent some stands = stands
   stands-first d q Over some stands = (
     stands.0,
-    elim (true-or_false (below_by side (rank m q) (get_or points 0 d))) [
-      | inl below ↦ absurd (let j = below-before (rank m q) 0 d (point-of q stands.0) some below in let less = j.1 in omega (arith, less))
-      | inr above ↦ above
-    ],
+    false_from_ne_true (below_by side (rank m q) (get_or points 0 d)) (λ below. (let j = below-before (rank m q) 0 d (point-of q stands.0) some below in let less = j.1 in omega (arith, less))),
   )
   stands-first d q Under some stands = absurd (false≢true stands.1)
   stands-first d q Seen some stands = tt
@@ -182,17 +166,14 @@ module _ (m : Map) (side : SideName) (points : List Rank) (order : AreInOrder m 
   stands-next k d q Absent more apart stands = stands
   stands-next k d q Over more apart stands = (
     stands.0,
-    elim (true-or_false (below_by side (rank m q) (get_or points (k + 1) d))) [
-      | inl below ↦ absurd (
-          let j = below-before (rank m q) (k + 1) d (point-of q stands.0) more below in
-          elim (cases_eq j.0 k) [
-            | inl last ↦ apart (ap (λ (r : Rank). r.index) (sym j.2 ∙ ap (λ i. get_or points i d) last))
-            | inr old ↦ (let less = j.1 in
-                let up = order.rises j.0 k d (omega (arith, less, old)) (omega (arith, more)) in
-                false≢true (sym stands.1 ∙ subst (λ (r : Rank). below_by side r (get_or points k d) ≡ true) j.2 up))
-          ])
-      | inr above ↦ above
-    ],
+    false_from_ne_true (below_by side (rank m q) (get_or points (k + 1) d)) (λ below.
+        let j = below-before (rank m q) (k + 1) d (point-of q stands.0) more below in
+        elim (cases_eq j.0 k) [
+          | inl last ↦ apart (ap (λ (r : Rank). r.index) (sym j.2 ∙ ap (λ i. get_or points i d) last))
+          | inr old ↦ (let less = j.1 in
+              let up = order.rises j.0 k d (omega (arith, less, old)) (omega (arith, more)) in
+              false≢true (sym stands.1 ∙ subst (λ (r : Rank). below_by side r (get_or points k d) ≡ true) j.2 up))
+        ]),
   )
   stands-next k d q Under more apart stands = (stands.0, under-next k d (rank m q) more stands.1)
   stands-next k d q Seen more apart stands = tt

@@ -3,6 +3,7 @@ use Rattle.std.proofs.Common.{◌≡◌, ◌<◌, ◌+◌, ℕ, Bool, true, fals
 use Rattle.std.specs.Prelude.{◌↔◌, IsTrue}
 use Rattle.std.specs.Option.{option_eq}
 use Rattle.std.proofs.lemmas.Bool.{cases_lt, eqb-true, false≢true}
+use Rattle.std.proofs.lemmas.Option.{none-some, same_Some}
 
 -- it does not hold
 pub fails : {P : Type 0} (b : Bool) → b ≡ false → IsTrue b ↔ P → P → ⊥
@@ -28,15 +29,7 @@ negated false is = (λ e p. false≢true (is.1 p), λ none. refl)
 pub both_ways : {P Q : Type 0} (b : Bool) → IsTrue b ↔ P → (P → Q) → (Q → P) → IsTrue b ↔ Q
 both_ways b is there back = (λ t. there (is.0 t), λ q. is.1 (back q))
 
--- what stands in an option is one
-pub some_same : (j k : ℕ) → ◌≡◌ {A = Option ℕ} (Some j) (Some k) → j ≡ k
-some_same j k e = cc
-
--- an option that is none has nothing
-pub none_some : (k : ℕ) → ◌≡◌ {A = Option ℕ} None (Some k) → ⊥
-none_some k e = cc
-
 -- whether an option is this number
 pub is_some_of : (o : Option ℕ) (c : ℕ) → (option_eq eqb o (Some c) ≡ true) ↔ (o ≡ Some c)
-is_some_of (Some a) c = (λ e. ap Some (eqb-true a c e), λ e. eq-eqb a c (some_same a c e))
-is_some_of None c = (λ e. absurd (false≢true e), λ e. absurd (none_some c e))
+is_some_of (Some a) c = (λ e. ap Some (eqb-true a c e), λ e. eq-eqb a c (same_Some a c e))
+is_some_of None c = (λ e. absurd (false≢true e), λ e. absurd (none-some c e))

@@ -1,12 +1,12 @@
 -- A flood from the kept pits: the lines so far, the points that are listed or wait, and those that wait.
-use Rattle.std.specs.Prelude.{◌≡◌, ◌<◌, ◌≤◌, ◌+◌, ◌⊎◌, ◌++◌, ℕ, ℤ, Bool, true, false, List, ◌∷◌, length, slice_index_or, slice_set, Option, Some, None, AllPairs, Contains, if◌then◌else◌, nat_eq}
+use Rattle.std.specs.Prelude.{◌≡◌, ◌<◌, ◌≤◌, ◌+◌, ◌⊎◌, ◌++◌, ℕ, ℤ, Bool, true, false, List, ◌∷◌, length, slice_index_or, slice_set, Option, Some, None, Contains, if◌then◌else◌, nat_eq}
 use Rattle.std.specs.BinaryHeap.{IsHeap}
 use Rattle.std.specs.List.{sum_by}
 use Rattle.std.specs.List.Sorted.{IsPermutation}
 use Rattle.hd_map.specs.declared.types.Pos.{Pos}
 use Rattle.hd_map.specs.declared.types.Rank.{Rank}
 use Rattle.hd_map.specs.declared.types.SideName.{SideName}
-use Rattle.hd_map.specs.Map.{Map, Present, cell_count, place_of, position_at}
+use Rattle.hd_map.specs.Map.{Map, Present, cell_count, place_of}
 use Rattle.hd_map.specs.Neighbour.{AreBesideUnder, Neighbour}
 use Rattle.hd_map.specs.Order.{IsNotAbove}
 use Rattle.hd_map.specs.Rank.{IsPoint, rank, below_by}
@@ -138,25 +138,6 @@ AreNotBelow m side ahead point = (x : Rank) (p : ℕ) → IsPoint m x → ahead_
 abbrev pub ArePassed : Map → SideName → List (Option ℕ) → Rank → Type 0
 ArePassed m side ahead point = (x : Rank) (p : ℕ) → IsPoint m x → ahead_at ahead x.index ≡ Some p → below_by side point x ≡ true
 
--- the points with an index below n, by index
-pub record ArePointsTo (m : Map) (n : ℕ) (points : List Rank) : Type 0 where
-  pub each : (r : Rank) → Contains points r → IsPoint m r
-  pub all : (r : Rank) → IsPoint m r → r.index < n → Contains points r
-  pub below : (r : Rank) → Contains points r → r.index < n
-  pub rises : AllPairs (λ (a : Rank) (b : Rank). a.index < b.index) points
-
--- the points of the map, by index
-pub record ArePoints (m : Map) (points : List Rank) : Type 0 where
-  pub each : (r : Rank) → Contains points r → IsPoint m r
-  pub all : (r : Rank) → IsPoint m r → Contains points r
-  pub rises : AllPairs (λ (a : Rank) (b : Rank). a.index < b.index) points
-
--- the points of the map, of which each is below all later ones
-pub record AreInOrder (m : Map) (side : SideName) (points : List Rank) : Type 0 where
-  pub each : (r : Rank) → Contains points r → IsPoint m r
-  pub all : (r : Rank) → IsPoint m r → Contains points r
-  pub rises : (i j : ℕ) (d : Rank) → i < j → j < length points → below_by side (slice_index_or points i d) (slice_index_or points j d) ≡ true
-
 -- the line of a kept pit
 abbrev pub kept_line : Kept → AuditLine
 kept_line k = record { index = k.pit.index; parent = None; cut = Some k.pit.index }
@@ -169,11 +150,6 @@ pub record AreBegun (m : Map) (kept : List Kept) (n : ℕ) (seen : List Bool) (l
   pub are : (k : ℕ) (d : Kept) → k < n → line_at lines k ≡ kept_line (slice_index_or kept k d)
   pub listed : (k : ℕ) → k < length lines → seen_at seen (line_at lines k).index ≡ true
   pub found : (i : ℕ) → seen_at seen i ≡ true → (k : ℕ) × (k < length lines) × ((line_at lines k).index ≡ i)
-
--- the index is that of a present point
-pub record IsPointAt (m : Map) (i : ℕ) : Type 0 where
-  pub inside : i < cell_count m.size
-  pub present : Present m (position_at m.size i)
 
 -- the cut of a point that is reached from one of this cut
 abbrev pub next_cut : Map → SideName → ℕ → ℤ → Option ℕ → Rank → Option ℕ

@@ -3,6 +3,7 @@ pub mod Rules
 pub mod Shown
 pub mod Listing
 pub mod LowestFirst
+pub mod Orders
 pub mod Flooding
 pub mod Text
 pub mod Reading

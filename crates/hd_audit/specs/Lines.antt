@@ -1,8 +1,8 @@
 -- The lines of a pruning certificate, each about a point, and what they say of it.
-use Rattle.std.specs.Prelude.{◌≡◌, ℕ, List, [], ◌∷◌, slice_index_or, Some, None, Contains}
+use Rattle.std.specs.Prelude.{◌≡◌, ◌<◌, ℕ, List, [], ◌∷◌, slice_index_or, Some, None, Contains}
 use Rattle.hd_map.specs.declared.types.Pos.{Pos}
 use Rattle.hd_map.specs.declared.types.Rank.{Rank}
-use Rattle.hd_map.specs.Map.{Map, position_at}
+use Rattle.hd_map.specs.Map.{Map, Present, cell_count, position_at}
 use Rattle.hd_map.specs.Rank.{rank}
 use Rattle.hd_audit.specs.declared.types.Audit.{Audit}
 use Rattle.hd_audit.specs.declared.types.AuditLine.{AuditLine}
@@ -18,6 +18,11 @@ point_at m lines k = position_at m.size (line_at lines k).index
 -- the rank of the point of an index
 abbrev pub rank_at : Map → ℕ → Rank
 rank_at m i = rank m (position_at m.size i)
+
+-- the index is that of a present point
+pub record IsPointAt (m : Map) (i : ℕ) : Type 0 where
+  pub inside : i < cell_count m.size
+  pub present : Present m (position_at m.size i)
 
 module _ (lines : List AuditLine) where
   -- x is a line of the point of this index

@@ -1,17 +1,11 @@
 -- The first lines of a shown certificate.
-use Rattle.std.specs.Prelude.{◌↔◌, ◌<◌, ◌≤◌, ℕ, ℤ, List, length, Contains}
+use Rattle.std.specs.Prelude.{◌<◌, ◌≤◌, ℕ, ℤ, List, length}
 use Rattle.hd_map.specs.declared.types.Rank.{Rank}
 use Rattle.hd_map.specs.declared.types.SideName.{SideName}
 use Rattle.hd_map.specs.Map.{Map}
-use Rattle.hd_map.specs.Region.{IsPit}
-use Rattle.hd_map.specs.Undercut.{Undercuts}
 use Rattle.hd_audit.specs.declared.types.AuditLine.{AuditLine}
 use Rattle.hd_audit.specs.Lines.{line_at, rank_at}
 use Rattle.hd_audit.specs.Shown.{CutIs, IsKeptLine, IsReachedLine}
-
--- these are exactly the pits that no pit undercuts
-pub record IsFirmSet (m : Map) (side : SideName) (thousandths : ℕ) (sz : ℤ) (kept : List Rank) : Type 0 where
-  pub exactly : (p : Rank) → Contains kept p ↔ (IsPit m side p × ((q : Rank) → Undercuts m side thousandths sz q p → ⊥))
 
 -- the first n lines, among them those of all kept pits, are as they are shown
 pub record AreShownTo (m : Map) (side : SideName) (thousandths : ℕ) (sz : ℤ) (kept : List Rank) (lines : List AuditLine) (n : ℕ) : Type 0 where

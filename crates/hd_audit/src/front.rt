@@ -1,8 +1,7 @@
 // The points that wait to be listed, and how the unlisted neighbours of a listed point come to wait.
-ghost use Rattle.std.specs.Prelude.{◌≡◌, ◌<◌, ◌≤◌, ◌+◌, MatchOption, OnOk, length};
+ghost use Rattle.std.specs.Prelude.{◌≡◌, ◌<◌, ◌≤◌, ◌+◌, OnOk, length};
 ghost use Rattle.std.specs.BinaryHeap.{heap_items};
 ghost use Rattle.hd_map.specs.Map.{InGrid, Present, cell_count, place_of};
-ghost use Rattle.hd_map.specs.Neighbour.{AreBesideUnder};
 ghost use Rattle.hd_audit.specs.Flooding.{IsLowestFirst, OffersAt, OffersIfPresent, SpreadsRound};
 ghost use Rattle.hd_audit.specs.Standings.{AreStanding, seen_of, standing_at};
 ghost use Rattle.hd_audit.specs.declared.standing.Standing.TheVariants.{Under};
@@ -11,7 +10,7 @@ use crate::place_table::PlaceTable;
 use crate::standing::Standing;
 use crate::waiting::Waiting;
 use hd_list::Memory;
-use hd_map::{Heights, Pos, Rank, Side, are_beside, contains, index_of, rank_of};
+use hd_map::{Heights, Pos, Rank, Side, beside_at, index_of, rank_of};
 use std::collections::BinaryHeap;
 
 /// The points that are listed or wait. Those that wait and are not below a level, which rises, are noted by
@@ -85,29 +84,6 @@ fn offer_at<S: Side, G: Heights>(
     match beside_at(grid, at, x, y) {
         Some(q) => offer(grid, q, from, level, front),
         None => Ok(()),
-    }
-}
-
-// The position at a step from a point, if it is in the grid and beside the point.
-#[inline]
-fn beside_at<G: Heights>(grid: &G, at: Pos, x: u32, y: u32) -> Option<Pos>
-    requires at { InGrid (G.map grid.now).size at }
-    requires x { x ≤ 2 }
-    requires y { y ≤ 2 }
-    ensures { MatchOption result ((q : _) → q.x + 1 ≡ at.x + x → q.y + 1 ≡ at.y + y → InGrid (G.map grid.now).size q → AreBesideUnder (G.map grid.now).adjacency at q → ⊥)
-        (λ q. (q.x + 1 ≡ at.x + x) × (q.y + 1 ≡ at.y + y) × InGrid (G.map grid.now).size q × AreBesideUnder (G.map grid.now).adjacency at q) }
-{
-    if at.x + x == 0 || at.y + y == 0 {
-        return None;
-    }
-    let q = Pos {
-        x: at.x + x - 1,
-        y: at.y + y - 1,
-    };
-    if contains(grid.size(), q) && are_beside(grid.adjacency(), at, q) {
-        Some(q)
-    } else {
-        None
     }
 }
 

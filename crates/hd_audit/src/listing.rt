@@ -4,11 +4,11 @@ ghost use Rattle.std.specs.BinaryHeap.{heap_items};
 ghost use Rattle.hd_map.specs.Map.{Present, cell_count};
 ghost use Rattle.hd_map.specs.Pruning.{SzIs};
 ghost use Rattle.hd_map.specs.Rank.{IsPoint, rank};
-ghost use Rattle.hd_prune.specs.Kept.{pits_kept};
+ghost use Rattle.hd_prune.specs.Kept.{AreNotUndercut, pits_kept};
 ghost use Rattle.hd_prune.specs.Staying.{AreKeptAlone};
-ghost use Rattle.hd_audit.specs.Flooding.{AreBegun, AreNotBelow, ArePassed, IsFront, IsFrontAt, IsLowestFirst, IsPointAt, Spreads, next_cut, next_line, rank_of_waiting};
-ghost use Rattle.hd_audit.specs.Lines.{line_at};
-ghost use Rattle.hd_audit.specs.Listing.{AreShownTo, IsFirmSet};
+ghost use Rattle.hd_audit.specs.Flooding.{AreBegun, AreNotBelow, ArePassed, IsFront, IsFrontAt, IsLowestFirst, Spreads, next_cut, next_line, rank_of_waiting};
+ghost use Rattle.hd_audit.specs.Lines.{IsPointAt, line_at};
+ghost use Rattle.hd_audit.specs.Listing.{AreShownTo};
 ghost use Rattle.hd_audit.specs.Shown.{AreShownLines};
 ghost use Rattle.hd_audit.specs.Standings.{AreStanding, seen_of};
 
@@ -113,7 +113,7 @@ fn list_others<S: Side, G: Heights>(
     front: &mut Front<S>,
 ) -> Result<(), Memory>
     requires side { limit.now.side ≡ S.NAME }
-    requires firm { IsFirmSet (G.map grid.now) S.NAME limit.now.percent.thousandths limit.now.sz (pits_kept kept.now) }
+    requires firm { AreNotUndercut (G.map grid.now) S.NAME limit.now.percent.thousandths limit.now.sz kept.now }
     requires shown { AreShownTo (G.map grid.now) S.NAME limit.now.percent.thousandths limit.now.sz (pits_kept kept.now) lines.old (length lines.old) }
     requires front { IsFrontAt (G.map grid.now) S.NAME lines.old (seen_of front.old.standing.items) front.old.ahead (heap_items front.old.low) }
     requires standing { AreStanding (G.map grid.now) S.NAME None front.old.standing.items }
@@ -146,7 +146,7 @@ fn list_from<S: Side, G: Heights>(
     front: &mut Front<S>,
 ) -> Result<(), Memory>
     requires side { limit.now.side ≡ S.NAME }
-    requires firm { IsFirmSet (G.map grid.now) S.NAME limit.now.percent.thousandths limit.now.sz (pits_kept kept.now) }
+    requires firm { AreNotUndercut (G.map grid.now) S.NAME limit.now.percent.thousandths limit.now.sz kept.now }
     requires shown { AreShownTo (G.map grid.now) S.NAME limit.now.percent.thousandths limit.now.sz (pits_kept kept.now) lines.old (length lines.old) }
     requires front { IsFrontAt (G.map grid.now) S.NAME lines.old (seen_of front.old.standing.items) front.old.ahead (heap_items front.old.low) }
     requires point { IsPoint (G.map grid.now) point }
@@ -181,7 +181,7 @@ fn list_low<S: Side, G: Heights>(
     front: &mut Front<S>,
 ) -> Result<(), Memory>
     requires side { limit.now.side ≡ S.NAME }
-    requires firm { IsFirmSet (G.map grid.now) S.NAME limit.now.percent.thousandths limit.now.sz (pits_kept kept.now) }
+    requires firm { AreNotUndercut (G.map grid.now) S.NAME limit.now.percent.thousandths limit.now.sz kept.now }
     requires shown { AreShownTo (G.map grid.now) S.NAME limit.now.percent.thousandths limit.now.sz (pits_kept kept.now) lines.old (length lines.old) }
     requires front { IsFront (G.map grid.now) S.NAME lines.old (Some level) (seen_of front.old.standing.items) front.old.ahead (heap_items front.old.low) (length lines.old) }
     requires standing { AreStanding (G.map grid.now) S.NAME (Some level) front.old.standing.items }

@@ -16,10 +16,6 @@ start_after front text part begins =
     (start_of (front ++ part) (drop (length part) text))
 
 module _ (old mid new : Option (List ℕ)) (front text : List ℕ) (written : Appends old mid front) where
-  -- a text is written, and then some first bytes of another
-  pub AppendsStart-after : AppendsStart mid new text → AppendsStart old new (front ++ text)
-  AppendsStart-after (got, begins, more) = (front ++ got, start_after front text got begins, Appends-trans old mid new front got written more)
-
   -- and then not all of it
   pub AppendsPart-after : AppendsPart mid new text → AppendsPart old new (front ++ text)
   AppendsPart-after (got, begins, short, more) =

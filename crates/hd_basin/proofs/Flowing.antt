@@ -21,10 +21,6 @@ module _ (m : Map) (side : SideName) (t : ℕ) where
       let same : point.at ≡ q = sym (rank_position m f.to point.at point.present point.rank_is) ∙ sym f.at in
       (subst (Present m) same point.present, ap (rank m) (sym same) ∙ sym point.rank_is)
 
-  -- so that it has a label there
-  pub flows-labelled : (s : Rank) (q : Pos) → FlowsTo m side s q → IsLabel m side t q None → IsRoot m side s s
-  flows-labelled s q f absent = absurd (absent (flows-point s q f).0)
-
   -- and a sink flows into the basin of that label
   pub flows-into : (s : Rank) (q : Pos) (u : Rank) → FlowsTo m side s q → IsLabel m side t q (Some u) → FlowsInto m side t s u
   flows-into s q u f l = record { next = f.to; is_next = f.is_next; sink = subst (λ (r : Rank). IsSinkOf m side t r u) (flows-point s q f).1 l.1 }

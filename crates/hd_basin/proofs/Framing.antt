@@ -181,9 +181,6 @@ pub record AreFilled (m : Map) (f : Frame) (n : ℕ) (heights : List (Option ℤ
   pub whole : length heights ≡ n
   pub each : (k : ℕ) → k < n → slice_index_or heights k None ≡ height_at m (at_step f k)
 
-pub filled_none : (m : Map) (f : Frame) → AreFilled m f 0 []
-filled_none m f = record { whole = refl; each = λ k below. absurd (omega arith) }
-
 pub filled_more : (m : Map) (f : Frame) (n : ℕ) (heights : List (Option ℤ)) (o : Option ℤ) → AreFilled m f n heights → o ≡ height_at m (at_step f n) → AreFilled m f (n + 1) (heights ++ o ∷ [])
 filled_more m f n heights o filled e = record {
   whole = simp length-append (omega (arith, filled.whole));

@@ -204,9 +204,6 @@ module _ (m : Map) (side : SideName) (t tile : ℕ) (f : Frame) (k : ℕ) (some 
       pub numbers-known : (j i : ℕ) → slice_get numbers j ≡ Some i → i ≢ no_node → i < length ns
       numbers-known j i at taken = (let n = g.known j i at taken in slice_get_within ns i n.0 n.1)
 
-      pub nodes-small : (i : ℕ) (n : Node) → slice_get ns i ≡ Some n → n.points ≤ k
-      nodes-small i n at = (g.nodes i n at).few
-
       -- the point is counted by the node of its sink
       module _ (ns' : List Node) (numbers' : List ℕ) (label : ℕ) (a : AddsToNode m t here q ns ns' numbers numbers' label) where
         same_low : a.new.low ≡ a.old.low

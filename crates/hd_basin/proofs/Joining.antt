@@ -17,7 +17,7 @@ use Rattle.hd_basin.specs.declared.part.Part.{Part}
 use Rattle.hd_basin.specs.declared.part.Seam.{Seam}
 use Rattle.hd_basin.specs.Basin.{IsSinkOf, IsBasinMeeting, IsBasinPass, tile_at}
 use Rattle.hd_basin.specs.Built.{IsAsked, IsBuilt, IsKnown, IsNoded, IsRightPass}
-use Rattle.hd_basin.specs.Candidates.{AreCandidates, IsCandidate, KeepLowest, pass_between}
+use Rattle.hd_basin.specs.Seams.{AreCandidates, IsCandidate, KeepLowest, pass_between}
 use Rattle.hd_basin.specs.Parts.{IsBetween, IsFresh, IsSeamOf, place_in_tile}
 use Rattle.hd_basin.specs.Sinks.{IsArea}
 use Rattle.hd_basin.proofs.Areas.{area-in, area-below, area-at}

@@ -11,7 +11,6 @@ pub mod Staleness
 pub mod Whole
 pub mod Naming
 pub mod Framing
-pub mod Walking
 pub mod Edges
 pub mod Lists
 pub mod Areas

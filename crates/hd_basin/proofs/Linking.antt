@@ -34,8 +34,7 @@ use Rattle.hd_basin.proofs.Areas.{area-in, area-tile, place-at, place-one}
 use Rattle.hd_basin.proofs.Framing.{frame-in_grid, step-in_frame}
 use Rattle.hd_basin.proofs.Keeping.{tile-of_point}
 use Rattle.hd_basin.proofs.Rounding.{own-rank, lowest-round}
-use Rattle.hd_basin.proofs.SinkLaws.{pit-sink, sink-own, sink-unique, sink-is_sink, sink-not_above}
-use Rattle.hd_basin.proofs.Walking.{sink_by_next}
+use Rattle.hd_basin.proofs.SinkLaws.{pit-sink, sink-own, sink-unique, sink-is_sink, sink-not_above, sink_by_next}
 
 module _ (m : Map) (side : SideName) (t : ℕ) where
   -- a sink is onward from itself
@@ -193,10 +192,6 @@ module _ (m : Map) (side : SideName) (f : Frame) (whole : IsMap m) (ranks : List
 
   pub place-low : IsLow m side (IsRound m.adjacency (at_place f (i * f.columns + j))) (low_round side m.adjacency ranks (f.columns + 2) (i * (f.columns + 2) + j))
   place-low = subst (λ (p : Pos). IsLow m side (IsRound m.adjacency p) (low_round side m.adjacency ranks (f.columns + 2) (i * (f.columns + 2) + j))) (sym (place-at f i j column)) (lowest-round m side whole f ranks are i j row column)
-
--- no links, and one more
-pub links-none : (m : Map) (side : SideName) (t : ℕ) (f : Frame) → AreLinksTo m side t f 0 []
-links-none m side t f = record { whole = refl; each = λ k below. absurd (omega (arith, below)) }
 
 pub links-more : (m : Map) (side : SideName) (t : ℕ) (f : Frame) (n : ℕ) (links : List ℕ) (link : ℕ) → AreLinksTo m side t f n links → IsLink m side t f n link → AreLinksTo m side t f (n + 1) (links ++ link ∷ [])
 links-more m side t f n links link are new = record {

@@ -17,7 +17,7 @@ use Rattle.hd_map.specs.SideLaws.{below_by-order}
 use Rattle.hd_map.proofs.Items.{Contains-map, map-Contains, Contains-none}
 use Rattle.hd_map.proofs.Sides.{below-not_above, not_above-refl, not_above-trans}
 use Rattle.hd_basin.specs.declared.part.Seam.{Seam}
-use Rattle.hd_basin.specs.Candidates.{KeepLowest}
+use Rattle.hd_basin.specs.Seams.{KeepLowest}
 use Rattle.hd_basin.specs.Lowest.{HasLowest, key_of, lower_of, pair_cmp}
 
 pair-total : IsTotalOrder pair_cmp
@@ -40,13 +40,6 @@ same_key k q = elim (cases_eq q.0 k.0) [
   ]
   | inr g ↦ inr (λ h. g (ap (λ (x : ℕ × ℕ). x.0) h))
 ]
-
-pub lowest-none : (side : SideName) (table : ℕ × ℕ → Option Seam) → ((k : ℕ × ℕ) → table k ≡ None) → HasLowest side [] table
-lowest-none side table none = record {
-  found = λ k s at. absurd (let e = none k in cc);
-  lowest = λ k s u at in_none same. absurd (Contains-none u in_none);
-  each = λ u in_none. absurd (Contains-none u in_none);
-}
 
 module _ (side : SideName) (all : List Seam) (table next : ℕ × ℕ → Option Seam) (s : Seam) (has : HasLowest side all table) (new : next (key_of s) ≡ Some (lower_of side (table (key_of s)) s))
     (others : (k : ℕ × ℕ) → (k ≡ key_of s → ⊥) → next k ≡ table k) where

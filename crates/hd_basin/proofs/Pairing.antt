@@ -17,7 +17,7 @@ use Rattle.hd_basin.specs.declared.part.Part.{Part}
 use Rattle.hd_basin.specs.declared.part.Seam.{Seam}
 use Rattle.hd_basin.specs.Basin.{IsSinkOf}
 use Rattle.hd_basin.specs.Built.{IsAsked, IsAskedNext, IsKnown, NotesPair}
-use Rattle.hd_basin.specs.Candidates.{AreCandidates, IsCandidate}
+use Rattle.hd_basin.specs.Seams.{AreCandidates, IsCandidate}
 use Rattle.hd_basin.specs.Parts.{IsFresh, label_of, low_of, node_at, place_in_tile}
 use Rattle.hd_basin.specs.Sinks.{IsArea, at_place}
 use Rattle.hd_basin.specs.Frames.{InFrame}
@@ -35,10 +35,6 @@ module _ (m : Map) (side : SideName) (t tile : ℕ) (stamps : List ℕ) (parts :
 
   abbrev Next : ℕ → List Pos → ℕ → Pos → Pos → Type 0
   Next k near i = IsAskedNext m t stamps parts f k near i
-
-  -- no pair is asked for at first
-  pub pairs-none : AreCandidates m side t tile stamps (Asked 0) []
-  pairs-none = record { each = λ s within. absurd (Contains-none s within); every = λ p q a b asked. absurd (let before = asked.before in omega (arith, before)) }
 
   -- at a place no neighbour comes first
   pub pairs-begin : (k : ℕ) (near : List Pos) (all : List Seam) → AreCandidates m side t tile stamps (Asked k) all → AreCandidates m side t tile stamps (Next k near 0) all

@@ -65,10 +65,6 @@ way-start side pool p n inside e = λ m whole of. (
     let r = node-right m side pool of p inside n e in
     record { present = r.1.0; node = r.0; same_root = λ s root. (sink-root m side pool.side (rank m p) n.low s r.1.1).1 root })
 
--- where no node is, no point is present
-pub way-none : (side : SideName) (pool : Pool) (p : Pos) → InGrid pool.size p → node_of pool.size pool.side pool.parts p ≡ None → (m : Map) → IsMap m → IsPoolOf m side pool → RootIs m side p None
-way-none side pool p inside e = λ m whole of. none-right m side pool of p inside e
-
 module _ (side : SideName) (pool : Pool) (p : Pos) (n : Node) (q : Pos) (way : OnWay side pool p n) (onward : n.flows ≡ Some q) where
   -- the node flows to the position
   flows : (m : Map) → IsMap m → IsPoolOf m side pool → FlowsTo m side n.low q

@@ -21,10 +21,6 @@ use Rattle.hd_basin.specs.declared.frame.Frame.{Frame}
 use Rattle.hd_basin.specs.Frames.{InFrame}
 use Rattle.hd_basin.specs.Round.{AreRanks, low_above, low_below, low_level, low_round}
 
--- no ranks, and one more
-pub ranks-none : (m : Map) (side : SideName) (f : Frame) → AreRanks m side f 0 []
-ranks-none m side f = record { whole = refl; each = λ i j column below. absurd (omega (arith, below)) }
-
 pub ranks-more : (m : Map) (side : SideName) (f : Frame) (i j n : ℕ) (ranks : List Rank) (r : Rank) → j < f.columns + 2 → n ≡ i * (f.columns + 2) + j → AreRanks m side f n ranks
     → IsLow m side (IsAtPlace (f.top + i) (f.left + j)) r → AreRanks m side f (n + 1) (ranks ++ r ∷ [])
 ranks-more m side f i j n ranks r column at are new = record {

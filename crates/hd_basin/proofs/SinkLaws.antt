@@ -1,16 +1,23 @@
 -- The sinks of points: one for each, reached without rising, on the way to the root.
-use Rattle.std.proofs.Common.{◌≡◌, ℕ, List, [], ◌∷◌, refl, sym, ◌∙◌, subst}
+use Rattle.std.proofs.Common.{◌≡◌, ◌≢◌, ℕ, List, [], ◌∷◌, refl, sym, ◌∙◌, ap, subst}
 use Rattle.std.specs.Prelude.{◌↔◌}
+use Rattle.hd_map.specs.declared.types.Pos.{Pos}
 use Rattle.hd_map.specs.declared.types.Rank.{Rank}
+use Rattle.hd_map.specs.declared.types.Size.{Size}
 use Rattle.hd_map.specs.declared.types.SideName.{SideName}
-use Rattle.hd_map.specs.Map.{Map}
+use Rattle.hd_map.specs.Map.{Map, Present}
 use Rattle.hd_map.specs.Order.{IsNotAbove}
-use Rattle.hd_map.specs.Rank.{Near, below_by}
+use Rattle.hd_map.specs.Rank.{Near, below_by, rank}
 use Rattle.hd_map.specs.Region.{IsNext, IsPit, IsRoot}
 use Rattle.hd_map.specs.SideLaws.{below_by-order}
 use Rattle.hd_map.proofs.Sides.{below-not_above, not_above-trans, not_above-refl}
+use Rattle.hd_map.proofs.Points.{point_at}
 use Rattle.hd_map.proofs.Nexts.{next-unique, root-step, root-next}
-use Rattle.hd_basin.specs.Basin.{IsSink, AreNextsInside, IsSinkOf}
+use Rattle.hd_tiles.specs.Tile.{tile_of}
+use Rattle.hd_basin.specs.Views.{ShowSame}
+use Rattle.hd_basin.specs.Basin.{IsSink, AreNextsInside, IsSinkOf, tile_at}
+use Rattle.hd_basin.proofs.Keeping.{keeps-show, tile-of_point}
+use Rattle.hd_basin.proofs.Contents.{keeps-sym, sink-tile, sink_of_kept}
 use Rattle.hd_map.proofs.Levels.{Reach, here, step, PointStep}
 
 module _ (m : Map) (side : SideName) (t : ℕ) where
@@ -76,14 +83,10 @@ module _ (m : Map) (side : SideName) (t : ℕ) where
     pub is_next : IsNext m side s next
     pub sink : IsSinkOf m side t next u
 
-  -- the sinks lead from s, each flowing into the one after, to the pit r
-  abbrev pub AreFlows : Rank → List Rank → Rank → Type 0
-  AreFlows s [] r = (s ≡ r) × IsPit m side s
-  AreFlows s (u ∷ us) r = FlowsInto s u × AreFlows u us r
-
-  -- where sinks lead is the root of the first one
-  pub flows-root : (s r : Rank) (us : List Rank) → AreFlows s us r → IsRoot m side s r
-  flows-root s r [] flows = ([], flows)
-  flows-root s r (u ∷ us) flows =
-      let f = flows.0 in
-      root-step m side s f.next r f.is_next ((sink-root f.next u r f.sink).1 (flows-root u r us flows.1))
+-- a point whose next is in another tile is a sink
+pub sink_by_next : (m : Map) (side : SideName) (t : ℕ) (p q : Pos) → Present m p → Present m q → IsNext m side (rank m p) (rank m q) → tile_of m.size t q ≢ tile_of m.size t p → IsSink m side t (rank m p)
+sink_by_next m side t p q present there next other = record {
+  point = point_at m p present;
+  leaves = λ r is same. other (
+      sym (tile-of_point m t (rank m q) q there refl) ∙ ap (tile_at m.size t) (next-unique m side (rank m p) (rank m q) r next is) ∙ same ∙ tile-of_point m t (rank m p) p present refl);
+}

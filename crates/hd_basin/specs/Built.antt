@@ -14,7 +14,7 @@ use Rattle.hd_basin.specs.declared.part.Seam.{Seam}
 use Rattle.hd_basin.specs.Basin.{IsSink, IsSinkOf, IsNode, IsLabel, IsBasinMeeting, IsBasinPass, tile_at}
 use Rattle.hd_basin.specs.declared.ends.End.{End}
 use Rattle.hd_basin.specs.declared.frame.Frame.{Frame}
-use Rattle.hd_basin.specs.Candidates.{IsCandidate}
+use Rattle.hd_basin.specs.Seams.{IsCandidate}
 use Rattle.hd_basin.specs.Sinks.{at_place}
 use Rattle.hd_basin.specs.Parts.{inner_passes, IsBetween, IsFresh, IsSeamOf, label_of, low_of, node_at, place_in_tile}
 

@@ -18,7 +18,7 @@ pub mod Links
 pub mod Meetings
 pub mod Gathering
 pub mod Inside
-pub mod Candidates
+pub mod Seams
 pub mod Lowest
 pub mod Listing
 pub mod ExtentTable

@@ -13,9 +13,10 @@ ghost use Rattle.hd_basin.specs.Reading.{RootIs, NodeIs, IsGraphOf, AreExtents};
 ghost use Rattle.hd_basin.specs.Roots.{AreKnownRoots, AreRoots, AreSettled, IsRootOfNode, KeepsKnown, unknown};
 
 use crate::extent_table::ExtentTable;
-use crate::extents::{add_basin, nodes_of};
+use crate::extents::add_basin;
 use crate::graph::{lows_of, passes_of};
 use crate::made::made;
+use crate::node::nodes_of;
 use crate::part::Part;
 use crate::place::place_in_tile;
 use crate::roots::{Roots, UNKNOWN};

@@ -7,9 +7,9 @@ ghost use Rattle.hd_basin.specs.Frames.{InFrame};
 ghost use Rattle.hd_basin.specs.Round.{AreRanks};
 
 use crate::frame::Frame;
-use crate::low::is_missing;
 use crate::round::rank_beside;
 use hd_map::{Heights, Pos, Rank, Side};
+use hd_steep::is_missing;
 
 /// Whether a present point is an edge point: on the border of the grid, or beside a position without a
 /// present point.

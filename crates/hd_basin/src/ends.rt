@@ -1,7 +1,7 @@
 // The basins of points, as they are known while a tile is seen anew.
 ghost use Rattle.std.specs.Prelude.{◌≡◌, ◌≢◌, MatchOption};
 ghost use Rattle.hd_map.specs.Passes.{higher_by};
-ghost use Rattle.hd_basin.specs.Candidates.{pass_between};
+ghost use Rattle.hd_basin.specs.Seams.{pass_between};
 
 use crate::part::Seam;
 use hd_map::{Pass, Rank, Side};

@@ -1,29 +1,15 @@
 // The regions of pits, gathered basin by basin.
-ghost use Rattle.std.specs.Prelude.{◌≡◌, ◌<◌, ◌+◌, ◌^◌, IfOk, OnOk, length};
-ghost use Rattle.std.specs.List.{flat_map};
+ghost use Rattle.std.specs.Prelude.{◌≡◌, ◌<◌, ◌+◌, ◌^◌, OnOk, length};
 ghost use Rattle.std.specs.Option.{ForSome};
 ghost use Rattle.hd_basin.specs.Adding.{IsGreater, IsLesser};
 ghost use Rattle.hd_basin.specs.ExtentTable.{found};
-ghost use Rattle.hd_basin.specs.Extents.{AddsBasin, IsExtentWith, IsOfBoth, nodes_in};
+ghost use Rattle.hd_basin.specs.Extents.{AddsBasin, IsExtentWith, IsOfBoth};
 
 use crate::adding::{greater, lesser};
 use crate::extent_table::ExtentTable;
-use crate::part::Part;
 use crate::{Extent, Node};
-use hd_list::{List, Memory};
+use hd_list::Memory;
 use hd_map::Rank;
-use std::alloc::Global;
-
-/// The nodes of all tiles, tile by tile. `Memory` comes where the list is refused its memory.
-pub fn nodes_of(alloc: Global, parts: &[Part]) -> Result<List<Node>, Memory>
-    ensures { IfOk result (λ nodes. nodes ≡ flat_map nodes_in parts.now) }
-{
-    let mut nodes = List::new(alloc);
-    'parts: for part in parts {
-        nodes.extend_from_slice(part.nodes.as_slice())?;
-    }
-    Ok(nodes)
-}
 
 /// Adds the basin of a node to the region of its pit. `Memory` comes where the table is refused its memory.
 pub fn add_basin(extents: &mut ExtentTable, pit: Rank, node: Node) -> Result<(), Memory>

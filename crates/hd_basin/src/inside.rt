@@ -5,8 +5,7 @@ ghost use Rattle.hd_map.specs.declared.types.Rank.{Rank};
 ghost use Rattle.hd_map.specs.Passes.{higher_by};
 ghost use Rattle.hd_basin.specs.Built.{HasPasses};
 ghost use Rattle.hd_basin.specs.Frames.{InFrame};
-ghost use Rattle.hd_basin.specs.Inside.{AreMet, AreNamed, IsPairAt, IsStep, MeetsPair, join_of, label_at, place_of_frame, step_down, step_right};
-ghost use Rattle.hd_basin.specs.Meetings.{AreChained};
+ghost use Rattle.hd_basin.specs.Inside.{AreMet, AreNamed, IsPairAt, IsStep, join_of, label_at, place_of_frame, step_down, step_right};
 ghost use Rattle.hd_basin.specs.Parts.{pass_named};
 ghost use Rattle.hd_basin.specs.Round.{AreRanks};
 ghost use Rattle.hd_basin.specs.Sinks.{IsArea};
@@ -139,9 +138,13 @@ fn meet_step<S: Side, G: Heights>(
     let Some(near) = stepped(area, at, step) else {
         return Ok(());
     };
-    meet_pair::<S, G>(
-        grid, _tiling, _tile, area, ranks, labels, _nodes, at, near, meetings,
-    )?;
+    let count = meetings.lasts.len();
+    let Some((a, b, higher)) = pair_at::<S, G>(
+        grid, _tiling, _tile, area, ranks, labels, _nodes, count, at, near,
+    ) else {
+        return Ok(());
+    };
+    meetings.note::<S>(a, b, higher)?;
     Ok(())
 }
 
@@ -187,42 +190,6 @@ fn step_down(step: u32) -> u32
     ensures few { result ≤ 1 }
 {
     if step == 0 { 0 } else { 1 }
-}
-
-// Notes the meeting of two positions side by side, if they have one.
-#[inline]
-fn meet_pair<S: Side, G: Heights>(
-    grid: &G,
-    _tiling: Tiling,
-    _tile: u32,
-    area: Frame,
-    ranks: &[Rank],
-    labels: &[u32],
-    _nodes: &[Node],
-    at: Pos,
-    near: Pos,
-    meetings: &mut Meetings,
-) -> Result<(), Memory>
-    requires area { IsArea (G.map grid.now).size _tiling.side _tile area }
-    requires ranks { AreRanks (G.map grid.now) S.NAME area ((area.rows + 2) * (area.columns + 2)) ranks.now }
-    requires named { AreNamed (G.map grid.now) S.NAME _tiling.side area _nodes.now labels.now }
-    requires at { InFrame area at }
-    requires near { InFrame area near }
-    requires step { (step : _) × (step < 4) × IsStep at near step }
-    requires chained { AreChained meetings.old.lasts.items meetings.old.list.items }
-    requires count { length meetings.old.lasts.items ≡ length _nodes.now }
-    ensures chained { OnOk result (AreChained meetings.new.lasts.items meetings.new.list.items) }
-    ensures count { OnOk result (length meetings.new.lasts.items ≡ length _nodes.now) }
-    ensures meets { OnOk result (MeetsPair (G.map grid.now) S.NAME area labels.now (length _nodes.now) at near meetings.old.list.items meetings.new.list.items) }
-{
-    let count = meetings.lasts.len();
-    let Some((a, b, higher)) = pair_at::<S, G>(
-        grid, _tiling, _tile, area, ranks, labels, _nodes, count, at, near,
-    ) else {
-        return Ok(());
-    };
-    meetings.note::<S>(a, b, higher)?;
-    Ok(())
 }
 
 // The meeting of two positions side by side, if they have one: the numbers of two nodes, the lesser

@@ -7,8 +7,8 @@ ghost use Rattle.hd_basin.specs.Views.{ShowSame};
 
 use crate::frame::area_of;
 use crate::lowest::lowest_of;
-use crate::pairs::seams_at;
 use crate::part::Part;
+use crate::seams::seams_at;
 use hd_list::{List, Memory};
 use hd_map::{Heights, Side};
 use hd_tiles::{Looked, Tiling};

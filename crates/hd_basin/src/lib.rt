@@ -16,17 +16,16 @@ mod inside;
 mod joined;
 mod laws;
 mod links;
-mod low;
 mod lowest;
 mod made;
 mod meetings;
 mod node;
 mod noded;
-mod pairs;
 mod part;
 mod place;
 mod roots;
 mod round;
+mod seams;
 mod sinks;
 mod window;
 

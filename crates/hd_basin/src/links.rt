@@ -7,10 +7,10 @@ ghost use Rattle.hd_basin.specs.Round.{AreRanks};
 ghost use Rattle.hd_basin.specs.Sinks.{IsArea, at_place};
 
 use crate::frame::{Frame, is_in_frame, place_in};
-use crate::low::is_missing;
 use crate::round::lowest_round;
 use hd_list::Memory;
 use hd_map::{Heights, Rank, Side, position_of};
+use hd_steep::is_missing;
 use hd_tiles::Tiling;
 use std::alloc::Global;
 

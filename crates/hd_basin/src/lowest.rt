@@ -1,7 +1,7 @@
 // The lowest seam of each two basins.
 ghost use Rattle.std.specs.Prelude.{◌≡◌, IfOk, OnOk, Some, map};
 ghost use Rattle.std.specs.BTreeMap.{IsOrdered, Updates, get};
-ghost use Rattle.hd_basin.specs.Candidates.{KeepLowest};
+ghost use Rattle.hd_basin.specs.Seams.{KeepLowest};
 ghost use Rattle.hd_basin.specs.Lowest.{HasLowest, key_of, lower_of, pair_cmp};
 
 use crate::part::Seam;

@@ -1,5 +1,12 @@
-// The node of a local basin.
+// The nodes of local basins.
+ghost use Rattle.std.specs.Prelude.{◌≡◌, IfOk};
+ghost use Rattle.std.specs.List.{flat_map};
+ghost use Rattle.hd_basin.specs.Extents.{nodes_in};
+
+use crate::part::Part;
+use hd_list::{List, Memory};
 use hd_map::{Pos, Rank};
+use std::alloc::Global;
 
 /// The name of a node: the index of its sink.
 #[derive(Clone, Copy, Debug, PartialEq, Eq)]
@@ -28,4 +35,15 @@ pub struct Node {
     pub edge_low: Option<i64>,
     /// The greatest height of the edge points among them, and none without such a point.
     pub edge_high: Option<i64>,
+}
+
+/// The nodes of all tiles, tile by tile. `Memory` comes where the list is refused its memory.
+pub fn nodes_of(alloc: Global, parts: &[Part]) -> Result<List<Node>, Memory>
+    ensures { IfOk result (λ nodes. nodes ≡ flat_map nodes_in parts.now) }
+{
+    let mut nodes = List::new(alloc);
+    'parts: for part in parts {
+        nodes.extend_from_slice(part.nodes.as_slice())?;
+    }
+    Ok(nodes)
 }

@@ -6,9 +6,9 @@ ghost use Rattle.hd_basin.specs.Frames.{FitsGrid, InFrame};
 ghost use Rattle.hd_basin.specs.Round.{AreRanks, low_above, low_below, low_level, low_round};
 
 use crate::frame::Frame;
-use crate::low::{lower, missing_rank};
 use hd_list::Memory;
 use hd_map::{Adjacency, Heights, Pos, Rank, Side, contains, index_of};
+use hd_steep::{lower, missing_rank};
 use std::alloc::Global;
 
 /// The ranks of the positions of a part of a grid and of those beside it, profile by profile, with

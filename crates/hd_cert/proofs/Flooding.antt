@@ -1,46 +1,26 @@
 -- A flood, entry by entry.
-use Rattle.std.proofs.Common.{◌≡◌, ◌<◌, ◌≤◌, ◌+◌, ◌*◌, ◌%◌, ◌/◌, ℕ, zero, suc, List, [], ◌∷◌, ◌++◌, length, get_or, set, map, replicate, Option, Some, None, IsSome, ◌⊎◌, inl, inr, ap, ◌∙◌, refl, sym, subst, arith}
+use Rattle.std.proofs.Common.{◌≡◌, ◌<◌, ◌≤◌, ◌+◌, ◌*◌, ◌%◌, ◌/◌, ℕ, List, [], ◌∷◌, ◌++◌, length, get_or, set, replicate, Option, Some, None, ◌⊎◌, inl, inr, ap, ◌∙◌, refl, sym, subst, arith}
 use Rattle.std.proofs.Math.ListN.{length-set}
 use Rattle.std.proofs.lemmas.List.{get_or-set_same, get_or-set_other, get_or_append_left, get_or_push, length_push, get_or-replicate, length-replicate, length-map, get_or-map, map-append, map-set}
 use Rattle.std.proofs.lemmas.List.Sums.{sum_by-set}
 use Rattle.std.proofs.lemmas.List.Folds.{sum_by-replicate}
-use Rattle.std.proofs.lemmas.Bool.{cases_lt, cases_eq, false≢true}
+use Rattle.std.proofs.lemmas.Bool.{cases_lt, cases_eq}
 use Rattle.hd_map.specs.declared.types.Pos.{Pos}
-use Rattle.hd_map.specs.declared.types.Size.{Size}
 use Rattle.hd_map.specs.Map.{Map, InGrid, Present, place_of, cell_count}
 use Rattle.hd_map.specs.Neighbour.{Neighbour, AreBesideUnder}
 use Rattle.hd_map.specs.Path.{Leads}
 use Rattle.hd_map.proofs.Gather.{same_pos}
 use Rattle.hd_map.proofs.Points.{neighbour-sym, same_place, place_inside}
-use Rattle.hd_cert.specs.Residues.{residue_of, residue_at, AreResidues, Reaches, ReachesAt}
+use Rattle.hd_cert.specs.declared.residue.Residue.{Residue}
+use Rattle.hd_cert.specs.declared.residue.Residue.TheVariants.{Unreached, Zero}
+use Rattle.hd_cert.specs.Residues.{residue_after, residue_of, residue_at, AreResidues, Reaches, ReachesAt}
 use Rattle.hd_cert.specs.Steps.{IsWanted, OpenStep, steps_at, AreSteps}
-use Rattle.hd_cert.specs.Flood.{Reached, entry_of, is_free, places_of, IsWithin, IsEntry, IsFlood, IsFlooding}
-
--- an option that is something is something
-pub some_of : (o : Option ℕ) → IsSome o → (n : ℕ) × (o ≡ Some n)
-some_of (Some n) h = (n, refl)
-some_of None h = absurd (false≢true h)
+use Rattle.hd_cert.proofs.Residues.{none_noted, none_reached, one_more, residue_read, steps_noted}
+use Rattle.hd_cert.specs.Flood.{Reached, no_entry, entry_of, is_free, IsWithin, IsEntry, IsFlood, IsFlooding, IsAtHead}
 
 -- a step from a neighbour
 pub turned : (m : Map) (IsOpen : Pos → Type 0) (p q : Pos) → OpenStep m IsOpen p q → OpenStep m IsOpen q p
 turned m IsOpen p q s = record { neighbour = neighbour-sym m p q s.neighbour; from = s.to; to = s.from }
-
--- what is told apart from none by its residue
-pub some_residue : (o : Option ℕ) → 1 ≤ residue_of o → IsSome o
-some_residue None h = absurd (omega (arith, h))
-some_residue (Some n) h = refl
-
-none_residue : (o : Option ℕ) → residue_of o ≡ 0 → o ≡ None
-none_residue None e = refl
-none_residue (Some n) e = absurd (omega (arith, e))
-
-none_reached : (n : ℕ) → map residue_of (replicate n None) ≡ replicate n 0
-none_reached zero = refl
-none_reached (suc n) = ap (λ (rest : List ℕ). 0 ∷ rest) (none_reached n)
-
--- the residue that is noted for a point is that of its steps
-pub residue_read : (s : Size) (steps : List (Option ℕ)) (p : Pos) → place_of s p < length steps → residue_at s (map residue_of steps) p ≡ residue_of (steps_at s steps p)
-residue_read s steps p inside = get_or-map residue_of steps (place_of s p) None 0 inside
 
 module _ (m : Map) (IsOpen : Pos → Type 0) (start : Pos) where
   -- a point is noted
@@ -73,8 +53,8 @@ module _ (m : Map) (IsOpen : Pos → Type 0) (start : Pos) where
       let inside : place_of m.size at < length steps = rw f.whole (place_inside m.size at near.to.in_grid) in
       let here : steps_at m.size steps' at ≡ Some n = get_or-set_same steps (place_of m.size at) (Some n) None inside in
       let longer : length queue' ≡ length queue + 1 = length_push queue e in
-      let old : (k : ℕ) → k < length queue → entry_of queue' k ≡ entry_of queue k = λ k h. get_or_append_left queue (e ∷ []) (record { at = record { x = 0; y = 0 }; steps = 0 }) k h in
-      let new : (k : ℕ) → length queue ≡ k → entry_of queue' k ≡ e = λ k h. get_or_push queue e (record { at = record { x = 0; y = 0 }; steps = 0 }) k h in
+      let old : (k : ℕ) → k < length queue → entry_of queue' k ≡ entry_of queue k = λ k h. get_or_append_left queue (e ∷ []) no_entry k h in
+      let new : (k : ℕ) → length queue ≡ k → entry_of queue' k ≡ e = λ k h. get_or_push queue e no_entry k h in
       let first = f.entries head begun in
       let more : (p : Pos) (k : ℕ) → InGrid m.size p → steps_at m.size steps p ≡ Some k → steps_at m.size steps' p ≡ Some k = λ p k there noted.
       noted_more steps at p n k f.whole near.to.in_grid there free noted in
@@ -130,78 +110,67 @@ module _ (m : Map) (IsOpen : Pos → Type 0) (start : Pos) where
             rw (old k less) (w.0, w.1, more q w.0 s.neighbour.to.in_grid w.2));
       }
 
-  -- a flood after a position was looked at, with the residues and indexes that are kept of it
-  pub record GoesOn (steps : List (Option ℕ)) (queue : List Reached) (head : ℕ) (at : Pos) (n : ℕ) (residues' places' : List ℕ) : Type 0 where
-    pub steps' : List (Option ℕ)
-    pub queue' : List Reached
-    pub residues_are : residues' ≡ map residue_of steps'
-    pub places_are : places' ≡ places_of m.size queue'
-    pub flood : IsFlood m IsOpen start steps' queue' head
-    pub begun : head < length queue'
-    pub same : entry_of queue' head ≡ entry_of queue head
-    pub kept : (p : Pos) (k : ℕ) → InGrid m.size p → steps_at m.size steps p ≡ Some k → steps_at m.size steps' p ≡ Some k
-    pub found : IsOpen at → IsWithin m steps' at n
+  -- a flood after a position was looked at, with what was noted before and the entry at its head
+  pub record GoesOn (steps : List (Option ℕ)) (first : Reached) (head : ℕ) (at : Pos) (n : ℕ) (residues : List Residue) (places : List ℕ) : Type 0 where
+    pub flooding : IsFlooding m IsOpen start residues places head
+    pub begun : head < length flooding.queue
+    pub same : entry_of flooding.queue head ≡ first
+    pub kept : (p : Pos) (k : ℕ) → InGrid m.size p → steps_at m.size steps p ≡ Some k → steps_at m.size flooding.steps p ≡ Some k
+    pub found : IsOpen at → IsWithin m flooding.steps at n
 
   -- a position that is closed, or has its steps
-  goes_on_same : (steps : List (Option ℕ)) (queue : List Reached) (head : ℕ) (at : Pos) (n : ℕ) → IsFlood m IsOpen start steps queue head → head < length queue
-      → InGrid m.size at → (entry_of queue head).steps + 1 ≡ n
-      → (IsOpen at → ⊥) ⊎ IsSome (steps_at m.size steps at) → GoesOn steps queue head at n (map residue_of steps) (places_of m.size queue)
-  goes_on_same steps queue head at n f begun inside count why = record {
-    steps' = steps;
-    queue' = queue;
-    residues_are = refl;
-    places_are = refl;
-    flood = f;
+  goes_on_same : (residues : List Residue) (places : List ℕ) (head : ℕ) (at : Pos) (n : ℕ) (f : IsFlooding m IsOpen start residues places head) → head < length f.queue → InGrid m.size at
+      → (entry_of f.queue head).steps + 1 ≡ n → (IsOpen at → ⊥) ⊎ (residue_of (steps_at m.size f.steps at) ≡ Unreached → ⊥) → GoesOn f.steps (entry_of f.queue head) head at n residues places
+  goes_on_same residues places head at n f begun inside count why = record {
+    flooding = f;
     begun = begun;
     same = refl;
     kept = λ p k there noted. noted;
     found = λ is_open. elim why [
       | inl closed ↦ absurd (closed is_open)
       | inr noted ↦
-          let k = some_of (steps_at m.size steps at) noted in
-          let h = f.queued at inside k.0 k.1 in
-          let low = f.narrow h.place h.inside begun in
+          let k = steps_noted (steps_at m.size f.steps at) noted in
+          let h = f.flood.queued at inside k.0 k.1 in
+          let low = f.flood.narrow h.place h.inside begun in
           let is = h.steps_is in
           (k.0, omega (arith, low, is, count), k.1)
     ];
   }
 
   -- an open neighbour that has no steps
-  goes_on_push : (steps : List (Option ℕ)) (queue : List Reached) (head : ℕ) (at : Pos) (n : ℕ) → IsFlood m IsOpen start steps queue head → head < length queue
-      → Neighbour m (entry_of queue head).at at → (entry_of queue head).steps + 1 ≡ n → IsOpen at → steps_at m.size steps at ≡ None
-      → GoesOn steps queue head at n (set (map residue_of steps) (place_of m.size at) (residue_of (Some n))) (places_of m.size queue ++ place_of m.size at ∷ [])
-  goes_on_push steps queue head at n f begun near count is_open free =
+  goes_on_push : (residues : List Residue) (places : List ℕ) (head : ℕ) (at : Pos) (n : ℕ) (f : IsFlooding m IsOpen start residues places head) → head < length f.queue
+      → Neighbour m (entry_of f.queue head).at at → (entry_of f.queue head).steps + 1 ≡ n → IsOpen at → steps_at m.size f.steps at ≡ None
+      → GoesOn f.steps (entry_of f.queue head) head at n (set residues (place_of m.size at) (residue_of (Some n))) (places ++ place_of m.size at ∷ [])
+  goes_on_push residues places head at n f begun near count is_open free =
+      let steps = f.steps in
       let e : Reached = record { at = at; steps = n } in
-      let inside : place_of m.size at < length steps = rw f.whole (place_inside m.size at near.to.in_grid) in
+      let inside : place_of m.size at < length steps = rw f.flood.whole (place_inside m.size at near.to.in_grid) in
       record {
-        steps' = set steps (place_of m.size at) (Some n);
-        queue' = queue ++ e ∷ [];
-        residues_are = sym (map-set residue_of steps (place_of m.size at) (Some n));
-        places_are = sym (map-append (λ (r : Reached). place_of m.size r.at) queue (e ∷ []));
-        flood = flood_push steps queue head at n f begun near count is_open free;
-        begun = rw (length_push queue e) (omega (arith, begun));
-        same = get_or_append_left queue (e ∷ []) (record { at = record { x = 0; y = 0 }; steps = 0 }) head begun;
-        kept = λ p k there was. noted_more steps at p n k f.whole near.to.in_grid there free was;
+        flooding = record {
+          steps = set steps (place_of m.size at) (Some n);
+          queue = f.queue ++ e ∷ [];
+          flood = flood_push steps f.queue head at n f.flood begun near count is_open free;
+          residues_are = ap (λ (rs : List Residue). set rs (place_of m.size at) (residue_of (Some n))) f.residues_are ∙ sym (map-set residue_of steps (place_of m.size at) (Some n));
+          places_are = ap (λ (ps : List ℕ). ps ++ place_of m.size at ∷ []) f.places_are ∙ sym (map-append (λ (r : Reached). place_of m.size r.at) f.queue (e ∷ []));
+        };
+        begun = rw (length_push f.queue e) (omega (arith, begun));
+        same = get_or_append_left f.queue (e ∷ []) no_entry head begun;
+        kept = λ p k there was. noted_more steps at p n k f.flood.whole near.to.in_grid there free was;
         found = λ _. (n, omega arith, get_or-set_same steps (place_of m.size at) (Some n) None inside);
       }
 
-  goes_on : (steps : List (Option ℕ)) (queue : List Reached) (head : ℕ) (at : Pos) (n residue : ℕ) (residues places residues' places' : List ℕ) → IsFlood m IsOpen start steps queue head
-      → head < length queue → residues ≡ map residue_of steps → places ≡ places_of m.size queue → InGrid m.size at
-      → (IsOpen at → steps_at m.size steps at ≡ None → Neighbour m (entry_of queue head).at at) → (entry_of queue head).steps + 1 ≡ n → residue ≡ residue_of (Some n)
-      → Reaches m.size IsOpen at residue residues places residues' places' → GoesOn steps queue head at n residues' places'
-  goes_on steps queue head at n residue residues places residues' places' f begun residues_are places_are there beside count residue_is reaches =
-      let inside : place_of m.size at < length steps = rw f.whole (place_inside m.size at there) in
-      let read : residue_at m.size residues at ≡ residue_of (steps_at m.size steps at) = ap (λ rs. residue_at m.size rs at) residues_are ∙ residue_read m.size steps at inside in
+  goes_on : (residues : List Residue) (places : List ℕ) (head : ℕ) (at : Pos) (n : ℕ) (residue : Residue) (residues' : List Residue) (places' : List ℕ) (f : IsFlooding m IsOpen start residues places head) → head < length f.queue → InGrid m.size at
+      → (IsOpen at → steps_at m.size f.steps at ≡ None → Neighbour m (entry_of f.queue head).at at) → (entry_of f.queue head).steps + 1 ≡ n → residue ≡ residue_of (Some n)
+      → Reaches m.size IsOpen at residue residues places residues' places' → GoesOn f.steps (entry_of f.queue head) head at n residues' places'
+  goes_on residues places head at n residue residues' places' f begun there beside count residue_is reaches =
+      let read = residue_read m.size residues f.steps at f.residues_are f.flood.whole there in
       elim reaches [
         | inl left ↦
-            let why : (IsOpen at → ⊥) ⊎ IsSome (steps_at m.size steps at) = elim left.0 [
-              | inl closed ↦ inl closed
-              | inr some ↦ inr (some_residue (steps_at m.size steps at) (rw (← read) some))
-            ] in
-            rw (left.1, left.2, residues_are, places_are) (goes_on_same steps queue head at n f begun there count why)
+            let why : (IsOpen at → ⊥) ⊎ (residue_of (steps_at m.size f.steps at) ≡ Unreached → ⊥) = rw (← read) left.0 in
+            rw (left.1, left.2) (goes_on_same residues places head at n f begun there count why)
         | inr noted ↦
-            let free : steps_at m.size steps at ≡ None = none_residue (steps_at m.size steps at) (sym read ∙ noted.1) in
-            rw (noted.2, noted.3, residues_are, places_are, residue_is) (goes_on_push steps queue head at n f begun (beside noted.0 free) count noted.0 free)
+            let free : steps_at m.size f.steps at ≡ None = none_noted (steps_at m.size f.steps at) (sym read ∙ noted.1) in
+            rw (noted.2, noted.3, residue_is) (goes_on_push residues places head at n f begun (beside noted.0 free) count noted.0 free)
       ]
 
   -- the number of a position among the nine round another comes before this step
@@ -213,15 +182,11 @@ module _ (m : Map) (IsOpen : Pos → Type 0) (start : Pos) where
   IsAtStep at step q = (q.x + 1 ≡ at.x + step % 3) × (q.y + 1 ≡ at.y + step / 3)
 
   -- the flood while the positions round the point at its head are looked at, step by step
-  pub record IsRound (here : Pos) (n : ℕ) (residues places : List ℕ) (head step : ℕ) : Type 0 where
-    pub steps : List (Option ℕ)
-    pub queue : List Reached
-    pub residues_are : residues ≡ map residue_of steps
-    pub places_are : places ≡ places_of m.size queue
-    pub flood : IsFlood m IsOpen start steps queue head
-    pub begun : head < length queue
-    pub here_is : entry_of queue head ≡ record { at = here; steps = n }
-    pub found : (q : Pos) → Neighbour m here q → IsBefore here step q → IsOpen q → IsWithin m steps q (n + 1)
+  pub record IsRound (here : Pos) (n : ℕ) (residues : List Residue) (places : List ℕ) (head step : ℕ) : Type 0 where
+    pub flooding : IsFlooding m IsOpen start residues places head
+    pub begun : head < length flooding.queue
+    pub here_is : entry_of flooding.queue head ≡ record { at = here; steps = n }
+    pub found : (q : Pos) → Neighbour m here q → IsBefore here step q → IsOpen q → IsWithin m flooding.steps q (n + 1)
 
   -- a neighbour that is not before a step, and before the next, is at the step
   at_step : (at q : Pos) (step : ℕ) → step < 9 → Neighbour m at q → IsBefore at (step + 1) q → (IsBefore at step q → ⊥) → IsAtStep at step q
@@ -250,22 +215,32 @@ module _ (m : Map) (IsOpen : Pos → Type 0) (start : Pos) where
         beside = beside;
       }
 
-  pub round_more : ((p : Pos) → IsOpen p → Present m p) → (here : Pos) (n residue : ℕ) (residues places : List ℕ) (head step : ℕ) (residues' places' : List ℕ) → step < 9 → residue ≡ residue_of (Some (n + 1))
-      → ReachesAt m IsOpen here (step % 3) (step / 3) residue residues places residues' places' → IsRound here n residues places head step → IsRound here n residues' places' head (step + 1)
-  round_more open_present here n residue residues places head step residues' places' below residue_is reaches r = elim reaches [
+  -- there is no neighbour at a step
+  round_past : (here : Pos) (n : ℕ) (residues : List Residue) (places : List ℕ) (head step : ℕ) → step < 9 → ((q : Pos) → Neighbour m here q → IsAtStep here step q → ⊥)
+      → IsRound here n residues places head step → IsRound here n residues places head (step + 1)
+  round_past here n residues places head step below none r = record {
+    flooding = r.flooding;
+    begun = r.begun;
+    here_is = r.here_is;
+    found = λ q near before is_open. elim (cases_lt (3 * q.y + q.x + 4) (3 * here.y + here.x + step)) [
+      | inl less ↦ r.found q near less is_open
+      | inr more ↦ absurd (none q near (at_step here q step below near before (λ less. omega (arith, less, more))))
+    ];
+  }
+
+  pub round_more : ((p : Pos) → IsOpen p → Present m p) → (here : Pos) (n : ℕ) (residue : Residue) {residues : List Residue} {places : List ℕ} {head : ℕ} (step : ℕ) (residues' : List Residue) (places' : List ℕ)
+      → residue ≡ residue_of (Some (n + 1)) → step < 9 → ReachesAt m IsOpen here (step % 3) (step / 3) residue residues places residues' places' → IsRound here n residues places head step → IsRound here n residues' places' head (step + 1)
+  round_more open_present here n residue {residues} {places} {head} step residues' places' residue_is below reaches r = elim reaches [
     | inl (p, x, y, there, beside, one) ↦
+        let queue = r.flooding.queue in
         let at : IsAtStep here step p = (x, y) in
-        let head_at : (entry_of r.queue head).at ≡ here = ap (λ (e : Reached). e.at) r.here_is in
-        let at' : IsAtStep (entry_of r.queue head).at step p = subst (λ (q : Pos). IsAtStep q step p) (sym head_at) at in
-        let beside' : AreBesideUnder m.adjacency (entry_of r.queue head).at p = subst (λ (q : Pos). AreBesideUnder m.adjacency q p) (sym head_at) beside in
-        let g = goes_on r.steps r.queue head p (n + 1) residue residues places residues' places' r.flood r.begun r.residues_are r.places_are there
-        (λ is_open free. beside_head open_present r.steps r.queue head p step below r.flood r.begun at' beside' is_open free) (ap (λ (e : Reached). e.steps + 1) r.here_is) residue_is one in
+        let head_is : (entry_of queue head).at ≡ here = ap (λ (e : Reached). e.at) r.here_is in
+        let at' : IsAtStep (entry_of queue head).at step p = subst (λ (q : Pos). IsAtStep q step p) (sym head_is) at in
+        let beside' : AreBesideUnder m.adjacency (entry_of queue head).at p = subst (λ (q : Pos). AreBesideUnder m.adjacency q p) (sym head_is) beside in
+        let g = goes_on residues places head p (n + 1) residue residues' places' r.flooding r.begun there
+        (λ is_open free. beside_head open_present r.flooding.steps queue head p step below r.flooding.flood r.begun at' beside' is_open free) (ap (λ (e : Reached). e.steps + 1) r.here_is) residue_is one in
         record {
-          steps = g.steps';
-          queue = g.queue';
-          residues_are = g.residues_are;
-          places_are = g.places_are;
-          flood = g.flood;
+          flooding = g.flooding;
           begun = g.begun;
           here_is = g.same ∙ r.here_is;
           found = λ q near before is_open. elim (cases_lt (3 * q.y + q.x + 4) (3 * here.y + here.x + step)) [
@@ -275,53 +250,28 @@ module _ (m : Map) (IsOpen : Pos → Type 0) (start : Pos) where
                 let x' = is.0 in
                 let y' = is.1 in
                 let same : p ≡ q = same_pos p q (omega (arith, x', x)) (omega (arith, y', y)) in
-                subst (λ (o : Pos). IsOpen o → IsWithin m g.steps' o (n + 1)) same g.found is_open
+                subst (λ (o : Pos). IsOpen o → IsWithin m g.flooding.steps o (n + 1)) same g.found is_open
           ];
         }
-    | inr none ↦ rw (none.1, none.2) (record {
-      steps = r.steps;
-      queue = r.queue;
-      residues_are = r.residues_are;
-      places_are = r.places_are;
-      flood = r.flood;
-      begun = r.begun;
-      here_is = r.here_is;
-      found = λ q near before is_open. elim (cases_lt (3 * q.y + q.x + 4) (3 * here.y + here.x + step)) [
-        | inl less ↦ r.found q near less is_open
-        | inr more ↦ absurd (let is = at_step here q step below near before (λ less. omega (arith, less, more)) in none.0 q is.0 is.1 near.to.in_grid near.beside)
-      ];
-    })
+    | inr none ↦ rw (none.1, none.2) (round_past here n residues places head step below (λ q near at. none.0 q at.0 at.1 near.to.in_grid near.beside) r)
   ]
 
   -- the middle of the nine is the point itself
-  pub round_centre : (here : Pos) (n : ℕ) (residues places : List ℕ) (head step : ℕ) → step ≡ 4 → IsRound here n residues places head step → IsRound here n residues places head (step + 1)
-  round_centre here n residues places head step centre r = record {
-    steps = r.steps;
-    queue = r.queue;
-    residues_are = r.residues_are;
-    places_are = r.places_are;
-    flood = r.flood;
-    begun = r.begun;
-    here_is = r.here_is;
-    found = λ q near before is_open. elim (cases_lt (3 * q.y + q.x + 4) (3 * here.y + here.x + step)) [
-      | inl less ↦ r.found q near less is_open
-      | inr more ↦ absurd (let is = at_step here q step (omega (arith, centre)) near before (λ less. omega (arith, less, more)) in
-          let x = is.0 in
-          let y = is.1 in
-          near.different (same_pos here q (omega (arith, x, centre)) (omega (arith, y, centre))))
-    ];
-  }
+  pub round_centre : (here : Pos) (n : ℕ) (residues : List Residue) (places : List ℕ) (head step : ℕ) → step ≡ 4 → IsRound here n residues places head step → IsRound here n residues places head (step + 1)
+  round_centre here n residues places head step centre =
+      round_past here n residues places head step (omega (arith, centre)) (λ q near at. (let x = at.0 in let y = at.1 in near.different (same_pos here q (omega (arith, x, centre)) (omega (arith, y, centre)))))
 
   -- all steps were made
-  pub round_end : (here : Pos) (n : ℕ) (residues places : List ℕ) (head step : ℕ) → 9 ≤ step → IsRound here n residues places head step → IsFlooding m IsOpen start residues places (head + 1)
+  pub round_end : (here : Pos) (n : ℕ) (residues : List Residue) (places : List ℕ) (head step : ℕ) → 9 ≤ step → IsRound here n residues places head step → IsFlooding m IsOpen start residues places (head + 1)
   round_end here n residues places head step done r =
-      let f = r.flood in
-      let queue = r.queue in
+      let f = r.flooding.flood in
+      let steps = r.flooding.steps in
+      let queue = r.flooding.queue in
       record {
-        steps = r.steps;
+        steps = steps;
         queue = queue;
-        residues_are = r.residues_are;
-        places_are = r.places_are;
+        residues_are = r.flooding.residues_are;
+        places_are = r.flooding.places_are;
         flood = record {
           whole = f.whole;
           start_inside = f.start_inside;
@@ -339,43 +289,40 @@ module _ (m : Map) (IsOpen : Pos → Type 0) (start : Pos) where
                 let near : Neighbour m here q = subst (λ (x : Reached). Neighbour m x.at q) is s.neighbour in
                 let x = near.columns.1 in
                 let y = near.rows.1 in
-                let w' : IsWithin m r.steps q (n + 1) = r.found q near (omega (arith, x, y, done)) s.to in
-                subst (λ (x : Reached). IsWithin m r.steps q (x.steps + 1)) (sym is) w'
+                let w' : IsWithin m steps q (n + 1) = r.found q near (omega (arith, x, y, done)) s.to in
+                subst (λ (x : Reached). IsWithin m steps q (x.steps + 1)) (sym is) w'
           ];
         };
       }
 
-  -- the point at the head of a flood
-  head_at : (residues places : List ℕ) (head : ℕ) (f : IsFlooding m IsOpen start residues places head) → head < length places → (here : Pos) → InGrid m.size here → get_or places head 0 ≡ place_of m.size here
+  -- the queue of a flood by its indexes
+  queue_long : (residues : List Residue) (places : List ℕ) (head : ℕ) (f : IsFlooding m IsOpen start residues places head) → length places ≡ length f.queue
+  queue_long residues places head f = ap length f.places_are ∙ length-map f.queue (λ (e : Reached). place_of m.size e.at)
+
+  queue_read : (residues : List Residue) (places : List ℕ) (head : ℕ) (f : IsFlooding m IsOpen start residues places head) → (k : ℕ) → k < length f.queue → get_or places k 0 ≡ place_of m.size (entry_of f.queue k).at
+  queue_read residues places head f k inside = ap (λ (ps : List ℕ). get_or ps k 0) f.places_are ∙ get_or-map (λ (e : Reached). place_of m.size e.at) f.queue k no_entry 0 inside
+
+  -- the entry at the head of a flood is of the point at the head of its queue
+  head_entry : (residues : List Residue) (places : List ℕ) (head : ℕ) (f : IsFlooding m IsOpen start residues places head) (here : Pos) → IsAtHead m.size places head here
       → (head < length f.queue) × ((entry_of f.queue head).at ≡ here)
-  head_at residues places head f begun here inside is =
-      let place = λ (e : Reached). place_of m.size e.at in
-      let long : length places ≡ length f.queue = ap length f.places_are ∙ length-map f.queue place in
-      let begun' : head < length f.queue = omega (arith, begun, long) in
-      let first : Reached = record { at = record { x = 0; y = 0 }; steps = 0 } in
-      let read : get_or places head 0 ≡ place_of m.size (entry_of f.queue head).at = ap (λ (ps : List ℕ). get_or ps head 0) f.places_are ∙ get_or-map place f.queue head first 0 begun' in
-      (begun', same_place m.size (entry_of f.queue head).at here (f.flood.entries head begun').present.in_grid inside (sym read ∙ is))
+  head_entry residues places head f here at =
+      let begun : head < length f.queue = subst (λ (n : ℕ). head < n) (queue_long residues places head f) at.inside in
+      (begun, same_place m.size (entry_of f.queue head).at here (f.flood.entries head begun).present.in_grid at.in_grid (sym (queue_read residues places head f head begun) ∙ at.place))
 
   -- the round begins
-  pub round_begin : (here : Pos) (residues places : List ℕ) (head : ℕ) → IsFlooding m IsOpen start residues places head → head < length places → InGrid m.size here → get_or places head 0 ≡ place_of m.size here
-      → (n : ℕ) × (residue_at m.size residues here % 3 + 1 ≡ residue_of (Some (n + 1))) × IsRound here n residues places head 0
-  round_begin here residues places head f begun inside is =
-      let at = head_at residues places head f begun here inside is in
+  pub round_begin : (here : Pos) (residues : List Residue) (places : List ℕ) (head : ℕ) → IsFlooding m IsOpen start residues places head → IsAtHead m.size places head here
+      → (n : ℕ) × (residue_after (residue_at m.size residues here) ≡ residue_of (Some (n + 1))) × IsRound here n residues places head 0
+  round_begin here residues places head f at =
+      let first = head_entry residues places head f here at in
       let entry = entry_of f.queue head in
-      let here_is : entry ≡ record { at = here; steps = entry.steps } = ap (λ (p : Pos). record { at = p; steps = entry.steps }) at.1 in
-      let noted : steps_at m.size f.steps here ≡ Some entry.steps = subst (λ (p : Pos). steps_at m.size f.steps p ≡ Some entry.steps) at.1 (f.flood.entries head at.0).noted in
-      let inside' : place_of m.size here < length f.steps = rw f.flood.whole (place_inside m.size here inside) in
-      let read : residue_at m.size residues here ≡ entry.steps % 3 + 1 = ap (λ (rs : List ℕ). residue_at m.size rs here) f.residues_are ∙ residue_read m.size f.steps here inside' ∙ ap residue_of noted in (
+      let noted : steps_at m.size f.steps here ≡ Some entry.steps = subst (λ (p : Pos). steps_at m.size f.steps p ≡ Some entry.steps) first.1 (f.flood.entries head first.0).noted in
+      let read = residue_read m.size residues f.steps here f.residues_are f.flood.whole at.in_grid ∙ ap residue_of noted in (
         entry.steps,
-        omega (arith, read),
+        ap residue_after read ∙ sym (one_more entry.steps),
         record {
-          steps = f.steps;
-          queue = f.queue;
-          residues_are = f.residues_are;
-          places_are = f.places_are;
-          flood = f.flood;
-          begun = at.0;
-          here_is = here_is;
+          flooding = f;
+          begun = first.0;
+          here_is = ap (λ (p : Pos). record { at = p; steps = entry.steps }) first.1;
           found = λ q near before. absurd (let x = near.columns.0 in let y = near.rows.0 in omega (arith, before, x, y));
         },
       )
@@ -420,14 +367,14 @@ module _ (m : Map) (IsOpen : Pos → Type 0) (start : Pos) where
         closed = λ k before. absurd (omega arith);
       }
 
-  pub flooding_begin : Present m start → IsOpen start → IsFlooding m IsOpen start (set (replicate (cell_count m.size) 0) (place_of m.size start) 1) (place_of m.size start ∷ []) 0
+  pub flooding_begin : Present m start → IsOpen start → IsFlooding m IsOpen start (set (replicate (cell_count m.size) Unreached) (place_of m.size start) Zero) (place_of m.size start ∷ []) 0
   flooding_begin present is_open =
       let blank : List (Option ℕ) = replicate (cell_count m.size) None in
       record {
         steps = set blank (place_of m.size start) (Some 0);
         queue = record { at = start; steps = 0 } ∷ [];
         flood = flood_begin present is_open;
-        residues_are = ap (λ (rs : List ℕ). set rs (place_of m.size start) 1) (sym (none_reached (cell_count m.size))) ∙ sym (map-set residue_of blank (place_of m.size start) (Some 0));
+        residues_are = ap (λ (rs : List Residue). set rs (place_of m.size start) Zero) (sym (none_reached (cell_count m.size))) ∙ sym (map-set residue_of blank (place_of m.size start) (Some 0));
         places_are = refl;
       }
 
@@ -466,96 +413,65 @@ module _ (m : Map) (IsOpen : Pos → Type 0) (start : Pos) where
       let room = f.room in
       omega (arith, inside, is, few, room)
 
-  -- where all entries were at the head, all steps are noted
-  flood_end : (steps : List (Option ℕ)) (queue : List Reached) (head : ℕ) → IsFlood m IsOpen start steps queue head → length queue ≤ head → (goal : Option Pos) → AreSteps m IsOpen start goal steps
-  flood_end steps queue head f done goal = record {
+  -- where the entries with fewer steps than are wanted were at the head, the steps that are wanted are noted
+  flood_end : (steps : List (Option ℕ)) (queue : List Reached) (head : ℕ) (goal : Option Pos) → IsFlood m IsOpen start steps queue head
+      → ((n : ℕ) → IsWanted m.size steps goal n → (k : ℕ) → k < length queue → (entry_of queue k).steps < n → k < head) → AreSteps m IsOpen start goal steps
+  flood_end steps queue head goal f done = record {
     whole = f.whole;
     reached = λ p there n noted.
         (let h = f.queued p there n noted in
         let w = (f.entries h.place h.inside).walk in
         (w.0, subst (λ (q : Pos). Leads (OpenStep m IsOpen) q w.0 start) h.at_is w.1, w.2 ∙ h.steps_is));
-    least = λ p xs l want. least p xs l;
+    least = λ p xs l want. least (length xs) (done (length xs) want) p xs l (omega arith);
     close = flood_close steps queue head f;
     few = flood_few steps queue head f;
   }
     where
-      least : (p : Pos) (xs : List Pos) → Leads (OpenStep m IsOpen) p xs start → (n : ℕ) × (n ≤ length xs) × (steps_at m.size steps p ≡ Some n)
-      least p [] l = (0, omega arith, ap (steps_at m.size steps) l ∙ f.begun)
-      least p (x ∷ xs) l =
-          let r = least x xs l.1 in
+      least : (most : ℕ) → ((k : ℕ) → k < length queue → (entry_of queue k).steps < most → k < head) → (p : Pos) (xs : List Pos) → Leads (OpenStep m IsOpen) p xs start → length xs ≤ most
+          → (n : ℕ) × (n ≤ length xs) × (steps_at m.size steps p ≡ Some n)
+      least most before p [] l le = (0, omega arith, ap (steps_at m.size steps) l ∙ f.begun)
+      least most before p (x ∷ xs) l le =
+          let r = least most before x xs l.1 (omega (arith, le)) in
           let low = r.1 in
           let h = f.queued x l.0.neighbour.to.in_grid r.0 r.2 in
-          let inside = h.inside in
-          let back : OpenStep m IsOpen (entry_of queue h.place).at p = subst (λ (q : Pos). OpenStep m IsOpen q p) (sym h.at_is) (turned m IsOpen p x l.0) in
-          let w = f.closed h.place (omega (arith, inside, done)) inside p back in
-          let near = w.1 in
           let is = h.steps_is in
+          let back : OpenStep m IsOpen (entry_of queue h.place).at p = subst (λ (q : Pos). OpenStep m IsOpen q p) (sym h.at_is) (turned m IsOpen p x l.0) in
+          let w = f.closed h.place (before h.place h.inside (omega (arith, is, low, le))) h.inside p back in
+          let near = w.1 in
           (w.0, omega (arith, near, is, low), w.2)
 
-  -- where the goal is at the head, all steps up to its own are noted
-  flood_stop : (steps : List (Option ℕ)) (queue : List Reached) (head : ℕ) (here : Reached) (goal : Option Pos) → IsFlood m IsOpen start steps queue head → head < length queue
-      → entry_of queue head ≡ here → goal ≡ Some here.at → AreSteps m IsOpen start goal steps
-  flood_stop steps queue head here goal f begun here_is is = record {
-    whole = f.whole;
-    reached = λ p there n noted.
-        (let h = f.queued p there n noted in
-        let w = (f.entries h.place h.inside).walk in
-        (w.0, subst (λ (q : Pos). Leads (OpenStep m IsOpen) q w.0 start) h.at_is w.1, w.2 ∙ h.steps_is));
-    least = λ p xs l want.
-        (let noted : steps_at m.size steps here.at ≡ Some here.steps = subst (λ (e : Reached). steps_at m.size steps e.at ≡ Some e.steps) here_is (f.entries head begun).noted in
-        let wanted : IsWanted m.size steps (Some here.at) (length xs) = subst (λ (g : Option Pos). IsWanted m.size steps g (length xs)) is want in
-        let count : here.steps ≡ (entry_of queue head).steps = ap (λ (e : Reached). e.steps) (sym here_is) in
-        let le = wanted here.steps noted in
-        least p xs l (omega (arith, le, count)));
-    close = flood_close steps queue head f;
-    few = flood_few steps queue head f;
-  }
-    where
-      least : (p : Pos) (xs : List Pos) → Leads (OpenStep m IsOpen) p xs start → length xs ≤ (entry_of queue head).steps → (n : ℕ) × (n ≤ length xs) × (steps_at m.size steps p ≡ Some n)
-      least p [] l le = (0, omega arith, ap (steps_at m.size steps) l ∙ f.begun)
-      least p (x ∷ xs) l le =
-          let r = least x xs l.1 (omega (arith, le)) in
-          let low = r.1 in
-          let h = f.queued x l.0.neighbour.to.in_grid r.0 r.2 in
-          let inside = h.inside in
-          let is' = h.steps_is in
-          let before : h.place < head = elim (cases_lt h.place head) [
-            | inl less ↦ less
-            | inr more ↦ absurd (let up = f.rising head h.place more inside in omega (arith, up, is', low, le))
-          ] in
-          let back : OpenStep m IsOpen (entry_of queue h.place).at p = subst (λ (q : Pos). OpenStep m IsOpen q p) (sym h.at_is) (turned m IsOpen p x l.0) in
-          let w = f.closed h.place before inside p back in
-          let near = w.1 in
-          (w.0, omega (arith, near, is', low), w.2)
-
-  -- so are their residues
-  pub flooding_end : (residues places : List ℕ) (head : ℕ) → IsFlooding m IsOpen start residues places head → length places ≤ head → (goal : Option Pos) → AreResidues m IsOpen start goal residues
+  -- the residues, where all entries were at the head
+  pub flooding_end : (residues : List Residue) (places : List ℕ) (head : ℕ) → IsFlooding m IsOpen start residues places head → length places ≤ head → (goal : Option Pos) → AreResidues m IsOpen start goal residues
   flooding_end residues places head f done goal =
-      let long : length places ≡ length f.queue = ap length f.places_are ∙ length-map f.queue (λ (e : Reached). place_of m.size e.at) in
-      record { steps = f.steps; are = flood_end f.steps f.queue head f.flood (omega (arith, done, long)) goal; residues_are = f.residues_are }
+      let long = queue_long residues places head f in
+      record { steps = f.steps; are = flood_end f.steps f.queue head goal f.flood (λ n want k inside few. omega (arith, inside, done, long)); residues_are = f.residues_are }
 
-  pub flooding_stop : (residues places : List ℕ) (head : ℕ) → IsFlooding m IsOpen start residues places head → head < length places → (here : Pos) → InGrid m.size here
-      → get_or places head 0 ≡ place_of m.size here → (goal : Option Pos) → goal ≡ Some here → AreResidues m IsOpen start goal residues
-  flooding_stop residues places head f begun here inside is goal goal_is =
-      let at = head_at residues places head f begun here inside is in
+  -- and where the goal is at the head
+  pub flooding_stop : (residues : List Residue) (places : List ℕ) (head : ℕ) → IsFlooding m IsOpen start residues places head → (here : Pos) → IsAtHead m.size places head here → (goal : Option Pos) → goal ≡ Some here
+      → AreResidues m IsOpen start goal residues
+  flooding_stop residues places head f here at goal is =
+      let first = head_entry residues places head f here at in
+      let entry = entry_of f.queue head in
+      let goal_is : goal ≡ Some entry.at = is ∙ ap Some (sym first.1) in
       record {
         steps = f.steps;
-        are = flood_stop f.steps f.queue head (entry_of f.queue head) goal f.flood at.0 refl (goal_is ∙ ap Some (sym at.1));
+        are = flood_end f.steps f.queue head goal f.flood (λ n want k inside few. elim (cases_lt k head) [
+          | inl less ↦ less
+          | inr more ↦ absurd (let wanted : IsWanted m.size f.steps (Some entry.at) n = subst (λ (g : Option Pos). IsWanted m.size f.steps g n) goal_is want in
+              let most = wanted entry.steps (f.flood.entries head first.0).noted in
+              let up = f.flood.rising head k more inside in
+              omega (arith, most, up, few))
+        ]);
         residues_are = f.residues_are;
       }
 
   -- all points fit in the queue
-  pub flooding_room : (residues places : List ℕ) (head : ℕ) → IsFlooding m IsOpen start residues places head → length places ≤ cell_count m.size
-  flooding_room residues places head f =
-      let long : length places ≡ length f.queue = ap length f.places_are ∙ length-map f.queue (λ (e : Reached). place_of m.size e.at) in
-      let room = f.flood.room in
-      omega (arith, long, room)
+  pub flooding_room : (residues : List Residue) (places : List ℕ) (head : ℕ) → IsFlooding m IsOpen start residues places head → length places ≤ cell_count m.size
+  flooding_room residues places head f = let long = queue_long residues places head f in let room = f.flood.room in omega (arith, long, room)
 
   -- each index in the queue is of a point
-  pub flooding_index : (residues places : List ℕ) (head : ℕ) → IsFlooding m IsOpen start residues places head → (k : ℕ) → k < length places → get_or places k 0 < cell_count m.size
+  pub flooding_index : (residues : List Residue) (places : List ℕ) (head : ℕ) → IsFlooding m IsOpen start residues places head → (k : ℕ) → k < length places → get_or places k 0 < cell_count m.size
   flooding_index residues places head f k inside =
-      let place = λ (e : Reached). place_of m.size e.at in
-      let long : length places ≡ length f.queue = ap length f.places_are ∙ length-map f.queue place in
+      let long = queue_long residues places head f in
       let inside' : k < length f.queue = omega (arith, inside, long) in
-      let read : get_or places k 0 ≡ place_of m.size (entry_of f.queue k).at = ap (λ (ps : List ℕ). get_or ps k 0) f.places_are ∙ get_or-map place f.queue k (record { at = record { x = 0; y = 0 }; steps = 0 }) 0 inside' in
-      rw read (place_inside m.size (entry_of f.queue k).at (f.flood.entries k inside').present.in_grid)
+      rw (queue_read residues places head f k inside') (place_inside m.size (entry_of f.queue k).at (f.flood.entries k inside').present.in_grid)

@@ -1,4 +1,5 @@
 mod Walks
+mod Residues
 mod Flooding
 mod Nearest
 mod Listing

@@ -1,5 +1,5 @@
 -- Positions that are listed by index.
-use Rattle.std.proofs.Common.{◌≡◌, ◌<◌, ◌≤◌, ◌+◌, ℕ, List, [], ◌∷◌, ◌++◌, length, inl, inr, subst, arith}
+use Rattle.std.proofs.Common.{◌≡◌, ◌<◌, ◌+◌, ℕ, List, [], ◌∷◌, ◌++◌, length, inl, inr, subst, arith}
 use Rattle.std.specs.List.{Contains}
 use Rattle.std.proofs.lemmas.Bool.{cases_lt}
 use Rattle.std.proofs.lemmas.List.{get_or_append_left, get_or_push, length_push}
@@ -9,11 +9,13 @@ use Rattle.hd_map.specs.declared.types.Size.{Size}
 use Rattle.hd_map.specs.Map.{InGrid, place_of}
 use Rattle.hd_map.proofs.Points.{same_place}
 use Rattle.hd_check.specs.Rules.{point_of}
+use Rattle.hd_cert.specs.declared.residue.Residue.{Residue}
+use Rattle.hd_cert.specs.declared.residue.Residue.TheVariants.{Unreached}
 use Rattle.hd_cert.specs.Residues.{residue_at}
 use Rattle.hd_cert.specs.Listed.{AreListed, Lists}
 
 -- one position more
-listed_push : (s : Size) (residues : List ℕ) (index : ℕ) (ps : List Pos) (p : Pos) → InGrid s p → place_of s p ≡ index → 1 ≤ residue_at s residues p → AreListed s residues index ps
+listed_push : (s : Size) (residues : List Residue) (index : ℕ) (ps : List Pos) (p : Pos) → InGrid s p → place_of s p ≡ index → (residue_at s residues p ≡ Unreached → ⊥) → AreListed s residues index ps
     → AreListed s residues (index + 1) (ps ++ p ∷ [])
 listed_push s residues index ps p there is reached l =
     let longer = length_push ps p in
@@ -46,7 +48,7 @@ listed_push s residues index ps p there is reached l =
     }
 
 -- a position that is not reached
-listed_skip : (s : Size) (residues : List ℕ) (index : ℕ) (ps : List Pos) (p : Pos) → InGrid s p → place_of s p ≡ index → residue_at s residues p ≡ 0 → AreListed s residues index ps
+listed_skip : (s : Size) (residues : List Residue) (index : ℕ) (ps : List Pos) (p : Pos) → InGrid s p → place_of s p ≡ index → residue_at s residues p ≡ Unreached → AreListed s residues index ps
     → AreListed s residues (index + 1) ps
 listed_skip s residues index ps p there is free l = record {
   rises = l.rises;
@@ -55,11 +57,11 @@ listed_skip s residues index ps p there is free l = record {
   reached = l.reached;
   all = λ q inside below some. elim (cases_lt (place_of s q) index) [
     | inl less ↦ l.all q inside less some
-    | inr last ↦ absurd (let none = subst (λ (r : Pos). residue_at s residues r ≡ 0) (same_place s p q there inside (omega (arith, is))) free in omega (arith, none, some))
+    | inr last ↦ absurd (some (subst (λ (r : Pos). residue_at s residues r ≡ Unreached) (same_place s p q there inside (omega (arith, is))) free))
   ];
 }
 
-pub listed_more : (s : Size) (residues : List ℕ) (index : ℕ) (ps ps' : List Pos) → Lists s residues index ps ps' → AreListed s residues index ps → AreListed s residues (index + 1) ps'
+pub listed_more : (s : Size) (residues : List Residue) (index : ℕ) (ps ps' : List Pos) → Lists s residues index ps ps' → AreListed s residues index ps → AreListed s residues (index + 1) ps'
 listed_more s residues index ps ps' (p, there, is, which) l = elim which [
   | inl reached ↦ rw reached.1 (listed_push s residues index ps p there is reached.0 l)
   | inr free ↦ rw free.1 (listed_skip s residues index ps p there is free.0 l)

@@ -1,17 +1,18 @@
 -- The path that takes the first nearer point each time.
-use Rattle.std.proofs.Common.{◌≡◌, ◌<◌, ◌≤◌, ◌+◌, ◌-◌, ◌%◌, ℕ, Bool, true, false, nat_eq, ◌&&◌, List, [], ◌∷◌, ◌++◌, length, Option, Some, None, inl, inr, ap, ap₂, ◌∙◌, refl, sym, subst, arith}
+use Rattle.std.proofs.Common.{◌≡◌, ◌<◌, ◌≤◌, ◌+◌, ◌-◌, ℕ, Bool, true, false, nat_eq, ◌&&◌, List, [], ◌∷◌, ◌++◌, length, Option, Some, None, inl, inr, ap, ap₂, ◌∙◌, refl, sym, subst, arith}
 use Rattle.std.specs.List.{Contains, AllPairs}
 use Rattle.std.proofs.lemmas.Bool.{cases_lt, eq-eqb, false≢true}
 use Rattle.std.proofs.lemmas.List.{get_or_append_left, get_or_push, length_push}
 use Rattle.hd_map.specs.declared.types.Pos.{Pos}
 use Rattle.hd_map.specs.Map.{Map, InGrid, Present, cell_count, place_of}
-use Rattle.hd_map.proofs.Points.{neighbour-sym, place_inside}
+use Rattle.hd_map.proofs.Points.{neighbour-sym}
 use Rattle.hd_check.specs.Rules.{point_of}
 use Rattle.hd_check.proofs.Searching.{place_found}
 use Rattle.hd_cert.specs.Nearer.{GoesNearer, IsBesideWith, IsFirst, IsNearer, LeadsDown}
-use Rattle.hd_cert.specs.Residues.{residue_at, residue_of}
+use Rattle.hd_cert.specs.declared.residue.Residue.{Residue}
+use Rattle.hd_cert.specs.Residues.{residue_after, residue_of_steps, residue_at, residue_of}
 use Rattle.hd_cert.specs.Steps.{steps_at}
-use Rattle.hd_cert.proofs.Flooding.{residue_read}
+use Rattle.hd_cert.proofs.Residues.{one_more, reached_in, residue_read, same_before, same_steps}
 
 -- positions that compare as different are different
 pub different : (p q : Pos) (same : Bool) → same ≡ (nat_eq p.x q.x && nat_eq p.y q.y) → same ≡ false → p ≡ q → ⊥
@@ -63,7 +64,7 @@ pub record IsDown (m : Map) (from : Pos) (steps : List (Option ℕ)) (count : �
   pub last : point_of path gone ≡ here
   pub noted : steps_at m.size steps here ≡ Some (count - gone)
 
-pub down_begin : (m : Map) (residues : List ℕ) (from to : Pos) (steps : List (Option ℕ)) (count : ℕ) → LeadsDown m residues from to steps count → IsDown m from steps count (from ∷ []) from 0
+pub down_begin : (m : Map) (residues : List Residue) (from to : Pos) (steps : List (Option ℕ)) (count : ℕ) → LeadsDown m residues from to steps count → IsDown m from steps count (from ∷ []) from 0
 down_begin m residues from to steps count leads = record {
   below = omega arith;
   goes = record { long = refl; begins = refl; nearer = λ k h. absurd (omega (arith, h)) };
@@ -71,37 +72,36 @@ down_begin m residues from to steps count leads = record {
   noted = leads.noted ∙ ap Some (let e : count ≡ count - 0 = omega arith in e);
 }
 
--- what is noted with a residue of at least 1 has steps
-steps_of : (o : Option ℕ) (n : ℕ) → residue_of o ≡ n % 3 + 1 → (k : ℕ) × (o ≡ Some k) × (k % 3 ≡ n % 3)
-steps_of None n e = absurd (omega (arith, e))
-steps_of (Some k) n e = (k, refl, omega (arith, e))
+-- what is noted with the residue of some steps has steps
+steps_of : (o : Option ℕ) (n : ℕ) → residue_of o ≡ residue_of_steps n → (k : ℕ) × (o ≡ Some k) × (residue_of_steps k ≡ residue_of_steps n)
+steps_of None n e = absurd (reached_in n (sym e))
+steps_of (Some k) n e = (k, refl, e)
 
-module _ (m : Map) (residues : List ℕ) (from to : Pos) (steps : List (Option ℕ)) (count : ℕ) (leads : LeadsDown m residues from to steps count) where
+module _ (m : Map) (residues : List Residue) (from to : Pos) (steps : List (Option ℕ)) (count : ℕ) (leads : LeadsDown m residues from to steps count) where
   read : (p : Pos) → InGrid m.size p → residue_at m.size residues p ≡ residue_of (steps_at m.size steps p)
-  read p inside = ap (λ (rs : List ℕ). residue_at m.size rs p) leads.residues_are ∙ residue_read m.size steps p (rw leads.whole (place_inside m.size p inside))
+  read p inside = residue_read m.size residues steps p leads.residues_are leads.whole inside
 
   -- a neighbour has one step less where its residue is the one before
-  nearer_by_residue : (here q : Pos) (n : ℕ) → steps_at m.size steps here ≡ Some (n + 1) → IsBesideWith m residues (n % 3 + 1) here q → IsNearer m steps n here q
+  nearer_by_residue : (here q : Pos) (n : ℕ) → steps_at m.size steps here ≡ Some (n + 1) → IsBesideWith m residues (residue_of_steps n) here q → IsNearer m steps n here q
   nearer_by_residue here q n noted beside =
       let there = beside.neighbour.to.in_grid in
       let k = steps_of (steps_at m.size steps q) n (sym (read q there) ∙ beside.noted) in
       let up = leads.close here q beside.neighbour (n + 1) k.0 noted k.1 in
       let down = leads.close q here (neighbour-sym m here q beside.neighbour) k.0 (n + 1) k.1 noted in
-      let residue = k.2 in
-      let same : k.0 ≡ n = omega (arith, up, down, residue) in
+      let same : k.0 ≡ n = same_steps k.0 n (omega (arith, down)) (omega (arith, up)) k.2 in
       record { neighbour = beside.neighbour; noted = k.1 ∙ ap Some same }
 
   -- and the residue before where it has one step less
-  beside_by_steps : (here q : Pos) (n : ℕ) → IsNearer m steps n here q → IsBesideWith m residues (n % 3 + 1) here q
+  beside_by_steps : (here q : Pos) (n : ℕ) → IsNearer m steps n here q → IsBesideWith m residues (residue_of_steps n) here q
   beside_by_steps here q n nearer = record { neighbour = nearer.neighbour; noted = read q nearer.neighbour.to.in_grid ∙ ap residue_of nearer.noted }
 
-  first_by_residue : (here next : Pos) (n : ℕ) → steps_at m.size steps here ≡ Some (n + 1) → IsFirst m (IsBesideWith m residues (n % 3 + 1) here) next → IsFirst m (IsNearer m steps n here) next
+  first_by_residue : (here next : Pos) (n : ℕ) → steps_at m.size steps here ≡ Some (n + 1) → IsFirst m (IsBesideWith m residues (residue_of_steps n) here) next → IsFirst m (IsNearer m steps n here) next
   first_by_residue here next n noted first = record {
     kind = nearer_by_residue here next n noted first.kind;
     first = λ r nearer. first.first r (beside_by_steps here r n nearer);
   }
 
-  pub down_more : (path : List Pos) (here next : Pos) (gone residue : ℕ) → Present m here → (here ≡ to → ⊥) → residue ≡ (residue_at m.size residues here % 3 + 1) % 3 + 1
+  pub down_more : (path : List Pos) (here next : Pos) (gone : ℕ) (residue : Residue) → Present m here → (here ≡ to → ⊥) → residue_after residue ≡ residue_at m.size residues here
       → ((q : Pos) → IsBesideWith m residues residue here q → IsFirst m (IsBesideWith m residues residue here) next) → IsDown m from steps count path here gone → IsDown m from steps count (path ++ next ∷ []) next (gone + 1)
   down_more path here next gone residue present not_end residue_is first d =
       let below = d.below in
@@ -112,11 +112,10 @@ module _ (m : Map) (residues : List ℕ) (from to : Pos) (steps : List (Option �
       let n : ℕ = count - (gone + 1) in
       let one : count - gone ≡ n + 1 = omega (arith, left) in
       let noted : steps_at m.size steps here ≡ Some (n + 1) = d.noted ∙ ap Some one in
-      let of_here : residue_at m.size residues here ≡ (n + 1) % 3 + 1 = read here present.in_grid ∙ ap residue_of noted in
-      let of_next : residue ≡ n % 3 + 1 = omega (arith, residue_is, of_here) in
+      let of_next : residue ≡ residue_of_steps n = same_before residue (residue_of_steps n) (residue_is ∙ read here present.in_grid ∙ ap residue_of noted ∙ one_more n) in
       let nearer = leads.falls here n (omega (arith, left)) present noted in
-      let beside : IsBesideWith m residues residue here nearer.0 = subst (λ (r : ℕ). IsBesideWith m residues r here nearer.0) (sym of_next) (beside_by_steps here nearer.0 n nearer.1) in
-      let now : IsFirst m (IsNearer m steps n here) next = first_by_residue here next n noted (subst (λ (r : ℕ). IsFirst m (IsBesideWith m residues r here) next) of_next (first nearer.0 beside)) in
+      let beside : IsBesideWith m residues residue here nearer.0 = subst (λ (r : Residue). IsBesideWith m residues r here nearer.0) (sym of_next) (beside_by_steps here nearer.0 n nearer.1) in
+      let now : IsFirst m (IsNearer m steps n here) next = first_by_residue here next n noted (subst (λ (r : Residue). IsFirst m (IsBesideWith m residues r here) next) of_next (first nearer.0 beside)) in
       let more = goes_more m steps from count gone path here next d.goes d.last now in
       record { below = omega (arith, left); goes = more.0; last = more.1; noted = now.kind.noted }
 

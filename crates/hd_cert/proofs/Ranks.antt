@@ -160,9 +160,6 @@ module _ (m : Map) (side : SideName) (a b : Pos) (saddle : Option Rank) (here : 
       let far = rises_far m.size cut shown.rises (i + 1) j (omega (arith, less)) inside in
       omega (arith, next, far)
 
-  member_present : (p : Pos) → Contains cut p → Present m p
-  member_present p c = let w = (shown.all p).0 c in leads_present m side saddle a w.0 p here w.1
-
   -- what is listed is reached
   reached_of : (x : Rank) → Contains (map (rank m) cut) x → IsReachedBelow m side saddle (rank m a) x
   reached_of x c =

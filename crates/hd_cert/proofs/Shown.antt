@@ -1,5 +1,5 @@
 -- The shown path and the shown cut.
-use Rattle.std.proofs.Common.{◌≡◌, ◌<◌, ◌≤◌, ◌+◌, ◌-◌, ◌%◌, ℕ, zero, suc, Bool, true, false, List, [], ◌∷◌, length, get_or, map, Option, Some, None, ◌⊎◌, inl, inr, ap, ◌∙◌, refl, sym, subst, arith}
+use Rattle.std.proofs.Common.{◌≡◌, ◌<◌, ◌≤◌, ◌+◌, ◌-◌, ℕ, zero, suc, Bool, true, false, List, [], ◌∷◌, length, get_or, map, Option, Some, None, ◌⊎◌, inl, inr, ap, ◌∙◌, refl, sym, subst, arith}
 use Rattle.std.specs.Prelude.{not, Result, Ok, Err, IfOk}
 use Rattle.std.proofs.lemmas.List.{get_or-map, length-map}
 use Rattle.std.proofs.lemmas.List.Elements.{All-head, All-tail}
@@ -21,6 +21,8 @@ use Rattle.hd_map.proofs.Points.{same_place, same_point, point_at, place_inside}
 use Rattle.hd_map.specs.SideLaws.{below_by-order}
 use Rattle.hd_map.proofs.Saddles.{saddle-above_pit}
 use Rattle.hd_map.specs.Saddle.{IsSaddle, SaddleIs}
+use Rattle.hd_cert.specs.declared.residue.Residue.{Residue}
+use Rattle.hd_cert.specs.declared.residue.Residue.TheVariants.{Unreached}
 use Rattle.hd_cert.specs.Residues.{residue_at, residue_of, AreResidues}
 use Rattle.hd_cert.specs.Steps.{IsWanted, OpenStep, steps_at, AreSteps}
 use Rattle.hd_cert.specs.Within.{within, LiesWithin}
@@ -28,7 +30,8 @@ use Rattle.hd_cert.specs.Nearer.{IsNearer, IsFirst, GoesNearer, LeadsDown}
 use Rattle.hd_cert.specs.Listed.{AreListed}
 use Rattle.hd_cert.specs.Routes.{IsRouteOver, IsShownRoute, IsLowStep, IsRouteCut}
 use Rattle.hd_map.specs.Shown.{IsNotAfter}
-use Rattle.hd_cert.proofs.Flooding.{turned, some_of, some_residue, residue_read}
+use Rattle.hd_cert.proofs.Residues.{reached_in, residue_read, steps_noted}
+use Rattle.hd_cert.proofs.Flooding.{turned}
 use Rattle.hd_cert.proofs.Walks.{leads_turn, leads_of}
 
 -- a number is noted, or none
@@ -200,7 +203,7 @@ module _ (m : Map) (side : SideName) (s : Rank) (a b : Pos) (steps : List (Optio
       ]
 
   -- its steps lead down to the second
-  pub leads_down : (residues : List ℕ) (count : ℕ) → residues ≡ map residue_of steps → steps_at m.size steps a ≡ Some count → LeadsDown m residues a b steps count
+  pub leads_down : (residues : List Residue) (count : ℕ) → residues ≡ map residue_of steps → steps_at m.size steps a ≡ Some count → LeadsDown m residues a b steps count
   leads_down residues count residues_are noted = record {
     whole = are.whole;
     residues_are = residues_are;
@@ -311,7 +314,7 @@ leads_present m side saddle a [] p here l = subst (Present m) l here
 leads_present m side saddle a (x ∷ xs) p here l = leads_present m side saddle x xs p l.0.neighbour.to l.1
 
 -- the points that are reached are those that are joined below the saddle
-pub cut_shown : (m : Map) (side : SideName) (saddle : Option Rank) (a : Pos) (residues : List ℕ) (cut : List Pos) → AreResidues m (LiesWithin m side saddle true) a None residues
+pub cut_shown : (m : Map) (side : SideName) (saddle : Option Rank) (a : Pos) (residues : List Residue) (cut : List Pos) → AreResidues m (LiesWithin m side saddle true) a None residues
     → AreListed m.size residues (cell_count m.size) cut → Present m a → within side saddle true (rank m a) ≡ true → IsRouteCut m side saddle a cut
 cut_shown m side saddle a residues cut known listed here low = record {
   rises = listed.rises;
@@ -320,8 +323,8 @@ cut_shown m side saddle a residues cut known listed here low = record {
     λ c.
         (let f = place_found cut p c in
         let inside : InGrid m.size p = subst (InGrid m.size) f.2 (listed.inside f.0 f.1) in
-        let reached : 1 ≤ residue_at m.size residues p = subst (λ (q : Pos). 1 ≤ residue_at m.size residues q) f.2 (listed.reached f.0 f.1) in
-        let n = some_of (steps_at m.size steps p) (some_residue (steps_at m.size steps p) (subst (λ (r : ℕ). 1 ≤ r) (read p inside) reached)) in
+        let reached : residue_at m.size residues p ≡ Unreached → ⊥ = subst (λ (q : Pos). residue_at m.size residues q ≡ Unreached → ⊥) f.2 (listed.reached f.0 f.1) in
+        let n = steps_noted (steps_at m.size steps p) (λ none. reached (read p inside ∙ none)) in
         let w = known.are.reached p inside n.0 n.1 in
         leads_turn (OpenStep m IsLow) (IsLowStep m side saddle) (λ x y s. (let t = turned m IsLow x y s in record { neighbour = t.neighbour; from = t.from.low; to = t.to.low })) p w.0 a w.1),
     λ w.
@@ -329,8 +332,8 @@ cut_shown m side saddle a residues cut known listed here low = record {
         let back = leads_turn (IsLowStep m side saddle) (OpenStep m IsLow)
         (λ x y s. turned m IsLow x y (record { neighbour = s.neighbour; from = record { present = s.neighbour.from; low = s.from }; to = record { present = s.neighbour.to; low = s.to } })) a w.0 p w.1 in
         let r = known.are.least p back.0 back.1 tt in
-        let is : residue_at m.size residues p ≡ r.0 % 3 + 1 = read p there.in_grid ∙ ap residue_of r.2 in
-        listed.all p there.in_grid (place_inside m.size p there.in_grid) (omega (arith, is))),
+        let is : residue_at m.size residues p ≡ residue_of (Some r.0) = read p there.in_grid ∙ ap residue_of r.2 in
+        listed.all p there.in_grid (place_inside m.size p there.in_grid) (λ none. reached_in r.0 (sym is ∙ none))),
   );
 }
   where
@@ -341,7 +344,7 @@ cut_shown m side saddle a residues cut known listed here low = record {
     steps = known.steps
 
     read : (p : Pos) → InGrid m.size p → residue_at m.size residues p ≡ residue_of (steps_at m.size steps p)
-    read p inside = ap (λ (rs : List ℕ). residue_at m.size rs p) known.residues_are ∙ residue_read m.size steps p (rw known.are.whole (place_inside m.size p inside))
+    read p inside = residue_read m.size residues steps p known.residues_are known.are.whole inside
 
 -- the position of the index of a point is that point
 pub written_point : (m : Map) (s : Rank) (p : Pos) → IsPoint m s → InGrid m.size p → place_of m.size p ≡ s.index → Present m p × (rank m p ≡ s)

@@ -5,11 +5,6 @@ use Rattle.hd_map.specs.Path.{Leads}
 use Rattle.hd_check.specs.Rules.{point_of}
 
 module _ {V : Type 0} (R S : V → V → Type 0) where
-  -- other steps between the same points
-  pub leads_map : ((x y : V) → R x y → S x y) → (a : V) (xs : List V) (b : V) → Leads R a xs b → Leads S a xs b
-  leads_map f a [] b l = l
-  leads_map f a (x ∷ xs) b l = (f a x l.0, leads_map f x xs b l.1)
-
   turn_onto : ((x y : V) → R x y → S y x) → (a : V) (xs : List V) (b c : V) → Leads R a xs b → (zs : List V) → Leads S a zs c → (ys : List V) × Leads S b ys c
   turn_onto f a [] b c l zs k = (zs, subst (λ v. Leads S v zs c) l k)
   turn_onto f a (x ∷ xs) b c l zs k = turn_onto f x xs b c l.1 (a ∷ zs) (f a x l.0, k)

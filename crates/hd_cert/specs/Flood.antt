@@ -5,6 +5,7 @@ use Rattle.hd_map.specs.declared.types.Pos.{Pos}
 use Rattle.hd_map.specs.declared.types.Size.{Size}
 use Rattle.hd_map.specs.Map.{Map, InGrid, Present, cell_count, place_of}
 use Rattle.hd_map.specs.Path.{Leads}
+use Rattle.hd_cert.specs.declared.residue.Residue.{Residue}
 use Rattle.hd_cert.specs.Residues.{residue_of}
 use Rattle.hd_cert.specs.Steps.{OpenStep, steps_at}
 
@@ -13,9 +14,13 @@ pub record Reached : Type 0 where
   pub at : Pos
   pub steps : ℕ
 
+-- what is read past the end of a queue
+abbrev pub no_entry : Reached
+no_entry = record { at = record { x = 0; y = 0 }; steps = 0 }
+
 -- the entry at a place of the queue
 abbrev pub entry_of : List Reached → ℕ → Reached
-entry_of queue k = slice_index_or queue k (record { at = record { x = 0; y = 0 }; steps = 0 })
+entry_of queue k = slice_index_or queue k no_entry
 
 -- one where no steps are noted
 abbrev pub is_free : Option ℕ → ℕ
@@ -58,14 +63,20 @@ abbrev pub places_of : Size → List Reached → List ℕ
 places_of s queue = map (λ (e : Reached). place_of s e.at) queue
 
 -- a flood of which the residues are kept, and the indexes of its queue
-pub record IsFlooding (m : Map) (IsOpen : Pos → Type 0) (start : Pos) (residues places : List ℕ) (head : ℕ) : Type 0 where
+pub record IsFlooding (m : Map) (IsOpen : Pos → Type 0) (start : Pos) (residues : List Residue) (places : List ℕ) (head : ℕ) : Type 0 where
   pub steps : List (Option ℕ)
   pub queue : List Reached
   pub flood : IsFlood m IsOpen start steps queue head
   pub residues_are : residues ≡ map residue_of steps
   pub places_are : places ≡ places_of m.size queue
 
+-- the point at the head of a queue of indexes
+pub record IsAtHead (s : Size) (places : List ℕ) (head : ℕ) (here : Pos) : Type 0 where
+  pub inside : head < length places
+  pub in_grid : InGrid s here
+  pub place : slice_index_or places head 0 ≡ place_of s here
+
 -- such a flood goes on by the point at its head
-abbrev pub FloodsRound : Map → (Pos → Type 0) → Pos → List ℕ → List ℕ → List ℕ → List ℕ → Type 0
-FloodsRound m IsOpen here residues places residues' places' = (start : Pos) (head : ℕ) → IsFlooding m IsOpen start residues places head → head < length places → InGrid m.size here
-    → slice_index_or places head 0 ≡ place_of m.size here → IsFlooding m IsOpen start residues' places' (head + 1)
+abbrev pub FloodsRound : Map → (Pos → Type 0) → Pos → List Residue → List ℕ → List Residue → List ℕ → Type 0
+FloodsRound m IsOpen here residues places residues' places' = (start : Pos) (head : ℕ) → IsFlooding m IsOpen start residues places head
+    → IsAtHead m.size places head here → IsFlooding m IsOpen start residues' places' (head + 1)

@@ -4,6 +4,7 @@ use Rattle.hd_map.specs.declared.types.Pos.{Pos}
 use Rattle.hd_map.specs.Map.{Map, InGrid, Present, place_of, cell_count}
 use Rattle.hd_map.specs.Neighbour.{Neighbour}
 use Rattle.hd_check.specs.Rules.{point_of}
+use Rattle.hd_cert.specs.declared.residue.Residue.{Residue}
 use Rattle.hd_cert.specs.Residues.{residue_at, residue_of}
 use Rattle.hd_cert.specs.Steps.{steps_at}
 
@@ -13,7 +14,7 @@ pub record IsNearer (m : Map) (steps : List (Option ℕ)) (left : ℕ) (at q : P
   pub noted : steps_at m.size steps q ≡ Some left
 
 -- q is a neighbour with this residue
-pub record IsBesideWith (m : Map) (residues : List ℕ) (residue : ℕ) (at q : Pos) : Type 0 where
+pub record IsBesideWith (m : Map) (residues : List Residue) (residue : Residue) (at q : Pos) : Type 0 where
   pub neighbour : Neighbour m at q
   pub noted : residue_at m.size residues q ≡ residue
 
@@ -29,7 +30,7 @@ pub record GoesNearer (m : Map) (steps : List (Option ℕ)) (from : Pos) (count 
   pub nearer : (k : ℕ) → k < gone → IsFirst m (IsNearer m steps (count - (k + 1)) (point_of path k)) (point_of path (k + 1))
 
 -- so many steps lead down from a point to another, and these residues tell them
-pub record LeadsDown (m : Map) (residues : List ℕ) (from to : Pos) (steps : List (Option ℕ)) (count : ℕ) : Type 0 where
+pub record LeadsDown (m : Map) (residues : List Residue) (from to : Pos) (steps : List (Option ℕ)) (count : ℕ) : Type 0 where
   pub whole : length steps ≡ cell_count m.size
   pub residues_are : residues ≡ map residue_of steps
   pub noted : steps_at m.size steps from ≡ Some count

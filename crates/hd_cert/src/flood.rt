@@ -1,36 +1,36 @@
 // In how many steps points are reached, modulo 3: a queue of points that are reached.
-ghost use Rattle.std.specs.Prelude.{◌≡◌, ◌<◌, ◌+◌, ◌%◌, ◌≤◌, IfOk, OnOk, MatchOption, length};
+ghost use Rattle.std.specs.Prelude.{◌≡◌, ◌≤◌, IfOk, OnOk, length};
 ghost use Rattle.hd_map.specs.Map.{InGrid, cell_count};
-ghost use Rattle.hd_map.specs.Neighbour.{AreBesideUnder};
 ghost use Rattle.hd_cert.specs.Flood.{FloodsRound};
 ghost use Rattle.hd_cert.specs.Residues.{AreResidues, Reaches, ReachesAt};
 ghost use Rattle.hd_cert.specs.Within.{LiesWithin};
 
 use crate::bound::{Bound, lies_within};
+use crate::residue::Residue;
 use hd_list::Memory;
-use hd_map::{Heights, Pos, Side, are_beside, contains, index_of, position_of};
+use hd_map::{Heights, Pos, Side, beside_at, index_of, position_of};
 use std::alloc::Global;
 
-/// By index one more than the fewest steps, modulo 3, in which a point within a bound is reached from the
-/// start by way of such points, and 0 for a point that is not reached. It ends at the goal, if there is one:
-/// points that are further may have 0. It takes five bytes a point, and time in proportion to the points.
+/// By index the residues of the fewest steps in which points within a bound are reached from the start by way
+/// of such points. It ends at the goal, if there is one: points that are further may be left unreached. It
+/// takes five bytes a point, and time in proportion to the points.
 pub fn residues_from<S: Side, G: Heights>(
     alloc: Global,
     grid: &G,
     bound: Bound,
     start: Pos,
     goal: Option<Pos>,
-) -> Result<Vec<u8>, Memory>
+) -> Result<Vec<Residue>, Memory>
     requires { LiesWithin (G.map grid.now) S.NAME bound.level bound.strict start }
     ensures { IfOk result (λ residues. AreResidues (G.map grid.now) (LiesWithin (G.map grid.now) S.NAME bound.level bound.strict) start goal residues.items) }
 {
     let size = grid.size();
     let count = size.profiles * size.points;
-    let mut residues = vec![in alloc; 0u8; count as usize]?;
+    let mut residues = vec![in alloc; Residue::Unreached; count as usize]?;
     let mut queue = Vec::with_capacity(alloc, count as usize)?;
     let first = index_of(size, start);
     queue.push(first)?;
-    residues[first as usize] = 1;
+    residues[first as usize] = Residue::Zero;
     for head in 0..count {
         if head as usize >= queue.len() {
             return Ok(residues);
@@ -44,27 +44,19 @@ pub fn residues_from<S: Side, G: Heights>(
     Ok(residues)
 }
 
-/// What is kept of one step more.
-#[inline]
-pub fn residue_after(residue: u8) -> u8
-    ensures { result ≡ residue % 3 + 1 }
-{
-    residue % 3 + 1
-}
-
 // Reaches the neighbours of a point.
 fn reach_round<S: Side, G: Heights>(
     grid: &G,
     bound: Bound,
     here: Pos,
-    residues: &mut Vec<u8>,
+    residues: &mut Vec<Residue>,
     queue: &mut Vec<u32>,
 ) -> Result<(), Memory>
     requires here { InGrid (G.map grid.now).size here }
     requires whole { length residues.old.items ≡ cell_count (G.map grid.now).size }
     ensures { OnOk result (FloodsRound (G.map grid.now) (LiesWithin (G.map grid.now) S.NAME bound.level bound.strict) here residues.old.items queue.old.items residues.new.items queue.new.items) }
 {
-    let residue = residue_after(residues[index_of(grid.size(), here) as usize]);
+    let residue = residues[index_of(grid.size(), here) as usize].after();
     reach_at::<S, G>(grid, bound, here, 0, 0, residue, residues, queue)?;
     reach_at::<S, G>(grid, bound, here, 1, 0, residue, residues, queue)?;
     reach_at::<S, G>(grid, bound, here, 2, 0, residue, residues, queue)?;
@@ -84,8 +76,8 @@ fn reach_at<S: Side, G: Heights>(
     here: Pos,
     x: u32,
     y: u32,
-    residue: u8,
-    residues: &mut Vec<u8>,
+    residue: Residue,
+    residues: &mut Vec<Residue>,
     queue: &mut Vec<u32>,
 ) -> Result<(), Memory>
     requires here { InGrid (G.map grid.now).size here }
@@ -101,37 +93,14 @@ fn reach_at<S: Side, G: Heights>(
     }
 }
 
-// The position at a step from a point, if it lies in the grid and is beside the point.
-#[inline]
-fn beside_at<G: Heights>(grid: &G, at: Pos, x: u32, y: u32) -> Option<Pos>
-    requires at { InGrid (G.map grid.now).size at }
-    requires x { x ≤ 2 }
-    requires y { y ≤ 2 }
-    ensures { MatchOption result ((q : _) → q.x + 1 ≡ at.x + x → q.y + 1 ≡ at.y + y → InGrid (G.map grid.now).size q → AreBesideUnder (G.map grid.now).adjacency at q → ⊥)
-        (λ q. (q.x + 1 ≡ at.x + x) × (q.y + 1 ≡ at.y + y) × InGrid (G.map grid.now).size q × AreBesideUnder (G.map grid.now).adjacency at q) }
-{
-    if at.x + x == 0 || at.y + y == 0 {
-        return None;
-    }
-    let q = Pos {
-        x: at.x + x - 1,
-        y: at.y + y - 1,
-    };
-    if contains(grid.size(), q) && are_beside(grid.adjacency(), at, q) {
-        Some(q)
-    } else {
-        None
-    }
-}
-
 // Reaches a position, if it lies within the bound and is not yet reached.
 #[inline(always)]
 fn reach<S: Side, G: Heights>(
     grid: &G,
     bound: Bound,
     at: Pos,
-    residue: u8,
-    residues: &mut Vec<u8>,
+    residue: Residue,
+    residues: &mut Vec<Residue>,
     queue: &mut Vec<u32>,
 ) -> Result<(), Memory>
     requires at { InGrid (G.map grid.now).size at }
@@ -140,7 +109,7 @@ fn reach<S: Side, G: Heights>(
     ensures whole { OnOk result (length residues.new.items ≡ cell_count (G.map grid.now).size) }
 {
     let index = index_of(grid.size(), at);
-    if residues[index as usize] != 0 || !lies_within::<S, G>(grid, bound, at) {
+    if residues[index as usize] != Residue::Unreached || !lies_within::<S, G>(grid, bound, at) {
         return Ok(());
     }
     queue.push(index)?;

@@ -7,6 +7,7 @@ mod flood;
 mod laws;
 mod listed_points;
 mod making;
+mod residue;
 mod trace;
 
 pub use laws::{shown_certificate_is_determined, shown_certificate_is_right};

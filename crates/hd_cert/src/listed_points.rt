@@ -3,12 +3,13 @@ ghost use Rattle.std.specs.Prelude.{◌≡◌, IfOk, OnOk, length};
 ghost use Rattle.hd_map.specs.Map.{IsSize, InGrid, cell_count, place_of};
 ghost use Rattle.hd_cert.specs.Listed.{AreListed, Lists};
 
+use crate::residue::Residue;
 use hd_list::{List, Memory};
 use hd_map::{Pos, Size, index_of, position_after};
 use std::alloc::Global;
 
 /// The positions that are reached, in position order.
-pub fn listed(alloc: Global, size: Size, residues: &[u8]) -> Result<List<Pos>, Memory>
+pub fn listed(alloc: Global, size: Size, residues: &[Residue]) -> Result<List<Pos>, Memory>
     requires limits { IsSize size }
     requires whole { length residues.now ≡ cell_count size }
     ensures { IfOk result (AreListed size residues.now (cell_count size)) }
@@ -23,13 +24,13 @@ pub fn listed(alloc: Global, size: Size, residues: &[u8]) -> Result<List<Pos>, M
 }
 
 // Lists a position, if it is reached.
-fn list_one(size: Size, residues: &[u8], at: Pos, found: &mut Vec<Pos>) -> Result<(), Memory>
+fn list_one(size: Size, residues: &[Residue], at: Pos, found: &mut Vec<Pos>) -> Result<(), Memory>
     requires limits { IsSize size }
     requires whole { length residues.now ≡ cell_count size }
     requires at { InGrid size at }
     ensures { OnOk result (Lists size residues.now (place_of size at) found.old.items found.new.items) }
 {
-    if residues[index_of(size, at) as usize] == 0 {
+    if residues[index_of(size, at) as usize] == Residue::Unreached {
         return Ok(());
     }
     found.push(at)?;

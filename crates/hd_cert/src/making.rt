@@ -1,5 +1,5 @@
 // The certificate for two pits.
-ghost use Rattle.std.specs.Prelude.{◌≡◌, ◌<◌, IfOk, Some, true};
+ghost use Rattle.std.specs.Prelude.{◌≡◌, IfOk, Some, true};
 ghost use Rattle.hd_map.specs.Map.{Present};
 ghost use Rattle.hd_map.specs.Rank.{rank, IsPoint};
 ghost use Rattle.hd_check.specs.Rules.{IsRight};

@@ -4,7 +4,7 @@ ghost use Rattle.hd_map.specs.declared.types.Pos.{Pos};
 ghost use Rattle.hd_map.specs.Map.{Present, cell_count};
 ghost use Rattle.hd_cert.specs.Nearer.{GoesNearer, IsBesideWith, IsFirst, LeadsDown};
 
-use crate::flood::residue_after;
+use crate::residue::Residue;
 use hd_list::{List, Memory};
 use hd_map::{Heights, Pos, index_of, neighbours};
 use std::alloc::Global;
@@ -14,7 +14,7 @@ use std::alloc::Global;
 pub fn path_down<G: Heights>(
     alloc: Global,
     grid: &G,
-    residues: &[u8],
+    residues: &[Residue],
     from: Pos,
     to: Pos,
 ) -> Result<List<Pos>, Memory>
@@ -29,8 +29,7 @@ pub fn path_down<G: Heights>(
         if here == to {
             return Ok(List::from_vec(path));
         }
-        // Two steps more are one less, modulo 3.
-        let residue = residue_after(residue_after(residues[index_of(size, here) as usize]));
+        let residue = residues[index_of(size, here) as usize].before();
         here = first_beside(alloc, grid, residues, here, residue);
         path.push(here)?;
     }
@@ -38,7 +37,13 @@ pub fn path_down<G: Heights>(
 }
 
 // The first neighbour with this residue, and the point itself where there is none.
-fn first_beside<G: Heights>(alloc: Global, grid: &G, residues: &[u8], at: Pos, residue: u8) -> Pos
+fn first_beside<G: Heights>(
+    alloc: Global,
+    grid: &G,
+    residues: &[Residue],
+    at: Pos,
+    residue: Residue,
+) -> Pos
     requires whole { length residues.now ≡ cell_count (G.map grid.now).size }
     requires at { Present (G.map grid.now) at }
     ensures present { Present (G.map grid.now) result }

@@ -6,11 +6,6 @@ use Rattle.hd_list.specs.declared.list.Memory.{Memory}
 use Rattle.hd_num.specs.Text.{AppendsPrefix}
 use Rattle.hd_check.specs.Text.{Adds, line_text}
 
--- what is said of both answers
-pub adds_told : (old new text : List ℕ) (r : Result (Unit {0}) Memory) → OnOk r (new ≡ old ++ text) → OnErr r (AppendsPrefix old new text) → Adds old new r text
-adds_told old new text (Ok x) ok err = ok
-adds_told old new text (Err e) ok err = err
-
 -- a prefix of the first text is one of both
 prefix_front : (k : ℕ) (t u : List ℕ) → (j : ℕ) × (take k t ≡ take j (t ++ u))
 prefix_front k [] u = (0, take_none k)
@@ -34,11 +29,6 @@ prefix_after : (old mid new t u : List ℕ) → mid ≡ old ++ t → AppendsPref
 prefix_after old mid new t u is p =
     let r = prefix_back p.0 t u in
     (r.0, p.1 ∙ ap (λ (xs : List ℕ). xs ++ take p.0 u) is ∙ append_assoc old t (take p.0 u) ∙ ap (λ (xs : List ℕ). old ++ xs) r.1)
-
--- after the first text comes what is made of the second
-pub adds_after : (old mid new t u : List ℕ) (r : Result (Unit {0}) Memory) → mid ≡ old ++ t → Adds mid new r u → Adds old new r (t ++ u)
-adds_after old mid new t u (Ok x) is a = a ∙ ap (λ (xs : List ℕ). xs ++ u) is ∙ append_assoc old t u
-adds_after old mid new t u (Err e) is p = prefix_after old mid new t u is p
 
 -- the last text
 pub adds_last : (old mid new t u : List ℕ) → mid ≡ old ++ t → new ≡ mid ++ u → new ≡ old ++ (t ++ u)

@@ -19,17 +19,6 @@ module _ {A : Type 0} (form : List (List ℕ) → Option A) where
     pub at : IsPlace bytes place
     pub whole : items_in form count (lines_at bytes start) ≡ before items (items_in form (count - k) (lines_at bytes place))
 
-  before_none : (r : Read (List A)) → r ≡ before [] r
-  before_none (Ok x) = refl
-  before_none (Err e) = refl
-
-  -- none is read at first
-  pub items_none : (bytes : List ℕ) (count : ℕ) (start : Place) → IsPlace bytes start → AreItemsBefore bytes count start [] start 0
-  items_none bytes count start at = record {
-    at = at;
-    whole = before_none (items_in form count (lines_at bytes start)) ∙ ap (λ (n : ℕ). before [] (items_in form n (lines_at bytes start))) (let e : count ≡ count - 0 = omega arith in e);
-  }
-
   one_more : (xs : List A) (x : A) (r : Read (List A)) → before xs (and_then r (λ ys rest. Ok (x ∷ ys, rest))) ≡ before (xs ++ x ∷ []) r
   one_more xs x (Ok r) = ap (λ (ys : List A). Ok (ys, r.1)) (sym (append_assoc xs (x ∷ []) r.0))
   one_more xs x (Err e) = refl
@@ -60,37 +49,14 @@ module _ {A : Type 0} (form : List (List ℕ) → Option A) where
       let left : count - k ≡ suc (count - (k + 1)) = omega (arith, less) in
       so_far.whole ∙ ap (λ (n : ℕ). before items (items_in form n (lines_at bytes place))) left ∙ ap (before items) (items_fail (count - (k + 1)) (lines_at bytes place) e read)
 
-  -- all are read
-  pub items_all : (bytes : List ℕ) (count : ℕ) (start : Place) (items : List A) (place : Place) (k : ℕ) → count ≤ k → AreItemsBefore bytes count start items place k
-      → items_in form count (lines_at bytes start) ≡ Ok (items, lines_at bytes place)
-  items_all bytes count start items place k done so_far =
-      let left : count - k ≡ 0 = omega (arith, done) in
-      so_far.whole ∙ ap (λ (n : ℕ). before items (items_in form n (lines_at bytes place))) left ∙ ap (λ (xs : List A). Ok (xs, lines_at bytes place)) (append-nil items)
-
--- no line is left at the end
-pub no_lines : (bytes : List ℕ) (place : Place) → length bytes ≤ place.from → (lines_at bytes place).lines ≡ []
-no_lines bytes place done = ap (λ (text : List ℕ). map words_of (lines_of text)) (drop_all place.from bytes done)
-
 -- the lines before a place have no words
 pub record AreBlankBefore (bytes : List ℕ) (start place : Place) : Type 0 where
   pub at : IsPlace bytes place
   pub whole : blank_among start.number (lines_at bytes start).lines ≡ blank_among place.number (lines_at bytes place).lines
 
--- a line without words is passed over
-pub blank_step : (number : ℕ) (lines more : List (List (List ℕ))) (words : List (List ℕ)) → lines ≡ words ∷ more → words ≡ [] → blank_among number lines ≡ blank_among (number + 1) more
-blank_step number lines more words is none = ap (blank_among number) (is ∙ ap (λ (ws : List (List ℕ)). ws ∷ more) none)
-
 bad_words : (number : ℕ) (more : List (List (List ℕ))) (words : List (List ℕ)) → (words ≡ [] → ⊥) → blank_among number (words ∷ more) ≡ Err (BadLine number)
 bad_words number more [] some = absurd (some refl)
 bad_words number more (w ∷ ws) some = refl
-
--- what has not three words
-pub saddle_other : (words : List (List ℕ)) → (length words ≡ 3 → ⊥) → none_form words ≡ saddle_words words
-saddle_other [] three = refl
-saddle_other (a ∷ []) three = refl
-saddle_other (a ∷ b ∷ []) three = refl
-saddle_other (a ∷ b ∷ c ∷ []) three = absurd (three (omega arith))
-saddle_other (a ∷ b ∷ c ∷ d ∷ more) three = refl
 
 module _ {A B : Type 0} (r : Read A) (next : A → Lines → Read B) where
   -- after what was read comes the next

@@ -40,9 +40,6 @@ module _ (m : Map) (from to : Pos) (s : Stroke) where
       pub drawn_mask : mask_at now at ≡ mask_at m at
       drawn_mask = ap (λ (n : Map). mask_at n at) so.map ∙ partly-mask m from to s at (stands_inside m.size from to at is stands here)
 
-      pub drawn_inside : InGrid now.size at
-      drawn_inside = subst (λ (n : Map). InGrid n.size at) (sym so.map) (stands_inside m.size from to at is stands here)
-
       -- what it becomes is of the type
       pub drawn_fits : IsStrokeOf m from to s → IsCellOf now.data_type (cell_after s (cell_at now at) (mask_at now at))
       drawn_fits fits =
@@ -61,9 +58,6 @@ module _ (m : Map) (from to : Pos) (s : Stroke) where
       drawn_room =
           let inside = place_inside m.size at (stands_inside m.size from to at is stands here) in
           rw drawn_len (count-grows (changes_at m from to s) (place_of m.size at + 1) (cell_count m.size) (omega (arith, inside)))
-
-      pub drawn_notes : All (IsChange now) notes
-      drawn_notes = subst (λ (n : Map). All (IsChange n) notes) (sym so.map) so.notes_are
 
       -- one point further
       pub drawn_next : (now' : Map) (notes' : List Change) → now' ≡ touched s at now → before_changes notes' now' ≡ before_changes notes now → All (IsChange now) notes'

@@ -100,10 +100,6 @@ log-undone log log' e m m' is left before = rw (left, before) (kind_stays (λ si
 }))
 
 module _ {X : Type 0} where
-  -- the items before the last n, and the one that follows them
-  pub back_start : (xs : List X) (x : X) → xs ++ x ∷ [] ≡ take (length xs + 1 - 0) (xs ++ x ∷ [])
-  back_start xs x = sym (take_all (length xs + 1 - 0) (xs ++ x ∷ []) (omega (arith, length_push xs x)))
-
   pub back_more : (all xs xs' : List X) (x x' : X) (n i : ℕ) → xs ++ x ∷ [] ≡ take (n + 1 - i) all → length xs + i ≡ n → xs ≡ xs' ++ x' ∷ [] → xs' ++ x' ∷ [] ≡ take (n + 1 - (i + 1)) all
   back_more all xs xs' x x' n i so len split =
       let e : n + 1 - (i + 1) ≡ length xs = omega (arith, len) in

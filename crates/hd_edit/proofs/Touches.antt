@@ -38,10 +38,6 @@ same_mask-true false false e = refl
 pub changes-none : (s : Stroke) (cell : Cell) (masked : Bool) → cell_after s cell masked ≡ cell → mask_after s masked ≡ masked → false ≡ changes s cell masked
 changes-none s cell masked stays shown = rw (stays, shown, same_cell-itself cell, same_mask-itself masked)
 
--- a point whose cell becomes another is changed
-pub changes-cell : (s : Stroke) (cell : Cell) (masked : Bool) → cell_after s cell masked ≢ cell → true ≡ changes s cell masked
-changes-cell s cell masked other = rw (false_from_ne_true (same_cell (cell_after s cell masked) cell) (λ same. other (same_cell-true (cell_after s cell masked) cell same)))
-
 -- a point whose mask becomes another is changed
 pub changes-mask : (s : Stroke) (cell : Cell) (masked : Bool) → cell_after s cell masked ≡ cell → mask_after s masked ≢ masked → true ≡ changes s cell masked
 changes-mask s cell masked stays other = rw (stays, same_cell-itself cell, false_from_ne_true (same_mask (mask_after s masked) masked) (λ same. other (same_mask-true (mask_after s masked) masked same)))

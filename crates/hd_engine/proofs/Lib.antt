@@ -5,6 +5,5 @@ mod Makes
 mod NamedSums
 mod SaddleAnswers
 pub mod Determined
-mod FileForms
 mod Positions
 mod Served

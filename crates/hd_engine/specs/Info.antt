@@ -2,7 +2,8 @@
 use Rattle.std.specs.Prelude.{ℕ, List, length}
 use Rattle.hd_map.specs.declared.presence.Presence.{Presence}
 use Rattle.hd_map.specs.Map.{Map}
-use Rattle.hd_map.specs.Presence.{present_heights, range_of}
+use Rattle.hd_map.specs.Presence.{present_heights}
+use Rattle.hd_map.specs.HeightRange.{range_of}
 use Rattle.hd_report.specs.Info.{info_text}
 use Rattle.hd_engine.specs.Reply.{Reply, Reports, accepted_with}
 use Rattle.hd_engine.specs.State.{FileTexts, State}

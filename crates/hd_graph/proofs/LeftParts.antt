@@ -54,9 +54,6 @@ module _ (line : List Stop) (lefts rights : List Rank) where
     pub from : (x : Rise) → Contains rises x → (h : IsRiseOf line lefts rights x) × (h.place < n)
     pub found : (x : Rise) (h : IsRiseOf line lefts rights x) → h.place < n → Contains rises x
 
-  pub rises-none : RisesSoFar 1 []
-  rises-none = record { from = λ x h. absurd (Contains-none x h); found = λ x h lt. absurd (let l = h.later in omega arith) }
-
   -- past a place without a rise
   pub rises-past : (n : ℕ) (z : Stop) (rises : List Rise) → slice_get line n ≡ Some z → z.rise ≡ None → RisesSoFar n rises → RisesSoFar (n + 1) rises
   rises-past n z rises at none so = record {

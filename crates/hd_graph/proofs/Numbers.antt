@@ -1,6 +1,6 @@
 -- The numbers of lows, and the links that name them.
-use Rattle.std.proofs.Common.{◌≡◌, ◌≢◌, ℕ, ◌<◌, ◌≤◌, ◌+◌, inl, inr, List, [], ◌∷◌, ◌++◌, length, map, take, get_or, Some, false, refl, sym, ◌∙◌, ap, subst, arith, slice_get, set}
-use Rattle.std.specs.Prelude.{All, AllPairs, pos}
+use Rattle.std.proofs.Common.{◌≡◌, ◌≢◌, ℕ, ◌<◌, ◌+◌, inl, inr, List, [], ◌∷◌, ◌++◌, length, map, take, get_or, Some, false, refl, sym, ◌∙◌, ap, arith, slice_get, set}
+use Rattle.std.specs.Prelude.{AllPairs, pos}
 use Rattle.std.proofs.lemmas.Bool.{cases_eq}
 use Rattle.std.proofs.lemmas.List.{map-append, take_more}
 use Rattle.std.proofs.lemmas.List.Elements.{Contains-get_or}
@@ -77,17 +77,3 @@ pub links-more : (lows : List Low) (passes : List Pass) (k : ℕ) (d : Pass) →
     map (pass_of lows) (links ++ l ∷ []) ≡ take (k + 1) passes
 links-more lows passes k d inside links l is so =
     map-append (pass_of lows) links (l ∷ []) ∙ ap (λ (ps : List Pass). ps ++ pass_of lows l ∷ []) so ∙ ap (λ (p : Pass). take k passes ++ p ∷ []) is ∙ sym (take_more passes k d inside)
-
--- room for the lows so far, and for one more
-pub room-none : (lows : List Low) → AreWithin lows 0 0
-room-none lows = λ k x less at. absurd (omega arith)
-
-pub room-more : (lows : List Low) (n room room' : ℕ) (d : Low) → AreWithin lows n room → n < length lows → room ≤ room' → (get_or lows n d).rank.index < room' → AreWithin lows (n + 1) room'
-room-more lows n room room' d before inside le here = λ k x less at. elim (cases_eq k n) [
-  | inl e ↦ (let is : get_or lows n d ≡ x = same_Some (get_or lows n d) x (sym (slice_get-get_or lows n d inside) ∙ ap (λ j. slice_get lows j) (sym e) ∙ at) in
-      subst (λ (z : Low). z.rank.index < room') is here)
-  | inr ne ↦ (let b = before k x (omega arith) at in omega arith)
-]
-
-pub room-all : (lows : List Low) (n room : ℕ) → AreWithin lows n room → length lows ≤ n → All (λ x. x.rank.index < room) lows
-room-all lows n room within le = λ k d inside. within k (get_or lows k d) (omega arith) (slice_get-get_or lows k d inside)

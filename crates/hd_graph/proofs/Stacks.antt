@@ -9,10 +9,6 @@ use Rattle.hd_graph.proofs.Lows.{reverse_last}
 use Rattle.hd_graph.specs.Parts.{lower, rise_below, lowest_to, LookAlike}
 
 module _ (below : Rank → Rank → Bool) (order : IsStrictOrder below) where
-  pub lower-none : (a : Option Rank) → lower below a None ≡ a
-  lower-none (Some x) = refl
-  lower-none None = refl
-
   lower-assoc : (a b c : Option Rank) → lower below a (lower below b c) ≡ lower below (lower below a b) c
   lower-assoc None b c = refl
   lower-assoc (Some x) None c = refl

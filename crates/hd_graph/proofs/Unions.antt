@@ -22,9 +22,6 @@ class-trans parents x y z h k = reach-trans (AreNext parents) h k
 abbrev pub AreSame : List ℕ → List ℕ → Type 0
 AreSame old new = (x y : ℕ) → AreOneClass new x y ↔ AreOneClass old x y
 
-pub same-trans : (old mid new : List ℕ) → AreSame old mid → AreSame mid new → AreSame old new
-same-trans old mid new first second x y = (λ h. (first x y).0 ((second x y).0 h), λ h. (second x y).1 ((first x y).1 h))
-
 -- each new parent is in one of the old classes with its child
 abbrev pub Refines : List ℕ → List ℕ → Type 0
 Refines old new = (x y : ℕ) → slice_get new x ≡ Some y → AreOneClass old x y

@@ -13,10 +13,6 @@ use Rattle.hd_lines.specs.Found.{AreFoundOf}
 use Rattle.hd_lines.proofs.Finding.{found-as}
 
 module _ (places : List ℕ) where
-  -- past the last index there is none
-  pub first-end : (place : ℕ) → IsFirstFrom places place (length places) (length places)
-  first-end place = record { from = omega arith; most = omega arith; there = λ less. absurd (omega arith); none = λ j from less at. absurd (omega arith) }
-
   -- one index more, before the others
   module _ (n own : ℕ) (at : slice_get places n ≡ Some own) where
     first-here : IsFirstFrom places own n n

@@ -18,7 +18,8 @@ use Rattle.hd_graph.proofs.Steps.{reach-by}
 use Rattle.hd_graph.proofs.Unions.{class-sym, class-trans, least-same}
 use Rattle.hd_lines.specs.declared.border.Border.{Border}
 use Rattle.hd_lines.specs.declared.saddles.Crossing.{Crossing}
-use Rattle.hd_lines.specs.Borders.{AreCrossings, AreEnds, AreFirstJoins, AreJoinedTo, AreLower, AreMarked, FirstStep, HasEnds, IsFirstOf, LowerCrossing, LowerStep, SplitsAt, crossing_of, is_lower}
+use Rattle.hd_lines.specs.Crossings.{AreCrossings, AreJoinedTo, AreLower, AreMarked, FirstStep, HasEnds, IsFirstOf, LowerCrossing, SplitsAt, crossing_of, is_lower}
+use Rattle.hd_lines.specs.FirstJoins.{AreEnds, AreFirstJoins, LowerStep}
 
 -- one border more
 pub crossings-none : (borders : List Border) → AreCrossings borders 0 []

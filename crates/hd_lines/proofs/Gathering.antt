@@ -63,15 +63,6 @@ module _ (m : Map) (side : SideName) (places : List ℕ) where
     pub all : (i j : ℕ) (p : Pair) → i < n → i < j → IsAcross m (HasPlace m places) i j p → (l : Border) × Contains borders l × (l.a ≡ i) × (l.b ≡ j)
     pub in_order : AllPairs (λ x y. (x.a < y.a) ⊎ ((x.a ≡ y.a) × (x.b < y.b))) borders
 
-  pub borders-none : AreBordersBefore 0 []
-  borders-none = record {
-    lesser = λ l at. (let inside = at.1 in absurd (omega arith));
-    before = λ l at. (let inside = at.1 in absurd (omega arith));
-    counted = λ l at. (let inside = at.1 in absurd (omega arith));
-    all = λ i j p less lesser across. absurd (omega arith);
-    in_order = λ i j d less inside. absurd (omega arith);
-  }
-
   -- with those of one place more
   pub borders-more : (n : ℕ) (old raw sorted : List Border) → AreBordersBefore n old → AreFoundOf m side places All_pairs n raw → AllPairs (λ x y. x.b ≢ y.b) raw → IsPermutation raw sorted
       → IsNonDecreasingBy (λ (l : Border). l.b) sorted → AreBordersBefore (n + 1) (old ++ sorted)

@@ -16,7 +16,8 @@ use Rattle.hd_prune.specs.Answer.{IsPruned}
 use Rattle.hd_steep.specs.Numbering.{AreNumbered, Numbering}
 use Rattle.hd_lines.specs.declared.border.Border.{Border}
 use Rattle.hd_lines.specs.declared.line.BorderLine.{BorderLine}
-use Rattle.hd_lines.specs.Borders.{AreBorders, AreFirstJoins}
+use Rattle.hd_lines.specs.Borders.{AreBorders}
+use Rattle.hd_lines.specs.FirstJoins.{AreFirstJoins}
 use Rattle.hd_lines.specs.Lines.{AreBorderLines, IsAcross, IsBorderLine, IsOwnedBy, Pair}
 use Rattle.hd_lines.specs.Listed.{AreListed, line_of}
 use Rattle.hd_lines.specs.Found.{HasPlace}

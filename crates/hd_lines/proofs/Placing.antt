@@ -14,7 +14,7 @@ use Rattle.hd_map.specs.Region.{IsPit, IsRoot}
 use Rattle.hd_map.proofs.Apart.{length-le_from_apart}
 use Rattle.hd_map.proofs.Items.{Contains-map, map-Contains}
 use Rattle.hd_map.proofs.Nexts.{root-is_pit, root-pit, root-unique}
-use Rattle.hd_map.proofs.Points.{Near-from, place_inside}
+use Rattle.hd_map.proofs.Points.{Near-from, place_inside, point_inside}
 use Rattle.hd_map.proofs.Prunings.{pits-unique}
 use Rattle.hd_graph.proofs.Places.{at_place, less_same_more, one_place, place_of as place_in}
 use Rattle.hd_prune.specs.declared.step.Kept.{Kept}
@@ -30,10 +30,6 @@ use Rattle.hd_lines.specs.Found.{HasPlace}
 use Rattle.hd_lines.specs.Places.{AreOwnerPlaces, IsNumbered}
 use Rattle.hd_lines.proofs.Seen.{place-one}
 use Rattle.hd_lines.proofs.Owners.{AreOwners, neighbours-joined, owners-pruned}
-
--- the index of a point is that of a cell
-pub point-inside : (m : Map) (x : Rank) → IsPoint m x → x.index < cell_count m.size
-point-inside m x point = subst (λ (r : Rank). r.index < cell_count m.size) (sym point.rank_is) (place_inside m.size point.at point.present.in_grid)
 
 -- what has a root is a point
 pub root-point : (m : Map) (side : SideName) (x r : Rank) → IsRoot m side x r → IsPoint m x
@@ -78,7 +74,7 @@ module _ (m : Map) (whole : IsMap m) (side : SideName) (thousandths : ℕ) (step
 
   pub kept-few : length kept ≤ 4194304
   kept-few =
-      let most = length-le_from_apart (λ (k : Kept). k.pit.index) (cell_count m.size) kept kept-once (λ k at. point-inside m k.pit (kept-pit k at).point) in
+      let most = length-le_from_apart (λ (k : Kept). k.pit.index) (cell_count m.size) kept kept-once (λ k at. point_inside m k.pit (kept-pit k at).point) in
       let cells = whole.size.cells in
       omega arith
 
@@ -112,7 +108,7 @@ module _ (m : Map) (whole : IsMap m) (side : SideName) (thousandths : ℕ) (step
     owners-whole = ap length owners-listed ∙ length-map regions.pits (λ (p : Rank). record { pit = p; owner = pruned.owner p })
 
     number-inside : (x : Rank) → IsPoint m x → x.index < length regions.numbers
-    number-inside x point = subst (λ n. x.index < n) (sym (numbers_whole m side regions numbered)) (point-inside m x point)
+    number-inside x point = subst (λ n. x.index < n) (sym (numbers_whole m side regions numbered)) (point_inside m x point)
 
     pit-numbered : (p : Rank) → IsPit m side p → IsNumbered regions p.index
     pit-numbered p pit = record { inside = number-inside p pit.point; below = (number_of_point m side regions numbered p pit.point).0 }

@@ -24,13 +24,6 @@ module _ (m : Map) (at : Pos) (inside : InGrid m.size at) where
     λ below. inr (e, subst (IsBelow step) (sym of.position) below),
   )
 
-  -- of a pair from elsewhere its first index alone
-  seen-elsewhere : (step n : ℕ) (p : Pair) → (p.from.index ≡ place_of m.size at → ⊥) → IsSeenTo m at step p ↔ IsSeenTo m at n p
-  seen-elsewhere step n p other = (
-    λ s. elim s [ inl less ↦ inl less | inr below ↦ absurd (other below.0) ],
-    λ s. elim s [ inl less ↦ inl less | inr below ↦ absurd (other below.0) ],
-  )
-
   -- before the first step
   pub round-start : (p : Pair) → Near m p.from p.to → (p.from.index < place_of m.size at) ↔ IsSeenTo m at 0 p
   round-start p near = (

@@ -28,15 +28,6 @@ module _ (slots : List ℕ) (borders : List Border) (indexed : AreIndexed slots 
       let is : get_or borders slot d ≡ l = ap (λ i. get_or borders i d) same ∙ get_or_from_slice_get borders k l d at in
       other (omega arith) (ap (λ (z : Border). z.b) is ∙ e)
 
-  -- a border is written in the place of another of the same greater place
-  pub indexed-set : (i : ℕ) (x y : Border) → slice_get borders i ≡ Some x → y.b ≡ x.b → AreIndexed slots (set borders i y)
-  indexed-set i x y at same k l at_l = elim (cases_eq k i) [
-    | inl e ↦
-        let is : y ≡ l = same_Some y l (sym (get-set_same borders i y x at) ∙ ap (slice_get (set borders i y)) (sym e) ∙ at_l) in
-        ap (λ (z : Border). slice_get slots z.b) (sym is) ∙ ap (slice_get slots) same ∙ indexed i x at ∙ ap Some (sym e)
-    | inr ne ↦ indexed k l (sym (get-set_other borders i k y (λ e. ne (sym e))) ∙ at_l)
-  ]
-
   -- a border of a new greater place is added
   pub indexed-push : (b : ℕ) (x : Border) → b < length slots → x.b ≡ b → ((k : ℕ) (l : Border) → slice_get borders k ≡ Some l → l.b ≡ b → ⊥) → AreIndexed (set slots b (length borders)) (borders ++ x ∷ [])
   indexed-push b x inside is none k l at = elim (get-push_cases borders x l k at) [

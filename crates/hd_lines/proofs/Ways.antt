@@ -16,7 +16,8 @@ use Rattle.hd_map.proofs.Sides.{not_above-along}
 use Rattle.hd_graph.proofs.Basins.{higher-bounds}
 use Rattle.hd_prune.proofs.Points.{JoinedBy, joined_along, joined_both, joined_higher, not_above_level}
 use Rattle.hd_lines.specs.declared.border.Border.{Border}
-use Rattle.hd_lines.specs.Borders.{AreBorders, IsFirstJoin, LowerStep}
+use Rattle.hd_lines.specs.Borders.{AreBorders}
+use Rattle.hd_lines.specs.FirstJoins.{IsFirstJoin, LowerStep}
 use Rattle.hd_lines.specs.Lines.{IsAcross, Pair}
 use Rattle.hd_lines.specs.Found.{HasPlace}
 use Rattle.hd_lines.proofs.Seen.{place-one}

@@ -3,4 +3,6 @@ pub mod Places
 pub mod Chains
 pub mod Found
 pub mod Borders
+pub mod FirstJoins
+pub mod Crossings
 pub mod Listed

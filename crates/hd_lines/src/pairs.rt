@@ -122,7 +122,8 @@ fn stands_at_three(places: &[u32], place: u32, index: usize) -> bool
     places[index - 1] == place && places[index] == place && places[index + 1] == place
 }
 
-// Notes the pairs of a present point of this place with its neighbours of greater places.
+// Notes the pairs of a present point of this place with its neighbours of greater places. The nine steps are
+// written out: in a loop the position at a step would be reckoned each time.
 fn note_round<S: Side, G: Heights>(
     grid: &G,
     places: &[u32],
@@ -139,36 +140,15 @@ fn note_round<S: Side, G: Heights>(
     ensures found { OnOk result (AreFoundBefore (G.map grid.now) S.NAME places.now place (place_of (G.map grid.now).size at + 1) found.new) }
     ensures long { OnOk result (length found.new.slots.items ≡ length found.old.slots.items) }
 {
-    note_three::<S, G>(grid, places, place, at, 0, found)?;
-    note_three::<S, G>(grid, places, place, at, 3, found)?;
-    note_three::<S, G>(grid, places, place, at, 6, found)?;
-    Ok(())
-}
-
-// Notes the pairs of such a point with those at three steps, from one of the nine on. Each is written out: in
-// a loop the position at a step would be reckoned each time.
-#[inline(always)]
-fn note_three<S: Side, G: Heights>(
-    grid: &G,
-    places: &[u32],
-    place: u32,
-    at: Pos,
-    first: u32,
-    found: &mut Found,
-) -> Result<(), Memory>
-    requires whole { length places.now ≡ cell_count (G.map grid.now).size }
-    requires within { All (λ p. p < length found.old.slots.items) places.now }
-    requires few { length found.old.slots.items < 2 ^ 32 }
-    requires present { Present (G.map grid.now) at }
-    requires place { slice_get places.now (place_of (G.map grid.now).size at) ≡ Some place }
-    requires first { first ≤ 6 }
-    requires before { AreFoundTo (G.map grid.now) S.NAME places.now place at first found.old }
-    ensures found { OnOk result (AreFoundTo (G.map grid.now) S.NAME places.now place at (first + 3) found.new) }
-    ensures long { OnOk result (length found.new.slots.items ≡ length found.old.slots.items) }
-{
-    note_step::<S, G>(grid, places, place, at, first, found)?;
-    note_step::<S, G>(grid, places, place, at, first + 1, found)?;
-    note_step::<S, G>(grid, places, place, at, first + 2, found)?;
+    note_step::<S, G>(grid, places, place, at, 0, found)?;
+    note_step::<S, G>(grid, places, place, at, 1, found)?;
+    note_step::<S, G>(grid, places, place, at, 2, found)?;
+    note_step::<S, G>(grid, places, place, at, 3, found)?;
+    note_step::<S, G>(grid, places, place, at, 4, found)?;
+    note_step::<S, G>(grid, places, place, at, 5, found)?;
+    note_step::<S, G>(grid, places, place, at, 6, found)?;
+    note_step::<S, G>(grid, places, place, at, 7, found)?;
+    note_step::<S, G>(grid, places, place, at, 8, found)?;
     Ok(())
 }
 

@@ -5,7 +5,8 @@ ghost use Rattle.std.specs.Ordering.{is_lt};
 ghost use Rattle.hd_lines.specs.declared.saddles.Crossing.{Crossing};
 ghost use Rattle.hd_map.specs.Rank.{below_by};
 ghost use Rattle.hd_graph.specs.Classes.{AreFalling};
-ghost use Rattle.hd_lines.specs.Borders.{AreCrossings, AreFirstJoins, AreJoinedTo, AreLower, AreMarked, HasEnds, SplitsAt, is_lower};
+ghost use Rattle.hd_lines.specs.Crossings.{AreCrossings, AreJoinedTo, AreLower, AreMarked, HasEnds, SplitsAt, is_lower};
+ghost use Rattle.hd_lines.specs.FirstJoins.{AreFirstJoins};
 
 use crate::border::Border;
 use hd_graph::Classes;

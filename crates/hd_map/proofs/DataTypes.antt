@@ -1,8 +1,9 @@
 -- The heights of the data types.
-use Rattle.std.proofs.Common.{◌≤◌, ◌≤ℤ◌, ◌<ℤ◌, ◌+ℤ◌, ℤ, pos, arith}
+use Rattle.std.proofs.Common.{◌≡◌, ◌≤◌, ◌≤ℤ◌, ◌<ℤ◌, ◌+ℤ◌, ◌∙◌, ℤ, pos, arith}
 use Rattle.std.specs.Prelude.{negsuc, FitsSigned}
 use mir.Syntax.{w64}
-use Rattle.std.proofs.lemmas.Int.{ints}
+use mir.Val.{of_z, to_z}
+use Rattle.std.proofs.lemmas.Int.{ints, to_z-of_z}
 use Rattle.hd_map.specs.declared.types.DataType.{DataType}
 use Rattle.hd_map.specs.declared.types.DataType.TheVariants.{U8, U16, U32, I8, I16, I32, Single, Double}
 use Rattle.hd_map.specs.Map.{IsNarrow, least_height, greatest_height, most_places, places_of}
@@ -40,3 +41,9 @@ in_64_bits t h within =
     let low = within.0 in
     let high = within.1 in
     omega (arith, ints, limits.0, limits.2, low, high)
+
+-- the least height of a type is read from 64 bits as it is
+pub least_read : (t : DataType) (least : ℤ) → least ≡ least_height t → to_z w64 (of_z w64 least) ≡ least_height t
+least_read t least is =
+    let limits = type_limits t in
+    to_z-of_z w64 least (omega (arith, ints, limits.0, limits.1, is)) ∙ is

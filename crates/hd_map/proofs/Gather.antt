@@ -32,6 +32,21 @@ only_one : (at q : Pos) (step : ℕ) → step < 9 → q.x ≤ at.x + 1 → at.x 
     → 3 * q.y + q.x + 4 ≡ 3 * at.y + at.x + step → (q.x + 1 ≡ at.x + step % 3) × (q.y + 1 ≡ at.y + step / 3)
 only_one at q step below x x' y y' e = (omega arith, omega arith)
 
+-- the step to a neighbour of this number
+pub step_of : (m : Map) (at q : Pos) (step : ℕ) → Neighbour m at q → step < 9 → 3 * q.y + q.x + 4 ≡ 3 * at.y + at.x + step → (q.x + 1 ≡ at.x + step % 3) × (q.y + 1 ≡ at.y + step / 3)
+step_of m at q step n below e = only_one at q step below (omega (arith, n.columns)) (omega (arith, n.columns)) (omega (arith, n.rows)) (omega (arith, n.rows)) e
+
+-- what is present and beside the point at a step is a neighbour
+pub step_neighbour : (m : Map) (at q : Pos) (step : ℕ) → Present m at → Present m q → AreBesideUnder m.adjacency at q → step < 9 → (step ≡ 4 → ⊥) → q.x + 1 ≡ at.x + step % 3 → q.y + 1 ≡ at.y + step / 3 → Neighbour m at q
+step_neighbour m at q step here there beside below apart ex ey = record {
+  from = here;
+  to = there;
+  columns = (omega (arith, below, ex), omega (arith, below, ex));
+  rows = (omega (arith, below, ey), omega (arith, below, ey));
+  different = λ e. apart (let x : at.x ≡ q.x = ap (λ (p : Pos). p.x) e in let y : at.y ≡ q.y = ap (λ (p : Pos). p.y) e in omega (arith, below, ex, ey, x, y));
+  beside = beside;
+}
+
 pub gathered_push : (m : Map) (at q : Pos) (step : ℕ) (found : List Pos) → Present m at → (step ≡ 4 → ⊥) → step < 9
     → q.x + 1 ≡ at.x + step % 3 → q.y + 1 ≡ at.y + step / 3 → Present m q → AreBesideUnder m.adjacency at q → Gathered m at step found → Gathered m at (step + 1) (found ++ q ∷ [])
 gathered_push m at q step found here not_centre below ex ey there beside g =

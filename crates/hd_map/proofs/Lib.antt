@@ -17,4 +17,6 @@ pub mod Trees
 pub mod Prunings
 pub mod Walks
 pub mod Presences
+pub mod Ranks
+mod Sets
 mod Packed

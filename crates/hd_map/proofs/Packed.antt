@@ -2,12 +2,10 @@
 use Rattle.std.proofs.Common.{◌≡◌, ◌≢◌, ◌<◌, ◌+◌, ◌-◌, ◌*ℤ◌, ◌++◌, ◌≤◌, ℕ, ℤ, zero, suc, Bool, false, List, [], ◌∷◌, length, get_or, set, take, drop, map, replicate, None, inl, inr, ap, ap₂, append-nil, sym, refl, ◌∙◌, arith}
 use Rattle.std.specs.Int.{int_wrap, w64}
 use Rattle.std.specs.Simd.Lanes.{zip2}
-use Rattle.std.proofs.Math.ListN.{length-set}
 use Rattle.std.proofs.Math.Seq.{map-set_same, take-append_seam}
-use Rattle.std.proofs.lemmas.Bool.{cases_Bool, cases_eq, cases_lt}
+use Rattle.std.proofs.lemmas.Bool.{cases_Bool, cases_lt}
 use Rattle.std.proofs.lemmas.Int.{int_wrap_fits}
-use Rattle.std.proofs.lemmas.Grind.{get_or-set_at}
-use Rattle.std.proofs.lemmas.List.{get_or-replicate, length-replicate, length-map, map-append, map-set, get_or-map, get_or-set_other, get_or_append_left, get_or_push, replicate_more, take_more_set, take_all, drop_all, length_push}
+use Rattle.std.proofs.lemmas.List.{get_or-replicate, length-replicate, length-map, map-append, map-set, get_or-map, get_or_append_left, get_or_push, replicate_more, take_more_set, take_all, drop_all, length_push}
 use Rattle.std.proofs.lemmas.List.Edits.{map_over_more}
 use Rattle.std.proofs.lemmas.Simd.{get_or-zip2, length-zip2}
 use Rattle.hd_map.specs.declared.types.Adjacency.{Adjacency}
@@ -48,30 +46,6 @@ module _ {X Y Z : Type 0} (f : X → Y → Z) where
   zip2-push (a ∷ xs) [] x y e = absurd (omega arith)
   zip2-push (a ∷ xs) (b ∷ ys) x y e = ap (λ zs. f a b ∷ zs) (zip2-push xs ys x y (omega arith))
 
--- what shows of a point that is not both measured and clear of masks
-pub not_shown : {H : Type 0} (height : H → ℤ) (number : H) (mark : Mark) → mark ≢ Shown → shown_height (cell_from height number mark) (masks mark) ≡ None
-not_shown height number Shown other = absurd (other refl)
-not_shown height number Masked other = refl
-not_shown height number Unmeasured other = refl
-not_shown height number MaskedUnmeasured other = refl
-
--- a map with a cell of its type is a map
-pub cell_kept : (m : Map) (p : Pos) (cell : Cell) → IsMap m → IsCellOf m.data_type cell → IsMap (with_cell m p cell)
-cell_kept m p cell whole of_type = let k = place_of m.size p in record {
-  size = whole.size;
-  places = whole.places;
-  cells = length-set m.cells k cell ∙ whole.cells;
-  masks = whole.masks;
-  heights = λ j inside. elim (cases_eq j k) [
-    | inl same ↦ rw (get_or-set_at m.cells k j cell Bad same (rw (sym same) (rw (length-set m.cells k cell) at inside))) of_type
-    | inr other ↦ rw (get_or-set_other m.cells k j cell Bad other) (whole.heights j (rw (length-set m.cells k cell) at inside))
-  ];
-}
-
--- a map with a mask set is a map
-pub mask_kept : (m : Map) (p : Pos) (masked : Bool) → IsMap m → IsMap (with_mask m p masked)
-mask_kept m p masked whole = record { size = whole.size; places = whole.places; cells = whole.cells; masks = length-set m.masks (place_of m.size p) masked ∙ whole.masks; heights = whole.heights }
-
 -- a map of these cells and masks
 abbrev with_lists : Size → DataType → Adjacency → List Cell → List Bool → Map
 with_lists s t adjacency cells covers = record { size = s; data_type = t; cells = cells; masks = covers; adjacency = adjacency }
@@ -95,9 +69,9 @@ module _ {H : Type 0} (height : H → ℤ) (s : Size) (t : DataType) (numbers : 
   pub bad_read : H → measures mark ≡ false → cell_at kept at ≡ Bad
   bad_read d unmeasured = cell_read d ∙ rw unmeasured refl
 
-  -- nothing shows of a point that is not both measured and clear of masks
-  pub none_read : H → mark ≢ Shown → shown_height (cell_at kept at) (mask_at kept at) ≡ None
-  none_read d other = rw (cell_read d, mask_read) (not_shown height (get_or numbers k d) mark other)
+  -- the height that shows is that of the number and the mark
+  pub height_read : (d : H) → shown_height (cell_from height (get_or numbers k d) mark) (masks mark) ≡ shown_height (cell_at kept at) (mask_at kept at)
+  height_read d = rw (cell_read d, mask_read) refl
 
   -- setting a number and a mark sets the cell, where the mask stays
   pub cell_set : (number : H) (new : Mark) (cell : Cell) → cell_from height number new ≡ cell → masks new ≡ masks mark → kept_map height s t (set numbers k number) (set marks k new) adjacency ≡ with_cell kept at cell

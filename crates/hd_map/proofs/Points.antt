@@ -1,5 +1,5 @@
 -- Positions, present points, their ranks and neighbours.
-use Rattle.std.proofs.Common.{ℕ, ◌≡◌, List, map, ◌<◌, ◌≤◌, ◌+◌, Bool, true, false, ◌⊎◌, inl, inr, ap, ◌∙◌, sym, refl, arith}
+use Rattle.std.proofs.Common.{ℕ, ℤ, ◌≡◌, List, Some, None, map, ◌<◌, ◌≤◌, ◌+◌, Bool, true, false, ◌⊎◌, inl, inr, ap, ◌∙◌, sym, refl, arith}
 use Rattle.std.specs.Prelude.{Contains}
 use Rattle.std.specs.List.{range_with_len}
 use Rattle.std.proofs.Math.Nat.{mul-le-mul_right}
@@ -11,7 +11,7 @@ use Rattle.hd_map.specs.declared.types.Size.{Size}
 use Rattle.hd_map.specs.declared.types.Rank.{Rank}
 use Rattle.hd_map.specs.declared.types.Cell.{Cell}
 use Rattle.hd_map.specs.declared.types.Cell.TheVariants.{Height, Bad}
-use Rattle.hd_map.specs.Map.{Map, InGrid, IsMeasured, Present, cell_at, mask_at, place_of, position_at, cell_count}
+use Rattle.hd_map.specs.Map.{Map, InGrid, IsMeasured, Present, cell_at, height_or_zero, mask_at, place_of, position_at, cell_count, shown_height}
 use Rattle.hd_map.specs.Neighbour.{Neighbour}
 use Rattle.hd_map.specs.Rank.{IsPoint, Near, rank}
 use Rattle.hd_map.proofs.Gather.{same_pos}
@@ -127,3 +127,25 @@ Near-apart m a b n e = n.neighbour.different (same_point m n.from n.to n.neighbo
 -- the ranks of two neighbours are near
 pub Near-at : (m : Map) (p q : Pos) → Neighbour m p q → Near m (rank m p) (rank m q)
 Near-at m p q n = record { from = p; to = q; neighbour = n; from_rank = refl; to_rank = refl }
+
+-- what is measured and shown is its height
+pub shown_of : (c : Cell) (masked : Bool) → IsMeasured c → masked ≡ false → shown_height c masked ≡ Some (height_or_zero c)
+shown_of (Height h) false measured clear = refl
+shown_of (Height h) true measured clear = absurd (cc clear)
+shown_of Bad masked measured clear = absurd measured
+
+-- and what is shown is measured
+pub of_shown : (c : Cell) (masked : Bool) (h : ℤ) → shown_height c masked ≡ Some h → IsMeasured c × (masked ≡ false) × (height_or_zero c ≡ h)
+of_shown (Height z) false h is = (tt, refl, (let e = is in cc))
+of_shown (Height z) true h is = absurd (cc is)
+of_shown Bad masked h is = absurd (cc is)
+
+-- what is not present shows no height
+pub none_shown : (c : Cell) (masked : Bool) → (IsMeasured c → masked ≡ false → ⊥) → shown_height c masked ≡ None
+none_shown (Height h) false absent = absurd (absent tt refl)
+none_shown (Height h) true absent = refl
+none_shown Bad masked absent = refl
+
+-- the index of a point is that of a cell
+pub point_inside : (m : Map) (r : Rank) → IsPoint m r → r.index < cell_count m.size
+point_inside m r point = rw point.rank_is (place_inside m.size point.at point.present.in_grid)

@@ -9,7 +9,8 @@ use Rattle.std.proofs.lemmas.List.FromFn.{map-range_with_len_more}
 use Rattle.std.proofs.lemmas.List.Sums.{fold_push}
 use Rattle.hd_map.specs.Map.{Map, height_at, position_at}
 use Rattle.hd_map.specs.declared.presence.Presence.{Presence}
-use Rattle.hd_map.specs.Presence.{IsPresence, heights_below, presence_with, range_of, widened}
+use Rattle.hd_map.specs.Presence.{IsPresence, heights_below, presence_with}
+use Rattle.hd_map.specs.HeightRange.{range_of, widened}
 
 -- the heights with that of one more point
 pub heights_more : (m : Map) (n : ℕ) → heights_below m (n + 1) ≡ heights_below m n ++ cons_option (height_at m (position_at m.size n)) []

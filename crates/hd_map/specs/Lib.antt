@@ -2,6 +2,7 @@ pub mod Map
 pub mod Neighbour
 pub mod Order
 pub mod Rank
+pub mod Ranks
 pub mod SideLaws
 pub mod SettingLaws
 pub mod Path
@@ -22,4 +23,5 @@ pub mod Undercut
 pub mod Walks
 pub mod Crossings
 pub mod Shown
+pub mod HeightRange
 pub mod Presence

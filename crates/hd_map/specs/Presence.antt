@@ -1,9 +1,8 @@
 -- How many points of a map are present, and the range of their heights.
-use Rattle.std.specs.Prelude.{◌≡◌, ◌+◌, ℕ, ℤ, List, [], ◌∷◌, length, map, fold, Option, Some, None}
-use Rattle.std.specs.Int.{int_min, int_max}
+use Rattle.std.specs.Prelude.{◌≡◌, ◌+◌, ℕ, ℤ, List, length, map, Option, Some, None}
 use Rattle.std.specs.List.{filter_map, range_with_len}
-use Rattle.hd_map.specs.declared.presence.HeightRange.{HeightRange}
 use Rattle.hd_map.specs.declared.presence.Presence.{Presence}
+use Rattle.hd_map.specs.HeightRange.{range_of, widened}
 use Rattle.hd_map.specs.Map.{Map, cell_count, height_at, position_at}
 
 -- the heights of the present points among those with an index below n, by index
@@ -14,20 +13,10 @@ heights_below m n = filter_map (height_at m) (map (position_at m.size) (range_wi
 abbrev pub present_heights : Map → List ℤ
 present_heights m = heights_below m (cell_count m.size)
 
--- the least and the greatest of some heights
-abbrev pub range_of : List ℤ → Option HeightRange
-range_of [] = None
-range_of (height ∷ heights) = Some (record { least = fold int_min height heights; greatest = fold int_max height heights })
-
 -- how many heights there are, and their range
 pub record IsPresence (heights : List ℤ) (presence : Presence) : Type 0 where
   pub count : presence.count ≡ length heights
   pub range : presence.range ≡ range_of heights
-
--- the range with one more height
-abbrev pub widened : Option HeightRange → ℤ → HeightRange
-widened None height = record { least = height; greatest = height }
-widened (Some range) height = record { least = int_min range.least height; greatest = int_max range.greatest height }
 
 -- a point is counted where it has a height
 abbrev pub presence_with : Presence → Option ℤ → Presence

@@ -1,7 +1,8 @@
 // A grid that is seen as a map.
-ghost use Rattle.std.specs.Prelude.{◌≡◌, ◌<◌, ◌^◌, ◌+◌, ℕ, ◌↔◌, IsTrue};
+ghost use Rattle.std.specs.Prelude.{◌≡◌, ◌<◌, ◌^◌, ◌+◌, ℕ, ◌↔◌, IsTrue, length};
 ghost use Rattle.hd_map.specs.Map.{Map, IsMap, IsSize, InGrid, Present, place_of, position_at, cell_count, cell_at, mask_at, shown_height};
 ghost use Rattle.hd_map.specs.Rank.{rank};
+ghost use Rattle.hd_map.specs.Ranks.{AreRanksOf, rank_shown};
 ghost use Rattle.hd_map.specs.Sets.{SetsCell, SetsMask, under, CountsChange};
 
 use crate::{Adjacency, Cell, DataType, MapError, Pos, Rank, Size};
@@ -23,6 +24,18 @@ pub trait Heights {
     fn height(&self, at: Pos) -> Option<i64>
         requires { InGrid (map self.now).size at }
         ensures { result ≡ shown_height (cell_at (map self.now) at) (mask_at (map self.now) at) };
+
+    /// Writes by column the ranks of the points of a profile into a row, and `none` where a point is not present.
+    fn fill_ranks(&self, y: u32, none: Rank, row: &mut [Rank])
+        requires profile { y < (map self.now).size.profiles }
+        requires columns { length row.old ≡ (map self.now).size.points }
+        ensures { AreRanksOf (map self.now) y none row.new }
+    {
+        for x in 0..row.len() {
+            let at = Pos { x: x as u32, y };
+            row[x] = rank_shown(none, index_of(self.size(), at), self.height(at));
+        }
+    }
 
     /// The size is within the limits, the lists are of that size, and the heights are of the type.
     ghost whole: { (grid : Self) → IsMap (map grid) };
@@ -126,6 +139,17 @@ pub fn position_after(size: Size, at: Pos) -> Pos
         }
     } else {
         Pos { x: 0, y: at.y + 1 }
+    }
+}
+
+// The rank of a height at an index, and `none` where there is no height.
+#[inline]
+pub(crate) fn rank_shown(none: Rank, index: u32, height: Option<i64>) -> Rank
+    ensures { result ≡ rank_shown none index height }
+{
+    match height {
+        Some(height) => Rank { height, index },
+        None => none,
     }
 }
 

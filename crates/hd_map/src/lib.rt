@@ -4,6 +4,7 @@
 
 mod cells;
 mod grid;
+mod height_range;
 mod laws;
 mod mark;
 mod narrow;
@@ -23,14 +24,15 @@ pub use cells::Cells;
 pub use grid::{
     Grid, Heights, contains, height, index_of, is_present, position_after, position_of, rank_of,
 };
+pub use height_range::HeightRange;
 pub use laws::{
     change_tree_is_determined, saddle_exists_where_there_is_a_path, saddle_is_determined,
     saddle_is_not_above_the_higher_of_two, saddle_is_the_same_both_ways,
     saddle_of_two_pits_is_above_both,
 };
 pub use narrow::Narrow;
-pub use near::{are_beside, neighbours, neighbours_by};
-pub use presence::{HeightRange, Presence, presence_of};
+pub use near::{are_beside, beside_at, neighbours, neighbours_by};
+pub use presence::{Presence, presence_of};
 pub use pruning_law::pruning_is_determined;
 pub use range::{greatest_of, is_cell_of, is_narrow, least_of, over_least};
 pub use side::{Down, Side, Up};

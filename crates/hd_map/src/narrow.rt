@@ -1,12 +1,13 @@
 // A surface whose heights take four bytes each.
-ghost use Rattle.std.specs.Prelude.{◌≡◌, IfOk, length, replicate, false};
-ghost use Rattle.hd_map.specs.Map.{IsSize, IsMap, IsNarrow, cell_count, least_height};
-ghost use Rattle.hd_map.specs.Packing.{kept_map, over_least};
+ghost use Rattle.std.specs.Prelude.{◌≡◌, ◌≤ℤ◌, ◌+ℤ◌, pos, negsuc, IfOk, length, replicate, false};
+ghost use Rattle.hd_map.specs.Map.{IsSize, IsMap, IsNarrow, cell_count, least_height, shown_height};
+ghost use Rattle.hd_map.specs.Packing.{cell_from, kept_map, masks, over_least};
 
+use crate::grid::rank_shown;
 use crate::mark::{Mark, unmasked_marks};
 use crate::packing::pack_narrow;
 use crate::{
-    Adjacency, Cell, Cells, DataType, Grid, Heights, MapError, Pos, Size, contains, index_of,
+    Adjacency, Cell, Cells, DataType, Grid, Heights, MapError, Pos, Rank, Size, contains, index_of,
     is_cell_of, least_of,
 };
 use hd_list::Memory;
@@ -118,9 +119,18 @@ impl Heights for Narrow {
 
     fn height(&self, at: Pos) -> Option<i64> {
         let index = index_of(self.size, at) as usize;
-        match self.marks[index] {
-            Mark::Shown => Some(self.least + self.heights[index] as i64),
-            _ => None,
+        height_over(self.least, self.heights[index], self.marks[index])
+    }
+
+    fn fill_ranks(&self, y: u32, none: Rank, row: &mut [Rank]) {
+        let first = y as usize * self.size.points as usize;
+        let least = self.least;
+        let heights = self.heights.as_slice();
+        let marks = self.marks.as_slice();
+        for x in 0..row.len() {
+            let index = first + x;
+            let height = height_over(least, heights[index], marks[index]);
+            row[x] = rank_shown(none, index as u32, height);
         }
     }
 }
@@ -176,5 +186,18 @@ impl Grid for Narrow {
 
     fn set_adjacency(&mut self, adjacency: Adjacency) {
         self.adjacency = adjacency;
+    }
+}
+
+// The height that is so far over the least one, where the mark shows it.
+#[inline]
+fn height_over(least: i64, over: u32, mark: Mark) -> Option<i64>
+    requires least { negsuc 9007199254740991 ≤ℤ least }
+    requires greatest { least ≤ℤ pos 0 }
+    ensures { result ≡ shown_height (cell_from (λ n. least +ℤ pos n) over mark) (masks mark) }
+{
+    match mark {
+        Mark::Shown => Some(least + over as i64),
+        _ => None,
     }
 }

@@ -5,7 +5,7 @@ ghost use Rattle.hd_map.specs.Map.{InGrid, Present, place_of};
 ghost use Rattle.hd_map.specs.Neighbour.{Neighbour, AreBesideUnder};
 ghost use Rattle.hd_map.specs.Sets.{under};
 
-use crate::{Adjacency, Heights, Pos, Under, contains, is_present};
+use crate::{Adjacency, Heights, Pos, Size, Under, contains, is_present};
 use smallvec::SmallVec;
 use std::alloc::Global;
 
@@ -74,7 +74,7 @@ fn points_round<G: Heights>(alloc: Global, grid: &G, at: Pos) -> SmallVec<Pos, 8
     found
 }
 
-// The point at a step, if one is present there.
+// The point at a step from a position, if one is present there.
 fn present_at<G: Heights>(grid: &G, at: Pos, x: u32, y: u32) -> Option<Pos>
     requires near { InGrid (G.map grid.now).size at }
     requires x { x ≤ 2 }
@@ -82,7 +82,43 @@ fn present_at<G: Heights>(grid: &G, at: Pos, x: u32, y: u32) -> Option<Pos>
     ensures { MatchOption result ((q : _) → q.x + 1 ≡ at.x + x → q.y + 1 ≡ at.y + y → Present (G.map grid.now) q → ⊥)
         (λ q. (q.x + 1 ≡ at.x + x) × (q.y + 1 ≡ at.y + y) × Present (G.map grid.now) q) }
 {
-    let size = grid.size();
+    let Some(q) = step_from(grid.size(), at, x, y) else {
+        return None;
+    };
+    if is_present(grid, q) { Some(q) } else { None }
+}
+
+/// The position at a step from another one, if it lies in the grid and is beside it under the setting of the
+/// grid. A step of 0 is one back in the columns or profiles, 1 none, and 2 one on.
+#[inline]
+pub fn beside_at<G: Heights>(grid: &G, at: Pos, x: u32, y: u32) -> Option<Pos>
+    requires at { InGrid (G.map grid.now).size at }
+    requires x { x ≤ 2 }
+    requires y { y ≤ 2 }
+    ensures { MatchOption result ((q : _) → q.x + 1 ≡ at.x + x → q.y + 1 ≡ at.y + y → InGrid (G.map grid.now).size q → AreBesideUnder (G.map grid.now).adjacency at q → ⊥)
+        (λ q. (q.x + 1 ≡ at.x + x) × (q.y + 1 ≡ at.y + y) × InGrid (G.map grid.now).size q × AreBesideUnder (G.map grid.now).adjacency at q) }
+{
+    let Some(q) = step_from(grid.size(), at, x, y) else {
+        return None;
+    };
+    if are_beside(grid.adjacency(), at, q) {
+        Some(q)
+    } else {
+        None
+    }
+}
+
+// The position at a step from another one, if it lies in a grid of this size.
+#[inline]
+fn step_from(size: Size, at: Pos, x: u32, y: u32) -> Option<Pos>
+    requires at { InGrid size at }
+    requires columns { size.points ≤ 65535 }
+    requires profiles { size.profiles ≤ 65535 }
+    requires x { x ≤ 2 }
+    requires y { y ≤ 2 }
+    ensures { MatchOption result ((q : _) → q.x + 1 ≡ at.x + x → q.y + 1 ≡ at.y + y → InGrid size q → ⊥)
+        (λ q. (q.x + 1 ≡ at.x + x) × (q.y + 1 ≡ at.y + y) × InGrid size q) }
+{
     if at.x + x == 0 || at.y + y == 0 {
         return None;
     }
@@ -90,9 +126,5 @@ fn present_at<G: Heights>(grid: &G, at: Pos, x: u32, y: u32) -> Option<Pos>
         x: at.x + x - 1,
         y: at.y + y - 1,
     };
-    if contains(size, q) && is_present(grid, q) {
-        Some(q)
-    } else {
-        None
-    }
+    if contains(size, q) { Some(q) } else { None }
 }

@@ -3,7 +3,8 @@ ghost use Rattle.std.specs.Prelude.{◌≡◌, ◌≤◌, IfOk, length, replicat
 ghost use Rattle.hd_map.specs.Map.{IsSize, cell_count, most_places, places_of};
 
 use crate::{
-    Adjacency, Cell, Cells, DataType, Grid, Heights, MapError, Narrow, Pos, Size, Wide, is_narrow,
+    Adjacency, Cell, Cells, DataType, Grid, Heights, MapError, Narrow, Pos, Rank, Size, Wide,
+    is_narrow,
 };
 use hd_list::Memory;
 use std::alloc::Global;
@@ -98,6 +99,13 @@ impl Heights for Surface {
         match self {
             Surface::Narrow(surface) => surface.height(at),
             Surface::Wide(surface) => surface.height(at),
+        }
+    }
+
+    fn fill_ranks(&self, y: u32, none: Rank, row: &mut [Rank]) {
+        match self {
+            Surface::Narrow(surface) => surface.fill_ranks(y, none, row),
+            Surface::Wide(surface) => surface.fill_ranks(y, none, row),
         }
     }
 }

@@ -1,13 +1,14 @@
 // A surface whose heights take eight bytes each.
-ghost use Rattle.std.specs.Prelude.{◌≡◌, ◌≤◌, IfOk, length, replicate, false};
-ghost use Rattle.hd_map.specs.Map.{IsSize, IsMap, cell_count, most_places, places_of};
-ghost use Rattle.hd_map.specs.Packing.{as_it_is, kept_map};
+ghost use Rattle.std.specs.Prelude.{◌≡◌, ◌≤◌, ◌<◌, pos, IfOk, length, replicate, false, slice_index_or};
+ghost use Rattle.hd_map.specs.Map.{IsSize, IsMap, cell_count, most_places, places_of, shown_height};
+ghost use Rattle.hd_map.specs.Packing.{as_it_is, cell_from, kept_map, masks};
 
+use crate::grid::rank_shown;
 use crate::mark::{Mark, unmasked_marks};
 use crate::packing::pack_wide;
 use crate::{
-    Adjacency, Cell, DataType, Grid, Heights, MapError, Pos, Size, WideCells, contains, index_of,
-    is_cell_of,
+    Adjacency, Cell, DataType, Grid, Heights, MapError, Pos, Rank, Size, WideCells, contains,
+    index_of, is_cell_of,
 };
 use hd_list::Memory;
 use std::alloc::Global;
@@ -107,9 +108,16 @@ impl Heights for Wide {
 
     fn height(&self, at: Pos) -> Option<i64> {
         let index = index_of(self.size, at) as usize;
-        match self.marks[index] {
-            Mark::Shown => Some(self.heights[index]),
-            _ => None,
+        height_in(self.heights.as_slice(), index, self.marks[index])
+    }
+
+    fn fill_ranks(&self, y: u32, none: Rank, row: &mut [Rank]) {
+        let first = y as usize * self.size.points as usize;
+        let heights = self.heights.as_slice();
+        let marks = self.marks.as_slice();
+        for x in 0..row.len() {
+            let index = first + x;
+            row[x] = rank_shown(none, index as u32, height_in(heights, index, marks[index]));
         }
     }
 }
@@ -165,5 +173,17 @@ impl Grid for Wide {
 
     fn set_adjacency(&mut self, adjacency: Adjacency) {
         self.adjacency = adjacency;
+    }
+}
+
+// The height at an index, where the mark shows it.
+#[inline]
+fn height_in(heights: &[i64], index: usize, mark: Mark) -> Option<i64>
+    requires { index < length heights.now }
+    ensures { result ≡ shown_height (cell_from as_it_is (slice_index_or heights.now index (pos 0)) mark) (masks mark) }
+{
+    match mark {
+        Mark::Shown => Some(heights[index]),
+        _ => None,
     }
 }

@@ -106,13 +106,6 @@ greatest_nested Index In P value R v each from_p of_r outer = record {
 pub greatest_none : (P : ℤ → Type 0) → ((z : ℤ) → P z → ⊥) → IsGreatest P None
 greatest_none P none = record { attained = λ z e. let e' : None ≡ Some z = e in cc; reached = λ z p. absurd (none z p) }
 
--- the larger of three values
-pub larger_of_three : (a b c : Option ℤ) → larger (larger a b) c ≡ larger a (larger b c)
-larger_of_three (Some x) (Some y) (Some z) = ap Some (grind (arith, ints))
-larger_of_three (Some x) (Some y) None = refl
-larger_of_three (Some x) None c = refl
-larger_of_three None b c = refl
-
 -- none is below each value
 pub larger_none : (v : Option ℤ) → larger v None ≡ v
 larger_none (Some x) = refl

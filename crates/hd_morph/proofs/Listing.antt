@@ -191,9 +191,6 @@ filters_heights filter m e old new (Err (HeightRange p)) is are made makes =
 pub record BetweenBefore (least greatest : ℤ) (numbers : List ℤ) (index : ℕ) : Type 0 where
   pub each : (k : ℕ) → k < index → (z : ℤ) → value_at numbers k ≡ Some z → (least ≤ℤ z) × (z ≤ℤ greatest)
 
-pub between_none : (least greatest : ℤ) (numbers : List ℤ) → BetweenBefore least greatest numbers 0
-between_none least greatest numbers = record { each = λ k below. absurd (omega arith) }
-
 pub between_more : (least greatest : ℤ) (numbers : List ℤ) (index : ℕ) → ((z : ℤ) → value_at numbers index ≡ Some z → (least ≤ℤ z) × (z ≤ℤ greatest)) → BetweenBefore least greatest numbers index → BetweenBefore least greatest numbers (index + 1)
 between_more least greatest numbers index one was = record { each = below_more _ _ was.each one }
 

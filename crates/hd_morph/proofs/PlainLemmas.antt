@@ -26,12 +26,6 @@ shown_is z height is = by_lt_z floor z
     (λ above. let e : Some z ≡ Some height = sym (shown_above z above) ∙ is in (cc, above))
     (λ below. let e : None ≡ Some height = sym (shown_below z below) ∙ is in cc)
 
--- a number that stands for none is not above the floor
-pub none_is : (z : ℤ) → shown z ≡ None → z ≤ℤ floor
-none_is z is = by_lt_z floor z
-    (λ above. let e : Some z ≡ None = sym (shown_above z above) ∙ is in cc)
-    (λ below. below)
-
 -- a value is some number, or none
 pub some_or_none : (v : Option ℤ) → ((z : ℤ) × (v ≡ Some z)) ⊎ (v ≡ None)
 some_or_none (Some z) = inl (z, refl)

@@ -149,11 +149,3 @@ dilated_plain s e m old new some is plain made =
 pub eroded_plain : (s : Size) (e : ElementTable) (m : ℕ) (old new : List ℤ) → 1 ≤ s.points → IsElement e → ArePlain s m old → ArePlainlyFiltered Erosion s e old new → ArePlain s (m + most_entry) new
 eroded_plain s e m old new some is plain made =
     plain_of Erosion s e (m + most_entry) old new some made (erosion_within s e m (relief s old) (relief s new) is (within_at s m old plain) made.filtered)
-
--- an erosion and then a dilation are an opening
-pub opened_of : (s : Size) (e : ElementTable) (old between new : List ℤ) → ArePlainlyFiltered Erosion s e old between → ArePlainlyFiltered Dilation s e between new → ArePlainlyFiltered Opening s e old new
-opened_of s e old between new first second = record { whole = second.whole; filtered = record { between = relief s between; first = first.filtered; second = second.filtered }; absent = second.absent }
-
--- a dilation and then an erosion are a closing
-pub closed_of : (s : Size) (e : ElementTable) (old between new : List ℤ) → ArePlainlyFiltered Dilation s e old between → ArePlainlyFiltered Erosion s e between new → ArePlainlyFiltered Closing s e old new
-closed_of s e old between new first second = record { whole = second.whole; filtered = record { between = relief s between; first = first.filtered; second = second.filtered }; absent = second.absent }

@@ -3,17 +3,16 @@ use Rattle.std.proofs.Common.{◌≡◌, ◌≤ℤ◌, ◌∙◌, ℕ, ℤ, true
 use Rattle.std.specs.Prelude.{All, Contains, MatchOption, if◌then◌else◌, fold}
 use Rattle.std.specs.Int.{int_max, int_min}
 use Rattle.std.proofs.lemmas.Int.{fold-int_max_bounds, fold-int_max_reached, fold-int_min_bounds, fold-int_min_reached, ints}
-use Rattle.hd_map.specs.declared.presence.HeightRange.{HeightRange}
+use Rattle.hd_map.specs.declared.height_range.HeightRange.{HeightRange}
 use Rattle.hd_map.specs.declared.types.Pos.{Pos}
 use Rattle.hd_map.specs.declared.types.Rank.{Rank}
 use Rattle.hd_map.specs.declared.types.SideName.{SideName}
 use Rattle.hd_map.specs.Map.{Map, IsMap, Present, cell_at, height_at, mask_at, position_at}
-use Rattle.hd_map.specs.Presence.{range_of}
+use Rattle.hd_map.specs.HeightRange.{range_of}
 use Rattle.hd_map.specs.Rank.{rank}
 use Rattle.hd_map.specs.Region.{AreRegions, IsPit, IsRoot}
 use Rattle.hd_map.proofs.Items.{Contains-cases, Contains-head, Contains-none, Contains-tail}
-use Rattle.hd_map.proofs.Points.{position_at-of}
-use Rattle.hd_prune.proofs.Spans.{shown_of}
+use Rattle.hd_map.proofs.Points.{position_at-of, shown_of}
 use Rattle.hd_basin.specs.Edge.{IsEdge}
 use Rattle.hd_basin.specs.Sums.{EdgeMember, IsGreatest, IsLeast}
 use Rattle.hd_survey.specs.Edges.{edge_height, edge_heights, is_edge}

@@ -12,8 +12,7 @@ use Rattle.hd_map.specs.Map.{Map, InGrid, Present, cell_at, height_at, in_grid, 
 use Rattle.hd_map.specs.Neighbour.{IsNear}
 use Rattle.hd_map.specs.Rank.{rank}
 use Rattle.hd_map.proofs.Gather.{same_pos}
-use Rattle.hd_map.proofs.Points.{present_or_not}
-use Rattle.hd_prune.proofs.Spans.{shown_of}
+use Rattle.hd_map.proofs.Points.{present_or_not, shown_of}
 use Rattle.hd_basin.specs.Edge.{HasGap, IsEdge, OnBorder}
 use Rattle.hd_basin.proofs.Edges.{edge-gap, edge-on, no_edge, no_gap}
 use Rattle.hd_survey.specs.Edges.{at as place_at, beside, is_border, is_edge, is_here}

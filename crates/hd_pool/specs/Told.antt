@@ -1,7 +1,7 @@
 -- What extents tell of regions.
 use Rattle.std.specs.Prelude.{ℤ, Option, Some, None}
 use Rattle.hd_basin.specs.declared.extent.Extent.{Extent}
-use Rattle.hd_map.specs.declared.presence.HeightRange.{HeightRange}
+use Rattle.hd_map.specs.declared.height_range.HeightRange.{HeightRange}
 use Rattle.hd_map.specs.declared.types.RegionSize.{RegionSize}
 use Rattle.hd_survey.specs.declared.tally.Tally.{Tally}
 

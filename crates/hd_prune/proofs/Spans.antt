@@ -15,23 +15,12 @@ use Rattle.hd_map.specs.Pruning.{SzIs}
 use Rattle.hd_map.specs.Rank.{IsPoint, rank}
 use Rattle.hd_map.proofs.Depth.{point_limits}
 use Rattle.hd_map.proofs.Levels.{Contains-cases, Contains-none, Contains-head, Contains-tail}
-use Rattle.hd_map.proofs.Points.{point_at, position_at-of, position_at-inside, place_inside}
-use Rattle.hd_map.specs.declared.presence.HeightRange.{HeightRange}
-use Rattle.hd_map.specs.Presence.{heights_below, present_heights, range_of}
+use Rattle.hd_map.proofs.Points.{of_shown, point_at, point_inside, position_at-of, position_at-inside, place_inside, shown_of}
+use Rattle.hd_map.specs.declared.height_range.HeightRange.{HeightRange}
+use Rattle.hd_map.specs.Presence.{heights_below, present_heights}
+use Rattle.hd_map.specs.HeightRange.{range_of}
 use Rattle.hd_map.proofs.Presences.{heights_more}
 use Rattle.hd_prune.specs.Span.{IsHeight, IsHeightRange, farthest_apart}
-
--- what is measured and shown is its height
-pub shown_of : (c : Cell) (masked : Bool) → IsMeasured c → masked ≡ false → shown_height c masked ≡ Some (height_or_zero c)
-shown_of (Height h) false measured clear = refl
-shown_of (Height h) true measured clear = absurd (cc clear)
-shown_of Bad masked measured clear = absurd measured
-
--- and what is shown is measured
-of_shown : (c : Cell) (masked : Bool) (h : ℤ) → shown_height c masked ≡ Some h → IsMeasured c × (masked ≡ false) × (height_or_zero c ≡ h)
-of_shown (Height z) false h is = (tt, refl, (let e = is in cc))
-of_shown (Height z) true h is = absurd (cc is)
-of_shown Bad masked h is = absurd (cc is)
 
 one_option : (o : Option ℤ) (h : ℤ) → Contains (cons_option o []) h → o ≡ Some h
 one_option None h there = absurd (Contains-none h there)
@@ -41,7 +30,7 @@ one_option (Some z) h there = elim (Contains-cases z h [] there) [
 ]
 
 -- the height of a point of index below n is among these
-height_in : (m : Map) (n : ℕ) (r : Rank) → IsPoint m r → r.index < n → Contains (heights_below m n) r.height
+pub height_in : (m : Map) (n : ℕ) (r : Rank) → IsPoint m r → r.index < n → Contains (heights_below m n) r.height
 height_in m zero r point below = absurd (omega arith)
 height_in m (suc n) r point below =
     let at : Pos = point.at in
@@ -112,16 +101,13 @@ no_height : (heights : List ℤ) (h : ℤ) → range_of heights ≡ None → Con
 no_height [] h none there = Contains-none h there
 no_height (first ∷ heights) h none there = none_some _ none
 
-index_inside : (m : Map) (r : Rank) → IsPoint m r → r.index < cell_count m.size
-index_inside m r point = subst (λ n. n < cell_count m.size) (sym (ap (λ (x : Rank). x.index) point.rank_is)) (place_inside m.size point.at point.present.in_grid)
-
 -- the greatest less the least
 pub span_some : (m : Map) (range : HeightRange) (sz : ℤ) → IsMap m → range_of (present_heights m) ≡ Some range → sz ≡ range.greatest -ℤ range.least → SzIs m sz
 span_some m range sz whole is span =
     let of = range_is (present_heights m) range is in
     let low = point_of m (cell_count m.size) range.least whole (omega arith) of.least_in in
     let high = point_of m (cell_count m.size) range.greatest whole (omega arith) of.greatest_in in
-    let bounded : (r : Rank) → IsPoint m r → (range.least ≤ℤ r.height) × (r.height ≤ℤ range.greatest) = λ r point. of.bounds r.height (height_in m (cell_count m.size) r point (index_inside m r point)) in
+    let bounded : (r : Rank) → IsPoint m r → (range.least ≤ℤ r.height) × (r.height ≤ℤ range.greatest) = λ r point. of.bounds r.height (height_in m (cell_count m.size) r point (point_inside m r point)) in
     inl (
       low.0,
       high.0,
@@ -132,7 +118,7 @@ span_some m range sz whole is span =
     )
 
 pub span_none : (m : Map) → range_of (present_heights m) ≡ None → SzIs m (pos 0)
-span_none m none = inr (λ r point. no_height (present_heights m) r.height none (height_in m (cell_count m.size) r point (index_inside m r point)), refl)
+span_none m none = inr (λ r point. no_height (present_heights m) r.height none (height_in m (cell_count m.size) r point (point_inside m r point)), refl)
 
 -- the height of a point is one of some type
 pub point_height : (m : Map) (r : Rank) → IsMap m → IsPoint m r → IsHeight r.height

@@ -1,6 +1,6 @@
 -- Heights of some data type, and how far they are apart.
 use Rattle.std.specs.Prelude.{◌≤ℤ◌, ◌^◌, ℕ, ℤ, pos, negsuc}
-use Rattle.hd_map.specs.declared.presence.HeightRange.{HeightRange}
+use Rattle.hd_map.specs.declared.height_range.HeightRange.{HeightRange}
 
 -- a height of some data type
 pub record IsHeight (h : ℤ) : Type 0 where

@@ -1,7 +1,8 @@
 // How far the heights of a map span.
 ghost use Rattle.std.specs.Prelude.{◌≡◌};
 ghost use Rattle.hd_map.specs.Map.{IsMap, Map};
-ghost use Rattle.hd_map.specs.Presence.{present_heights, range_of};
+ghost use Rattle.hd_map.specs.Presence.{present_heights};
+ghost use Rattle.hd_map.specs.HeightRange.{range_of};
 ghost use Rattle.hd_map.specs.Pruning.{SzIs};
 
 use hd_map::HeightRange;

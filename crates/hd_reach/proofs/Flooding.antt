@@ -15,7 +15,7 @@ use Rattle.hd_map.specs.Map.{InGrid, Map, Present, cell_count, place_of}
 use Rattle.hd_map.specs.Neighbour.{AreBesideUnder, Neighbour}
 use Rattle.hd_map.specs.Path.{Leads}
 use Rattle.hd_map.specs.Rank.{IsPoint, Near, rank}
-use Rattle.hd_map.proofs.Gather.{same_pos}
+use Rattle.hd_map.proofs.Gather.{same_pos, step_neighbour, step_of}
 use Rattle.hd_map.proofs.Points.{Near-at, place_inside, point_at, same_index, same_place}
 use Rattle.hd_reach.specs.declared.flood.Reached.{Reached}
 use Rattle.hd_reach.specs.Flood.{IsEntry, IsFlood, Reaches, ReachesAt, entry_of, is_free, noted_at}
@@ -93,21 +93,6 @@ reaches_at-whole m allows at x y by reached queue reached' queue' reaches = elim
   | inl one ↦ reaches-whole m allows one.0 by reached queue reached' queue' one.4
   | inr none ↦ ap length none.1
 ]
-
--- the step to a neighbour of this number
-step-of : (m : Map) (at q : Pos) (step : ℕ) → Neighbour m at q → step < 9 → 3 * q.y + q.x + 4 ≡ 3 * at.y + at.x + step → (q.x + 1 ≡ at.x + step % 3) × (q.y + 1 ≡ at.y + step / 3)
-step-of m at q step n below e = (omega (arith, n.columns, n.rows, below, e), omega (arith, n.columns, n.rows, below, e))
-
--- what is present and beside the point at a step is a neighbour
-step-neighbour : (m : Map) (at q : Pos) (step : ℕ) → Present m at → Present m q → AreBesideUnder m.adjacency at q → step < 9 → (step ≡ 4 → ⊥) → q.x + 1 ≡ at.x + step % 3 → q.y + 1 ≡ at.y + step / 3 → Neighbour m at q
-step-neighbour m at q step here there beside below apart ex ey = record {
-  from = here;
-  to = there;
-  columns = (omega (arith, below, ex), omega (arith, below, ex));
-  rows = (omega (arith, below, ey), omega (arith, below, ey));
-  different = λ e. apart (let x : at.x ≡ q.x = ap (λ (p : Pos). p.x) e in let y : at.y ≡ q.y = ap (λ (p : Pos). p.y) e in omega (arith, below, ex, ey, x, y));
-  beside = beside;
-}
 
 none_or_some : (o : Option ℕ) → (o ≡ None) ⊎ ((n : ℕ) × (o ≡ Some n))
 none_or_some None = inl refl
@@ -285,7 +270,7 @@ module _ (m : Map) (starts : List Rank) (allows : ℕ → Rank → Bool) (apart 
     -- the point itself is passed over
     pub round-centre : (step : ℕ) (reached : List (Option ℕ)) (queue : List Reached) (head : ℕ) → step ≡ 4 → IsRound step reached queue head → IsRound (step + 1) reached queue head
     round-centre step reached queue head centre r = round-none step reached queue head (λ q n e.
-        (let is = step-of m at q step n (omega (arith, centre)) e in
+        (let is = step_of m at q step n (omega (arith, centre)) e in
         let x = is.0 in
         let y = is.1 in
         n.different (same_pos at q (omega (arith, x, centre)) (omega (arith, y, centre))))) r
@@ -300,7 +285,7 @@ module _ (m : Map) (starts : List Rank) (allows : ℕ → Rank → Bool) (apart 
       found = λ p n before allowed. elim (cases_lt (3 * p.y + p.x + 4) (3 * at.y + at.x + step)) [
         | inl old ↦ r.found p n old allowed
         | inr new ↦
-            let is = step-of m at p step n below (omega (arith, before, new)) in
+            let is = step_of m at p step n below (omega (arith, before, new)) in
             let same : q ≡ p = same_pos q p (let x = is.0 in omega (arith, x, ex)) (let y = is.1 in omega (arith, y, ey)) in
             elim (subst (λ (z : Pos). Present m z → IsSome (noted_at reached (place_of m.size z)) ⊎ (allows by (rank m z) ≡ false)) same left n.to) [
               | inl some ↦
@@ -335,7 +320,7 @@ module _ (m : Map) (starts : List Rank) (allows : ℕ → Rank → Bool) (apart 
           found = λ p n before allowed. elim (cases_lt (3 * p.y + p.x + 4) (3 * at.y + at.x + step)) [
             | inl old ↦ noted-kept reached (place_of m.size q) (place_of m.size p) by by free (r.found p n old allowed)
             | inr new ↦
-                let is = step-of m at p step n below (omega (arith, before, new)) in
+                let is = step_of m at p step n below (omega (arith, before, new)) in
                 let same : q ≡ p = same_pos q p (let x = is.0 in omega (arith, x, ex)) (let y = is.1 in omega (arith, y, ey)) in
                 subst (λ (z : Pos). noted_at (set reached (place_of m.size q) (Some by)) (place_of m.size z) ≡ Some by) same
                 (noted-here reached (place_of m.size q) by (let inside = place_inside m.size q near.to.in_grid in let whole = r.flood.whole in omega (arith, inside, whole)))
@@ -350,11 +335,11 @@ module _ (m : Map) (starts : List Rank) (allows : ℕ → Rank → Bool) (apart 
         | inl left ↦ rw (left.1, left.2) (round-left step one.0 reached queue head below one.1 one.2 left.0 r)
         | inr new ↦
             let here : Present m at = head-present reached queue head r.flood r.inside r.here_is in_grid in
-            let near : Neighbour m at one.0 = step-neighbour m at one.0 step here new.0 one.3 below off_centre one.1 one.2 in
+            let near : Neighbour m at one.0 = step_neighbour m at one.0 step here new.0 one.3 below off_centre one.1 one.2 in
             rw (new.3, new.4) (round-push step one.0 reached queue head near below one.1 one.2 new.1 new.2 r)
       ]
       | inr none ↦ rw (none.1, none.2)
-          (round-none step reached queue head (λ q n e. (let is = step-of m at q step n below e in none.0 q is.0 is.1 n.to.in_grid n.beside)) r)
+          (round-none step reached queue head (λ q n e. (let is = step_of m at q step n below e in none.0 q is.0 is.1 n.to.in_grid n.beside)) r)
     ]
 
     -- all neighbours are looked at

@@ -1,15 +1,12 @@
 // A flood from several starts: a queue of points that are reached, each with the number of its start.
-ghost use Rattle.std.specs.Prelude.{◌≡◌, ◌<◌, ◌≤◌, ◌+◌, IfOk, MatchOption, OnOk, length};
+ghost use Rattle.std.specs.Prelude.{◌≡◌, ◌<◌, ◌≤◌, ◌+◌, IfOk, OnOk, length};
 ghost use Rattle.hd_map.specs.Map.{InGrid, cell_count};
-ghost use Rattle.hd_map.specs.Neighbour.{AreBesideUnder};
 ghost use Rattle.hd_reach.specs.Flood.{FloodsRound, IsFlood, Reaches, ReachesAt};
 ghost use Rattle.hd_reach.specs.Reached.{AreReached, ReachApart};
 
 use crate::Bounds;
 use hd_list::Memory;
-use hd_map::{
-    Heights, Pos, Rank, are_beside, contains, index_of, is_present, position_of, rank_of,
-};
+use hd_map::{Heights, Pos, Rank, beside_at, index_of, is_present, position_of, rank_of};
 use std::alloc::Global;
 
 /// A point that is reached, and from where.
@@ -153,29 +150,6 @@ fn reach_at<B: Bounds, G: Heights>(
     match beside_at(grid, at, x, y) {
         Some(next) => reach(grid, bounds, next, by, reached, queue),
         None => Ok(()),
-    }
-}
-
-// The position at a step from a point, if it is in the grid and beside the point.
-#[inline]
-fn beside_at<G: Heights>(grid: &G, at: Pos, x: u32, y: u32) -> Option<Pos>
-    requires at { InGrid (G.map grid.now).size at }
-    requires x { x ≤ 2 }
-    requires y { y ≤ 2 }
-    ensures { MatchOption result ((q : _) → q.x + 1 ≡ at.x + x → q.y + 1 ≡ at.y + y → InGrid (G.map grid.now).size q → AreBesideUnder (G.map grid.now).adjacency at q → ⊥)
-        (λ q. (q.x + 1 ≡ at.x + x) × (q.y + 1 ≡ at.y + y) × InGrid (G.map grid.now).size q × AreBesideUnder (G.map grid.now).adjacency at q) }
-{
-    if at.x + x == 0 || at.y + y == 0 {
-        return None;
-    }
-    let next = Pos {
-        x: at.x + x - 1,
-        y: at.y + y - 1,
-    };
-    if contains(grid.size(), next) && are_beside(grid.adjacency(), at, next) {
-        Some(next)
-    } else {
-        None
     }
 }
 

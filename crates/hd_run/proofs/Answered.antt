@@ -97,10 +97,6 @@ pub record AreAnswered (first : State) (all : List (List ℕ)) (s : State) (numb
   pub answers : AreAnswers first 1 (take count all) (record { accepted = accepted; text = text }) s
   pub written : Appends old new text
 
--- no line is answered yet
-pub none_answered : (s : State) (all : List (List ℕ)) (told : Option (List ℕ)) → AreAnswered s all s 1 all true told told
-none_answered s all told = record { count = 0; numbered = refl; rest_is = refl; text = []; answers = record { state = refl; reply = refl }; written = Appends-nil told }
-
 module _ (start : State) (all : List (List ℕ)) (s : State) (number : ℕ) (line : List ℕ) (rest : List (List ℕ)) (accepted : Bool) (old mid : Option (List ℕ)) where
   within : (so_far : AreAnswered start all s number (line ∷ rest) accepted old mid) → so_far.count ≤ length all
   within so_far = let some : length (drop so_far.count all) ≡ suc (length rest) = ap length so_far.rest_is in omega (arith, some, length-drop so_far.count all)

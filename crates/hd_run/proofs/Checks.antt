@@ -43,20 +43,6 @@ pub of_err : {T E P : Type 0} (r : Result T E) → is_err r ≡ true → OnErr r
 of_err (Ok x) failed h = absurd (cc)
 of_err (Err e) failed h = h
 
--- a certificate that is read, by its verdict
-pub judged_by : {C : Type 0} (Is : C → Verdict → Type 0) (reading : Result C CertificateError) (certificate : C) (error : CertificateError) (verdict : Verdict) → (Ok certificate ≡ Err error) ⊎ (Ok certificate ≡ reading) → Is certificate verdict
-    → IsJudgedAs (IsOutcomeOfReading Is reading) (stop_at verdict)
-judged_by Is reading certificate error verdict (inl wrong) is = absurd (cc)
-judged_by Is reading certificate error Yes (inr read) is = subst (λ (r : _). IsOutcomeOfReading Is r (Ok acceptance)) read (Yes, is, refl)
-judged_by Is reading certificate error (No rule at) (inr read) is = subst (λ (r : _). IsOutcomeOfReading Is r (Err (RuleFails rule at))) read (No rule at, is, refl)
-
--- one that is not
-pub not_judged : {C : Type 0} (Is : C → Verdict → Type 0) (reading : Result C CertificateError) (error : CertificateError) → (◌≡◌ {A = Result C CertificateError} (Err error) (Err unread.Memory)) ⊎ (Err error ≡ reading)
-    → IsJudgedAs {T = Unit {0}} (IsOutcomeOfReading Is reading) (Err (stop_of error))
-not_judged Is reading unread.Memory h = tt
-not_judged Is reading (BadLine line) (inl wrong) = absurd (cc)
-not_judged Is reading (BadLine line) (inr read) = subst (λ (r : _). IsOutcomeOfReading Is r (Err (Unreadable line))) read (line, refl, refl)
-
 one_outcome : {C : Type 0} (Is : C → Verdict → Type 0) → ((c : C) (v w : Verdict) → Is c v → Is c w → v ≡ w) → (reading : Result C CertificateError) (a b : RunOutcome) → IsOutcomeOfReading Is reading a → IsOutcomeOfReading Is reading b → a ≡ b
 one_outcome Is law (Ok certificate) a b (v, is, e) (w, is', e') = e ∙ ap judges (law certificate v w is is') ∙ sym e'
 one_outcome Is law (Err error) a b (line, is, e) (line', is', e') =

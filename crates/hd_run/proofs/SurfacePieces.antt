@@ -17,13 +17,6 @@ pub record HasFed (before left : Option (List ℕ)) (reader : SdfReader) (count 
   pub taken : Consumes before left got
   pub stands : StandsFor reader got
 
--- nothing is fed yet
-pub fed_none : (left : Option (List ℕ)) (reader : SdfReader) → StandsFor reader [] → HasFed left left reader 0
-fed_none left reader stands = record { got = []; size = refl; taken = nothing left; stands = stands } where
-  nothing : (told : Option (List ℕ)) → Consumes told told []
-  nothing None = tt
-  nothing (Some bytes) = refl
-
 -- one more piece is fed
 pub fed_more : (before mid left : Option (List ℕ)) (old new : SdfReader) (count n : ℕ) (piece : List ℕ) → (fed : HasFed before mid old count) → Consumes mid left (take n piece) → n ≤ length piece
     → StandsFor new (fed.got ++ take n piece) → HasFed before left new (count + n)

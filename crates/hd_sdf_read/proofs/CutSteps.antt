@@ -62,9 +62,6 @@ pub record HasOn (size : Size) (old : packed.Cells) (text : List ℕ) (new : pac
   pub data_type : new.data_type ≡ old.data_type
   pub count : length (cells_in new) ≡ read
 
-pub has_some : (size : Size) (old : packed.Cells) (text : List ℕ) (read : ℕ) → length (cells_in old) ≡ read → HasOn size old text old text read
-has_some size old text read count = record { same = λ more. refl; data_type = refl; count = count }
-
 module _ (size : Size) (old : packed.Cells) (text : List ℕ) (new : packed.Cells) (rest : List ℕ) (read : ℕ) (has : HasOn size old text new rest read) (inside : read < cell_count size)
     (least greatest : ℤ) (low : least ≡ least_height old.data_type) (high : greatest ≡ greatest_height old.data_type) where
   at_place : (x : List ℕ) → datum_at (least_height old.data_type) (greatest_height old.data_type) (length (cells_in new)) x ≡ datum_at least greatest read x
@@ -88,23 +85,6 @@ module _ (size : Size) (old : packed.Cells) (text : List ℕ) (new : packed.Cell
   has_refused e wrong more =
       let count = has.count in
       has.same more ∙ whole_stop size old.data_type (cells_in new) (rest ++ more) e (omega (arith, count, inside)) (at_place (rest ++ more) ∙ wrong more)
-
--- as far as their ends have come
-pub has_open : (size : Size) (old : packed.Cells) (text : List ℕ) (new : packed.Cells) (rest : List ℕ) (read : ℕ) → HasOn size old text new rest read → read ≤ cell_count size → after_token rest ≡ [] → ReadsOn size old text new rest
-has_open size old text new rest read has few unended = record {
-  same = λ more. has.same more ∙ ap (λ (t : DataType). whole_in size t (cells_in new) (rest ++ more)) (sym has.data_type);
-  data_type = has.data_type;
-  few = (let count = has.count in omega (arith, count, few));
-  ends = inr unended;
-}
-
-pub has_whole : (size : Size) (old : packed.Cells) (text : List ℕ) (new : packed.Cells) (rest : List ℕ) (read : ℕ) → HasOn size old text new rest read → read ≡ cell_count size → ReadsOn size old text new rest
-has_whole size old text new rest read has all = record {
-  same = λ more. has.same more ∙ ap (λ (t : DataType). whole_in size t (cells_in new) (rest ++ more)) (sym has.data_type);
-  data_type = has.data_type;
-  few = (let count = has.count in omega (arith, count, all));
-  ends = inl (has.count ∙ all);
-}
 
 -- a whole token is one more whole number
 module _ (size : Size) (old : packed.Cells) (word : List ℕ) (some : 0 < length word) (gapless : list_any is_gap word ≡ false) (missing : length (cells_in old) < cell_count size) where

@@ -208,13 +208,6 @@ decimal_none size t s missing =
     let count = count_kept s in
     decimal_nothing size t (data_of s) (omega (arith, count, missing)) ∙ ap (λ n. Err (TooFewData n)) count
 
--- no datum is kept yet
-pub none_again : (s : Scaled) (t : DataType) → Scales s t [] → Scales s t (data_of s)
-none_again s t kept = kept_again s t [] kept
-
-pub none_count : (s : Scaled) (t : DataType) → Scales s t [] → length (wide_cells_in s.cells) ≡ 0
-none_count s t kept = ap length kept.cells
-
 pub none_first : (size : Size) (t : DataType) (s : Scaled) (text : List ℕ) → has_decimals t ≡ true → Scales s t [] → surveyed size t text ≡ decimal_in size t (data_of s) text
 none_first size t s text type kept = decimal_first size t text type ∙ alike_in size t text [] (data_of s) (kept_alike s t [] kept)
 

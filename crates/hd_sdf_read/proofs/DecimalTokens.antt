@@ -120,23 +120,6 @@ decimal_given read text front rest d is taken =
       rest_at text front rest is taken.after,
     )
 
--- digits without a point
-pub units_plain : (text after : List ℕ) (count units : ℕ) → 0 < count → count ≤ length text → count ≤ 18 → list_all is_ascii_digit (take count text) ≡ true → units ≡ digits_value 10 (take count text) → after ≡ drop count text
-    → AreUnits text units 0 after
-units_plain text after count units some inside few digits value is = record {
-  whole = take count text;
-  fraction = [];
-  point = false;
-  bare = λ _. refl;
-  text_is = sym (rw (is, append-nil) (take-append-drop count text));
-  whole_digits = digits;
-  fraction_digits = refl;
-  some = rw (length-take-le count text inside) (omega (arith, some));
-  few = rw (length-take-le count text inside) (omega (arith, few));
-  places_are = refl;
-  units_are = value ∙ ap (digits_value 10) (sym (append-nil (take count text)));
-}
-
 -- the number of digits before and after a point
 module _ (whole fraction : List ℕ) (first part : ℕ) (all : list_all is_ascii_digit whole ≡ true) (more : list_all is_ascii_digit fraction ≡ true) (few : length whole + length fraction ≤ 18)
     (first_is : first ≡ digits_value 10 whole) (part_is : part ≡ digits_value 10 fraction) where
@@ -186,10 +169,6 @@ pub record HasRead (s : Scaled) (t : DataType) (read count : ℕ) (rest text : L
   pub size : length items ≡ read
   pub left : decimals_from items (count - read) rest ≡ decimals_from [] count text
 
--- none is read
-pub has_none : (s : Scaled) (t : DataType) (count : ℕ) (text : List ℕ) → Scales s t [] → HasRead s t 0 count text text
-has_none s t count text kept = record { items = []; kept = kept; size = refl; left = (let all : count - 0 ≡ count = omega arith in ap (λ n. decimals_from [] n text) all) }
-
 -- one more is read
 pub has_more : (old new : Scaled) (t : DataType) (read count : ℕ) (rest after text : List ℕ) (d : Datum) → HasRead old t read count rest text → read < count → IsNext read rest d → after ≡ after_token rest
     → Pushes old new (read + 1) d (Ok tt) → HasRead new t (read + 1) count after text
@@ -202,23 +181,3 @@ has_more old new t read count rest after text d has more next is pushes =
       size = length-append has.items (d ∷ []) ∙ ap (λ n. n + 1) size;
       left = sym (decimals_more has.items read count rest after size more d next is both.0) ∙ has.left;
     }
-
--- all are read
-pub has_all : (s : Scaled) (t : DataType) (read count : ℕ) (rest text : List ℕ) → HasRead s t read count rest text → read ≡ count → AreDecimals t count text s.cells rest
-has_all s t read count rest text has all = record {
-  items = has.items;
-  read = sym has.left ∙ decimals_done has.items read count rest (omega (arith, all));
-  whole = has.size ∙ all;
-  cells_are = has.kept.cells ∙ ap (λ p. cells_at p has.items) has.kept.places;
-  data_type = has.kept.data_type ∙ ap (with_places t) has.kept.places;
-}
-
--- the next one is out of range, or none
-pub has_out : (old new : Scaled) (t : DataType) (read count : ℕ) (rest text : List ℕ) (d : Datum) (e : SdfError) → HasRead old t read count rest text → read < count → IsNext read rest d
-    → Pushes old new (read + 1) d (Err e) → (e ≡ Memory → ⊥) → decimals_from [] count text ≡ Err e
-has_out old new t read count rest text d e has more next pushes refused =
-    sym has.left ∙ decimals_out has.items read count rest rest has.size more d e next (pushes t has.items has.kept (ap (λ n. n + 1) (sym has.size)) refused)
-
-pub has_stop : (s : Scaled) (t : DataType) (read count : ℕ) (rest text : List ℕ) (e : SdfError) → HasRead s t read count rest text → read < count
-    → ((before : List Datum) → length before ≡ read → data_with before (token_of rest) ≡ Err e) → decimals_from [] count text ≡ Err e
-has_stop s t read count rest text e has more wrong = sym has.left ∙ decimals_stop has.items read count rest rest has.size more e (wrong has.items has.size)

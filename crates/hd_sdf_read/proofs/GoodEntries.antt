@@ -135,10 +135,6 @@ good_push line before e good right none = elim (cases_Bool (has_key e.key before
   }
 ]
 
--- no entry at all
-pub good_none : AreGood []
-good_none = record { forms = refl; apart = refl; few = omega arith }
-
 -- the texts of known keys
 pub text_good : (key : List ℕ) (entries : List Extra) → list_all is_entry entries ≡ true → is_header_value (text_of key entries) ≡ true
 text_good key [] good = refl

@@ -180,16 +180,6 @@ decimals_of t new places decimals is = rw is (typed t places decimals)
 pub same_places : (t new : DataType) (places : ℕ) → new ≡ with_places t places → new ≡ with_places new places
 same_places t new places is = is ∙ sym (with_again t places places) ∙ ap (λ x. with_places x places) (sym is)
 
-pub few_places : (t new : DataType) (places : ℕ) → has_decimals t ≡ true → new ≡ with_places t places → places ≤ most_places → places_of new ≤ most_places
-few_places (Single before) new places decimals is few = rw is few
-few_places (Double before) new places decimals is few = rw is few
-few_places U8 new places decimals is few = cc
-few_places U16 new places decimals is few = cc
-few_places U32 new places decimals is few = cc
-few_places I8 new places decimals is few = cc
-few_places I16 new places decimals is few = cc
-few_places I32 new places decimals is few = cc
-
 -- cells that are multiplied are of a type, where the greatest of them is in range
 pub products_fit : (t new : DataType) (places k : ℕ) (cs : List Cell) → has_decimals t ≡ true → new ≡ with_places t places → greatest_in cs * k ≤ most_steps → AreCellsOf new (map (multiplied (pos k)) cs)
 products_fit t new places k cs decimals is small =
@@ -254,10 +244,6 @@ not_grown old t before places kept more great =
     ap greatest_in (sym (cells_grow old.places places before (omega (arith, most)) (omega (arith, more)))) ∙ greatest_times (10 ^ (places - old.places)) (cells_at old.places before)
     ∙ ap (λ cs. greatest_in cs * 10 ^ (places - old.places)) (sym kept.cells) in
     record { more = omega (arith, most, more); great = omega (arith, same, great) }
-
--- no data are kept as no cells
-pub none_kept : (s : Scaled) (t : DataType) → wide_cells_in s.cells ≡ [] → s.places ≡ 0 → s.cells.data_type ≡ with_places t 0 → Scales s t []
-none_kept s t cells places data_type = record { cells = cells; places = places; data_type = data_type ∙ ap (with_places t) (sym places) }
 
 -- a datum of places that are reached needs no others
 pub same_kept : (s : Scaled) (t : DataType) (ds : List Datum) (places : ℕ) → Scales s t ds → places ≤ s.places → Refined s t ds places
@@ -341,6 +327,3 @@ high_power digits power some high =
     let unit : 10 ^ 19 ≤ 10 ^ power = pow-le-pow_right {n = 10} (omega arith) {i = 19} {j = power} (omega (arith, high)) in
     let more : 1 * 10 ^ power ≤ digits * 10 ^ power = mul-le-mul_right (10 ^ power) some in
     omega (arith, unit, more)
-
-pub no_digits : (power : ℕ) → 0 ≡ 0 * 10 ^ power
-no_digits power = omega arith

@@ -64,15 +64,6 @@ short_given least greatest read text rest cell short more =
     let given = cell_given least greatest read text (without_start is_gap text) rest cell refl short.takes in
     (datum_stays least greatest read text rest given.1 short.left more ∙ given.0, after_more least greatest read text rest given.1 short.left more)
 
--- some are read
-pub has_read : (size : Size) (old : packed.Cells) (text : List ℕ) (new : packed.Cells) (rest : List ℕ) (read : ℕ) → HasOn size old text new rest read → length (cells_in old) ≤ read → read ≤ cell_count size → ReadsShort size old text new rest
-has_read size old text new rest read has onward few = record {
-  same = λ more. has.same more ∙ ap (λ (t : DataType). whole_in size t (cells_in new) (rest ++ more)) (sym has.data_type);
-  data_type = has.data_type;
-  onward = (let count = has.count in omega (arith, count, onward));
-  few = (let count = has.count in omega (arith, count, few));
-}
-
 -- some more
 pub has_more : (size : Size) (old : packed.Cells) (text : List ℕ) (mid : packed.Cells) (middle : List ℕ) (read : ℕ) (new : packed.Cells) (rest : List ℕ) (count : ℕ) → HasOn size old text mid middle read → ReadsShort size mid middle new rest
     → count ≡ length (cells_in new) → HasOn size old text new rest count

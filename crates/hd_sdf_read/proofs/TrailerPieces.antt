@@ -136,15 +136,6 @@ module _ (full : List ℕ) (begins : 0 < length full → is_gap (get_or full 0 0
     ]
   ]
 
--- a text that begins with no gap, once its last gaps are left out, is its trailer
-pub trailer_ended : (text : List ℕ) → (0 < length text → is_gap (get_or text 0 0) ≡ false) → length text ≤ 65536 → trailer_in (text ++ []) ≡ Ok (without_end is_gap text)
-trailer_ended text begins few =
-    let start : prefix_len is_gap text ≡ 0 = prefix_len_is is_gap text 0 0 (omega arith) (λ k less. absurd (omega arith)) begins in
-    let front : without_start is_gap text ≡ text = ap (λ n. drop n text) start in
-    let size = length-take (length text - suffix_len is_gap text) text in
-    ap trailer_in (append-nil text) ∙ ap (λ (t : List ℕ). trailer_text (without_end is_gap t)) front
-    ∙ ap (λ b. cond b (Err TrailerTooLong) (Ok (without_end is_gap text))) (le-ltb 65536 (length (without_end is_gap text)) (omega arith))
-
 -- it has the form of a trailer
 pub ended_good : (text : List ℕ) → (0 < length text → is_gap (get_or text 0 0) ≡ false) → length text ≤ 65536 → is_trailer (without_end is_gap text) ≡ true
 ended_good text begins few =

@@ -1,7 +1,6 @@
 //! Reads surfaces in the ASCII form of ISO 25178-71 (SDF).
 #![tactic(auto)]
 
-mod behind;
 mod body;
 mod datum;
 mod decimal_data;
@@ -14,6 +13,7 @@ mod header;
 mod heading;
 mod joining;
 mod keys;
+mod part_body;
 mod part_line;
 mod part_token;
 mod part_trailer;

@@ -5,11 +5,11 @@ ghost use Rattle.hd_sdf_read.specs.Grammar.{body_in};
 ghost use Rattle.hd_sdf_read.specs.Pieces.{Begins, Feeds, FeedsBehind, StaysRefused, continued, number_of, refusal_in};
 ghost use Rattle.hd_sdf_read.specs.Reads.{Gives};
 
-use crate::behind::{ended_body, feed_body, new_body};
 use crate::body::Body;
 use crate::frame::read_frame;
 use crate::header::{Header, version_joined, version_of_line};
 use crate::heading::Heading;
+use crate::part_body::{ended_body, feed_body, new_body};
 use crate::part_line::{PartLine, split_line};
 use crate::sdf::build;
 use crate::{SdfError, SdfFile};

@@ -1,5 +1,6 @@
 mod Data
 mod EntryLines
+mod Follow
 mod HeaderText
 mod Joined
 mod Known

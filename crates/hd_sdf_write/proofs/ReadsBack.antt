@@ -24,7 +24,8 @@ use Rattle.hd_sdf_read.proofs.Stages.{decimals, whole_body, whole_header, whole_
 use Rattle.hd_sdf_write.specs.Canonical.{as_read, canonical, cell_text, encoding_lines, end_lines, entry_line, extra_lines, is_height, line, name_lines, profile, profile_lines, scale_lines, spaced, type_read, typed, version_text}
 use Rattle.hd_sdf_read.proofs.Fronts.{after_line_front, lines_front}
 use Rattle.hd_sdf_write.proofs.HeaderText.{header_reads}
-use Rattle.hd_sdf_write.proofs.Known.{entries_follow, entries_of, extra_is, frame_for, frame_is, known, resolution_is}
+use Rattle.hd_sdf_write.proofs.Known.{entries_of, extra_is, frame_for, frame_is, known, resolution_is}
+use Rattle.hd_sdf_write.proofs.Follow.{entries_follow}
 use Rattle.hd_sdf_write.proofs.Laid.{are_gaps, gaps_after, trailer_read, whole_read}
 use Rattle.hd_sdf_write.proofs.LaidDecimals.{cells_are_read, data_for, decimals_read, type_is_read}
 

@@ -1,6 +1,6 @@
 -- The number of some heights, their range and their sum.
 use Rattle.std.specs.Prelude.{◌≡◌, ◌≤◌, ◌+◌, ◌*◌, ◌^◌, ◌+ℤ◌, ℕ, ℤ, unsigned_abs, List, length, Option, Some, None}
-use Rattle.hd_map.specs.Presence.{range_of, widened}
+use Rattle.hd_map.specs.HeightRange.{range_of, widened}
 use Rattle.hd_feature.specs.Value.{total}
 use Rattle.hd_stats.specs.declared.sums.Sums.{Sums}
 

@@ -10,7 +10,7 @@ use Rattle.hd_map.specs.declared.types.SideName.{SideName}
 use Rattle.hd_map.specs.Map.{Map, IsMap, Present, InGrid, place_of, position_at, cell_count}
 use Rattle.hd_map.specs.Rank.{rank, IsPoint}
 use Rattle.hd_map.specs.Region.{IsRoot}
-use Rattle.hd_map.proofs.Points.{place_inside, same_place, same_index, point_at, present_or_not, position_at-inside, position_at-place}
+use Rattle.hd_map.proofs.Points.{place_inside, point_inside, same_place, same_index, point_at, present_or_not, position_at-inside, position_at-place}
 use Rattle.hd_map.proofs.Nexts.{root-pit, root-of_pit}
 use Rattle.hd_steep.specs.Links.{no_link, LeadsOnward, NoPointAt, IsLinkOf, AreLinks, IsRootAt}
 use Rattle.hd_steep.proofs.Ways.{onward-root, onward-trans, onward-falls, depth_at}
@@ -20,10 +20,6 @@ abbrev pub Takes : List ℕ → ℕ → ℕ → Type 0
 Takes links k onward = ((slice_index links k ≡ no_link) × (onward ≡ k)) ⊎ ((slice_index links k ≡ no_link → ⊥) × (onward ≡ slice_index links k))
 
 module _ (m : Map) where
-  -- the index of a point is one of the map
-  pub point_inside : (p : Rank) → IsPoint m p → p.index < cell_count m.size
-  point_inside p point = rw point.rank_is (place_inside m.size point.at point.present.in_grid)
-
   -- where no point is present at a position, none has its index
   pub no_point_at : (at : Pos) (k : ℕ) → InGrid m.size at → (Present m at → ⊥) → place_of m.size at ≡ k → NoPointAt m k
   no_point_at at k in_grid not is p point same =

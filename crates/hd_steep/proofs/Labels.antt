@@ -21,18 +21,6 @@ module _ (m : Map) (side : SideName) where
   abbrev pub AreLabels : List (Option ℕ) → Type 0
   AreLabels labels = (k : ℕ) → k < length labels → IsLabelOf m side k (get_or labels k None)
 
-  -- one label more
-  pub labels_more : (labels : List (Option ℕ)) (label : Option ℕ) → AreLabels labels → IsLabelOf m side (length labels) label → AreLabels (labels ++ label ∷ [])
-  labels_more labels label are is = λ k within. elim (cases_eq k (length labels)) [
-    | inl e ↦
-        let here : get_or (labels ++ label ∷ []) k None ≡ label = get_or_push labels label None k (sym e) in
-        rw here (subst (λ i. IsLabelOf m side i label) (sym e) is)
-    | inr other ↦
-        let long : length (labels ++ label ∷ []) ≡ length labels + 1 = length_push labels label in
-        let less : k < length labels = omega (arith, other, within, long) in
-        rw (get_or_append_left labels (label ∷ []) None k less) (are k less)
-  ]
-
   -- where a point is present, its label is that of its root
   label_present : (label : Option ℕ) (p : Rank) → IsPoint m p → IsLabelOf m side p.index label → (r : Rank) × IsRoot m side p r × (label ≡ Some r.index)
   label_present None p point is = absurd (is p point refl)

@@ -1,4 +1,4 @@
-pub mod Lower
+pub mod LowerOf
 pub mod Lows
 pub mod Rows
 pub mod ProfilesRound

@@ -17,7 +17,7 @@ use Rattle.hd_map.proofs.Sides.{not_above-refl, not_above-trans}
 use Rattle.hd_map.proofs.Points.{point_at}
 use Rattle.hd_map.proofs.Depth.{InLimits, point_limits}
 use Rattle.hd_steep.specs.Lowest.{missing, lower_of, IsLow, IsAtPlace}
-use Rattle.hd_steep.proofs.Lower.{IsLower, lower-is}
+use Rattle.hd_steep.proofs.LowerOf.{IsLower, lower-is}
 
 -- a point is below where none is present
 pub below_missing : (side : SideName) (r : Rank) → InLimits r → below_by side r (missing side) ≡ true

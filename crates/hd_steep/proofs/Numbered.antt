@@ -14,10 +14,9 @@ use Rattle.hd_map.specs.Pruning.{ArePits}
 use Rattle.hd_map.specs.Rank.{IsPoint}
 use Rattle.hd_map.specs.Region.{IsPit, IsRoot}
 use Rattle.hd_map.proofs.Nexts.{root-is_pit, root-of_pit}
-use Rattle.hd_map.proofs.Points.{place_inside, same_index}
+use Rattle.hd_map.proofs.Points.{place_inside, same_index, point_inside}
 use Rattle.hd_steep.specs.Numbering.{Numbering, root_of, roots_of, IsLabelOf, AreNumbers, AreNumbered}
 use Rattle.hd_steep.specs.Rows.{past_end}
-use Rattle.hd_steep.proofs.Following.{point_inside}
 use Rattle.hd_steep.proofs.Labels.{labels_all, label_of_point}
 use Rattle.hd_steep.proofs.PitNumbers.{root_at, root_below}
 use Rattle.hd_steep.proofs.Pits.{rising_apart}
@@ -70,27 +69,3 @@ module _ (m : Map) (side : SideName) where
     pit_of_point x point =
         let found = number_of_point x point in
         (get_or pits (number_at x.index) x, found.1 x, slice_get-get_or pits (number_at x.index) x found.0)
-
-    -- the number of a pit at its own index
-    pub number_of_pit : (i : ℕ) (d : Rank) → i < length pits → number_at (get_or pits i d).index ≡ i
-    number_of_pit i d inside =
-        let p : Rank = get_or pits i d in
-        let pit = numbered_pit i d inside in
-        let found = number_of_point p pit.point in
-        let same : get_or pits (number_at p.index) d ≡ p = root-of_pit m side p (get_or pits (number_at p.index) d) pit (found.1 d) in
-        rising_apart pits are.pits.in_order (number_at p.index) i d found.0 inside (ap (λ (r : Rank). r.index) same)
-
-    -- where no point is present, the number is past the pits
-    pub number_past : (p : Pos) → InGrid m.size p → (Present m p → ⊥) → length pits ≤ number_at (place_of m.size p)
-    number_past p in_grid not =
-        let k : ℕ = place_of m.size p in
-        let within : k < length regions.numbers = rw numbers_whole (place_inside m.size p in_grid) in
-        let none : get_or (roots_of regions) k None ≡ None = sym (unwrap_or-slice_get (roots_of regions) k None) ∙ ap (λ (o : Option (Option ℕ)). unwrap_or o None) (are.roots.absent p in_grid not) in
-        elim (cases_lt (number_at k) (length pits)) [
-          | inl below ↦
-              let d : Rank = past_end in
-              let some : root_of pits (number_at k) ≡ Some (get_or pits (number_at k) d).index = root_at pits (number_at k) d below in
-              let gone : root_of pits (number_at k) ≡ None = sym (roots_of-at regions k within) ∙ none in
-              absurd (let both = sym some ∙ gone in cc)
-          | inr past ↦ omega (arith, past)
-        ]

@@ -16,12 +16,11 @@ use Rattle.hd_map.specs.Rank.{rank, below_by, IsPoint, Near}
 use Rattle.hd_map.specs.Region.{IsRoot}
 use Rattle.hd_map.specs.SideLaws.{below_by-order}
 use Rattle.hd_map.proofs.Nexts.{root-is_pit}
-use Rattle.hd_map.proofs.Points.{neighbour-sym, same_place, same_index, point_at, position_at-of, position_at-place, Near-at}
+use Rattle.hd_map.proofs.Points.{neighbour-sym, same_place, same_index, point_at, position_at-of, position_at-place, Near-at, point_inside}
 use Rattle.hd_map.proofs.Sides.{below-not_above, below-apart}
 use Rattle.hd_steep.specs.declared.meetings.Meeting.{Meeting}
 use Rattle.hd_steep.specs.Borders.{ComesFirst}
 use Rattle.hd_steep.specs.Meetings.{LiesIn, IsOfTwo, IsMeetingOf, IsPassOf, ComesBefore, AreMeetings}
-use Rattle.hd_steep.proofs.Following.{point_inside}
 use Rattle.hd_steep.proofs.Round.{same_or_below}
 
 -- a choice of two either way

@@ -17,10 +17,10 @@ use Rattle.hd_map.specs.Pruning.{ArePits}
 use Rattle.hd_map.specs.Rank.{rank}
 use Rattle.hd_map.specs.Region.{IsPit, IsRoot}
 use Rattle.hd_map.proofs.Nexts.{root-pit, root-is_pit, root-unique}
-use Rattle.hd_map.proofs.Points.{same_index, rank_position}
+use Rattle.hd_map.proofs.Points.{same_index, rank_position, point_inside}
 use Rattle.hd_steep.specs.Links.{no_link, NoPointAt, AreLinks, IsRootAt, IsRootLink, AreRootLinks}
 use Rattle.hd_steep.specs.Numbering.{root_of, AreNumbersOfPits, IsLabelOf, AreLabelledTo, NextIsFrom, AreNumbers}
-use Rattle.hd_steep.proofs.Following.{point_inside, index_inside, link_at}
+use Rattle.hd_steep.proofs.Following.{index_inside, link_at}
 use Rattle.hd_steep.proofs.Pits.{rising_apart, pits_few}
 
 -- the pit of a number
@@ -37,19 +37,6 @@ root_below pits n k is = elim (cases_lt n (length pits)) [
   | inl below ↦ below
   | inr past ↦ absurd (let none = root_past pits n (omega (arith, past)) in cc)
 ]
-
--- and keeps it when a pit is added
-pub root_push : (pits : List Rank) (r : Rank) (n k : ℕ) → root_of pits n ≡ Some k → root_of (pits ++ r ∷ []) n ≡ Some k
-root_push pits r n k is =
-    let below = root_below pits n k is in
-    let long = length_push pits r in
-    root_at (pits ++ r ∷ []) n r (omega (arith, below, long)) ∙ ap (λ (p : Rank). Some p.index) (get_or_append_left pits (r ∷ []) r n below) ∙ sym (root_at pits n r below) ∙ is
-
--- the number of the pit that is added
-pub root_pushed : (pits : List Rank) (r : Rank) → root_of (pits ++ r ∷ []) (length pits) ≡ Some r.index
-root_pushed pits r =
-    let long = length_push pits r in
-    root_at (pits ++ r ∷ []) (length pits) r (omega (arith, long)) ∙ ap (λ (p : Rank). Some p.index) (get_or_push pits r r (length pits) refl)
 
 module _ (m : Map) (side : SideName) where
   -- what is its own root is a pit
@@ -193,9 +180,6 @@ module _ (m : Map) (side : SideName) where
       before = λ k below. absurd (omega arith);
       after = λ k past inside. of.each k inside;
     }
-
-    pub labelled_all : (i next : ℕ) (numbers : List ℕ) → length numbers ≤ i → AreLabelledTo m side pits i next numbers → AreNumbers m side pits numbers
-    labelled_all i next numbers last to = record { whole = to.whole; each = λ k inside. to.before k (omega (arith, inside, last)) }
 
     -- a label is that of a root
     label_root : (k n root : ℕ) → root_of pits n ≡ Some root → IsRootAt m side k root → IsLabelOf m side k (root_of pits n)

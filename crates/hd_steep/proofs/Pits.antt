@@ -10,8 +10,7 @@ use Rattle.hd_map.specs.Map.{Map, cell_count}
 use Rattle.hd_map.specs.Pruning.{ArePits}
 use Rattle.hd_map.specs.Region.{IsPit}
 use Rattle.hd_map.proofs.Items.{Contains-none}
-use Rattle.hd_map.proofs.Points.{same_index}
-use Rattle.hd_steep.proofs.Following.{point_inside}
+use Rattle.hd_map.proofs.Points.{same_index, point_inside}
 
 -- ranks rise by index
 abbrev pub AreRising : List Rank → Type 0
@@ -97,10 +96,6 @@ module _ (m : Map) (side : SideName) where
     );
     in_order = before.in_order;
   }
-
-  -- before an index there are no more pits than indexes
-  pub pits_before_few : (k : ℕ) (pits : List Rank) → ArePitsBefore m side k pits → length pits ≤ k
-  pits_before_few k pits before = rising_few pits k before.in_order (λ r there. (before.each r there).1)
 
   -- there are no more pits than cells
   pub pits_few : (pits : List Rank) → ArePits m side pits → length pits ≤ cell_count m.size

@@ -21,5 +21,6 @@ pub use crossing::{Crossing, crossings, passes_of};
 pub use laws::{
     next_is_determined, pit_is_its_own_root, regions_are_determined, root_is_determined,
 };
+pub use lowest::{is_missing, lower, missing_rank};
 pub use numbering::{Regions, find_regions};
 pub use steep::{next, regions, root};

@@ -7,7 +7,8 @@ ghost use Rattle.hd_steep.specs.Lowest.{missing, lower_of, IsLow, IsAtPlace, IsP
 
 use hd_map::{Heights, Pos, Rank, Side, SideName, are_beside, index_of};
 
-/// Stands where no point is present. Each point is below it.
+/// The rank that stands where no point is present: the greatest height on the side of dales and the
+/// least on that of hills, with the greatest index.
 #[inline]
 pub fn missing_rank<S: Side>() -> Rank
     ensures { result ≡ missing S.NAME }
@@ -22,7 +23,7 @@ pub fn missing_rank<S: Side>() -> Rank
     }
 }
 
-/// Whether a rank stands where no point is present.
+/// Whether a rank has the height of the one that stands where no point is present.
 #[inline]
 pub fn is_missing<S: Side>(rank: Rank) -> bool
     ensures { result ≡ int_eq rank.height (missing S.NAME).height }

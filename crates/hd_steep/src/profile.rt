@@ -5,9 +5,9 @@ ghost use Rattle.hd_steep.specs.Lowest.{missing};
 ghost use Rattle.hd_steep.specs.Profiles.{IsProfileOf, IsRoom};
 ghost use Rattle.hd_steep.specs.Rows.{IsFramed, IsFilled, IsRowOf, AreLowestOfThree, AreLowerOfTwo, AreLowsRound};
 
-use crate::lowest::{lower, missing_rank, rank_at};
+use crate::lowest::{lower, missing_rank};
 use hd_list::Memory;
-use hd_map::{Adjacency, Heights, Pos, Rank, Side};
+use hd_map::{Adjacency, Heights, Rank, Side};
 use std::alloc::Global;
 
 /// The ranks of a profile with an empty place on each side, by column the lowest of each three side by
@@ -93,9 +93,8 @@ fn fill_ranks<S: Side, G: Heights>(grid: &G, y: u32, row: &mut [Rank])
     requires framed { IsFramed S.NAME (G.map grid.now).size.points row.old }
     ensures { IsRowOf (G.map grid.now) S.NAME (y + 1) row.new }
 {
-    for x in 0..grid.size().points {
-        row[x as usize + 1] = rank_at::<S, G>(grid, Pos { x, y });
-    }
+    let end = row.len() - 1;
+    grid.fill_ranks(y, missing_rank::<S>(), &mut row[1..end]);
 }
 
 // Makes a row one in which no point is present.

@@ -6,12 +6,13 @@ use Rattle.std.proofs.lemmas.Int.{ints}
 use Rattle.std.proofs.lemmas.List.{get_or-map, length-map}
 use Rattle.hd_feature.specs.declared.region.Region.{Region}
 use Rattle.hd_feature.specs.HeightsAlone.{height_alone}
-use Rattle.hd_map.specs.declared.presence.HeightRange.{HeightRange}
+use Rattle.hd_map.specs.declared.height_range.HeightRange.{HeightRange}
 use Rattle.hd_map.specs.declared.types.Rank.{Rank}
 use Rattle.hd_map.specs.declared.types.SideName.{SideName}
 use Rattle.hd_map.specs.declared.types.SideName.TheVariants.{Dales, Hills}
 use Rattle.hd_map.specs.Map.{Map}
-use Rattle.hd_map.specs.Presence.{present_heights, range_of}
+use Rattle.hd_map.specs.Presence.{present_heights}
+use Rattle.hd_map.specs.HeightRange.{range_of}
 use Rattle.hd_prune.specs.declared.step.Kept.{Kept}
 use Rattle.hd_survey.specs.declared.tally.Tally.{Tally}
 use Rattle.hd_survey.specs.Features.{AreFeaturesWith, feature_of, feature_with, lpvh}

@@ -9,10 +9,11 @@ use Rattle.hd_feature.specs.declared.notation.Statistic.TheVariants.{Mean}
 use Rattle.hd_feature.specs.declared.region.Region.{Region}
 use Rattle.hd_feature.specs.HeightsAlone.{height_alone, heights_serve}
 use Rattle.hd_feature.specs.Value.{IsValue}
-use Rattle.hd_map.specs.declared.presence.HeightRange.{HeightRange}
+use Rattle.hd_map.specs.declared.height_range.HeightRange.{HeightRange}
 use Rattle.hd_map.specs.declared.types.SideName.{SideName}
 use Rattle.hd_map.specs.Map.{IsMap, Map, cell_count}
-use Rattle.hd_map.specs.Presence.{present_heights, range_of}
+use Rattle.hd_map.specs.Presence.{present_heights}
+use Rattle.hd_map.specs.HeightRange.{range_of}
 use Rattle.hd_map.specs.Region.{AreRegions}
 use Rattle.hd_num.specs.declared.frac.Frac.{Frac}
 use Rattle.hd_prune.specs.declared.step.Kept.{Kept}

@@ -18,7 +18,8 @@ use Rattle.hd_prune.specs.Kept.{AreKept}
 use Rattle.hd_prune.specs.Pruned.{owned_by}
 use Rattle.hd_survey.specs.Heights.{HasHeights}
 use Rattle.hd_prune.proofs.Spans.{point_height}
-use Rattle.hd_survey.proofs.Inside.{path_point, point_inside}
+use Rattle.hd_survey.proofs.Inside.{path_point}
+use Rattle.hd_map.proofs.Points.{point_inside}
 use Rattle.hd_survey.proofs.Lists.{All-map, All-unmap, AllPairs-unmap}
 
 module _ (m : Map) (side : SideName) where

@@ -11,14 +11,10 @@ use Rattle.hd_map.specs.Map.{Map, cell_count}
 use Rattle.hd_map.specs.Path.{Leads}
 use Rattle.hd_map.specs.Rank.{IsPoint, Near}
 use Rattle.hd_map.proofs.Levels.{Contains-cases, Contains-none}
-use Rattle.hd_map.proofs.Points.{Near-to, place_inside}
+use Rattle.hd_map.proofs.Points.{Near-to, place_inside, point_inside}
 use Rattle.hd_graph.specs.declared.trees.Join.{Join}
 use Rattle.hd_graph.specs.Tells.{joins_of}
 use Rattle.hd_survey.specs.Inside.{IsJoinOn}
-
--- the index of a point is less than the number of cells
-pub point_inside : (m : Map) (p : Rank) → IsPoint m p → p.index < cell_count m.size
-point_inside m p point = subst (λ n. n < cell_count m.size) (sym (ap (λ (r : Rank). r.index) point.rank_is)) (place_inside m.size point.at point.present.in_grid)
 
 -- what stands in a path is a point
 pub path_point : (m : Map) (a b s : Rank) (xs : List Rank) → IsPoint m a → Leads (Near m) a xs b → Contains (a ∷ xs) s → IsPoint m s

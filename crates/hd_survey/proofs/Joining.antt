@@ -3,7 +3,7 @@ use Rattle.std.proofs.Common.{◌≡◌, ◌<◌, ◌+◌, ◌∙◌, ℕ, ℤ, 
 use Rattle.std.specs.Prelude.{if◌then◌else◌}
 use Rattle.std.specs.Int.{int_min, int_max}
 use Rattle.std.proofs.lemmas.Int.{ints, int_min_is, int_max_is}
-use Rattle.hd_map.specs.declared.presence.HeightRange.{HeightRange}
+use Rattle.hd_map.specs.declared.height_range.HeightRange.{HeightRange}
 use Rattle.hd_prune.specs.declared.step.Owned.{Owned}
 use Rattle.hd_survey.specs.declared.tally.Tally.{Tally}
 use Rattle.hd_survey.specs.Owned.{JoinsAt, is_placed, joined_of}
@@ -27,15 +27,8 @@ ranges_assoc (Some a) None c = refl
 ranges_assoc (Some a) (Some b) None = refl
 ranges_assoc (Some a) (Some b) (Some c) = same_range _ _ _ _ (min_assoc a.least b.least c.least) (max_assoc a.greatest b.greatest c.greatest)
 
-ranges_none : (a : Option HeightRange) → joined_ranges a None ≡ a
-ranges_none None = refl
-ranges_none (Some a) = refl
-
 joined_assoc : (a b c : Tally) → joined (joined a b) c ≡ joined a (joined b c)
 joined_assoc a b c = same_tally _ _ _ _ (omega arith) (ranges_assoc a.edge b.edge c.edge)
-
-pub joined_none : (a : Tally) → joined a no_tally ≡ a
-joined_none a = same_tally _ _ _ _ (omega arith) (ranges_none a.edge)
 
 pub none_joined : (a : Tally) → joined no_tally a ≡ a
 none_joined a = same_tally _ _ _ _ (omega arith) refl

@@ -60,14 +60,6 @@ kept_places-more kept count k places new d ordered below inside is before =
       ];
     }
 
--- no kept pit yet
-pub kept_places-start : (kept : List Kept) (count : ℕ) (places : List ℕ) → places ≡ replicate count (length kept) → KeptPlacesBefore kept count 0 places
-kept_places-start kept count places is = record {
-  whole = ap length is ∙ length-replicate count (length kept);
-  each = λ n i d low less. absurd (omega arith);
-  free = λ n i low past less. ap (λ xs. nat_eq (get_or xs n 0) i) is ∙ ap (λ a. nat_eq a i) (get_or-replicate count n (length kept) 0 low) ∙ eq_no (length kept) i (λ h. omega (arith, h, less));
-}
-
 -- all kept pits
 pub kept_places-all : (kept : List Kept) (count k : ℕ) (places : List ℕ) → length kept ≤ k → KeptPlacesBefore kept count k places → AreKeptPlaces kept count places
 kept_places-all kept count k places past before = record { whole = before.whole; each = λ n i d low less. before.each n i d low (omega (arith, past, less)) }

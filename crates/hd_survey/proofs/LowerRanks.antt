@@ -82,18 +82,6 @@ module _ (m : Map) (side : SideName) (point : Rank) where
       ∙ ap (filter is_lower) (map-append (rank m) (take i places) (get_or places i d ∷ []))
       ∙ filter-append is_lower (map (rank m) (take i places)) (rank m (get_or places i d) ∷ [])
 
-  pub ranks_push : (places : List Pos) (i : ℕ) (d : Pos) (q : Rank) (old new : List Rank) → i < length places → q ≡ rank m (get_or places i d) → below_by side q point ≡ true
-      → new ≡ old ++ q ∷ [] → old ≡ these (take i places) → new ≡ these (take (i + 1) places)
-  ranks_push places i d q old new inside here lower is so =
-      let e : filter is_lower (rank m (get_or places i d) ∷ []) ≡ q ∷ [] = ap (λ r. filter is_lower (r ∷ [])) (sym here) ∙ ap (λ v. cond v (q ∷ []) []) lower in
-      is ∙ ap (λ xs. xs ++ q ∷ []) so ∙ sym (ranks_more places i d inside ∙ ap (λ xs. these (take i places) ++ xs) e)
-
-  pub ranks_pass : (places : List Pos) (i : ℕ) (d : Pos) (q : Rank) (old : List Rank) → i < length places → q ≡ rank m (get_or places i d) → below_by side q point ≡ false
-      → old ≡ these (take i places) → old ≡ these (take (i + 1) places)
-  ranks_pass places i d q old inside here other so =
-      let e : filter is_lower (rank m (get_or places i d) ∷ []) ≡ [] = ap (λ r. filter is_lower (r ∷ [])) (sym here) ∙ ap (λ v. cond v (q ∷ []) []) other in
-      so ∙ sym (ranks_more places i d inside ∙ ap (λ xs. these (take i places) ++ xs) e ∙ append-nil (these (take i places)))
-
   -- those at the neighbours of the point
   module _ (near : List Pos) (at : Pos) (is_point : IsPoint m point) (here : at ≡ position_at m.size point.index)
       (all : (q : Pos) → Contains near q ↔ Neighbour m at q) (ordered : AllPairs (λ a b. place_of m.size a < place_of m.size b) near) where

@@ -15,7 +15,7 @@ use Rattle.hd_map.specs.Map.{Map, IsMap, InGrid, Present, place_of, position_at,
 use Rattle.hd_map.specs.Pruning.{ArePits}
 use Rattle.hd_map.specs.Rank.{rank}
 use Rattle.hd_map.specs.Region.{AreRegions, IsPit}
-use Rattle.hd_map.proofs.Points.{position_at-place, position_at-inside, place_inside, same_index, point_at}
+use Rattle.hd_map.proofs.Points.{position_at-place, position_at-inside, place_inside, same_index, point_at, point_inside}
 use Rattle.hd_map.proofs.Nexts.{root-is_pit, root-of_pit}
 use Rattle.hd_graph.specs.declared.graph.Low.{Low}
 use Rattle.hd_graph.specs.Basins.{ArePitsOf}
@@ -26,7 +26,6 @@ use Rattle.hd_steep.proofs.Pits.{ArePitsBefore, pits_all, pits_none, pits_pass, 
 use Rattle.hd_survey.specs.PitLinks.{low_of}
 use Rattle.hd_survey.specs.Regions.{AreRegionSizes, names, pit_ranks, rank_at, region_size}
 use Rattle.hd_survey.proofs.Counts.{pits_from, pits_from-other, pits_from-own}
-use Rattle.hd_survey.proofs.Inside.{point_inside}
 use Rattle.hd_survey.proofs.Lists.{All-map, AllPairs-map, Contains-map, map-Contains}
 use Rattle.hd_survey.proofs.RootedPoints.{rooted_present}
 

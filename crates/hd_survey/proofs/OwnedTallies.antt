@@ -9,7 +9,7 @@ use Rattle.std.proofs.lemmas.List.{take_all}
 use Rattle.std.proofs.lemmas.List.Elements.{filter-append}
 use Rattle.std.proofs.lemmas.List.FromFn.{length-range_with_len}
 use Rattle.std.proofs.lemmas.List.Sums.{count_by-le-length, count_by_more_no, count_by_more_yes, length-filter}
-use Rattle.hd_map.specs.declared.presence.HeightRange.{HeightRange}
+use Rattle.hd_map.specs.declared.height_range.HeightRange.{HeightRange}
 use Rattle.hd_map.specs.declared.types.Rank.{Rank}
 use Rattle.hd_map.specs.declared.types.SideName.{SideName}
 use Rattle.hd_map.specs.Map.{Map, IsMap, cell_count}
@@ -70,9 +70,6 @@ joined_first a b h = same_tally _ _ _ _ (omega arith) (edges_first a.edge b.edge
 joined_second : (c : Bool) (a b : Tally) (h : Option ℤ) → joined a (tally_after c b h) ≡ tally_after c (joined a b) h
 joined_second true a b h = same_tally _ _ _ _ (omega arith) (edges_second a.edge b.edge h)
 joined_second false a b h = refl
-
-no_tally_of : (m : Map) → tally_of m [] ≡ no_tally
-no_tally_of m = refl
 
 module _ (owner : Rank → Rank) (p : ℕ) where
   -- what is joined of these pits with these tallies

@@ -8,9 +8,8 @@ use Rattle.hd_map.specs.declared.types.Rank.{Rank}
 use Rattle.hd_map.specs.declared.types.SideName.{SideName}
 use Rattle.hd_map.specs.Map.{Map}
 use Rattle.hd_map.specs.Rank.{IsPoint, below_by}
-use Rattle.hd_map.proofs.Points.{Near-from, Near-to}
+use Rattle.hd_map.proofs.Points.{Near-from, Near-to, point_inside}
 use Rattle.hd_survey.specs.Inside.{IsLineOn}
-use Rattle.hd_survey.proofs.Inside.{point_inside}
 use Rattle.hd_survey.proofs.PrunedPits.{ArePitsStill}
 
 module _ (m : Map) (side : SideName) where

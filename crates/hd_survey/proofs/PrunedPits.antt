@@ -13,7 +13,8 @@ use Rattle.hd_map.proofs.Nexts.{root-is_pit}
 use Rattle.hd_prune.specs.declared.step.Step.{Step}
 use Rattle.hd_prune.specs.Pruned.{leaving_of, leavings_of}
 use Rattle.hd_survey.specs.Inside.{IsStepOn}
-use Rattle.hd_survey.proofs.Inside.{path_point, point_inside}
+use Rattle.hd_survey.proofs.Inside.{path_point}
+use Rattle.hd_map.proofs.Points.{point_inside}
 
 -- what passes a test was there before
 filtered : {X : Type 0} (test : X → Bool) (xs : List X) (y : X) → Contains (filter test xs) y → Contains xs y

@@ -12,10 +12,9 @@ use Rattle.hd_map.specs.declared.types.Size.{Size}
 use Rattle.hd_map.specs.Map.{Map, IsMap, InGrid, IsMeasured, Present, cell_at, mask_at, in_grid, place_of, position_at, cell_count, shown_height, height_at}
 use Rattle.hd_map.specs.Rank.{IsPoint, rank}
 use Rattle.hd_map.specs.Region.{AreRegions, IsPit, IsRoot}
-use Rattle.hd_map.proofs.Points.{position_at-of, position_at-place, position_at-inside, present_or_not, place_inside}
+use Rattle.hd_map.proofs.Points.{position_at-of, position_at-place, position_at-inside, present_or_not, place_inside, shown_of}
 use Rattle.hd_map.proofs.Nexts.{root-is_pit}
 use Rattle.hd_survey.specs.Edges.{HaveRoots}
-use Rattle.hd_prune.proofs.Spans.{shown_of}
 
 pub not_none : (o : Option ℕ) (n : ℕ) → o ≡ Some n → Some o ≡ Some None → ⊥
 not_none o n some none = cc

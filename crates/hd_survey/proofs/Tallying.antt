@@ -7,9 +7,9 @@ use Rattle.std.proofs.lemmas.List.{length_push}
 use Rattle.std.proofs.lemmas.List.Elements.{filter-append, filter_map-append}
 use Rattle.std.proofs.lemmas.List.Sums.{count_by-le-length, length-filter}
 use Rattle.std.proofs.lemmas.List.FromFn.{length-range_with_len}
-use Rattle.hd_map.specs.declared.presence.HeightRange.{HeightRange}
+use Rattle.hd_map.specs.declared.height_range.HeightRange.{HeightRange}
 use Rattle.hd_map.specs.Map.{Map, position_at}
-use Rattle.hd_map.specs.Presence.{range_of}
+use Rattle.hd_map.specs.HeightRange.{range_of}
 use Rattle.hd_map.proofs.Presences.{range_more}
 use Rattle.hd_steep.specs.Numbering.{Numbering}
 use Rattle.hd_survey.specs.declared.tally.Tally.{Tally}

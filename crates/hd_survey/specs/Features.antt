@@ -3,13 +3,14 @@ use Rattle.std.specs.Prelude.{◌≡◌, ◌<◌, ◌-ℤ◌, ℕ, ℤ, pos, Lis
 use Rattle.std.specs.Option.{option_map}
 use Rattle.hd_feature.specs.declared.region.Region.{Region}
 use Rattle.hd_feature.specs.HeightsAlone.{height_alone}
-use Rattle.hd_map.specs.declared.presence.HeightRange.{HeightRange}
+use Rattle.hd_map.specs.declared.height_range.HeightRange.{HeightRange}
 use Rattle.hd_map.specs.declared.types.Rank.{Rank}
 use Rattle.hd_map.specs.declared.types.SideName.{SideName}
 use Rattle.hd_map.specs.declared.types.SideName.TheVariants.{Dales, Hills}
 use Rattle.hd_map.specs.Map.{Map}
 use Rattle.hd_map.specs.NearestSaddle.{local_height}
-use Rattle.hd_map.specs.Presence.{present_heights, range_of}
+use Rattle.hd_map.specs.Presence.{present_heights}
+use Rattle.hd_map.specs.HeightRange.{range_of}
 use Rattle.hd_map.specs.Pruning.{Leaving, IsPruning}
 use Rattle.hd_map.specs.Region.{AreRegions}
 use Rattle.hd_prune.specs.declared.step.Kept.{Kept}

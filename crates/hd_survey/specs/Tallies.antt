@@ -2,11 +2,11 @@
 use Rattle.std.specs.Prelude.{◌≡◌, ◌<◌, ◌+◌, ℕ, ℤ, Bool, true, false, List, length, map, filter, Option, Some, None, nat_eq, slice_index, slice_index_or}
 use Rattle.std.specs.Int.{int_min, int_max}
 use Rattle.std.specs.List.{range_with_len}
-use Rattle.hd_map.specs.declared.presence.HeightRange.{HeightRange}
+use Rattle.hd_map.specs.declared.height_range.HeightRange.{HeightRange}
 use Rattle.hd_map.specs.declared.types.Rank.{Rank}
 use Rattle.hd_map.specs.declared.types.SideName.{SideName}
 use Rattle.hd_map.specs.Map.{Map, cell_count}
-use Rattle.hd_map.specs.Presence.{range_of, widened}
+use Rattle.hd_map.specs.HeightRange.{range_of, widened}
 use Rattle.hd_map.specs.Region.{AreRegions}
 use Rattle.hd_steep.specs.Numbering.{Numbering}
 use Rattle.hd_survey.specs.declared.tally.Tally.{Tally}

@@ -1,7 +1,8 @@
 // The regions of a side after pruning, by what feature parameters take of them.
 ghost use Rattle.std.specs.Prelude.{◌≡◌, ◌≤◌, length, All, IfOk, unsigned_abs};
 ghost use Rattle.std.specs.Option.{ForSome};
-ghost use Rattle.hd_map.specs.Presence.{present_heights, range_of};
+ghost use Rattle.hd_map.specs.Presence.{present_heights};
+ghost use Rattle.hd_map.specs.HeightRange.{range_of};
 ghost use Rattle.hd_survey.specs.Findings.{AreFindings};
 ghost use Rattle.hd_survey.specs.Features.{AreFeatures, AreFeaturesWith, AreHeightsAlone, AreHeightsWith, feature_with};
 ghost use Rattle.hd_survey.specs.Heights.{HasHeights, IsHeightRange, farthest_apart};

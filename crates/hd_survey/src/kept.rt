@@ -1,6 +1,7 @@
 // The pits that a pruning keeps.
 ghost use Rattle.std.specs.Prelude.{◌≡◌, IfOk};
-ghost use Rattle.hd_map.specs.Presence.{present_heights, range_of};
+ghost use Rattle.hd_map.specs.Presence.{present_heights};
+ghost use Rattle.hd_map.specs.HeightRange.{range_of};
 ghost use Rattle.hd_survey.specs.Findings.{AreKeptPits, ArePitMerges};
 
 use crate::merges::PitMerges;

@@ -1,7 +1,8 @@
 // The pruning of a map.
 ghost use Rattle.std.specs.Prelude.{◌≡◌, ◌<◌, All, IfOk};
 ghost use Rattle.hd_map.specs.Map.{IsMap, Map, cell_count};
-ghost use Rattle.hd_map.specs.Presence.{present_heights, range_of};
+ghost use Rattle.hd_map.specs.Presence.{present_heights};
+ghost use Rattle.hd_map.specs.HeightRange.{range_of};
 ghost use Rattle.hd_prune.specs.Answer.{IsPruned};
 ghost use Rattle.hd_prune.specs.Pruned.{leavings_of};
 ghost use Rattle.hd_survey.specs.Findings.{AreFindings, ArePitMerges};

@@ -3,7 +3,8 @@ ghost use Rattle.std.specs.Prelude.{◌≡◌, ◌≤◌, length, All, IfOk, uns
 ghost use Rattle.std.specs.Option.{ForSome};
 ghost use Rattle.hd_feature.specs.declared.notation.Attribute.TheVariants.{Lpvh};
 ghost use Rattle.hd_feature.specs.declared.notation.Statistic.TheVariants.{Mean};
-ghost use Rattle.hd_map.specs.Presence.{IsPresence, present_heights, range_of};
+ghost use Rattle.hd_map.specs.Presence.{IsPresence, present_heights};
+ghost use Rattle.hd_map.specs.HeightRange.{range_of};
 ghost use Rattle.hd_survey.specs.Heights.{farthest_apart};
 ghost use Rattle.hd_survey.specs.Findings.{AreFindings};
 ghost use Rattle.hd_survey.specs.Survey.{IsSurvey};

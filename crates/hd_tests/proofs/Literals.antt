@@ -110,9 +110,6 @@ module _ (lows : List Low) (links : List Link) (e : are_linked lows links ≡ tr
   lows-are : (nat_lt (length lows) 2147483648 && are_different lows) ≡ true
   lows-are = first (nat_lt (length lows) 2147483648 && are_different lows) (have_ends (length lows) links) e
 
-  pub few-linked : length lows < 2147483648
-  few-linked = ltb-true (length lows) 2147483648 (first (nat_lt (length lows) 2147483648) (are_different lows) lows-are)
-
   pub different-linked : AllPairs (λ x y. x.rank.index ≢ y.rank.index) lows
   different-linked = different-from lows (second (nat_lt (length lows) 2147483648) (are_different lows) lows-are)
 

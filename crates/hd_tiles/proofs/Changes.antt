@@ -48,9 +48,6 @@ mask_stands m p b inside same =
     let masks : set m.masks place b ≡ m.masks = ap (λ (x : Bool). set m.masks place x) same ∙ set-get_or m.masks place false in
     (inside, ap (λ (xs : List Bool). record m { masks = xs }) (sym masks))
 
-pub setting_stands : (m : Map) (a : Adjacency) → a ≡ m.adjacency → m ≡ under a m
-setting_stands m a same = ap (λ (x : Adjacency). under x m) (sym same)
-
 -- the stamps of touched tiles were not above the count, and are one above it now
 module _ (Touched : ℕ → Type 0) (count : ℕ) (before after : List ℕ) (low : AreUpTo count before) (stamped : AreStamped Touched (count + 1) before after) where
   pub up_to : AreUpTo (count + 1) after
@@ -87,14 +84,6 @@ module _ (Touched : ℕ → Type 0) (count : ℕ) (before after : List ℕ) (low
         absurd (omega (arith, e, below))));
   }
 
--- where the map and the stamps stay, no tile is touched
-pub touches-same : (Touched : ℕ → Type 0) (old new : Map) (stamps : List ℕ) → new ≡ old → Touches Touched old new stamps stamps
-touches-same Touched old new stamps same = record { same = λ e. refl; changed = λ differs. absurd (differs same) }
-
--- a change counts once
-pub counts-change : (old new : Map) (count : ℕ) → (new ≡ old → ⊥) → CountsChange old new count (count + 1)
-counts-change old new count differs = record { later = omega arith; once = omega arith; unchanged = λ e. absurd (differs e) }
-
 -- a cell or a mask is set to another one, or the setting, and the tiles that this touches are stamped
 module _ (old new : Map) (t count : ℕ) (before after : List ℕ) (low : AreUpTo count before) where
   module _ (s : Size) (p : Pos) (same : s ≡ old.size) (whole : IsMap old) (inside : InGrid old.size p) (stamped : AreStamped (λ tile. IsRound s t tile p) (count + 1) before after) where
@@ -116,9 +105,6 @@ module _ (old new : Map) (t count : ℕ) (before after : List ℕ) (low : AreUpT
       pub cell-touches : TouchesRound t p old new before after
       cell-touches = touches-changed Here count before after low here old new cell_differs
 
-      pub cell-counts : CountsChange old new count (count + 1)
-      cell-counts = counts-change old new count cell_differs
-
     module _ (b : Bool) (is : new ≡ with_mask old p b) (other : b ≡ mask_at old p → ⊥) where
       mask_differs : new ≡ old → ⊥
       mask_differs e =
@@ -131,9 +117,6 @@ module _ (old new : Map) (t count : ℕ) (before after : List ℕ) (low : AreUpT
       pub mask-touches : TouchesRound t p old new before after
       mask-touches = touches-changed Here count before after low here old new mask_differs
 
-      pub mask-counts : CountsChange old new count (count + 1)
-      mask-counts = counts-change old new count mask_differs
-
   module _ (stamped : AreStamped (λ tile. Unit {0}) (count + 1) before after) (a : Adjacency) (is : new ≡ under a old) (other : a ≡ old.adjacency → ⊥) where
     setting_differs : new ≡ old → ⊥
     setting_differs e = other (ap (λ (m : Map). m.adjacency) (sym is ∙ e))
@@ -143,6 +126,3 @@ module _ (old new : Map) (t count : ℕ) (before after : List ℕ) (low : AreUpT
 
     pub setting-touches : TouchesAll old new before after
     setting-touches = touches-changed (λ tile. Unit {0}) count before after low stamped old new setting_differs
-
-    pub setting-counts : CountsChange old new count (count + 1)
-    setting-counts = counts-change old new count setting_differs

@@ -6,7 +6,7 @@ use Rattle.std.specs.Str.Parse.{digits_value}
 use Rattle.std.proofs.lemmas.Bool.Decides.{nat_tests}
 use Rattle.hd_map.specs.Map.{IsSize, cell_count, longest_side, most_cells}
 use Rattle.hd_num.specs.Whole.{count_of, is_numeral}
-use Rattle.hd_words.specs.Demo.{IsDemo, demo_of, demo_within, is_side, is_size}
+use Rattle.hd_words.specs.Demo.{IsDemo, demo_of, demo_within, is_demo_side, is_size}
 use Rattle.hd_words.specs.Limits.{greatest_tile, least_tile, most_edits, usual_tile}
 use Rattle.hd_words.specs.Words.{Given, IsWithinLimits, Request, check_form, dales_form, demo_form, form_named, form_of, given_of, run_form, tile_of}
 use Rattle.hd_words.specs.declared.demo.Demo.{Demo}
@@ -47,7 +47,7 @@ numbers_within d demo (least, most) is = go _ refl is
         let same : d ≡ demo = cc in
         let (sized, few) = both_true _ _ e in
         let (sides, cells) = both_true _ _ sized in
-        let (points, profiles) = both_true (is_side d.size.points) _ sides in
+        let (points, profiles) = both_true (is_demo_side d.size.points) _ sides in
         let (some_points, all_points) = both_true _ _ points in
         let (some_profiles, all_profiles) = both_true _ _ profiles in
         subst IsDemo same (record {

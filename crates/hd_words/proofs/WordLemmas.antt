@@ -116,15 +116,6 @@ pub refused_word : (before : Given) (word : List ℕ) (words : List (List ℕ)) 
     → HasNoForm (followed_by before (given_of Options (word ∷ words)))
 refused_word before word words alone tile save dash = rw (alone.ends, alone.tile, alone.save, tile, save, dash) (record { dales = refl; run = refl; check = refl; demo = refl })
 
--- a word `--tile=VALUE`
-pub joined_tile : (word value : List ℕ) (words : List (List ℕ)) → IsNoOptionAlone word → starts_with nat_eq word (codes "--tile=") ≡ true → value ≡ drop 7 word → given_of Options (word ∷ words) ≡ given_of TileValue (value ∷ words)
-joined_tile word value words alone tile is = rw (alone.ends, alone.tile, alone.save, tile, is) refl
-
--- a word `--save=VALUE`
-pub joined_save : (word value : List ℕ) (words : List (List ℕ)) → IsNoOptionAlone word → starts_with nat_eq word (codes "--tile=") ≡ false → starts_with nat_eq word (codes "--save=") ≡ true → value ≡ drop 7 word
-    → given_of Options (word ∷ words) ≡ given_of SaveValue (value ∷ words)
-joined_save word value words alone tile save is = rw (alone.ends, alone.tile, alone.save, tile, save, is) refl
-
 none_if : (test : Bool) (value : List ℕ) → (test ≡ true → ⊥) → None ≡ (if test then Some value else None)
 none_if true value wrong = absurd (wrong refl)
 none_if false value wrong = refl
@@ -147,14 +138,6 @@ strips word front (Some x) (n, found, is, len) =
 pub absent-false : (test : Bool) (value : List ℕ) (r : Option (Bor (List ℕ))) → option_copied r ≡ (if test then Some value else None) → r ≡ None → test ≡ false
 absent-false true value r e is = let wrong : None ≡ Some value = rw is at e in cc
 absent-false false value r e is = refl
-
-pub present-true : (test : Bool) (value : List ℕ) (r : Option (Bor (List ℕ))) (x : Bor (List ℕ)) → option_copied r ≡ (if test then Some value else None) → r ≡ Some x → (test ≡ true) × (x.now ≡ value)
-present-true true value r x e is = let same : Some x.now ≡ Some value = rw is at e in (refl, cc)
-present-true false value r x e is = let wrong : Some x.now ≡ None = rw is at e in cc
-
--- words that give the same have as little form
-pub same_refused : (before : Given) (later other : Option Given) → later ≡ other → HasNoForm (followed_by before other) → HasNoForm (followed_by before later)
-same_refused before later other same h = rw same h
 
 pub none_more : {X P Q : Type 0} (r : Option X) → (P → Q) → IfNone r P → IfNone r Q
 none_more None more h = more h

@@ -14,12 +14,12 @@ pub record IsDemo (demo : Demo) : Type 0 where
   pub greatest : demo.tile ≤ greatest_tile
 
 -- whether a side of a grid is within its limits
-abbrev pub is_side : ℕ → Bool
-is_side n = nat_le 1 n && nat_le n longest_side
+abbrev pub is_demo_side : ℕ → Bool
+is_demo_side n = nat_le 1 n && nat_le n longest_side
 
 -- whether a size is within its limits
 abbrev pub is_size : Size → Bool
-is_size size = is_side size.points && is_side size.profiles && nat_le (cell_count size) most_cells
+is_size size = is_demo_side size.points && is_demo_side size.profiles && nat_le (cell_count size) most_cells
 
 -- the demo of these numbers, where they are within their limits
 abbrev pub demo_within : Demo → Option Demo

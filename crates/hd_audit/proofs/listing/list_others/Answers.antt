@@ -82,6 +82,6 @@ pub returns : goal.returns
 returns g c =
     let m = g.G.Heights.map c.args.grid.now in
     let points : List ℕ = c.in_ok-points.points.items in
-    all-passed m (g.met.G.Heights.whole c.args.grid.now) g.S.Side.NAME c.args.limit.now.percent.thousandths c.args.limit.now.sz (pits_kept c.args.kept.now) c.requires.firm.exactly c.loop-place.lines (seen_of c.loop-place.front.standing.items) c.loop-place.front.ahead
+    all-passed m (g.met.G.Heights.whole c.args.grid.now) g.S.Side.NAME c.args.limit.now.percent.thousandths c.args.limit.now.sz (pits_kept c.args.kept.now) c.requires.firm c.loop-place.lines (seen_of c.loop-place.front.standing.items) c.loop-place.front.ahead
     c.loop-place.invariant.shown (heap_items c.loop-place.front.low) (map (rank_at m) points) c.loop-place.invariant.front c.in_ok-points.ensures
     (λ j d less. c.loop-place.invariant.passed j d (let past = c.loop-place-test.false in let is = c.len-place-end.ensures in let long = length-map points (rank_at m) in omega (arith, less, past, is, long, c.in_ok-points.points.ok.0)))

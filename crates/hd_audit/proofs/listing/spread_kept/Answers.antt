@@ -2,8 +2,7 @@ use Rattle.std.proofs.Common.{◌≡◌, ◌∙◌, ◌<◌, ap, arith, length, 
 use Rattle.hd_map.specs.declared.types.Size.{Size}
 use Rattle.hd_map.specs.Map.{Present, cell_count, position_at}
 use Rattle.hd_audit.specs.declared.types.AuditLine.{AuditLine}
-use Rattle.hd_audit.specs.Flooding.{IsPointAt}
-use Rattle.hd_audit.specs.Lines.{point_at}
+use Rattle.hd_audit.specs.Lines.{IsPointAt, point_at}
 use Rattle.hd_audit.proofs.listing.spread_kept.Goals as goal
 
 pub position_of-at-requires : goal.position_of-at-requires

@@ -1,8 +1,7 @@
 use Rattle.std.proofs.Common.{◌≡◌, ◌+◌, ◌++◌, List, ℕ, drop, map, Ok, ap, sym, ◌∙◌}
 use Rattle.std.proofs.lemmas.List.{take_rest}
 use Rattle.hd_num.specs.Lines.{lines_of, words_of}
-use Rattle.hd_check.specs.Reading.{Lines, Read, line_among, line_gives}
-use Rattle.hd_audit.specs.declared.types.AuditLine.{AuditLine}
+use Rattle.hd_check.specs.Reading.{line_among, line_gives}
 use Rattle.hd_audit.specs.Reading.{point_form}
 use Rattle.hd_audit.proofs.PlainLines.{next_place, rest_at}
 use Rattle.hd_audit.proofs.reading.point_line.Goals as goal

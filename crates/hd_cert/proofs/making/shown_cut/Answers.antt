@@ -1,6 +1,7 @@
-use Rattle.std.proofs.Common.{subst, List, ℕ}
+use Rattle.std.proofs.Common.{subst, List}
 use Rattle.hd_map.specs.declared.types.Size.{Size}
 use Rattle.hd_map.specs.Map.{cell_count}
+use Rattle.hd_cert.specs.declared.residue.Residue.{Residue}
 use Rattle.hd_cert.specs.Listed.{AreListed}
 use Rattle.hd_cert.specs.Routes.{IsRouteCut}
 use Rattle.hd_cert.proofs.Shown.{cut_shown, if_ok_more}
@@ -12,5 +13,5 @@ returns g c =
     let r = c.requires in
     if_ok_more (AreListed c.size.result c.as_slice.result.now (cell_count c.size.result)) (IsRouteCut m g.S.Side.NAME c.args.saddle c.args.from) c.listed.result
     (λ cut listed. cut_shown m g.S.Side.NAME c.args.saddle c.args.from c.in_ok-residues.residues.items cut c.in_ok-residues.ensures
-    (subst (λ (residues : List ℕ). AreListed m.size residues (cell_count m.size) cut) c.as_slice.ensures.value
+    (subst (λ (residues : List Residue). AreListed m.size residues (cell_count m.size) cut) c.as_slice.ensures.value
     (subst (λ (s : Size). AreListed s c.as_slice.result.now (cell_count s) cut) c.size.ensures listed)) r.here r.low) c.listed.ensures

@@ -1,7 +1,8 @@
-use Rattle.std.proofs.Common.{◌≡◌, ◌≤◌, ◌+◌, ◌%◌, ◌∙◌, rules, ap, subst, get_or}
+use Rattle.std.proofs.Common.{◌≡◌, ◌≤◌, ◌∙◌, rules, ap, subst, get_or}
 use Rattle.hd_map.specs.declared.types.Size.{Size}
 use Rattle.hd_map.specs.Map.{place_of, cell_count}
-use Rattle.hd_cert.specs.Residues.{residue_at}
+use Rattle.hd_cert.specs.declared.residue.Residue.TheVariants.{Unreached}
+use Rattle.hd_cert.specs.Residues.{residue_after, residue_at}
 use Rattle.hd_cert.proofs.Nearest.{different, down_begin, down_more, down_end, down_past}
 use Rattle.hd_cert.proofs.trace.path_down.Goals as goal
 
@@ -23,13 +24,11 @@ loop-gone-preserved g c =
     let here = c.loop-gone.here in
     let present = c.loop-gone.invariant.present in
     let place : c.index_of.result ≡ place_of m.size here = c.index_of.ensures.value ∙ ap (λ (s : Size). place_of s here) c.size-size.ensures in
-    let read : get_or residues c.index_of.result 0 ≡ residue_at m.size residues here = ap (λ i. get_or residues i 0) place in
-    let residue : c.residue_after-residue.result ≡ (residue_at m.size residues here % 3 + 1) % 3 + 1 =
-    c.residue_after-residue.ensures ∙ ap (λ r. r % 3 + 1) c.residue_after.ensures ∙ ap (λ r. (r % 3 + 1) % 3 + 1) read in
+    let residue : residue_after c.before-residue.result ≡ residue_at m.size residues here = c.before-residue.ensures ∙ ap (λ i. get_or residues i Unreached) place in
     let apart : here ≡ c.args.to → ⊥ = different here c.args.to c.eq.result c.eq.ensures c.if-eq.false in
     record {
       present = c.first_beside-here.ensures.present;
-      going = λ steps count leads. rw c.in_ok-push.ensures.items (down_more m residues c.args.from c.args.to steps count leads c.loop-gone.path.items here c.first_beside-here.result c.loop-gone.gone c.residue_after-residue.result
+      going = λ steps count leads. rw c.in_ok-push.ensures.items (down_more m residues c.args.from c.args.to steps count leads c.loop-gone.path.items here c.first_beside-here.result c.loop-gone.gone c.before-residue.result
           present apart residue c.first_beside-here.ensures.first (c.loop-gone.invariant.going steps count leads));
     }
 

@@ -6,7 +6,8 @@ use Rattle.hd_map.specs.Rank.{below_by}
 use Rattle.hd_prune.specs.declared.step.Kept.{Kept}
 use Rattle.hd_prune.specs.declared.step.Owned.{Owned}
 use Rattle.hd_lines.specs.declared.border.Border.{Border}
-use Rattle.hd_lines.specs.Borders.{AreBorders, AreFirstJoins}
+use Rattle.hd_lines.specs.Borders.{AreBorders}
+use Rattle.hd_lines.specs.FirstJoins.{AreFirstJoins}
 use Rattle.hd_lines.specs.Listed.{AreListed}
 use Rattle.hd_lines.specs.Places.{AreOwnerPlaces, IsNumbered}
 use Rattle.hd_lines.proofs.Lining.{borders-within, lines-are}

@@ -2,7 +2,7 @@ use Rattle.std.proofs.Common.{◌+◌, List, sym, subst, arith}
 use Rattle.std.specs.Prelude.{pos}
 use Rattle.hd_lines.specs.declared.border.Border.{Border}
 use Rattle.hd_lines.specs.declared.saddles.Crossing.{Crossing}
-use Rattle.hd_lines.specs.Borders.{AreCrossings}
+use Rattle.hd_lines.specs.Crossings.{AreCrossings}
 use Rattle.hd_lines.proofs.Crossed.{crossings-more, crossings-none}
 use Rattle.hd_lines.proofs.saddles.crossings_of.Goals as goal
 

@@ -1,4 +1,4 @@
-use Rattle.hd_lines.specs.Borders.{AreCrossings}
+use Rattle.hd_lines.specs.Crossings.{AreCrossings}
 use Rattle.hd_lines.proofs.saddles.crossings_of.Given as goal
 
 abbrev pub invariant-borders : goal.invariant-borders

@@ -1,7 +1,7 @@
 use Rattle.std.proofs.Common.{length, ◌-◌, ◌≡◌, ◌≤◌}
 use Rattle.hd_map.specs.Rank.{below_by}
 use Rattle.hd_graph.specs.Classes.{AreFalling}
-use Rattle.hd_lines.specs.Borders.{AreJoinedTo, AreLower}
+use Rattle.hd_lines.specs.Crossings.{AreJoinedTo, AreLower}
 use Rattle.hd_lines.proofs.saddles.join_lower.Given as goal
 
 abbrev pub invariant-loop-place : goal.invariant-loop-place

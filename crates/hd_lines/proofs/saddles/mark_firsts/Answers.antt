@@ -4,7 +4,7 @@ use Rattle.std.proofs.lemmas.Bool.Decides.{nat_tests}
 use Rattle.std.proofs.lemmas.Option.{slice_get-get_or}
 use Rattle.hd_map.specs.Rank.{below_by}
 use Rattle.hd_lines.specs.declared.saddles.Crossing.{Crossing}
-use Rattle.hd_lines.specs.Borders.{HasEnds, IsFirstOf}
+use Rattle.hd_lines.specs.Crossings.{HasEnds, IsFirstOf}
 use Rattle.hd_lines.proofs.Crossed.{first-of, joined-none, joined-same, lower-next, marked-more}
 use Rattle.hd_lines.proofs.saddles.mark_firsts.Goals as goal
 

@@ -2,7 +2,7 @@ use Rattle.std.proofs.Common.{length, slice_get, Some, ℕ, ◌≡◌, ◌≤◌
 use Rattle.hd_map.specs.Rank.{below_by}
 use Rattle.hd_graph.specs.Classes.{AreFalling}
 use Rattle.hd_lines.specs.declared.saddles.Crossing.{Crossing}
-use Rattle.hd_lines.specs.Borders.{AreJoinedTo, AreLower, AreMarked}
+use Rattle.hd_lines.specs.Crossings.{AreJoinedTo, AreLower, AreMarked}
 use Rattle.hd_lines.proofs.saddles.mark_firsts.Given as goal
 
 abbrev pub invariant-crossings : goal.invariant-crossings

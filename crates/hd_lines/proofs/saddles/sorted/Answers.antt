@@ -1,7 +1,7 @@
 use Rattle.std.proofs.Common.{rules}
 use Rattle.std.proofs.lemmas.List.Sorted.{answers_always}
 use Rattle.hd_map.specs.Rank.{below_by}
-use Rattle.hd_lines.specs.Borders.{is_lower}
+use Rattle.hd_lines.specs.Crossings.{is_lower}
 use Rattle.hd_lines.proofs.Crossed.{crossings-weak}
 use Rattle.hd_lines.proofs.saddles.sorted.Goals as goal
 

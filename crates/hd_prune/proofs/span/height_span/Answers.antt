@@ -1,7 +1,8 @@
 use Rattle.std.proofs.Common.{◌≡◌, Some, refl, sym, ◌∙◌, arith, rules, SFits, w64}
 use Rattle.std.specs.Prelude.{◌-ℤ◌}
 use Rattle.std.proofs.lemmas.Int.{ints, to_z-of_z}
-use Rattle.hd_map.specs.Presence.{present_heights, range_of}
+use Rattle.hd_map.specs.Presence.{present_heights}
+use Rattle.hd_map.specs.HeightRange.{range_of}
 use Rattle.hd_prune.proofs.Spans.{span_fits, span_none, span_some, span_within}
 use Rattle.hd_prune.proofs.span.height_span.Goals as goal
 

@@ -1,7 +1,7 @@
 use Rattle.std.proofs.Common.{◌∙◌, slice_index, subst, sym}
 use Rattle.std.proofs.lemmas.Option.{same_Some}
 use Rattle.hd_steep.specs.Crossings.{IsNumberOf}
-use Rattle.hd_steep.proofs.Following.{point_inside}
+use Rattle.hd_map.proofs.Points.{point_inside}
 use Rattle.hd_steep.proofs.Numbered.{numbers_whole}
 use Rattle.hd_steep.proofs.NumberedCrossings.{number-of_point}
 use Rattle.hd_steep.proofs.crossing.number_of.Goals as goal

@@ -1,6 +1,6 @@
 use Rattle.std.proofs.Common.{arith}
 use Rattle.hd_steep.specs.Rows.{past_end}
-use Rattle.hd_steep.proofs.Following.{point_inside}
+use Rattle.hd_map.proofs.Points.{point_inside}
 use Rattle.hd_steep.proofs.Pits.{pits_few}
 use Rattle.hd_steep.proofs.PitNumbers.{listed_pit, numbers_none, numbers_more, numbers_all}
 use Rattle.hd_steep.proofs.numbers.number_pits.Goals as goal

@@ -1,6 +1,6 @@
 use Rattle.std.proofs.Common.{◌<◌, length, get_or, refl, arith}
 use Rattle.hd_steep.specs.Rows.{past_end}
-use Rattle.hd_steep.proofs.Following.{point_inside}
+use Rattle.hd_map.proofs.Points.{point_inside}
 use Rattle.hd_steep.proofs.PitNumbers.{listed_pit, labelled_none, labelled_pit}
 use Rattle.hd_steep.proofs.numbers.number_points.Goals as goal
 

@@ -1,10 +1,11 @@
-use Rattle.std.proofs.Common.{◌<◌, ◌+◌, subst}
-use Rattle.hd_map.specs.declared.types.Size.{Size}
-use Rattle.hd_steep.proofs.Rows.{row_more}
+use Rattle.std.proofs.Common.{◌-◌, arith, length, subst}
+use Rattle.hd_map.specs.declared.types.Rank.{Rank}
+use Rattle.hd_map.specs.Ranks.{AreRanksOf}
+use Rattle.hd_steep.proofs.Rows.{row_filled}
 use Rattle.hd_steep.proofs.profile.fill_ranks.Goals as goal
 
-pub loop-x-preserved : goal.loop-x-preserved
-loop-x-preserved g c =
+pub returns : goal.returns
+returns g c =
     let m = g.G.Heights.map c.args.grid.now in
-    let inside : c.loop-x.x < m.size.points = subst (λ (s : Size). c.loop-x.x < s.points) c.size-x-end.ensures c.loop-x-test.true in
-    row_more m g.S.Side.NAME (c.args.y + 1) c.loop-x.x c.loop-x.row c.rank_at.result inside c.rank_at.ensures c.loop-x.invariant
+    row_filled m g.S.Side.NAME c.args.y (length c.args.row.now - 1 - 1) c.args.row.now c.fill_ranks.new.row c.requires.profile (omega (arith, c.requires.framed.whole)) c.requires.framed
+    (subst (λ (none : Rank). AreRanksOf m c.args.y none c.fill_ranks.new.row) c.missing_rank.ensures c.fill_ranks.ensures)

@@ -8,10 +8,9 @@ use Rattle.hd_map.specs.Map.{Map, Present, cell_count, place_of, position_at}
 use Rattle.hd_map.specs.Rank.{rank}
 use Rattle.hd_map.specs.Region.{IsRoot}
 use Rattle.hd_map.proofs.Nexts.{root-is_pit}
-use Rattle.hd_map.proofs.Points.{place_inside, point_at}
+use Rattle.hd_map.proofs.Points.{place_inside, point_at, point_inside}
 use Rattle.hd_steep.specs.Numbering.{AreNumbered, Numbering}
 use Rattle.hd_steep.proofs.Numbered.{numbers_whole, pit_of_point}
-use Rattle.hd_survey.proofs.Inside.{point_inside}
 use Rattle.hd_survey.proofs.RootedPoints.{root_position}
 use Rattle.hd_survey.proofs.roots.root_at.Given.{Over}
 use Rattle.hd_survey.proofs.roots.root_at.Goals as goal

@@ -1,0 +1,78 @@
+-- Residues of numbers of steps.
+use Rattle.std.proofs.Common.{◌≡◌, ◌≤◌, ◌+◌, ℕ, zero, suc, List, ◌∷◌, length, map, replicate, Option, Some, None, inl, inr, ap, ◌∙◌, refl, sym, arith}
+use Rattle.std.proofs.lemmas.Bool.{cases_lt}
+use Rattle.std.proofs.lemmas.List.{get_or-map}
+use Rattle.hd_map.specs.declared.types.Pos.{Pos}
+use Rattle.hd_map.specs.declared.types.Size.{Size}
+use Rattle.hd_map.specs.Map.{InGrid, place_of, cell_count}
+use Rattle.hd_map.proofs.Points.{place_inside}
+use Rattle.hd_cert.specs.declared.residue.Residue.{Residue}
+use Rattle.hd_cert.specs.declared.residue.Residue.TheVariants.{Unreached, Zero, One, Two}
+use Rattle.hd_cert.specs.Residues.{residue_after, residue_of_steps, residue_of, residue_at}
+use Rattle.hd_cert.specs.Steps.{steps_at}
+
+-- three steps more leave a residue as it is
+thrice : (r : Residue) → residue_after (residue_after (residue_after r)) ≡ r
+thrice Unreached = refl
+thrice Zero = refl
+thrice One = refl
+thrice Two = refl
+
+-- so those with the same residue of one step more are the same
+pub same_before : (r s : Residue) → residue_after r ≡ residue_after s → r ≡ s
+same_before r s e = sym (thrice r) ∙ ap (λ t. residue_after (residue_after t)) e ∙ thrice s
+
+-- what has steps is reached
+pub reached_in : (n : ℕ) → residue_of_steps n ≡ Unreached → ⊥
+reached_in zero e = cc
+reached_in (suc n) e = reached_in n (same_before (residue_of_steps n) Unreached e)
+
+-- what is reached has steps
+pub steps_noted : (o : Option ℕ) → (residue_of o ≡ Unreached → ⊥) → (n : ℕ) × (o ≡ Some n)
+steps_noted None h = absurd (h refl)
+steps_noted (Some n) h = (n, refl)
+
+pub none_noted : (o : Option ℕ) → residue_of o ≡ Unreached → o ≡ None
+none_noted None e = refl
+none_noted (Some n) e = absurd (reached_in n e)
+
+-- where no steps are noted nothing is reached
+pub none_reached : (n : ℕ) → map residue_of (replicate n None) ≡ replicate n Unreached
+none_reached zero = refl
+none_reached (suc n) = ap (λ (rest : List Residue). Unreached ∷ rest) (none_reached n)
+
+pub one_more : (n : ℕ) → residue_of_steps (n + 1) ≡ residue_after (residue_of_steps n)
+one_more n = let e : n + 1 ≡ suc n = omega arith in ap residue_of_steps e
+
+-- one step more, or two, have another residue
+other_after : (r : Residue) → residue_after r ≡ r → r ≡ Unreached
+other_after Unreached e = refl
+other_after Zero e = cc
+other_after One e = cc
+other_after Two e = cc
+
+other_after_two : (r : Residue) → residue_after (residue_after r) ≡ r → r ≡ Unreached
+other_after_two Unreached e = refl
+other_after_two Zero e = cc
+other_after_two One e = cc
+other_after_two Two e = cc
+
+-- of three numbers of steps in a row each has a residue of its own
+pub same_steps : (k n : ℕ) → n ≤ k → k ≤ n + 2 → residue_of_steps k ≡ residue_of_steps n → k ≡ n
+same_steps k n low high e = elim (cases_lt n k) [
+  | inl more ↦ elim (cases_lt (n + 1) k) [
+    | inl two ↦
+        let is : k ≡ n + 1 + 1 = omega (arith, two, high) in
+        absurd (reached_in n (other_after_two (residue_of_steps n) (ap residue_after (sym (one_more n)) ∙ sym (one_more (n + 1)) ∙ ap residue_of_steps (sym is) ∙ e)))
+    | inr one ↦
+        let is : k ≡ n + 1 = omega (arith, more, one) in
+        absurd (reached_in n (other_after (residue_of_steps n) (sym (one_more n) ∙ ap residue_of_steps (sym is) ∙ e)))
+  ]
+  | inr same ↦ omega (arith, low, same)
+]
+
+-- the residue that is noted for a point is that of its steps
+pub residue_read : (s : Size) (residues : List Residue) (steps : List (Option ℕ)) (p : Pos) → residues ≡ map residue_of steps → length steps ≡ cell_count s → InGrid s p
+    → residue_at s residues p ≡ residue_of (steps_at s steps p)
+residue_read s residues steps p are whole there =
+    ap (λ (rs : List Residue). residue_at s rs p) are ∙ get_or-map residue_of steps (place_of s p) None Unreached (rw whole (place_inside s p there))
