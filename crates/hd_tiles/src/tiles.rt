@@ -7,9 +7,7 @@ ghost use Rattle.hd_tiles.specs.Stamps.{AreUpTo, TouchesRound, TouchesAll};
 use crate::touch::{touch_all, touch_round};
 use crate::{Looked, Steps, Tiling};
 use hd_list::Memory;
-use hd_map::{
-    Adjacency, Cell, DataType, Grid, Heights, MapError, Pos, Rank, Size, contains,
-};
+use hd_map::{Adjacency, Cell, DataType, Grid, Heights, MapError, Pos, Rank, Size, contains};
 use std::alloc::Global;
 use std::sync::ledger::Ledger;
 
