@@ -4,7 +4,7 @@ ghost use Rattle.hd_map.specs.Passes.{higher_by};
 ghost use Rattle.hd_basin.specs.Seams.{pass_between};
 
 use crate::part::Seam;
-use hd_map::{Pass, Rank, Side};
+use hd_map::{Pass, Rank, Side, higher_of};
 
 /// The basin of a point.
 #[derive(Clone, Copy, Debug, PartialEq, Eq)]
@@ -24,7 +24,7 @@ pub fn seam_between<S: Side>(low: Rank, end: End, at: Rank, near: Rank) -> Optio
     if low == end.low {
         return None;
     }
-    let higher = if S::below(at, near) { near } else { at };
+    let higher = higher_of::<S>(at, near);
     Some(Seam {
         pass: pass_between::<S>(low, end.low, higher),
         with: end.with,

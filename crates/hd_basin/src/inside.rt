@@ -2,7 +2,6 @@
 ghost use Rattle.std.specs.Prelude.{◌≡◌, ◌<◌, ◌≤◌, ◌*◌, ◌+◌, ℕ, Some, IfOk, MatchOption, OnOk, length, map};
 ghost use Rattle.hd_map.specs.declared.types.Pos.{Pos};
 ghost use Rattle.hd_map.specs.declared.types.Rank.{Rank};
-ghost use Rattle.hd_map.specs.Passes.{higher_by};
 ghost use Rattle.hd_basin.specs.Built.{HasPasses};
 ghost use Rattle.hd_basin.specs.Frames.{InFrame};
 ghost use Rattle.hd_basin.specs.Inside.{AreMet, AreNamed, IsPairAt, IsStep, join_of, label_at, place_of_frame, step_down, step_right};
@@ -16,7 +15,7 @@ use crate::meetings::{Meeting, Meetings};
 use crate::part::Join;
 use crate::round::rank_in;
 use hd_list::{List, Memory};
-use hd_map::{Heights, Pos, Rank, Side, are_beside};
+use hd_map::{Heights, Pos, Rank, Side, are_beside, higher_of};
 use hd_tiles::Tiling;
 use std::alloc::Global;
 
@@ -250,14 +249,6 @@ fn label_in(area: Frame, labels: &[u32], at: Pos) -> u32
     ensures { result ≡ label_at area labels.now at }
 {
     labels[place_in(area, at) as usize]
-}
-
-// The higher of two ranks.
-#[inline]
-fn higher_of<S: Side>(a: Rank, b: Rank) -> Rank
-    ensures { result ≡ higher_by S.NAME a b }
-{
-    if S::below(a, b) { b } else { a }
 }
 
 // The meetings as they are kept of a tile.

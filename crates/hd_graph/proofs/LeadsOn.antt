@@ -3,7 +3,7 @@ use Rattle.std.proofs.Common.{◌≡◌, ◌≢◌, ◌⊎◌, ℕ, ◌+◌, ◌
 use Rattle.std.proofs.lemmas.List.{get_or-replicate, length-replicate}
 use Rattle.std.proofs.lemmas.Option.{get_or_from_slice_get, same_Some, slice_get_within}
 use Rattle.hd_map.proofs.Levels.{here}
-use Rattle.hd_graph.specs.declared.links.Link.{Link}
+use Rattle.hd_map.specs.declared.types.Link.{Link}
 use Rattle.hd_graph.specs.Classes.{AreLeastsOf, AreOneClass, IsLeast, Joins}
 use Rattle.hd_graph.specs.Onward.{AreJoined, AreOnward, IsOnward, IsPart}
 use Rattle.hd_graph.proofs.Connected.{AreConnected, class-joined, connected-join, connected-next, connected-none, connected-same}

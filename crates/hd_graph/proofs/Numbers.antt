@@ -8,7 +8,7 @@ use Rattle.std.proofs.lemmas.Option.{slice_get-get_or, slice_get_within, get_or_
 use Rattle.hd_map.specs.declared.types.Pass.{Pass}
 use Rattle.hd_map.specs.declared.types.Rank.{Rank}
 use Rattle.hd_graph.specs.declared.graph.Low.{Low}
-use Rattle.hd_graph.specs.declared.links.Link.{Link}
+use Rattle.hd_map.specs.declared.types.Link.{Link}
 use Rattle.hd_graph.specs.Graph.{IsLow}
 use Rattle.hd_graph.specs.Links.{HasEnds, IsNumbering, pass_of, rank_at}
 use Rattle.hd_graph.proofs.Places.{get-set_same, get-set_other, item_at, one_place, place_of}

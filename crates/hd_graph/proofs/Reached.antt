@@ -5,7 +5,7 @@ use Rattle.std.proofs.lemmas.Bool.{cases_Bool, cases_eq, true_from_ne_false}
 use Rattle.std.proofs.lemmas.List.{get_or-set_other, get_or-set_same}
 use Rattle.std.proofs.lemmas.Option.{same_Some, slice_get_within}
 use Rattle.hd_map.proofs.Levels.{here, reach-crosses, reach-trans, step}
-use Rattle.hd_graph.specs.declared.links.Link.{Link}
+use Rattle.hd_map.specs.declared.types.Link.{Link}
 use Rattle.hd_graph.specs.Flood.{AreWhole, IsReached, is_done}
 use Rattle.hd_graph.specs.Links.{IsBetween}
 use Rattle.hd_graph.specs.Onward.{AreJoined, FirstStep, IsOnward}

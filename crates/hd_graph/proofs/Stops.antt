@@ -14,7 +14,7 @@ use Rattle.hd_map.proofs.Items.{Contains-map}
 use Rattle.hd_map.proofs.Levels.{here, step}
 use Rattle.hd_graph.specs.declared.graph.Low.{Low}
 use Rattle.hd_graph.specs.declared.line.Stop.{Stop}
-use Rattle.hd_graph.specs.declared.links.Link.{Link}
+use Rattle.hd_map.specs.declared.types.Link.{Link}
 use Rattle.hd_graph.specs.Flood.{AreWhole, IsLineSoFar, IsReached, IsStopFor, is_done}
 use Rattle.hd_graph.specs.Line.{IsFloodLine, IsPrimOrder}
 use Rattle.hd_graph.specs.Links.{HasEnds, IsBetween, pass_of, rank_at}

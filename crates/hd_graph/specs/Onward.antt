@@ -1,7 +1,7 @@
 -- Links in order, and by which of them the water goes on from what those before have joined.
 use Rattle.std.specs.Prelude.{◌≡◌, ◌<◌, ◌≤◌, ◌+◌, ◌⊎◌, ℕ, List, Some, length, slice_get}
 use Rattle.hd_map.proofs.Levels.{Reach}
-use Rattle.hd_graph.specs.declared.links.Link.{Link}
+use Rattle.hd_map.specs.declared.types.Link.{Link}
 use Rattle.hd_graph.specs.Links.{IsBetween}
 
 -- one of the first n links joins a and b

@@ -11,11 +11,11 @@ ghost use Rattle.hd_graph.specs.Order.{is_lower};
 
 use crate::graph::{Graph, Low};
 use crate::line::{FloodLine, Stop};
-use crate::links::{Link, links_of};
+use crate::links::links_of;
 use crate::onward::links_onward;
 use crate::order::{InOrder, sorted};
 use hd_list::{List, Memory};
-use hd_map::{Rank, Side};
+use hd_map::{Link, Rank, Side};
 use std::alloc::Global;
 
 /// The flood line of a graph, a Prim order: each low once; each rise is a pass from a stop before, and no pass

@@ -25,7 +25,6 @@ pub use laws::{
     regions_are_basins,
 };
 pub use line::{FloodLine, Stop};
-pub use links::Link;
 pub use merges::{Merge, merges_by_links, merges_of};
 pub use saddles::saddle_of_merges;
 pub use trees::{ChangeTree, Join, tree, tree_of_merges};

@@ -1,9 +1,9 @@
 // Flood lines.
-ghost use Rattle.std.specs.Prelude.{◌≡◌, ◌<◌, length, if◌then◌else◌};
+ghost use Rattle.std.specs.Prelude.{◌≡◌, ◌<◌, length};
 ghost use Rattle.hd_map.specs.Rank.{below_by};
 
 use hd_list::List;
-use hd_map::{Rank, Side};
+use hd_map::{Rank, Side, higher_of};
 use std::marker::{Model, PhantomData};
 
 /// A low on a flood line.
@@ -74,11 +74,4 @@ impl<S: Side> FloodLine<S> {
         }
         Some(highest)
     }
-}
-
-/// The higher of two ranks on the side.
-pub(crate) fn higher_of<S: Side>(a: Rank, b: Rank) -> Rank
-    ensures { result ≡ if below_by S.NAME a b then b else a }
-{
-    if S::below(a, b) { b } else { a }
 }

@@ -5,9 +5,9 @@ ghost use Rattle.hd_map.specs.Order.{IsNotAbove};
 ghost use Rattle.hd_map.specs.Rank.{below_by};
 ghost use Rattle.hd_graph.specs.Parts.{over, only_pits, lower, rise_below, lowest_to, LookAlike, AreLeftLows, IsRiseOf, IsSidePart, sides_of, turned_round};
 
-use crate::line::{Stop, higher_of};
+use crate::line::Stop;
 use hd_list::Memory;
-use hd_map::{Rank, Side};
+use hd_map::{Rank, Side, higher_of};
 use std::alloc::Global;
 
 /// A saddle, and the lowest pit of a class that it joins.

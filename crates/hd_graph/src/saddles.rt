@@ -8,10 +8,9 @@ ghost use Rattle.hd_graph.specs.Merges.{AreMergeNumbers};
 ghost use Rattle.hd_graph.specs.Tells.{AreMergesOf};
 
 use crate::graph::Low;
-use crate::line::higher_of;
 use crate::merges::Merge;
 use hd_list::Memory;
-use hd_map::{Rank, Side};
+use hd_map::{Rank, Side, higher_of};
 use std::alloc::Global;
 
 /// The saddle of two different pits of a map, by the pits and their merges, and none where no path joins the two.

@@ -2,7 +2,6 @@
 ghost use Rattle.std.specs.Prelude.{◌≡◌, ◌<◌, ◌≤◌, ◌+◌, ◌%◌, ◌/◌, ◌^◌, [], ℕ, length, slice_get, All, IfOk, OnOk, MatchOption, IsTrue, ◌↔◌, Some, true};
 ghost use Rattle.hd_map.specs.Map.{InGrid, IsSize, Present, cell_count, place_of};
 ghost use Rattle.hd_map.specs.Neighbour.{IsNear, Neighbour};
-ghost use Rattle.hd_map.specs.Passes.{higher_by};
 ghost use Rattle.hd_map.specs.Rank.{rank};
 ghost use Rattle.hd_lines.specs.Borders.{AreBorders};
 ghost use Rattle.hd_lines.specs.Chains.{AreChains};
@@ -13,8 +12,8 @@ use crate::chains::Chains;
 use crate::found::Found;
 use hd_list::Memory;
 use hd_map::{
-    Heights, Pos, Rank, Side, Size, are_beside, contains, index_of, is_present, position_of,
-    rank_of,
+    Heights, Pos, Rank, Side, Size, are_beside, contains, higher_of, index_of, is_present,
+    position_of, rank_of,
 };
 use std::alloc::Global;
 
@@ -225,7 +224,7 @@ fn note_pair<S: Side, G: Heights>(
         return Ok(());
     }
     if is_neighbour(grid, at, to) {
-        let pass = higher::<S>(rank_of(grid, at), rank_of(grid, to));
+        let pass = higher_of::<S>(rank_of(grid, at), rank_of(grid, to));
         found.add::<S>(place, other, pass)?;
         return Ok(());
     }
@@ -243,12 +242,4 @@ fn is_neighbour<G: Heights>(grid: &G, at: Pos, to: Pos) -> bool
     ensures { IsTrue result ↔ Neighbour (G.map grid.now) at to }
 {
     are_beside(grid.adjacency(), at, to) && is_present(grid, to)
-}
-
-// The higher of two points.
-#[inline]
-fn higher<S: Side>(x: Rank, y: Rank) -> Rank
-    ensures { result ≡ higher_by S.NAME x y }
-{
-    if S::below(x, y) { y } else { x }
 }

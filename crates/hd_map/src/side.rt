@@ -1,6 +1,7 @@
 // The two sides of a map: dales, and hills with the order of ranks reversed.
 ghost use Rattle.std.specs.Prelude.{◌≡◌};
 ghost use Rattle.hd_map.specs.Order.{IsStrictOrder};
+ghost use Rattle.hd_map.specs.Passes.{higher_by};
 ghost use Rattle.hd_map.specs.Rank.{below_by};
 ghost use Rattle.hd_map.specs.SideLaws.{below_by-order};
 
@@ -61,4 +62,12 @@ impl Side for Up {
     }
 
     ghost order = { below_by-order Hills };
+}
+
+/// The higher of two ranks in the order of a side.
+#[inline]
+pub fn higher_of<S: Side>(a: Rank, b: Rank) -> Rank
+    ensures { result ≡ higher_by S.NAME a b }
+{
+    if S::below(a, b) { b } else { a }
 }

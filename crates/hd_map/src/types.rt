@@ -110,6 +110,17 @@ pub struct Pass {
     pub at: Rank,
 }
 
+/// A pass between two points of a list, which it names by their places.
+#[derive(Clone, Copy, Debug, PartialEq, Eq)]
+pub struct Link {
+    /// The place of the one point.
+    pub a: u32,
+    /// The place of the other.
+    pub b: u32,
+    /// The pass.
+    pub at: Rank,
+}
+
 /// A region by its pit, and the number of its points.
 #[derive(Clone, Copy, Debug, PartialEq, Eq)]
 pub struct RegionSize {

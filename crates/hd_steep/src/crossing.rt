@@ -16,23 +16,12 @@ use crate::numbering::Regions;
 use crate::places::{are_several, lower_at, marked};
 use crate::rolling::Rows;
 use hd_list::{List, Memory};
-use hd_map::{Heights, Pass, Pos, Rank, Side};
+use hd_map::{Heights, Link, Pass, Pos, Rank, Side};
 use std::alloc::Global;
 
 // Where pits have more points than this, it saves time to look first whether a point lies inside a
 // region.
 const POINTS_A_PIT: usize = 64;
-
-/// A pass at a point between two regions, which it names by the numbers of their pits.
-#[derive(Clone, Copy, Debug, PartialEq, Eq)]
-pub struct Crossing {
-    /// The number of the one pit.
-    pub a: u32,
-    /// The number of the other.
-    pub b: u32,
-    /// The pass.
-    pub at: Rank,
-}
 
 /// Passes between these regions that are enough to tell at which heights regions are joined: where
 /// two of them meet, passes that are not above the meeting lead from one to the other.
@@ -45,7 +34,7 @@ pub fn crossings<S: Side, G: Heights>(
     alloc: Global,
     grid: &G,
     regions: &Regions,
-) -> Result<List<Crossing>, Memory>
+) -> Result<List<Link>, Memory>
     requires { AreNumbered (G.map grid.now) S.NAME regions.now }
     ensures passes { IfOk result (λ xs. AreCrossingsUnder (G.map grid.now) S.NAME (roots_of regions.now) (passes_of S.NAME regions.now.pits xs)) }
     ensures pits { IfOk result (All (HasPits regions.now.pits)) }
@@ -59,7 +48,7 @@ pub fn crossings<S: Side, G: Heights>(
 pub fn passes_of<S: Side>(
     alloc: Global,
     regions: &Regions,
-    crossings: &[Crossing],
+    crossings: &[Link],
 ) -> Result<List<Pass>, Memory>
     requires { All (HasPits regions.now.pits) crossings.now }
     ensures { IfOk result (λ passes. passes ≡ passes_of S.NAME regions.now.pits crossings.now) }
@@ -73,11 +62,11 @@ pub fn passes_of<S: Side>(
 
 // The pass of a crossing.
 #[inline]
-fn pass_of<S: Side>(regions: &Regions, crossing: Crossing) -> Pass
+fn pass_of<S: Side>(regions: &Regions, crossing: Link) -> Pass
     requires { HasPits regions.now.pits crossing }
     ensures { result ≡ pass_of S.NAME regions.now.pits crossing }
 {
-    let Crossing { a, b, at } = crossing;
+    let Link { a, b, at } = crossing;
     let pits = regions.pits();
     let a = pits[a as usize];
     let b = pits[b as usize];
@@ -93,7 +82,7 @@ fn gather<S: Side, G: Heights>(
     alloc: Global,
     grid: &G,
     regions: &Regions,
-) -> Result<Vec<Crossing>, Memory>
+) -> Result<Vec<Link>, Memory>
     requires { AreNumbered (G.map grid.now) S.NAME regions.now }
     ensures gathers { IfOk result (λ xs. Gathers (G.map grid.now) S.NAME (λ u. u.y < (G.map grid.now).size.profiles) [] (passes_of S.NAME regions.now.pits xs.items)) }
     ensures pits { IfOk result (λ xs. All (HasPits regions.now.pits) xs.items) }
@@ -114,7 +103,7 @@ fn gather_profile<S: Side, G: Heights>(
     regions: &Regions,
     rows: &Rows,
     y: u32,
-    crossings: &mut Vec<Crossing>,
+    crossings: &mut Vec<Link>,
 ) -> Result<(), Memory>
     requires regions { AreNumbered (G.map grid.now) S.NAME regions.now }
     requires profile { y < (G.map grid.now).size.profiles }
@@ -138,7 +127,7 @@ fn gather_point<S: Side, G: Heights>(
     rows: &Rows,
     at: Pos,
     are_pits_few: bool,
-    crossings: &mut Vec<Crossing>,
+    crossings: &mut Vec<Link>,
 ) -> Result<(), Memory>
     requires regions { AreNumbered (G.map grid.now) S.NAME regions.now }
     requires inside { InGrid (G.map grid.now).size at }
@@ -184,7 +173,7 @@ fn cross<S: Side, G: Heights>(
     rows: &Rows,
     x: usize,
     marks: &[bool; 8],
-    crossings: &mut Vec<Crossing>,
+    crossings: &mut Vec<Link>,
 ) -> Result<(), Memory>
     requires regions { AreNumbered (G.map grid.now) S.NAME regions.now }
     requires point { IsPoint (G.map grid.now) own }
@@ -213,7 +202,7 @@ fn cross_four<S: Side, G: Heights>(
     x: usize,
     marks: &[bool; 8],
     first: usize,
-    crossings: &mut Vec<Crossing>,
+    crossings: &mut Vec<Link>,
 ) -> Result<(), Memory>
     requires regions { AreNumbered (G.map grid.now) S.NAME regions.now }
     requires number { IsNumberOf (G.map grid.now) S.NAME regions.now.pits own number }
@@ -272,7 +261,7 @@ fn cross_if<S: Side, G: Heights>(
     x: usize,
     marks: &[bool; 8],
     place: usize,
-    crossings: &mut Vec<Crossing>,
+    crossings: &mut Vec<Link>,
 ) -> Result<(), Memory>
     requires regions { AreNumbered (G.map grid.now) S.NAME regions.now }
     requires number { IsNumberOf (G.map grid.now) S.NAME regions.now.pits own number }
@@ -297,7 +286,7 @@ fn cross_to<S: Side, G: Heights>(
     own: Rank,
     number: u32,
     other: Rank,
-    crossings: &mut Vec<Crossing>,
+    crossings: &mut Vec<Link>,
 ) -> Result<(), Memory>
     requires regions { AreNumbered (G.map grid.now) S.NAME regions.now }
     requires number { IsNumberOf (G.map grid.now) S.NAME regions.now.pits own number }
@@ -308,7 +297,7 @@ fn cross_to<S: Side, G: Heights>(
 {
     let there = number_of::<S, G>(grid, regions, other);
     if number != there {
-        crossings.push(Crossing {
+        crossings.push(Link {
             a: number,
             b: there,
             at: own,

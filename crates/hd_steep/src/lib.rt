@@ -17,7 +17,7 @@ mod rolling;
 mod steep;
 
 pub use borders::passes;
-pub use crossing::{Crossing, crossings, passes_of};
+pub use crossing::{crossings, passes_of};
 pub use laws::{
     next_is_determined, pit_is_its_own_root, regions_are_determined, root_is_determined,
 };

@@ -1,19 +1,19 @@
 // The pits of a map with their merges.
-ghost use Rattle.std.specs.Prelude.{◌≡◌, IfOk, map};
+ghost use Rattle.std.specs.Prelude.{IfOk};
 ghost use Rattle.hd_map.specs.Pruning.{ArePits};
 ghost use Rattle.hd_steep.specs.Crossings.{passes_of};
 ghost use Rattle.hd_steep.specs.Numbering.{AreNumbered};
 ghost use Rattle.hd_survey.specs.Findings.{ArePitMerges};
-ghost use Rattle.hd_survey.specs.PitLinks.{AreRegionCrossings, link_of};
+ghost use Rattle.hd_survey.specs.PitLinks.{AreRegionCrossings};
 
 use crate::pits::lows_of;
 use hd_graph::{
-    Graph, Link, Low, Merge, merges_by_links, merges_of, merges_rest_on_the_passes,
+    Graph, Low, Merge, merges_by_links, merges_of, merges_rest_on_the_passes,
     merges_tell_the_saddles, passes_of_basins_are_a_graph, regions_are_basins,
 };
 use hd_list::{List, Memory};
 use hd_map::{Heights, Pass, Rank, Side};
-use hd_steep::{Crossing, Regions, crossings};
+use hd_steep::{Regions, crossings};
 use std::alloc::Global;
 
 /// The pits of a map on a side in position order, and their merges as the water rises.
@@ -58,8 +58,7 @@ pub fn merges_of_regions<S: Side, G: Heights>(
     ensures { IfOk result (ArePitMerges (G.map grid.now) S.NAME) }
 {
     let crossings = crossings::<S, G>(alloc, grid, regions)?;
-    let links = links_of(alloc, crossings.as_slice())?;
-    drop(crossings);
+    let links = crossings.into_vec();
     let lows = lows_of(alloc, regions.pits())?;
     regions_are_basins();
     passes_of_basins_are_a_graph();
@@ -67,19 +66,4 @@ pub fn merges_of_regions<S: Side, G: Heights>(
     merges_tell_the_saddles();
     let merges = merges_by_links::<S>(alloc, lows.as_slice(), links)?;
     Ok(PitMerges { lows, merges })
-}
-
-// Crossings between regions as links between their pits.
-fn links_of(alloc: Global, crossings: &[Crossing]) -> Result<Vec<Link>, Memory>
-    ensures { IfOk result (λ links. links.items ≡ map link_of crossings.now) }
-{
-    let mut links = Vec::with_capacity(alloc, crossings.len())?;
-    'crossings: for crossing in crossings {
-        links.push(Link {
-            a: crossing.a,
-            b: crossing.b,
-            at: crossing.at,
-        })?;
-    }
-    Ok(links)
 }

@@ -10,7 +10,7 @@ use Rattle.hd_map.specs.declared.types.Rank.{Rank}
 use Rattle.hd_map.specs.SideLaws.{same_rank as rank_from}
 use Rattle.hd_map.proofs.Items.{Contains-head, Contains-tail}
 use Rattle.hd_graph.specs.declared.graph.Low.{Low}
-use Rattle.hd_graph.specs.declared.links.Link.{Link}
+use Rattle.hd_map.specs.declared.types.Link.{Link}
 use Rattle.hd_graph.specs.declared.merges.Merge.{Merge}
 use Rattle.hd_graph.specs.Graph.{IsGraph, IsPassOf, IsLow}
 use Rattle.hd_graph.specs.Links.{HasEnds}

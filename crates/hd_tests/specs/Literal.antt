@@ -4,7 +4,7 @@ use Rattle.std.specs.Ordering.{int_eq}
 use Rattle.hd_map.specs.declared.types.Pass.{Pass}
 use Rattle.hd_map.specs.declared.types.Rank.{Rank}
 use Rattle.hd_graph.specs.declared.graph.Low.{Low}
-use Rattle.hd_graph.specs.declared.links.Link.{Link}
+use Rattle.hd_map.specs.declared.types.Link.{Link}
 use Rattle.hd_graph.specs.declared.merges.Merge.{Merge}
 
 abbrev pub same_rank : Rank → Rank → Bool

@@ -5,9 +5,9 @@ ghost use Rattle.hd_map.specs.Rank.{below_by};
 ghost use Rattle.hd_tests.specs.Literal.{are_linked, is_graph};
 
 use crate::shared::list;
-use hd_graph::{FloodLine, Graph, Link, Low, Merge, flood, merges_by_links, merges_of, tree};
+use hd_graph::{FloodLine, Graph, Low, Merge, flood, merges_by_links, merges_of, tree};
 use hd_list::List;
-use hd_map::{Down, Pass, Rank, Side, Up};
+use hd_map::{Down, Link, Pass, Rank, Side, Up};
 use std::process::Abort;
 
 macro_rules! rank {

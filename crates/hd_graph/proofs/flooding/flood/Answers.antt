@@ -1,7 +1,7 @@
 use Rattle.std.proofs.Common.{List, map, length}
 use Rattle.hd_map.specs.Rank.{below_by}
 use Rattle.hd_graph.specs.declared.graph.Low.{Low}
-use Rattle.hd_graph.specs.declared.links.Link.{Link}
+use Rattle.hd_map.specs.declared.types.Link.{Link}
 use Rattle.hd_graph.specs.Line.{IsFloodLine}
 use Rattle.hd_graph.specs.Links.{HasEnds, pass_of}
 use Rattle.hd_graph.proofs.InOrder.{same-each}

@@ -1,7 +1,7 @@
 use Rattle.std.proofs.Common.{◌<◌, ◌+◌, inl, inr, refl, ℕ, Bool, List, true, arith, get_or, length, set}
 use Rattle.std.proofs.lemmas.Option.{slice_get-get_or, slice_get_within}
 use Rattle.hd_map.specs.Rank.{below_by}
-use Rattle.hd_graph.specs.declared.links.Link.{Link}
+use Rattle.hd_map.specs.declared.types.Link.{Link}
 use Rattle.hd_graph.specs.Links.{HasEnds}
 use Rattle.hd_graph.specs.Onward.{IsOnward}
 use Rattle.hd_graph.proofs.InOrder.{link-each}

@@ -1,7 +1,7 @@
 use Rattle.std.proofs.Common.{◌∙◌, List, ap, subst, sym}
 use Rattle.std.proofs.lemmas.List.{map_push}
 use Rattle.hd_map.specs.declared.types.Pass.{Pass}
-use Rattle.hd_steep.specs.declared.crossing.Crossing.{Crossing}
+use Rattle.hd_map.specs.declared.types.Link.{Link}
 use Rattle.hd_steep.specs.Crossed.{Extends, IsCrossed}
 use Rattle.hd_steep.specs.Crossings.{pass_of, passes_of}
 use Rattle.hd_steep.proofs.Crossed.{crossed_push, extends_push}
@@ -14,7 +14,7 @@ returns-in_ok-push-clause-extends g c =
     let side = g.S.Side.NAME in
     let regions = c.args.regions.now in
     let old = c.args.crossings.now.items in
-    let x : Crossing = record { a = c.args.number; b = c.number_of-there.result; at = c.args.own } in
+    let x : Link = record { a = c.args.number; b = c.number_of-there.result; at = c.args.own } in
     let pushed = ap (passes_of side regions.pits) c.in_ok-push.ensures.items ∙ map_push (pass_of side regions.pits) old x in
     let pass = pass-to m side regions c.requires.regions c.args.own c.args.other c.args.number c.number_of-there.result c.requires.number c.number_of-there.ensures c.if-number-there.true in
     subst (λ (ps : List Pass). Extends m side (passes_of side regions.pits old) ps) (sym pushed) (extends_push m side (passes_of side regions.pits old) (pass_of side regions.pits x) c.args.own c.args.other c.requires.lower pass)
@@ -25,7 +25,7 @@ returns-in_ok-push-clause-crossed g c =
     let side = g.S.Side.NAME in
     let regions = c.args.regions.now in
     let old = c.args.crossings.now.items in
-    let x : Crossing = record { a = c.args.number; b = c.number_of-there.result; at = c.args.own } in
+    let x : Link = record { a = c.args.number; b = c.number_of-there.result; at = c.args.own } in
     let pushed = ap (passes_of side regions.pits) c.in_ok-push.ensures.items ∙ map_push (pass_of side regions.pits) old x in
     let pass = pass-to m side regions c.requires.regions c.args.own c.args.other c.args.number c.number_of-there.result c.requires.number c.number_of-there.ensures c.if-number-there.true in
     subst (λ (ps : List Pass). IsCrossed m side ps c.args.own c.args.other) (sym pushed) (crossed_push m side (passes_of side regions.pits old) (pass_of side regions.pits x) c.args.own c.args.other pass)

@@ -1,6 +1,6 @@
 use Rattle.std.proofs.Common.{◌∙◌, List, length, sym, subst}
 use Rattle.std.specs.Prelude.{All}
-use Rattle.hd_graph.specs.declared.links.Link.{Link}
+use Rattle.hd_map.specs.declared.types.Link.{Link}
 use Rattle.hd_graph.specs.Links.{HasEnds}
 use Rattle.hd_tests.proofs.Literals.{different-linked, ends-linked}
 use Rattle.hd_tests.proofs.graph.expect_linked.Goals as goal
