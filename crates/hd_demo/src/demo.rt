@@ -24,7 +24,9 @@ pub fn demo_text(alloc: Global, demo: Demo) -> Result<List<u8>, Memory>
     let mut draws = Draws { last: demo.number };
     let file = drawn_file(alloc, demo.size, &mut draws)?;
     let mut session = Session::new(alloc, file, demo.tile)?;
-    told_text(alloc, &mut session, draws, demo)
+    let text = told_text(alloc, &mut session, draws, demo);
+    drop(session);
+    text
 }
 
 // A demo prints one text.

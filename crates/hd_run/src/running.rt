@@ -110,7 +110,9 @@ fn answer_all<W: Sink, V: Sink>(
     let Ok(mut session) = Session::new(alloc, file, job.tile) else {
         return Err(Stop::Memory);
     };
-    answer_and_save(alloc, &mut session, job, script, out, saved)
+    let answered = answer_and_save(alloc, &mut session, job, script, out, saved);
+    drop(session);
+    answered
 }
 
 // Answers the lines in a session that was asked none, and saves the file that they leave, where the

@@ -7,4 +7,4 @@ pub returns : goal.returns
 returns c =
     let demo = c.args.demo in
     let state = c.in_ok-session.ensures.0 ∙ ap first_state c.in_ok-file.ensures.file in
-    told-is_the_text demo c.in_ok-session.session.state c.told_text.result state (λ a b. c.demo_text_is_determined.ensures demo a b c.requires) c.told_text.ensures
+    told-is_the_text demo c.in_ok-session.session.state c.told_text-text.result state (λ a b. c.demo_text_is_determined.ensures demo a b c.requires) c.told_text-text.ensures
