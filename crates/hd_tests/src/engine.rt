@@ -16,7 +16,7 @@ pub(crate) fn answers(rt: &(impl Abort + AllocGlobal), file: SdfFile, script: &[
 }
 
 // The answers of a session on a file to the lines of a script, and the file that it leaves, with tiles of this side and
-// reports made by what is chosen. A session has many parts, so no other function holds one.
+// reports made by what is chosen.
 pub(crate) fn answered(
     rt: &(impl Abort + AllocGlobal),
     file: SdfFile,
@@ -28,6 +28,7 @@ pub(crate) fn answered(
     let mut session = Session::with_choice(rt.alloc(), file, side, choice).expect(rt, "memory");
     let text = answers_of(rt, &mut session, script);
     let file = session.file().expect(rt, "memory");
+    drop(session);
     (text, file)
 }
 
