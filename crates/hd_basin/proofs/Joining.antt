@@ -20,10 +20,8 @@ use Rattle.hd_basin.specs.Built.{IsAsked, IsBuilt, IsKnown, IsNoded, IsRightPass
 use Rattle.hd_basin.specs.Seams.{AreCandidates, IsCandidate, KeepLowest, pass_between}
 use Rattle.hd_basin.specs.Parts.{IsBetween, IsFresh, IsSeamOf, place_in_tile}
 use Rattle.hd_basin.specs.Sinks.{IsArea}
-use Rattle.hd_basin.proofs.Areas.{area-in, area-below, area-at}
-use Rattle.hd_basin.proofs.Contents.{sink-tile}
-use Rattle.hd_basin.proofs.Keeping.{tile-of_point}
-use Rattle.hd_basin.proofs.SinkLaws.{sink-unique, sink-is_sink}
+use Rattle.hd_basin.proofs.Areas.{area-in, area-below, area-at, tile-of_point}
+use Rattle.hd_basin.proofs.SinkLaws.{sink-unique, sink-is_sink, sink-tile}
 use Rattle.hd_basin.proofs.Steps.{pass-sym}
 
 -- of two different ranks the lower one comes first

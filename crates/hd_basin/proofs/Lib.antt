@@ -1,9 +1,8 @@
-pub mod Keeping
-pub mod Contents
+pub mod Keeps
 pub mod Steps
 pub mod SinkLaws
 pub mod Flowing
-pub mod Merging
+pub mod Sums
 pub mod Rooting
 pub mod Unseen
 pub mod Replacing

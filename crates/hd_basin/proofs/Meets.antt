@@ -28,16 +28,14 @@ use Rattle.hd_basin.specs.Inside.{AreNamed, IsStep, IsTried, IsPairAt, MeetsPair
 use Rattle.hd_basin.specs.Meetings.{AreChained, AreKept}
 use Rattle.hd_basin.specs.Parts.{IsBetween, low_or_none, pass_named}
 use Rattle.hd_basin.specs.Sinks.{IsArea, at_place}
-use Rattle.hd_basin.proofs.Areas.{area-in, area-tile, area-fits}
+use Rattle.hd_basin.proofs.Areas.{area-in, area-tile, area-fits, tile-of_point}
 use Rattle.hd_basin.proofs.Chains.{kept-notes}
-use Rattle.hd_basin.proofs.Contents.{sink-tile}
 use Rattle.hd_basin.proofs.Framing.{frame_step, frame-in_grid}
 use Rattle.hd_basin.proofs.Joining.{same-pass}
 use Rattle.hd_basin.proofs.Rooting.{read-contains}
-use Rattle.hd_basin.proofs.Keeping.{tile-of_point}
 use Rattle.hd_basin.proofs.Linking.{low-own}
 use Rattle.hd_basin.proofs.Listed.{contains-at}
-use Rattle.hd_basin.proofs.SinkLaws.{sink-unique}
+use Rattle.hd_basin.proofs.SinkLaws.{sink-unique, sink-tile}
 use Rattle.hd_basin.proofs.Steps.{meeting-sym}
 
 -- a step leads to one position

@@ -1,5 +1,6 @@
 pub mod Bounds
 pub mod Cuts
 pub mod HeightsAlone
-pub mod Values
+pub mod Value
+pub mod Parts
 pub mod Appended

@@ -6,7 +6,7 @@ pub mod Finding
 pub mod Rounds
 pub mod Chained
 pub mod Gathering
-pub mod Crossed
+pub mod NumberedBorders
 pub mod Owners
 pub mod Ways
 pub mod Placing

@@ -1,11 +1,7 @@
--- Steps of the reading of the words.
-use Rattle.std.proofs.Common.{◌≡◌, ◌≢◌, ◌∙◌, ◌<◌, ◌+◌, ℕ, suc, map, get_or, drop-cons, Bool, true, false, List, [], ◌∷◌, ◌++◌, length, drop, Option, Some, None, IfNone, MatchOption, codes, nat_eq, Bor, refl, sym, ap, append_assoc, arith, if◌then◌else◌}
+-- What is given before and later, and words that have no form.
+use Rattle.std.proofs.Common.{◌≡◌, ℕ, true, false, List, [], ◌∷◌, ◌++◌, length, Option, Some, None, codes, nat_eq, refl, append_assoc, arith}
 use Rattle.std.specs.List.{starts_with}
-use Rattle.std.specs.Option.{option_copied, option_and_then}
-use Rattle.std.specs.Str.{IsCharBoundary}
-use Rattle.std.specs.Prelude.{Decides}
-use Rattle.std.proofs.lemmas.Bool.Decides.{nat_tests}
-use Rattle.std.proofs.lemmas.Slice.Eq.{starts_is}
+use Rattle.std.specs.Option.{option_and_then}
 use Rattle.hd_words.specs.Words.{Given, given_of, with_name, with_tile, with_save, begins_with_dash, dales_names, run_names, check_names, demo_names, tile_of}
 use Rattle.hd_words.specs.WordSteps.{HasNoForm, IsNoOptionAlone, followed_by}
 use Rattle.hd_words.specs.declared.found.Stage.TheVariants.{Options, TileValue, SaveValue}
@@ -116,36 +112,6 @@ pub refused_word : (before : Given) (word : List ℕ) (words : List (List ℕ)) 
     → HasNoForm (followed_by before (given_of Options (word ∷ words)))
 refused_word before word words alone tile save dash = rw (alone.ends, alone.tile, alone.save, tile, save, dash) (record { dales = refl; run = refl; check = refl; demo = refl })
 
-none_if : (test : Bool) (value : List ℕ) → (test ≡ true → ⊥) → None ≡ (if test then Some value else None)
-none_if true value wrong = absurd (wrong refl)
-none_if false value wrong = refl
-
-some_if : (test : Bool) (x value : List ℕ) → test ≡ true → x ≡ value → Some x ≡ (if test then Some value else None)
-some_if true x value holds is = ap (λ xs. Some xs) is
-some_if false x value holds is = absurd (cc)
-
-pub same_byte : (a b : ℕ) → Decides (nat_eq a b) (a ≡ b)
-same_byte a b = (λ t. grind (arith, nat_tests), λ e. grind (arith, nat_tests))
-
--- a word without the text that it begins with
-pub strips : (word front : List ℕ) (r : Option (Bor (List ℕ)))
-    → MatchOption r ((rest : List ℕ) → drop 0 word ≢ front ++ rest) (λ x. (n : ℕ) × ((n ≡ length front) × (word ≡ front ++ drop n word) × IsCharBoundary word (length front)) × (x.now ≡ drop n word) × (length x.now + n ≡ length word))
-    → option_copied r ≡ (if starts_with nat_eq word front then Some (drop (length front) word) else None)
-strips word front None lacks = none_if (starts_with nat_eq word front) (drop (length front) word) (λ holds. lacks (drop (length front) word) ((starts_is same_byte word front (starts_with nat_eq word front) refl).0 holds))
-strips word front (Some x) (n, found, is, len) =
-    some_if (starts_with nat_eq word front) x.now (drop (length front) word) ((starts_is same_byte word front (starts_with nat_eq word front) refl).1 (drop n word) found.1) (is ∙ ap (λ k. drop k word) found.0)
-
-pub absent-false : (test : Bool) (value : List ℕ) (r : Option (Bor (List ℕ))) → option_copied r ≡ (if test then Some value else None) → r ≡ None → test ≡ false
-absent-false true value r e is = let wrong : None ≡ Some value = rw is at e in cc
-absent-false false value r e is = refl
-
-pub none_more : {X P Q : Type 0} (r : Option X) → (P → Q) → IfNone r P → IfNone r Q
-none_more None more h = more h
-none_more (Some x) more h = h
-
 pub none_before : (given : Option Given) → given ≡ followed_by (record { names = []; tiles = []; saves = [] }) given
 none_before None = refl
 none_before (Some g) = refl
-
-pub left_item : {X Y : Type 0} (f : X → Y) (xs : List X) (i : ℕ) (x : X) → x ≡ get_or xs i x → i < length xs → map f (drop i xs) ≡ f x ∷ map f (drop (suc i) xs)
-left_item f xs i x is within = ap (map f) (drop-cons xs i x within) ∙ ap (λ y. f y ∷ map f (drop (suc i) xs)) (sym is)

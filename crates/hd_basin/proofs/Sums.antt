@@ -1,4 +1,4 @@
--- The sums of a set of one point, and of two sets that share none.
+-- Sums of the same set, of a set of one point, and of two sets that share none.
 use Rattle.std.proofs.Common.{Bool, true, false, ◌≡◌, ◌+◌, ◌-◌, ◌<◌, ℕ, ℤ, zero, suc, List, [], ◌∷◌, ◌++◌, length, length-append, get_or, Option, Some, None, ◌⊎◌, inl, inr, refl, sym, ◌∙◌, subst, arith}
 use Rattle.std.specs.Prelude.{◌↔◌, ◌≤ℤ◌, Contains, MatchOption}
 use Rattle.std.specs.List.{AllPairs}
@@ -11,6 +11,41 @@ use Rattle.hd_map.specs.declared.types.Rank.{Rank}
 use Rattle.hd_basin.specs.declared.node.Node.{Node}
 use Rattle.hd_basin.specs.Adding.{IsGreater, IsLesser, GoesOn, AddsPoint}
 use Rattle.hd_basin.specs.Sums.{IsCount, IsGreatest, IsLeast, EdgeMember, AreSums}
+
+-- sums depend on the members, and on which of them are edge points
+module _ (Member Other Edge OtherEdge : Rank → Type 0) (same : (r : Rank) → Member r ↔ Other r) (edges : (r : Rank) → Member r → Edge r ↔ OtherEdge r) where
+  greatest-same : (A B : Rank → Type 0) → ((r : Rank) → A r ↔ B r) → (h : ℤ) → IsGreatest A h → IsGreatest B h
+  greatest-same A B e h g = record { of = g.of; member = (e g.of).0 g.member; height_is = g.height_is; bound = λ r b. g.bound r ((e r).1 b) }
+
+  least-same : (A B : Rank → Type 0) → ((r : Rank) → A r ↔ B r) → (h : ℤ) → IsLeast A h → IsLeast B h
+  least-same A B e h g = record { of = g.of; member = (e g.of).0 g.member; height_is = g.height_is; bound = λ r b. g.bound r ((e r).1 b) }
+
+  count-same : (n : ℕ) → IsCount Member n → IsCount Other n
+  count-same n c = record {
+    ranks = c.ranks;
+    lists = record { all = λ r. (λ in_list. (same r).0 ((c.lists.all r).0 in_list), λ other. (c.lists.all r).1 ((same r).1 other)); once = c.lists.once };
+    count_is = c.count_is;
+  }
+
+  edge-same : (r : Rank) → EdgeMember Member Edge r ↔ EdgeMember Other OtherEdge r
+  edge-same r = (λ e. ((same r).0 e.0, (edges r e.0).0 e.1), λ e. (let mine = (same r).1 e.0 in (mine, (edges r mine).1 e.1)))
+
+  lowest_edge-same : (o : Option ℤ) → MatchOption o ((r : Rank) → EdgeMember Member Edge r → ⊥) (IsLeast (EdgeMember Member Edge)) → MatchOption o ((r : Rank) → EdgeMember Other OtherEdge r → ⊥) (IsLeast (EdgeMember Other OtherEdge))
+  lowest_edge-same None absent = λ r e. absent r ((edge-same r).1 e)
+  lowest_edge-same (Some h) least = least-same (EdgeMember Member Edge) (EdgeMember Other OtherEdge) edge-same h least
+
+  highest_edge-same : (o : Option ℤ) → MatchOption o ((r : Rank) → EdgeMember Member Edge r → ⊥) (IsGreatest (EdgeMember Member Edge)) → MatchOption o ((r : Rank) → EdgeMember Other OtherEdge r → ⊥) (IsGreatest (EdgeMember Other OtherEdge))
+  highest_edge-same None absent = λ r e. absent r ((edge-same r).1 e)
+  highest_edge-same (Some h) greatest = greatest-same (EdgeMember Member Edge) (EdgeMember Other OtherEdge) edge-same h greatest
+
+  pub sums-same : (n : ℕ) (high least : ℤ) (low_edge high_edge : Option ℤ) → AreSums Member Edge n high least low_edge high_edge → AreSums Other OtherEdge n high least low_edge high_edge
+  sums-same n high least low_edge high_edge s = record {
+    counted = count-same n s.counted;
+    highest = greatest-same Member Other same high s.highest;
+    lowest = least-same Member Other same least s.lowest;
+    lowest_edge = lowest_edge-same low_edge s.lowest_edge;
+    highest_edge = highest_edge-same high_edge s.highest_edge;
+  }
 
 -- of two lists of different elements that share none the elements are different
 different-append : {X : Type 0} (xs ys : List X) → AllPairs (λ a b. a ≡ b → ⊥) xs → AllPairs (λ a b. a ≡ b → ⊥) ys → ((x : X) → Contains xs x → Contains ys x → ⊥) → AllPairs (λ a b. a ≡ b → ⊥) (xs ++ ys)
