@@ -7,12 +7,12 @@ use Rattle.hd_map.specs.declared.types.Pos.{Pos}
 use Rattle.hd_map.specs.declared.types.Size.{Size}
 use Rattle.hd_map.specs.Map.{InGrid, Map, Present}
 use Rattle.hd_tiles.specs.Tile.{tile_of, tiles_across}
-use Rattle.hd_tiles.proofs.Parts.{part_below, part_is}
+use Rattle.hd_tiles.proofs.TilesAlong.{part_below, part_is}
 use Rattle.hd_basin.specs.declared.frame.Frame.{Frame}
 use Rattle.hd_basin.specs.Frames.{InFrame, FitsGrid}
 use Rattle.hd_basin.specs.Parts.{place_in_tile, columns_from}
 use Rattle.hd_basin.specs.Sinks.{IsArea, at_place}
-use Rattle.hd_basin.proofs.Framing.{tile_parts, frame_step}
+use Rattle.hd_basin.proofs.Frames.{tile_parts, frame_step}
 use Rattle.hd_map.specs.declared.types.Rank.{Rank}
 use Rattle.hd_map.specs.Rank.{rank}
 use Rattle.hd_map.proofs.Points.{rank_position}

@@ -24,7 +24,7 @@ use Rattle.hd_basin.specs.Parts.{place_in_tile}
 use Rattle.hd_basin.specs.Sinks.{IsArea, at_place, no_node}
 use Rattle.hd_basin.specs.Sums.{EdgeMember, AreSums}
 use Rattle.hd_basin.proofs.Areas.{area-in, area-one, area-tile, area-below, place-one, tile-of_point}
-use Rattle.hd_basin.proofs.Framing.{step-in_frame, frame_step}
+use Rattle.hd_basin.proofs.Frames.{step-in_frame, frame_step}
 use Rattle.hd_basin.proofs.Lists.{get-push_left, get-push_last, get-push_cases}
 use Rattle.hd_basin.proofs.Sums.{More, sums-more, count-one, greatest-one, least-one, sums-same}
 use Rattle.hd_basin.proofs.SinkLaws.{sink-unique, sink-is_sink, sink-tile}

@@ -1,6 +1,6 @@
 pub mod Bounds
 pub mod Cuts
 pub mod HeightsAlone
-pub mod Value
-pub mod Parts
+pub mod Values
+pub mod WordParts
 pub mod Appended

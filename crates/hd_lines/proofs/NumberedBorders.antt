@@ -14,7 +14,7 @@ use Rattle.hd_map.proofs.Levels.{Reach, here, step}
 use Rattle.hd_map.proofs.Sides.{below-along, below-not_above, not_above-trans}
 use Rattle.hd_graph.specs.Classes.{AreJoined, AreOneClass, IsLeast, Joins}
 use Rattle.hd_graph.proofs.Places.{at_place, get-set_other, get-set_same, item_at, place_of}
-use Rattle.hd_graph.proofs.Steps.{reach-by}
+use Rattle.hd_graph.proofs.Reach.{reach-by}
 use Rattle.hd_graph.proofs.Unions.{class-sym, class-trans, least-same}
 use Rattle.hd_lines.specs.declared.border.Border.{Border}
 use Rattle.hd_lines.specs.declared.saddles.NumberedBorder.{NumberedBorder}

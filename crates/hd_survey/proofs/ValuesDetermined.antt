@@ -6,7 +6,7 @@ use Rattle.hd_feature.specs.declared.notation.Parameter.{Parameter}
 use Rattle.hd_feature.specs.declared.notation.Parameter.TheVariants.{One, Sum}
 use Rattle.hd_feature.specs.declared.region.Region.{Region}
 use Rattle.hd_feature.specs.Value.{AreSameValues, IsValue}
-use Rattle.hd_feature.proofs.Value.{value-one}
+use Rattle.hd_feature.proofs.Values.{value-one}
 use Rattle.hd_map.specs.declared.types.Rank.{Rank}
 use Rattle.hd_map.specs.declared.types.SideName.{SideName}
 use Rattle.hd_map.specs.Map.{Map, IsMap}

@@ -3,7 +3,7 @@ use Rattle.std.proofs.lemmas.List.{take_all}
 use Rattle.std.proofs.lemmas.List.Elements.{filter_agree}
 use Rattle.hd_feature.specs.Cut.{significant_by}
 use Rattle.hd_feature.specs.Value.{attribute}
-use Rattle.hd_feature.proofs.Value.{attributes_more}
+use Rattle.hd_feature.proofs.Values.{attributes_more}
 use Rattle.hd_feature.proofs.value.attributes.Goals as goal
 
 pub regions-preserved : goal.regions-preserved

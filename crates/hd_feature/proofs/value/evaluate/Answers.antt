@@ -1,7 +1,7 @@
 use Rattle.std.proofs.Common.{◌≡◌, ◌∙◌, ◌<◌, length, sym, subst, inl, rules, arith}
 use Rattle.hd_num.specs.Frac.{IsFraction}
 use Rattle.hd_feature.specs.Value.{attributes, over, under}
-use Rattle.hd_feature.proofs.Value.{nothing}
+use Rattle.hd_feature.proofs.Values.{nothing}
 use Rattle.hd_feature.proofs.value.evaluate.Goals as goal
 
 pub returns-then-is_empty : goal.returns-then-is_empty

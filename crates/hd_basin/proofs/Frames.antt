@@ -22,7 +22,7 @@ use Rattle.hd_map.proofs.Gather.{same_pos}
 use Rattle.hd_map.proofs.Points.{place_inside, position_at-of}
 use Rattle.hd_basin.specs.declared.frame.Frame.{Frame}
 use Rattle.hd_tiles.specs.Tile.{tiles_across}
-use Rattle.hd_tiles.proofs.Parts.{part_below, part_is}
+use Rattle.hd_tiles.proofs.TilesAlong.{part_below, part_is}
 use Rattle.hd_basin.specs.Views.{ShowSame}
 use Rattle.hd_basin.specs.Frames.{InFrame, FitsGrid, HoldsRound, IsRoundOnly, is_in, seen_at, cell_of, any_type, framed_map, IsWindow, ShowsFrame}
 

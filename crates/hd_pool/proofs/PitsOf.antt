@@ -18,7 +18,7 @@ use Rattle.hd_map.specs.SideLaws.{below_by-order}
 use Rattle.hd_map.proofs.Items.{AllPairs-first, AllPairs-tail}
 use Rattle.hd_prune.specs.Pruned.{AreInOrder}
 use Rattle.hd_prune.proofs.InOrder.{in_order-rises, in_order-same}
-use Rattle.hd_pool.specs.Crossed.{pit_of, pits_of}
+use Rattle.hd_pool.specs.PitsOf.{pit_of, pits_of}
 use Rattle.hd_pool.proofs.Given.{Contains-given, given-Contains}
 
 -- a low that gives a pit is one

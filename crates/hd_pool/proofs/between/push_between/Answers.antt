@@ -3,7 +3,7 @@ use Rattle.hd_map.specs.declared.types.Rank.{Rank}
 use Rattle.hd_map.specs.Region.{IsRoot}
 use Rattle.hd_map.proofs.Nexts.{root-is_pit}
 use Rattle.hd_map.proofs.Points.{same_index}
-use Rattle.hd_pool.proofs.crossed.push_between.Goals as goal
+use Rattle.hd_pool.proofs.between.push_between.Goals as goal
 
 pub returns-else-a-b : goal.returns-else-a-b
 returns-else-a-b g c =

@@ -22,7 +22,7 @@ use Rattle.hd_basin.specs.Parts.{IsBetween, IsFresh, IsSeamOf, place_in_tile}
 use Rattle.hd_basin.specs.Sinks.{IsArea}
 use Rattle.hd_basin.proofs.Areas.{area-in, area-below, area-at, tile-of_point}
 use Rattle.hd_basin.proofs.SinkLaws.{sink-unique, sink-is_sink, sink-tile}
-use Rattle.hd_basin.proofs.Steps.{pass-sym}
+use Rattle.hd_basin.proofs.InStep.{pass-sym}
 
 -- of two different ranks the lower one comes first
 lower-first : (side : SideName) (a b : Rank) → a ≢ b → below_by side a b ≡ false → below_by side b a ≡ true

@@ -25,7 +25,7 @@ use Rattle.hd_basin.specs.Reading.{AreExtents, IsExtent}
 use Rattle.hd_basin.specs.Sums.{AreSums}
 use Rattle.hd_basin.proofs.Listed.{Contains-flat, flat-Contains, pairs-flat}
 use Rattle.hd_basin.proofs.Sums.{Either}
-use Rattle.hd_basin.proofs.Netted.{has_sink, node-tile, sink_of-point}
+use Rattle.hd_basin.proofs.PoolGraph.{has_sink, node-tile, sink_of-point}
 use Rattle.hd_basin.proofs.SinkLaws.{sink-is_sink, sink-root, sink-unique}
 use Rattle.hd_basin.proofs.Together.{count-few, sums-both, sums-by}
 

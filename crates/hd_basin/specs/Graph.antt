@@ -1,4 +1,4 @@
--- The lists of a graph of local basins, tile by tile.
+-- The graph of local basins: its lows and its passes, tile by tile.
 use Rattle.std.specs.Prelude.{ℕ, Bool, false, List, [], ◌∷◌, ◌++◌, map, Option, Some, None, slice_get, if◌then◌else◌}
 use Rattle.std.specs.List.{flat_map}
 use Rattle.std.specs.Option.{is_none}

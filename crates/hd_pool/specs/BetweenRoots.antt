@@ -1,7 +1,5 @@
 -- The passes between local basins, as those between the regions in which the basins lie.
-use Rattle.std.specs.Prelude.{◌≡◌, ◌≢◌, ◌++◌, ◌∷◌, ◌⊎◌, [], List, Contains, Option, Some, None, if◌then◌else◌}
-use Rattle.std.specs.List.{filter_map}
-use Rattle.hd_graph.specs.declared.graph.Low.{Low}
+use Rattle.std.specs.Prelude.{◌≡◌, ◌≢◌, ◌++◌, ◌∷◌, ◌⊎◌, [], List, Contains, if◌then◌else◌}
 use Rattle.hd_map.specs.declared.types.Pass.{Pass}
 use Rattle.hd_map.specs.declared.types.Rank.{Rank}
 use Rattle.hd_map.specs.declared.types.SideName.{SideName}
@@ -40,10 +38,3 @@ AddsBetweenRoots m side p old new = ((q : Pass) × IsBetweenRoots m side p q × 
 pub record AreBetweenRoots (m : Map) (side : SideName) (passes between : List Pass) : Type 0 where
   pub each : (q : Pass) → Contains between q → (p : Pass) × Contains passes p × IsBetweenRoots m side p q
   pub all : (p : Pass) → Contains passes p → ((q : Pass) × Contains between q × IsBetweenRoots m side p q) ⊎ IsWithin m side p
-
--- the rank of a low that is a pit
-abbrev pub pit_of : Low → Option Rank
-pit_of low = if low.pit then Some low.rank else None
-
-abbrev pub pits_of : List Low → List Rank
-pits_of lows = filter_map pit_of lows

@@ -31,7 +31,7 @@ use Rattle.hd_basin.specs.declared.part.Part.{Part}
 use Rattle.hd_basin.specs.declared.part.Seam.{Seam}
 use Rattle.hd_basin.specs.Basin.{AreNextsInside, IsSinkOf, IsLabel, FlowsTo, tile_at}
 use Rattle.hd_basin.specs.InStep.{IsPoolOf, HasMap}
-use Rattle.hd_basin.specs.Listing.{as_low, lows_in, in_order, was_seen_with, pass_of, passes_in}
+use Rattle.hd_basin.specs.Graph.{as_low, lows_in, in_order, was_seen_with, pass_of, passes_in}
 use Rattle.hd_basin.specs.Parts.{inner_passes, Pool, HasNode, IsLinked, IsBetween, is_seen_with, label_of}
 use Rattle.hd_basin.specs.Reading.{IsGraphOf}
 use Rattle.hd_basin.proofs.Listed.{Contains-flat, flat-Contains, contains-at, pairs-flat, pairs-map}

@@ -31,8 +31,8 @@ use Rattle.hd_basin.specs.Links.{IsOnward, LeadsOnward, IsLink, AreLinksTo, AreL
 use Rattle.hd_basin.specs.Round.{AreRanks, low_round}
 use Rattle.hd_basin.specs.Sinks.{IsArea, IsSunk, at_place, no_node}
 use Rattle.hd_basin.proofs.Areas.{area-in, area-tile, place-at, place-one, tile-of_point}
-use Rattle.hd_basin.proofs.Framing.{frame-in_grid, step-in_frame}
-use Rattle.hd_basin.proofs.Rounding.{own-rank, lowest-round}
+use Rattle.hd_basin.proofs.Frames.{frame-in_grid, step-in_frame}
+use Rattle.hd_basin.proofs.LowRound.{own-rank, lowest-round}
 use Rattle.hd_basin.proofs.SinkLaws.{pit-sink, sink-own, sink-unique, sink-is_sink, sink-not_above, sink_by_next}
 
 module _ (m : Map) (side : SideName) (t : ℕ) where

@@ -24,9 +24,9 @@ use Rattle.hd_basin.specs.InStep.{IsPoolOf, HasMap}
 use Rattle.hd_basin.specs.Parts.{Pool, HasNode, node_of}
 use Rattle.hd_basin.specs.Reading.{RootIs}
 use Rattle.hd_basin.specs.Roots.{AreKnownRoots, AreRoots, AreSettled, IsRootOfNode, KeepsKnown, unknown}
-use Rattle.hd_basin.proofs.Extending.{only}
+use Rattle.hd_basin.proofs.GatheredExtents.{only}
 use Rattle.hd_basin.proofs.Flowing.{flows-root_step}
-use Rattle.hd_basin.proofs.Netted.{node-point}
+use Rattle.hd_basin.proofs.PoolGraph.{node-point}
 use Rattle.hd_basin.proofs.Rooting.{node-had, node-right, none-right, read-contains, way-into, way-own}
 use Rattle.hd_basin.proofs.SinkLaws.{FlowsInto, pit-sink, sink-own, sink-root, sink-unique}
 

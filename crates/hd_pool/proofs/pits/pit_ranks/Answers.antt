@@ -1,7 +1,7 @@
 use Rattle.std.proofs.Common.{◌∙◌, ap}
-use Rattle.hd_pool.proofs.Pits.{pits-pass, pits-push}
-use Rattle.hd_pool.proofs.crossed.pit_ranks.Goals as goal
-use Rattle.hd_pool.proofs.crossed.pit_ranks.Goals.{then-low+in_ok-push, else-low}
+use Rattle.hd_pool.proofs.PitsOf.{pits-pass, pits-push}
+use Rattle.hd_pool.proofs.pits.pit_ranks.Goals as goal
+use Rattle.hd_pool.proofs.pits.pit_ranks.Goals.{then-low+in_ok-push, else-low}
 
 pub lows-preserved : goal.lows-preserved
 lows-preserved c = elim c.if-low.branch [

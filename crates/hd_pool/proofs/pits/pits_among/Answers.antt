@@ -2,8 +2,8 @@ use Rattle.std.proofs.Common.{rules, subst, sym}
 use Rattle.std.proofs.lemmas.List.Sorted.{answers_always}
 use Rattle.hd_prune.specs.Pruned.{AreInOrder, index_less}
 use Rattle.hd_prune.proofs.InOrder.{in_order, index-order}
-use Rattle.hd_pool.specs.Crossed.{pits_of}
-use Rattle.hd_pool.proofs.crossed.pits_among.Goals as goal
+use Rattle.hd_pool.specs.PitsOf.{pits_of}
+use Rattle.hd_pool.proofs.pits.pits_among.Goals as goal
 
 pub returns : goal.returns
 returns c = subst (AreInOrder (pits_of c.args.lows.now)) (sym c.from_vec.ensures)

@@ -7,7 +7,7 @@ use Rattle.hd_map.specs.declared.types.Pass.{Pass}
 use Rattle.hd_map.specs.declared.types.SideName.{SideName}
 use Rattle.hd_map.specs.Map.{Map}
 use Rattle.hd_map.proofs.Items.{Contains-cases, Contains-head, Contains-none}
-use Rattle.hd_pool.specs.Crossed.{AddsBetweenRoots, AreBetweenRoots, IsBetweenRoots, IsWithin}
+use Rattle.hd_pool.specs.BetweenRoots.{AddsBetweenRoots, AreBetweenRoots, IsBetweenRoots, IsWithin}
 
 module _ (m : Map) (side : SideName) where
   pub between-none : AreBetweenRoots m side [] []

@@ -1,6 +1,6 @@
 use Rattle.std.proofs.Common.{take}
-use Rattle.hd_pool.specs.Crossed.{AreBetweenRoots}
-use Rattle.hd_pool.proofs.crossed.passes_between_regions.Given as goal
+use Rattle.hd_pool.specs.BetweenRoots.{AreBetweenRoots}
+use Rattle.hd_pool.proofs.between.passes_between_regions.Given as goal
 
 -- the passes so far
 abbrev pub invariant-passes : goal.invariant-passes

@@ -1,4 +1,4 @@
--- Parts of one side along a line of places: the tiles of a row or of a column.
+-- Tiles along a row or a column: parts of one side along a line of places.
 use Rattle.std.proofs.Common.{ℕ, ◌≡◌, ◌<◌, ◌≤◌, ◌+◌, ◌-◌, ◌*◌, ◌/◌, ◌%◌, ◌⊎◌, inl, inr, sym, ◌∙◌, ap, arith}
 use Rattle.std.specs.Prelude.{min}
 use Rattle.std.proofs.Math.Nat.{mul-le-mul_left}

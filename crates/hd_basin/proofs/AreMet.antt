@@ -30,13 +30,13 @@ use Rattle.hd_basin.specs.Parts.{IsBetween, low_or_none, pass_named}
 use Rattle.hd_basin.specs.Sinks.{IsArea, at_place}
 use Rattle.hd_basin.proofs.Areas.{area-in, area-tile, area-fits, tile-of_point}
 use Rattle.hd_basin.proofs.Chains.{kept-notes}
-use Rattle.hd_basin.proofs.Framing.{frame_step, frame-in_grid}
-use Rattle.hd_basin.proofs.Joining.{same-pass}
+use Rattle.hd_basin.proofs.Frames.{frame_step, frame-in_grid}
+use Rattle.hd_basin.proofs.BuiltSeams.{same-pass}
 use Rattle.hd_basin.proofs.Rooting.{read-contains}
-use Rattle.hd_basin.proofs.Linking.{low-own}
+use Rattle.hd_basin.proofs.AreLinks.{low-own}
 use Rattle.hd_basin.proofs.Listed.{contains-at}
 use Rattle.hd_basin.proofs.SinkLaws.{sink-unique, sink-tile}
-use Rattle.hd_basin.proofs.Steps.{meeting-sym}
+use Rattle.hd_basin.proofs.InStep.{meeting-sym}
 
 -- a step leads to one position
 step-one : (p q r : Pos) (step : ℕ) → IsStep p q step → IsStep p r step → q ≡ r

@@ -11,7 +11,7 @@ use Rattle.std.proofs.lemmas.Option.{same_Some, slice_get_cases, slice_get_past}
 use Rattle.hd_map.proofs.Items.{Contains-head}
 use Rattle.hd_basin.specs.declared.extent.Extent.{Extent}
 use Rattle.hd_basin.specs.ExtentTable.{AreFiled, AreListedTo, Files, Table, found, no_extent}
-use Rattle.hd_basin.proofs.Extending.{only}
+use Rattle.hd_basin.proofs.GatheredExtents.{only}
 use Rattle.hd_basin.proofs.Lists.{get-push_last, get-push_left}
 
 -- the number at an index

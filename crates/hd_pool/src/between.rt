@@ -1,19 +1,15 @@
 // The passes between local basins, as those between the regions in which the basins lie.
 ghost use Rattle.std.specs.Prelude.{◌≡◌, IfOk, OnOk};
-ghost use Rattle.std.specs.Ordering.{is_lt};
 ghost use Rattle.hd_map.specs.Rank.{IsPoint};
 ghost use Rattle.hd_map.specs.Region.{IsRoot};
 ghost use Rattle.hd_basin.specs.InStep.{IsPoolOf};
 ghost use Rattle.hd_basin.specs.Roots.{AreRoots};
-ghost use Rattle.hd_prune.specs.Pruned.{AreInOrder, index_less};
-ghost use Rattle.hd_pool.specs.Crossed.{AddsBetweenRoots, AreBetweenRoots, HavePointEnds, pass_between, pits_of};
+ghost use Rattle.hd_pool.specs.BetweenRoots.{AddsBetweenRoots, AreBetweenRoots, HavePointEnds, pass_between};
 
 use hd_basin::{Basins, Roots};
-use hd_graph::Low;
 use hd_list::{List, Memory};
 use hd_map::{Heights, Pass, Rank, Side, position_of, rank_of};
 use std::alloc::Global;
-use std::cmp::Ordering;
 
 /// These passes with their ends at the roots, the lower end first, without those that join a region with itself.
 /// `Memory` comes where the list is refused its memory.
@@ -79,38 +75,5 @@ fn pass_between<S: Side>(a: Rank, b: Rank, at: Rank) -> Pass
         Pass { a, b, at }
     } else {
         Pass { a: b, b: a, at }
-    }
-}
-
-/// The pits among these lows, in position order. `Memory` comes where the list is refused its memory.
-pub fn pits_among(alloc: Global, lows: &[Low]) -> Result<List<Rank>, Memory>
-    ensures { IfOk result (AreInOrder (pits_of lows.now)) }
-{
-    let mut pits = pit_ranks(alloc, lows)?;
-    pits.sort_unstable_by(|a, b| compare_indexes(a, b));
-    Ok(List::from_vec(pits))
-}
-
-// The pits among these lows, in the order of the lows.
-fn pit_ranks(alloc: Global, lows: &[Low]) -> Result<Vec<Rank>, Memory>
-    ensures { IfOk result (λ pits. pits.items ≡ pits_of lows.now) }
-{
-    let mut pits = Vec::new(alloc);
-    'lows: for low in lows {
-        if low.pit {
-            pits.push(low.rank)?;
-        }
-    }
-    Ok(pits)
-}
-
-// Which of two pits comes first in position order.
-fn compare_indexes(a: &Rank, b: &Rank) -> Ordering
-    ensures { is_lt result ≡ index_less a.now b.now }
-{
-    if a.index < b.index {
-        Ordering::Less
-    } else {
-        Ordering::Greater
     }
 }

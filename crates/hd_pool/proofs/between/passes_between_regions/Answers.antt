@@ -1,5 +1,5 @@
-use Rattle.hd_pool.proofs.Between.{between-more}
-use Rattle.hd_pool.proofs.crossed.passes_between_regions.Goals as goal
+use Rattle.hd_pool.proofs.BetweenRoots.{between-more}
+use Rattle.hd_pool.proofs.between.passes_between_regions.Goals as goal
 
 pub passes-preserved : goal.passes-preserved
 passes-preserved g c =

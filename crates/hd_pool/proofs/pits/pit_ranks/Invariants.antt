@@ -1,6 +1,6 @@
 use Rattle.std.proofs.Common.{◌≡◌, take}
-use Rattle.hd_pool.specs.Crossed.{pits_of}
-use Rattle.hd_pool.proofs.crossed.pit_ranks.Given as goal
+use Rattle.hd_pool.specs.PitsOf.{pits_of}
+use Rattle.hd_pool.proofs.pits.pit_ranks.Given as goal
 
 -- the pits so far
 abbrev pub invariant-lows : goal.invariant-lows
