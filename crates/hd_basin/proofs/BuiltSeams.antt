@@ -11,6 +11,7 @@ use Rattle.hd_map.specs.Passes.{higher_by}
 use Rattle.hd_map.specs.Rank.{rank, below_by, IsPoint}
 use Rattle.hd_map.specs.SideLaws.{below_by-order}
 use Rattle.hd_map.proofs.Points.{same_index}
+use Rattle.hd_graph.proofs.Basins.{not_above-below}
 use Rattle.hd_tiles.specs.Tile.{tile_of}
 use Rattle.hd_basin.specs.declared.frame.Frame.{Frame}
 use Rattle.hd_basin.specs.declared.part.Part.{Part}
@@ -23,13 +24,6 @@ use Rattle.hd_basin.specs.Sinks.{IsArea}
 use Rattle.hd_basin.proofs.Areas.{area-in, area-below, area-at, tile-of_point}
 use Rattle.hd_basin.proofs.SinkLaws.{sink-unique, sink-is_sink, sink-tile}
 use Rattle.hd_basin.proofs.InStep.{pass-sym}
-
--- of two different ranks the lower one comes first
-lower-first : (side : SideName) (a b : Rank) → a ≢ b → below_by side a b ≡ false → below_by side b a ≡ true
-lower-first side a b apart e = elim (below_by side b a) as (λ v. below_by side b a ≡ v → v ≡ true) [
-  | true ↦ λ f. refl
-  | false ↦ λ f. absurd (apart ((below_by-order side).total a b e f))
-] refl
 
 joins-between : (side : SideName) (a b w : Rank) → IsBetween (pass_between side a b w) a b w
 joins-between side a b w = elim (below_by side a b) as (λ v. IsBetween (if v then (record { a = a; b = b; at = w }) else (record { a = b; b = a; at = w })) a b w) [
@@ -45,7 +39,7 @@ joins-ordered side a b w apart = go (below_by side a b) refl
   where
     go : (v : Bool) → below_by side a b ≡ v → below_by side (pick v a b w).a (pick v a b w).b ≡ true
     go true e = e
-    go false e = lower-first side a b apart e
+    go false e = not_above-below side b a e (λ same. apart (sym same))
 
 not_both : (side : SideName) (a b : Rank) → below_by side a b ≡ true → below_by side b a ≡ true → ⊥
 not_both side a b e f = (let up = (below_by-order side).transitive a b a e f in let no = (below_by-order side).irreflexive a in cc)

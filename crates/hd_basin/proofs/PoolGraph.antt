@@ -25,7 +25,7 @@ use Rattle.hd_map.proofs.Sides.{not_above-refl, below-apart, below-not_above}
 use Rattle.hd_graph.specs.declared.graph.Low.{Low}
 use Rattle.hd_graph.specs.Basins.{AreBasins, AreLowsOf}
 use Rattle.hd_graph.specs.Graph.{IsGraph, Net}
-use Rattle.hd_graph.proofs.Basins.{basins-graph, higher-sym}
+use Rattle.hd_graph.proofs.Basins.{basins-graph, higher-sym, not_above-below}
 use Rattle.hd_basin.specs.declared.node.Node.{Node}
 use Rattle.hd_basin.specs.declared.part.Part.{Part}
 use Rattle.hd_basin.specs.declared.part.Seam.{Seam}
@@ -38,13 +38,6 @@ use Rattle.hd_basin.proofs.Listed.{Contains-flat, flat-Contains, contains-at, pa
 use Rattle.hd_basin.proofs.Rooting.{read-contains}
 use Rattle.hd_basin.proofs.SinkLaws.{sink-unique, sink-own, sink-is_sink, sink-settles}
 use Rattle.hd_basin.proofs.Staleness.{seen_with}
-
--- what is not above another, and is another, is below it
-not_above-below : (side : SideName) (a b : Rank) → IsNotAbove (below_by side) a b → a ≢ b → below_by side a b ≡ true
-not_above-below side a b low apart = elim (below_by side a b) as (λ v. below_by side a b ≡ v → v ≡ true) [
-  | true ↦ λ e. refl
-  | false ↦ λ e. absurd (apart ((below_by-order side).total a b e low))
-] refl
 
 -- the node of a pit says that it is one, and no other does
 pit-flagged : (m : Map) (side : SideName) (s : Rank) (o : Option Pos) → MatchOption o (IsPit m side s) (FlowsTo m side s) → (is_none o ≡ true) ↔ IsPit m side s
