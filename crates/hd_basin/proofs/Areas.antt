@@ -5,14 +5,22 @@ use Rattle.std.proofs.lemmas.Nat.{div-add-mod', div-mul-add, mod-mul-add, mod_be
 use Rattle.hd_map.proofs.Gather.{same_pos}
 use Rattle.hd_map.specs.declared.types.Pos.{Pos}
 use Rattle.hd_map.specs.declared.types.Size.{Size}
-use Rattle.hd_map.specs.Map.{InGrid}
+use Rattle.hd_map.specs.Map.{InGrid, Map, Present}
 use Rattle.hd_tiles.specs.Tile.{tile_of, tiles_across}
-use Rattle.hd_tiles.proofs.Parts.{part_below, part_is}
+use Rattle.hd_tiles.proofs.TilesAlong.{part_below, part_is}
 use Rattle.hd_basin.specs.declared.frame.Frame.{Frame}
 use Rattle.hd_basin.specs.Frames.{InFrame, FitsGrid}
 use Rattle.hd_basin.specs.Parts.{place_in_tile, columns_from}
 use Rattle.hd_basin.specs.Sinks.{IsArea, at_place}
-use Rattle.hd_basin.proofs.Framing.{tile_parts, frame_step}
+use Rattle.hd_basin.proofs.Frames.{tile_parts, frame_step}
+use Rattle.hd_map.specs.declared.types.Rank.{Rank}
+use Rattle.hd_map.specs.Rank.{rank}
+use Rattle.hd_map.proofs.Points.{rank_position}
+use Rattle.hd_basin.specs.Basin.{tile_at}
+
+-- the tile of a point is that of its position
+pub tile-of_point : (m : Map) (t : ℕ) (r : Rank) (p : Pos) → Present m p → r ≡ rank m p → tile_at m.size t r ≡ tile_of m.size t p
+tile-of_point m t r p here e = ap (tile_of m.size t) (rank_position m r p here e)
 
 module _ (s : Size) (t tile : ℕ) (f : Frame) (some : 1 ≤ t) (area : IsArea s t tile f) where
   pub area-fits : FitsGrid s f

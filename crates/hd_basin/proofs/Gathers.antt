@@ -23,13 +23,11 @@ use Rattle.hd_basin.specs.Gathering.{IsTaken, Gathers, home_of, IsGatheredNode, 
 use Rattle.hd_basin.specs.Parts.{place_in_tile}
 use Rattle.hd_basin.specs.Sinks.{IsArea, at_place, no_node}
 use Rattle.hd_basin.specs.Sums.{EdgeMember, AreSums}
-use Rattle.hd_basin.proofs.Areas.{area-in, area-one, area-tile, area-below, place-one}
-use Rattle.hd_basin.proofs.Contents.{sums-same, sink-tile}
-use Rattle.hd_basin.proofs.Framing.{step-in_frame, frame_step}
-use Rattle.hd_basin.proofs.Keeping.{tile-of_point}
+use Rattle.hd_basin.proofs.Areas.{area-in, area-one, area-tile, area-below, place-one, tile-of_point}
+use Rattle.hd_basin.proofs.Frames.{step-in_frame, frame_step}
 use Rattle.hd_basin.proofs.Lists.{get-push_left, get-push_last, get-push_cases}
-use Rattle.hd_basin.proofs.Merging.{More, sums-more, count-one, greatest-one, least-one}
-use Rattle.hd_basin.proofs.SinkLaws.{sink-unique, sink-is_sink}
+use Rattle.hd_basin.proofs.Sums.{More, sums-more, count-one, greatest-one, least-one, sums-same}
+use Rattle.hd_basin.proofs.SinkLaws.{sink-unique, sink-is_sink, sink-tile}
 
 -- nothing is gathered from no points
 pub gathered-none : (m : Map) (side : SideName) (t tile : ℕ) (f : Frame) (numbers : List ℕ) → length numbers ≡ f.columns * f.rows → ((j i : ℕ) → slice_get numbers j ≡ Some i → i ≡ no_node) → IsGathered m side t tile f 0 [] numbers []

@@ -20,12 +20,12 @@ use Rattle.hd_basin.specs.Edge.{IsEdge}
 use Rattle.hd_basin.specs.Gathering.{IsTaken, Gathers, home_of, IsNamed, IsGathered}
 use Rattle.hd_basin.specs.Parts.{low_of, node_at, pass_named, place_in_tile}
 use Rattle.hd_basin.specs.Sinks.{IsArea, at_place, no_node}
-use Rattle.hd_basin.proofs.Areas.{area-in, area-below, area-at}
-use Rattle.hd_basin.proofs.Contents.{sums-same, sink-tile, keeps-sym, node_kept, label_kept, sink_kept, meeting_kept, pass_kept}
-use Rattle.hd_basin.proofs.Framing.{frame_step}
-use Rattle.hd_basin.proofs.Keeping.{Keeps, tile-of_point}
+use Rattle.hd_basin.proofs.Areas.{area-in, area-below, area-at, tile-of_point}
+use Rattle.hd_basin.proofs.Sums.{sums-same}
+use Rattle.hd_basin.proofs.Frames.{frame_step}
+use Rattle.hd_basin.proofs.Keeps.{Keeps, keeps-sym, node_kept, label_kept, sink_kept, meeting_kept, pass_kept}
 use Rattle.hd_basin.proofs.Rooting.{read-contains}
-use Rattle.hd_basin.proofs.SinkLaws.{sink-unique, sink-own}
+use Rattle.hd_basin.proofs.SinkLaws.{sink-unique, sink-own, sink-tile}
 
 -- what has a sink is a point
 sunk-point : (m : Map) (side : SideName) (t : ℕ) (r s : Rank) (path : List Rank) → AreNextsInside m side t r path s → IsPoint m r

@@ -19,7 +19,7 @@ use Rattle.hd_basin.specs.Built.{IsBuilt, IsRightPass}
 use Rattle.hd_basin.specs.InStep.{IsInStep, KeepsSeen}
 use Rattle.hd_basin.specs.Parts.{inner_passes, Pool, IsBetween, IsLinked, IsFresh, IsSeamOf, AreSound, HasNode, label_of, low_of, node_at, place_in_tile}
 use Rattle.hd_basin.specs.Pool.{IsRightOn, IsTileRight}
-use Rattle.hd_basin.proofs.Steps.{right-extended, pass-sym}
+use Rattle.hd_basin.proofs.InStep.{right-extended, pass-sym}
 
 -- the pool of a grid of the map's size
 abbrev pub pool_of : Map → ℕ → List Part → Pool

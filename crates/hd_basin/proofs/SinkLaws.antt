@@ -3,7 +3,6 @@ use Rattle.std.proofs.Common.{◌≡◌, ◌≢◌, ℕ, List, [], ◌∷◌, re
 use Rattle.std.specs.Prelude.{◌↔◌}
 use Rattle.hd_map.specs.declared.types.Pos.{Pos}
 use Rattle.hd_map.specs.declared.types.Rank.{Rank}
-use Rattle.hd_map.specs.declared.types.Size.{Size}
 use Rattle.hd_map.specs.declared.types.SideName.{SideName}
 use Rattle.hd_map.specs.Map.{Map, Present}
 use Rattle.hd_map.specs.Order.{IsNotAbove}
@@ -14,11 +13,17 @@ use Rattle.hd_map.proofs.Sides.{below-not_above, not_above-trans, not_above-refl
 use Rattle.hd_map.proofs.Points.{point_at}
 use Rattle.hd_map.proofs.Nexts.{next-unique, root-step, root-next}
 use Rattle.hd_tiles.specs.Tile.{tile_of}
-use Rattle.hd_basin.specs.Views.{ShowSame}
 use Rattle.hd_basin.specs.Basin.{IsSink, AreNextsInside, IsSinkOf, tile_at}
-use Rattle.hd_basin.proofs.Keeping.{keeps-show, tile-of_point}
-use Rattle.hd_basin.proofs.Contents.{keeps-sym, sink-tile, sink_of_kept}
 use Rattle.hd_map.proofs.Levels.{Reach, here, step, PointStep}
+use Rattle.hd_basin.proofs.Areas.{tile-of_point}
+
+-- a sink lies in the tile of the points of its basin
+pub nexts-tile : (m : Map) (side : SideName) (t : ℕ) (p s : Rank) (path : List Rank) → AreNextsInside m side t p path s → tile_at m.size t s ≡ tile_at m.size t p
+nexts-tile m side t p s [] nexts = ap (tile_at m.size t) (sym nexts.0)
+nexts-tile m side t p s (q ∷ path) nexts = nexts-tile m side t q s path nexts.2 ∙ nexts.1
+
+pub sink-tile : (m : Map) (side : SideName) (t : ℕ) (p s : Rank) → IsSinkOf m side t p s → tile_at m.size t s ≡ tile_at m.size t p
+sink-tile m side t p s of = nexts-tile m side t p s of.0 of.1
 
 module _ (m : Map) (side : SideName) (t : ℕ) where
   -- a point has one sink at most

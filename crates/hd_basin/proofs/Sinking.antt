@@ -8,7 +8,7 @@ use Rattle.hd_basin.specs.declared.frame.Frame.{Frame}
 use Rattle.hd_basin.specs.Parts.{place_in_tile}
 use Rattle.hd_basin.specs.Sinks.{IsArea, IsSunk, at_place, no_node}
 use Rattle.hd_basin.proofs.Areas.{area-grid, area-place}
-use Rattle.hd_basin.proofs.Framing.{step-in_frame}
+use Rattle.hd_basin.proofs.Frames.{step-in_frame}
 
 -- the place of a sink in the lists of its tile is that in the rectangle
 pub sink-home : (m : Map) (t tile : ℕ) (f : Frame) → 1 ≤ t → IsArea m.size t tile f → (k : ℕ) → k < f.columns * f.rows → place_in_tile m.size t (at_place f k) ≡ k

@@ -13,8 +13,8 @@ use Rattle.hd_tiles.proofs.Corners.{tile_inside}
 use Rattle.hd_basin.specs.Basin.{tile_at}
 use Rattle.hd_basin.specs.InStep.{IsInStep, IsPoolOf, KeepsSeen}
 use Rattle.hd_basin.specs.Parts.{Pool, IsFresh, IsLinked, IsSeamOf}
-use Rattle.hd_basin.proofs.Contents.{sink-tile}
-use Rattle.hd_basin.proofs.Keeping.{tile-of_point}
+use Rattle.hd_basin.proofs.Areas.{tile-of_point}
+use Rattle.hd_basin.proofs.SinkLaws.{sink-tile}
 use Rattle.hd_basin.proofs.Replacing.{both_ends, seam_ends}
 
 -- a tile that is fresh stays so, and what is seen was seen or is present, from one pool to the next

@@ -20,7 +20,7 @@ pub mod Gathering
 pub mod Inside
 pub mod Seams
 pub mod Lowest
-pub mod Listing
+pub mod Graph
 pub mod ExtentTable
 pub mod Extents
 pub mod Roots

@@ -2,7 +2,7 @@
 ghost use Rattle.std.specs.Prelude.{◌≡◌, ◌++◌, IfOk, OnOk, map, slice_get};
 ghost use Rattle.std.specs.List.{flat_map};
 ghost use Rattle.hd_basin.specs.Parts.{low_or_none, pass_named};
-ghost use Rattle.hd_basin.specs.Listing.{as_low, lows_in, in_order, pass_of, passes_in, was_seen_with};
+ghost use Rattle.hd_basin.specs.Graph.{as_low, lows_in, in_order, pass_of, passes_in, was_seen_with};
 
 use crate::Node;
 use crate::part::{Join, Part, Seam};

@@ -2,4 +2,5 @@ pub mod Bounds
 pub mod Cuts
 pub mod HeightsAlone
 pub mod Values
+pub mod WordParts
 pub mod Appended

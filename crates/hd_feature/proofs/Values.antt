@@ -1,15 +1,15 @@
--- The attributes of the significant regions, one region after another, and the parts of a word.
-use Rattle.std.proofs.Common.{◌≡◌, ℕ, ℤ, suc, ◌+◌, ◌<◌, List, [], ◌∷◌, ◌++◌, length, get_or, take, map, filter, Bool, true, false, cond, Result, Err, Option, Some, None, is_some, true≢false, refl, sym, ap, ap₂, ◌∙◌, arith}
-use Rattle.std.specs.List.{slice_split, onto_first}
+-- The attributes of the significant regions, one region after another; and a notation has one value.
+use Rattle.std.proofs.Common.{◌≡◌, ℕ, ℤ, ◌+◌, ◌<◌, List, [], ◌∷◌, ◌++◌, length, get_or, take, map, filter, Bool, true, false, cond, Option, Some, None, inl, inr, refl, sym, ap, ap₂, ◌∙◌, arith}
+use Rattle.std.specs.Prelude.{◌⊎◌}
 use Rattle.std.proofs.lemmas.List.{map-append}
 use Rattle.std.proofs.lemmas.List.Elements.{filter_more}
-use Rattle.std.proofs.lemmas.List.Splits.{length-slice_split, slice_split-cons_no}
-use denote.Bor.{Bor}
+use Rattle.hd_num.specs.declared.frac.Frac.{Frac}
+use Rattle.hd_num.proofs.Fractions.{determined}
 use Rattle.hd_feature.specs.declared.notation.Notation.{Notation}
-use Rattle.hd_feature.specs.declared.notation.NotationError.{NotationError}
+use Rattle.hd_feature.specs.declared.notation.Statistic.{Statistic}
+use Rattle.hd_feature.specs.declared.notation.Statistic.TheVariants as statistic
 use Rattle.hd_feature.specs.declared.region.Region.{Region}
-use Rattle.hd_feature.specs.declared.notation.NotationError.TheVariants.{BadPart}
-use Rattle.hd_feature.specs.Parts.{is_separator, left, no_part}
+use Rattle.hd_feature.specs.Value.{AreSameValues, IsValue, attributes, over, under}
 
 -- a list without elements
 pub nothing : {X : Type 0} (xs : List X) → length xs ≡ 0 → xs ≡ []
@@ -27,16 +27,23 @@ attributes_more p f rs i d vs ws lt so_far e =
     e ∙ ap₂ (λ a b. a ++ b) so_far (sym (map_one f (p (get_or rs i d)) (get_or rs i d)))
     ∙ sym (map-append f (filter p (take i rs)) (cond (p (get_or rs i d)) (get_or rs i d ∷ []) [])) ∙ ap (map f) (sym (filter_more p rs i d lt))
 
--- a text without the byte is one part
-pub one_part : (test : ℕ → Bool) (xs : List ℕ) → ((k : ℕ) → k < length xs → test (get_or xs k 0) ≡ false) → slice_split test xs ≡ xs ∷ []
-one_part test [] none = refl
-one_part test (x ∷ xs) none = slice_split-cons_no test x xs (none 0 (omega arith)) ∙ ap (onto_first x) (one_part test xs (λ k lt. none (suc k) (omega arith)))
+-- a statistic divides by a number that is not 0
+under-some : (s : Statistic) (values : List ℤ) (area : ℕ) → 0 < length values → 0 < area → 0 < under s values area
+under-some statistic.Mean values area some known = some
+under-some statistic.Max values area some known = omega arith
+under-some statistic.Min values area some known = omega arith
+under-some statistic.Sum values area some known = omega arith
+under-some statistic.Density values area some known = known
 
--- a text has a part, which is one too many
-pub one_too_many : (number : ℕ) (rest : Option (Bor (List ℕ))) (made : Result Notation NotationError) → true ≡ is_some rest → no_part number (left rest) made ≡ Err (BadPart number)
-one_too_many number None made h = absurd (true≢false h)
-one_too_many number (Some text) made h = filled (slice_split is_separator text.now) (let n = length-slice_split is_separator text.now in omega (arith, n))
-  where
-    filled : (parts : List (List ℕ)) → 0 < length parts → no_part number parts made ≡ Err (BadPart number)
-    filled [] some = absurd (omega arith)
-    filled (part ∷ more) some = refl
+no_value : (values : List ℤ) (area : ℕ) → 0 < length values → 0 < area → (values ≡ []) ⊎ (area ≡ 0) → ⊥
+no_value values area some known (inl none) = let e : length values ≡ 0 = ap length none in omega arith
+no_value values area some known (inr none) = omega arith
+
+-- a notation has one value on some regions
+pub value-one : (n : Notation) (features : List Region) (area : ℕ) (a b : Option Frac) → IsValue n features area a → IsValue n features area b → AreSameValues a b
+value-one n features area (Some f) (Some g) x y =
+    let values = attributes n features in
+    determined (over n.statistic values) (under n.statistic values area) f.num f.den g.num g.den (under-some n.statistic values area x.values_some x.area_some) x.fraction y.fraction
+value-one n features area (Some f) None x y = no_value (attributes n features) area x.values_some x.area_some y
+value-one n features area None (Some g) x y = no_value (attributes n features) area y.values_some y.area_some x
+value-one n features area None None x y = tt

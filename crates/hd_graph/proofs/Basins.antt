@@ -71,8 +71,8 @@ module _ (side : SideName) where
       order.total left right (higher-least (higher_by side a b) c left (higher-least a b left l.0 b_left) c_left) (higher-least a (higher_by side b c) right a_right (higher-least b c right b_right r.1))
 
 -- what is not above another, and is another, is below it
-lower-than : (side : SideName) (a b : Rank) → IsNotAbove (below_by side) a b → (a ≡ b → ⊥) → below_by side a b ≡ true
-lower-than side a b low ne = elim (below_by side a b) as (λ v. below_by side a b ≡ v → v ≡ true) [
+pub not_above-below : (side : SideName) (a b : Rank) → IsNotAbove (below_by side) a b → (a ≡ b → ⊥) → below_by side a b ≡ true
+not_above-below side a b low ne = elim (below_by side a b) as (λ v. below_by side a b ≡ v → v ≡ true) [
   | true ↦ λ e. refl
   | false ↦ λ e. absurd (ne ((below_by-order side).total a b e low))
 ] refl
@@ -96,7 +96,7 @@ module _ (m : Map) (side : SideName) (In : Rank → Rank → Type 0) where
   pass_at : (passes : List Pass) → ArePasses m side In passes → (a b u : Rank) → a ≢ b → IsMeeting m side In a b u → (w : Rank) × HasPass passes a b w × IsNotAbove (below_by side) w u
   pass_at passes right a b u apart meet = elim (below_by side a b) as (λ v. below_by side a b ≡ v → (w : Rank) × HasPass passes a b w × IsNotAbove (below_by side) w u) [
     | true ↦ λ e. (let p = pass_along passes right a b u e meet in (p.0, inl p.1, p.2))
-    | false ↦ λ e. (let p = pass_along passes right b a u (lower-than side b a e (λ same. apart (sym same))) (meeting-sym a b u meet) in (p.0, inr p.1, p.2))
+    | false ↦ λ e. (let p = pass_along passes right b a u (not_above-below side b a e (λ same. apart (sym same))) (meeting-sym a b u meet) in (p.0, inr p.1, p.2))
   ] refl
 
   -- the passes are crossings: a walk over one of them joins two basins that meet
@@ -142,7 +142,7 @@ module _ (m : Map) (side : SideName) (In : Rank → Rank → Type 0) (basins : A
       stays here = refl
       stays (step {a} {b} {c} s r) = absurd (elim (same_or_not (below_by side) (below_by-order side) b p) [
         | inl e ↦ Near-apart m p b s.0 (sym e)
-        | inr ne ↦ pit.alone b (record { near = s.0; below = lower-than side b p s.2 ne })
+        | inr ne ↦ pit.alone b (record { near = s.0; below = not_above-below side b p s.2 ne })
       ])
 
   module _ (passes : List Pass) (right : AreCrossings m side In passes) where

@@ -1,6 +1,6 @@
--- hd_prune cites Places, Lows, Rises and Going
+-- hd_prune cites Places, Lows, Rises and GoesFrom
 pub mod Places
-pub mod Steps
+pub mod Reach
 pub mod Unions
 pub mod Numbers
 pub mod MergeNumbers
@@ -9,7 +9,7 @@ pub mod Floods
 pub mod InOrder
 pub mod Reached
 pub mod Linked
-pub mod Growing
+pub mod Grows
 pub mod Connected
 pub mod LeadsOn
 pub mod Merging
@@ -24,7 +24,7 @@ pub mod LeftParts
 pub mod SideParts
 pub mod Grouped
 pub mod TreeOf
-pub mod Going
+pub mod GoesFrom
 pub mod PitLines
 pub mod MapTrees
 pub mod Isosceles

@@ -14,7 +14,7 @@ use Rattle.hd_map.specs.declared.types.Link.{Link}
 use Rattle.hd_graph.specs.Links.{HasEnds, IsBetween, pass_of, rank_at}
 use Rattle.hd_graph.proofs.Floods.{PassStep}
 use Rattle.hd_graph.proofs.Places.{one_place}
-use Rattle.hd_graph.proofs.Steps.{reach-as}
+use Rattle.hd_graph.proofs.Reach.{reach-as}
 
 -- a low of this rank has one number
 pub same-low : (lows : List Low) → AllPairs (λ x y. x.rank.index ≢ y.rank.index) lows → (a b : ℕ) → a < length lows → b < length lows → rank_at lows a ≡ rank_at lows b → a ≡ b

@@ -11,7 +11,7 @@ use Rattle.hd_graph.specs.declared.line.Stop.{Stop}
 use Rattle.hd_graph.specs.Line.{higher_rise}
 use Rattle.hd_graph.specs.Parts.{over, only_pits, is_flagged}
 use Rattle.hd_graph.specs.Tells.{IsPitOn, IsSaddleOn}
-use Rattle.hd_graph.proofs.Going.{GoesFrom, Between, StaysIn, from_going, to_going, going-short, going-long}
+use Rattle.hd_graph.proofs.GoesFrom.{GoesFrom, Between, StaysIn, from_going, to_going, going-short, going-long}
 use Rattle.hd_graph.proofs.Highest.{OnePlace, TellsLevels, IsLowestLevel, line-tells, levels-tell, told-agree}
 use Rattle.hd_graph.proofs.Lows.{IsLowOn, place_of_low, low_of_place, lows_of}
 use Rattle.hd_graph.proofs.Places.{less_same_more, place_of, at_place}

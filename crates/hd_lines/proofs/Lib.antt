@@ -5,10 +5,10 @@ pub mod Slots
 pub mod Finding
 pub mod Rounds
 pub mod Chained
-pub mod Gathering
-pub mod Crossed
+pub mod Borders
+pub mod NumberedBorders
 pub mod Owners
-pub mod Ways
+pub mod FirstJoins
 pub mod Placing
 pub mod Listing
 pub mod Lining

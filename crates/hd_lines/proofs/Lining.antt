@@ -24,7 +24,7 @@ use Rattle.hd_lines.specs.Found.{HasPlace}
 use Rattle.hd_lines.specs.Places.{AreOwnerPlaces}
 use Rattle.hd_lines.proofs.Counted.{counted-as}
 use Rattle.hd_lines.proofs.Placing.{kept-last, last-kept, own-place, owned-place, pit_at-is, place-owned, place-owner, place-rises, placed, places-joined, pit_at, rises-at}
-use Rattle.hd_lines.proofs.Ways.{first-saddle}
+use Rattle.hd_lines.proofs.FirstJoins.{first-saddle}
 
 module _ (m : Map) (whole : IsMap m) (side : SideName) (thousandths : ℕ) (steps : List Step) (kept : List Kept) (owners : List Owned) (pruned : IsPruned m side thousandths steps kept owners)
     (regions : Numbering) (numbered : AreNumbered m side regions) (places : List ℕ) (are : AreOwnerPlaces kept owners regions.numbers places)

@@ -25,7 +25,7 @@ use Rattle.hd_prune.proofs.Points.{JoinedBy, joined_along, joined_both, joined_h
 use Rattle.hd_lines.specs.declared.line.BorderLine.{BorderLine}
 use Rattle.hd_lines.specs.Lines.{AreBorderLines, IsAcross, IsBorderLine, IsOwnedBy}
 use Rattle.hd_lines.proofs.Owners.{AreOwners, neighbours-joined, owners-pruned, saddle-within}
-use Rattle.hd_lines.proofs.Ways.{higher-below}
+use Rattle.hd_lines.proofs.FirstJoins.{higher-below}
 
 module _ (m : Map) (side : SideName) (last : List Rank) (owner : Rank → Rank) (w : AreOwners m side last owner) where
   -- the pass of a border line is not below the saddle of its pits

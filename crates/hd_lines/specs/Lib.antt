@@ -4,5 +4,5 @@ pub mod Chains
 pub mod Found
 pub mod Borders
 pub mod FirstJoins
-pub mod Crossings
+pub mod NumberedBorders
 pub mod Listed

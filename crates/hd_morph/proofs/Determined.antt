@@ -12,7 +12,7 @@ use Rattle.hd_morph.specs.Element.{ElementTable}
 use Rattle.hd_morph.specs.Filter.{Relief, Filter, Dilation, Erosion, Opening, Closing, IsRaised, IsLowered, IsDilation, IsErosion, IsFiltered}
 use Rattle.hd_morph.specs.Compare.{AreSame}
 use Rattle.hd_morph.specs.Answer.{AreFilteredCells, IsFirstOutside, IsOutOfRange, with_cells}
-use Rattle.hd_morph.proofs.GreatestLemmas.{greatest_same, least_same, greatest_of, least_of}
+use Rattle.hd_morph.proofs.Greatest.{greatest_same, least_same, greatest_of, least_of}
 use Rattle.hd_morph.proofs.PlainLemmas.{some_or_none}
 
 same_back : (s : Size) (f g : Relief) → AreSame s f g → AreSame s g f

@@ -1,4 +1,4 @@
-pub mod GreatestLemmas
+pub mod Greatest
 pub mod PlainLemmas
 pub mod Windows
 pub mod Rectangles

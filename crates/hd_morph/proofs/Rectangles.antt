@@ -11,7 +11,7 @@ use Rattle.hd_morph.specs.Greatest.{IsGreatest}
 use Rattle.hd_morph.specs.Plain.{value_at, relief}
 use Rattle.hd_morph.specs.Window.{IsNearby, AreWindowGreatests, IsStridesOff, AreStrideGreatests}
 use Rattle.hd_morph.specs.Round.{IsNear, IsInRow, AreRowGreatests, IsRound, AreRoundGreatests}
-use Rattle.hd_morph.proofs.GreatestLemmas.{greatest_of, greatest_nested, IsOneOf}
+use Rattle.hd_morph.proofs.Greatest.{greatest_of, greatest_nested, IsOneOf}
 use Rattle.hd_morph.proofs.PlainLemmas.{some_inside, mid_inside, mid_before, mid_after, mid_length, part_at, part_length}
 
 -- the rows before y are done

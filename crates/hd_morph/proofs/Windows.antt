@@ -6,7 +6,7 @@ use Rattle.std.proofs.Math.Nat.{mul-le-mul_right}
 use Rattle.hd_morph.specs.Greatest.{larger}
 use Rattle.hd_morph.specs.Plain.{shown, value_at}
 use Rattle.hd_morph.specs.Window.{IsNearby, AreWindowGreatests, IsStridesOff, AreStrideGreatests, IsAhead, AreAheadGreatests, IsWidened, IsBehind, IsLookedBackAt, IsLookedBack}
-use Rattle.hd_morph.proofs.GreatestLemmas.{greatest_of, greatest_join, larger_none}
+use Rattle.hd_morph.proofs.Greatest.{greatest_of, greatest_join, larger_none}
 use Rattle.hd_morph.proofs.PlainLemmas.{value_read, none_past, set_same, set_other}
 
 -- one value ahead is that of the place itself

@@ -11,7 +11,7 @@ use Rattle.hd_map.specs.Rank.{rank}
 use Rattle.hd_map.specs.Region.{AreRegions, IsRoot}
 use Rattle.hd_map.proofs.Points.{place_inside, point_at, position_at-inside, position_at-of, present_or_not}
 use Rattle.hd_prune.proofs.Existing.{root_of}
-use Rattle.hd_prune.proofs.Passes.{slice_get_last}
+use Rattle.hd_prune.proofs.Lists.{slice_get_last}
 
 -- what a list of regions has for a position
 record IsEntry (m : Map) (side : SideName) (p : Pos) (entry : Option ℕ) : Type 0 where

@@ -4,8 +4,8 @@ mod Members
 mod EdgePoints
 mod EdgeHeights
 mod Extents
-mod Between
+mod BetweenRoots
 mod Rooted
-mod Pits
+mod PitsOf
 mod Touched
 pub mod Following

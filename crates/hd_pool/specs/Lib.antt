@@ -1,5 +1,6 @@
 -- Definitions that the contracts cite.
 pub mod Told
-pub mod Crossed
+pub mod BetweenRoots
+pub mod PitsOf
 pub mod Choice
 pub mod Following

@@ -2,8 +2,9 @@
 //! of the grid is looked at. Of a grid in tiles the pool is kept from one report to the next, where that pays.
 #![tactic(auto)]
 
+mod between;
 mod choice;
-mod crossed;
+mod pits;
 mod pool_view;
 mod side_pool;
 mod told;

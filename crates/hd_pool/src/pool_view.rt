@@ -2,7 +2,8 @@
 ghost use Rattle.std.specs.Prelude.{◌≡◌, IfOk};
 ghost use Rattle.hd_basin.specs.InStep.{IsPoolOf};
 
-use crate::crossed::{passes_between_regions, pits_among};
+use crate::between::passes_between_regions;
+use crate::pits::pits_among;
 use crate::told::{sizes_told, tallies_told};
 use hd_basin::Basins;
 use hd_list::{List, Memory};

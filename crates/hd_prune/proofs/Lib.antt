@@ -9,7 +9,7 @@ pub mod Heirs
 pub mod ElderForm
 pub mod Bounds
 pub mod Stacks
-pub mod Passes
+pub mod LeftBounds
 pub mod Heights
 pub mod Leavings
 pub mod Ordered

@@ -7,7 +7,7 @@ use Rattle.hd_map.specs.declared.types.Rank.{Rank}
 use Rattle.hd_map.specs.Order.{IsStrictOrder}
 use Rattle.hd_map.proofs.Levels.{Contains-head, Contains-tail, Contains-cases}
 use Rattle.hd_graph.specs.declared.line.Stop.{Stop}
-use Rattle.hd_graph.proofs.Going.{GoesFrom, Between, StaysIn, from_going, to_going, going-short, going-long}
+use Rattle.hd_graph.proofs.GoesFrom.{GoesFrom, Between, StaysIn, from_going, to_going, going-short, going-long}
 use Rattle.hd_graph.proofs.Places.{less_same_more, place_of, at_place, pairs_from_places}
 use Rattle.hd_graph.proofs.Rises.{higher-within, within-higher}
 use Rattle.hd_prune.specs.declared.line.PitStop.{PitStop}

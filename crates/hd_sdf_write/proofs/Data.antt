@@ -15,7 +15,7 @@ use Rattle.hd_num.specs.Decimal.{is_unsigned_decimal}
 use Rattle.hd_num.specs.Steps.{steps_decimal}
 use Rattle.hd_sdf_read.proofs.Gapless.{decimal_form}
 use Rattle.hd_sdf_write.specs.Canonical.{cell_text, line, profile, profile_lines, spaced}
-use Rattle.hd_sdf_write.specs.Parts.{AddsData, data_from, data_text, datum_text, gap_after}
+use Rattle.hd_sdf_write.specs.Data.{AddsData, data_from, data_text, datum_text, gap_after}
 use Rattle.hd_sdf_write.proofs.Laid.{height_decimal}
 use Rattle.hd_sdf_write.proofs.Rows.{length-profile, row_first, row_more}
 

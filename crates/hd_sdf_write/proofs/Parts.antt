@@ -7,7 +7,8 @@ use Rattle.hd_sdf_read.specs.File.{File, HasForms}
 use Rattle.hd_sdf_write.specs.declared.part.Part.{Part}
 use Rattle.hd_sdf_write.specs.declared.part.Part.TheVariants.{Header, Data, End}
 use Rattle.hd_sdf_write.specs.Canonical.{canonical, encoding_lines, end_lines, extra_lines, header_lines, line, name_lines, profile_lines, scale_lines, version_text}
-use Rattle.hd_sdf_write.specs.Parts.{AddsData, AddsPart, IsDataOrEnd, data_from}
+use Rattle.hd_sdf_write.specs.Data.{AddsData, data_from}
+use Rattle.hd_sdf_write.specs.Parts.{AddsPart, IsDataOrEnd}
 use Rattle.hd_sdf_write.proofs.Data.{data_are, data_none}
 use Rattle.hd_sdf_write.proofs.Sizes.{end_size, end_some, header_size}
 

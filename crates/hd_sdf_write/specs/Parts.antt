@@ -1,29 +1,11 @@
 -- The parts of the canonical text of a file.
-use Rattle.std.specs.Prelude.{◌≡◌, ◌<◌, ◌≤◌, ◌+◌, ◌-◌, ◌%◌, ◌==◌, ◌++◌, ℕ, zero, suc, List, [], ◌∷◌, length, slice_index_or, Option, Some, None, if◌then◌else◌}
-use Rattle.hd_map.specs.declared.types.Cell.TheVariants.{Bad}
-use Rattle.hd_map.specs.declared.types.Size.{Size}
-use Rattle.hd_map.specs.Map.{Map, cell_count}
+use Rattle.std.specs.Prelude.{◌≡◌, ◌<◌, ◌≤◌, ◌+◌, ◌-◌, ◌++◌, ℕ, List, [], length, Option, Some, None}
+use Rattle.hd_map.specs.Map.{cell_count}
 use Rattle.hd_sdf_read.specs.File.{File}
 use Rattle.hd_sdf_write.specs.declared.part.Part.{Part}
 use Rattle.hd_sdf_write.specs.declared.part.Part.TheVariants.{Header, Data, End}
-use Rattle.hd_sdf_write.specs.Canonical.{canonical, cell_text, end_lines}
-
--- what stands behind a datum: an LF at the end of a profile, or else a blank
-abbrev pub gap_after : Size → ℕ → ℕ
-gap_after size k = if (k + 1) % size.points == 0 then 10 else 32
-
--- a datum, and what stands behind it
-abbrev pub datum_text : Map → ℕ → List ℕ
-datum_text m k = cell_text m.data_type (slice_index_or m.cells k Bad) ++ gap_after m.size k ∷ []
-
--- so many data from one on
-unfoldable pub data_text : Map → ℕ → ℕ → List ℕ
-data_text m k zero = []
-data_text m k (suc n) = datum_text m k ++ data_text m (k + 1) n
-
--- the data from one on
-abbrev pub data_from : Map → ℕ → List ℕ
-data_from m k = data_text m k (cell_count m.size - k)
+use Rattle.hd_sdf_write.specs.Canonical.{canonical, end_lines}
+use Rattle.hd_sdf_write.specs.Data.{data_from}
 
 -- the text of a file from a part on
 abbrev pub text_from : File → Option Part → List ℕ
@@ -59,14 +41,6 @@ parts_left f None = 0
 -- the most bytes of a piece
 abbrev pub most_bytes : ℕ
 most_bytes = 262144
-
--- data from one on are added, up to the next
-pub record AddsData (m : Map) (from : ℕ) (old new : List ℕ) (next : ℕ) : Type 0 where
-  pub text : old ++ data_from m from ≡ new ++ data_from m next
-  pub within : next ≤ cell_count m.size
-  pub some : from < next
-  pub longer : length old < length new
-  pub short : length new ≤ length old + 65536
 
 -- a part is added
 pub record AddsPart (f : File) (part : Part) (old new : List ℕ) (next : Option Part) : Type 0 where

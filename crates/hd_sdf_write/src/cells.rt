@@ -3,7 +3,7 @@ ghost use Rattle.std.specs.Prelude.{◌≡◌, ◌<◌, ◌≤◌, ◌++◌, IfO
 ghost use Rattle.hd_map.specs.Map.{cell_count, most_places, place_of, places_of};
 ghost use Rattle.hd_map.specs.Surface.{map_of};
 ghost use Rattle.hd_sdf_write.specs.Canonical.{cell_text};
-ghost use Rattle.hd_sdf_write.specs.Parts.{AddsData, gap_after};
+ghost use Rattle.hd_sdf_write.specs.Data.{AddsData, gap_after};
 
 use hd_list::{List, Memory};
 use hd_map::{Cell, DataType, Grid, Pos, Size, Surface, position_after, position_of};

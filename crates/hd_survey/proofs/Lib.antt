@@ -5,6 +5,7 @@ pub mod Found
 pub mod RootedPoints
 mod Counts
 pub mod MapPits
+mod RegionSizes
 mod PitLinks
 mod LowerRanks
 mod PrunedPits
@@ -12,7 +13,7 @@ mod FeaturePoints
 mod Numbers
 mod Tallying
 mod RegionTallies
-mod Joining
+mod PlacedTallies
 pub mod OwnedTallies
 mod KeptPlaces
 mod Owning

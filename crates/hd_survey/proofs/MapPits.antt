@@ -9,7 +9,6 @@ use Rattle.std.proofs.lemmas.Simd.{map-map}
 use Rattle.std.proofs.lemmas.List.Elements.{Contains-get_or}
 use Rattle.hd_map.specs.declared.types.Pos.{Pos}
 use Rattle.hd_map.specs.declared.types.Rank.{Rank}
-use Rattle.hd_map.specs.declared.types.RegionSize.{RegionSize}
 use Rattle.hd_map.specs.declared.types.SideName.{SideName}
 use Rattle.hd_map.specs.Map.{Map, IsMap, InGrid, Present, place_of, position_at, cell_count}
 use Rattle.hd_map.specs.Pruning.{ArePits}
@@ -20,13 +19,11 @@ use Rattle.hd_map.proofs.Nexts.{root-is_pit, root-of_pit}
 use Rattle.hd_graph.specs.declared.graph.Low.{Low}
 use Rattle.hd_graph.specs.Basins.{ArePitsOf}
 use Rattle.hd_prune.specs.Staying.{ranks_of}
-use Rattle.hd_map.proofs.Prunings.{pits-unique}
-use Rattle.hd_steep.specs.Numbering.{AreNumbered, Numbering, roots_of}
 use Rattle.hd_steep.proofs.Pits.{ArePitsBefore, pits_all, pits_none, pits_pass, pits_push}
 use Rattle.hd_survey.specs.PitLinks.{low_of}
-use Rattle.hd_survey.specs.Regions.{AreRegionSizes, names, pit_ranks, rank_at, region_size}
+use Rattle.hd_survey.specs.Regions.{names, pit_ranks, rank_at}
 use Rattle.hd_survey.proofs.Counts.{pits_from, pits_from-other, pits_from-own}
-use Rattle.hd_survey.proofs.Lists.{All-map, AllPairs-map, Contains-map, map-Contains}
+use Rattle.hd_survey.proofs.Lists.{AllPairs-map, Contains-map, map-Contains}
 use Rattle.hd_survey.proofs.RootedPoints.{rooted_present}
 
 -- the rank of an index is that of its position
@@ -134,16 +131,3 @@ module _ (m : Map) (side : SideName) (pits : List Rank) (are : ArePits m side pi
 
   pub lows_ranks : ranks_of lows ≡ pits
   lows_ranks = map-map (λ (x : Low). x.rank) low_of pits ∙ map-id pits
-
--- the pits of regions are points of the grid
-pub sizes_inside : (m : Map) (side : SideName) (sizes : List RegionSize) → IsMap m → AreRegionSizes m side sizes → All (λ size. size.pit.index < cell_count m.size) sizes
-sizes_inside m side sizes whole are =
-    subst (λ (xs : List RegionSize). All (λ (size : RegionSize). size.pit.index < cell_count m.size) xs) (sym are.are)
-    (All-map (region_size are.roots) (λ (size : RegionSize). size.pit.index < cell_count m.size) (pit_ranks m are.roots) (pits_inside m side (pit_ranks m are.roots) (ranks_pits m side are.roots whole are.regions)))
-
--- the regions of the pits that are numbered are those of the map
-pub sizes_numbered : (m : Map) (side : SideName) (regions : Numbering) (sizes : List RegionSize) → IsMap m → AreNumbered m side regions
-    → sizes ≡ map (region_size (roots_of regions)) regions.pits → AreRegionSizes m side sizes
-sizes_numbered m side regions sizes whole are is =
-    let pits : regions.pits ≡ pit_ranks m (roots_of regions) = pits-unique m side regions.pits (pit_ranks m (roots_of regions)) are.pits (ranks_pits m side (roots_of regions) whole are.roots) in
-    record { roots = roots_of regions; regions = are.roots; are = is ∙ ap (λ (ps : List Rank). map (region_size (roots_of regions)) ps) pits }

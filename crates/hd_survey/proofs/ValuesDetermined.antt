@@ -1,13 +1,12 @@
 -- A parameter and a notation have one value on a map.
-use Rattle.std.proofs.Common.{◌≡◌, ◌<◌, ◌*◌, ℕ, ℤ, zero, suc, List, [], ◌∷◌, length, map, Option, Some, None, inl, inr, refl, sym, ap, ◌∙◌, subst, arith}
-use Rattle.std.specs.Prelude.{Contains, ◌⊎◌}
+use Rattle.std.proofs.Common.{◌≡◌, ◌<◌, ◌*◌, ℕ, ℤ, zero, suc, List, [], ◌∷◌, length, map, Option, Some, None, refl, sym, ap, ◌∙◌, subst, arith}
+use Rattle.std.specs.Prelude.{Contains}
 use Rattle.hd_feature.specs.declared.notation.Notation.{Notation}
 use Rattle.hd_feature.specs.declared.notation.Parameter.{Parameter}
 use Rattle.hd_feature.specs.declared.notation.Parameter.TheVariants.{One, Sum}
-use Rattle.hd_feature.specs.declared.notation.Statistic.{Statistic}
-use Rattle.hd_feature.specs.declared.notation.Statistic.TheVariants as statistic
 use Rattle.hd_feature.specs.declared.region.Region.{Region}
-use Rattle.hd_feature.specs.Value.{AreSameValues, IsValue, attributes, over, under}
+use Rattle.hd_feature.specs.Value.{AreSameValues, IsValue}
+use Rattle.hd_feature.proofs.Values.{value-one}
 use Rattle.hd_map.specs.declared.types.Rank.{Rank}
 use Rattle.hd_map.specs.declared.types.SideName.{SideName}
 use Rattle.hd_map.specs.Map.{Map, IsMap}
@@ -98,25 +97,6 @@ some_none : (c : Frac) → ◌≡◌ {A = Option Frac} (Some c) None → ⊥
 some_none c e = cc
 
 module _ (laws : ValueLaws) where
-  some_under : (s : Statistic) (values : List ℤ) (area : ℕ) → 0 < length values → 0 < area → 0 < under s values area
-  some_under statistic.Mean values area some known = some
-  some_under statistic.Max values area some known = omega arith
-  some_under statistic.Min values area some known = omega arith
-  some_under statistic.Sum values area some known = omega arith
-  some_under statistic.Density values area some known = known
-
-  no_value : (values : List ℤ) (area : ℕ) → 0 < length values → 0 < area → (values ≡ []) ⊎ (area ≡ 0) → ⊥
-  no_value values area some known (inl none) = let e : length values ≡ 0 = ap length none in omega arith
-  no_value values area some known (inr none) = omega arith
-
-  value-one : (n : Notation) (features : List Region) (area : ℕ) (a b : Option Frac) → IsValue n features area a → IsValue n features area b → AreSameValues a b
-  value-one n features area (Some f) (Some g) x y =
-      let values = attributes n features in
-      laws.fractions (over n.statistic values) (under n.statistic values area) f.num f.den g.num g.den (some_under n.statistic values area x.values_some x.area_some) x.fraction y.fraction
-  value-one n features area (Some f) None x y = no_value (attributes n features) area x.values_some x.area_some y
-  value-one n features area None (Some g) x y = no_value (attributes n features) area y.values_some y.area_some x
-  value-one n features area None None x y = tt
-
   module _ (m : Map) (whole : IsMap m) where
     -- a notation has one value
     pub notation_value-one : (n : Notation) (a b : Option Frac) → IsNotationValue m n a → IsNotationValue m n b → AreSameValues a b

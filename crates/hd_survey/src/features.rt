@@ -8,7 +8,7 @@ ghost use Rattle.hd_survey.specs.Features.{AreFeatures, AreFeaturesWith, AreHeig
 ghost use Rattle.hd_survey.specs.Heights.{HasHeights, IsHeightRange, farthest_apart};
 
 use crate::findings::Findings;
-use crate::lpvh::lpvh;
+use crate::local_heights::lpvh;
 use crate::owned::owned_tallies;
 use crate::pruned::{cells_of, pruned_pits};
 use crate::tally::{NO_TALLY, Tally};

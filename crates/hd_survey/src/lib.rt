@@ -10,7 +10,7 @@ mod grid_view;
 mod kept;
 mod laws;
 mod lines;
-mod lpvh;
+mod local_heights;
 mod merges;
 mod owned;
 mod pits;

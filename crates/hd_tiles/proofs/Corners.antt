@@ -7,7 +7,7 @@ use Rattle.hd_map.specs.declared.types.Pos.{Pos}
 use Rattle.hd_map.specs.declared.types.Size.{Size}
 use Rattle.hd_map.specs.Map.{InGrid, IsSize}
 use Rattle.hd_tiles.specs.Tile.{IsRound, tile_of, tile_count, tiles_along, tiles_across}
-use Rattle.hd_tiles.proofs.Parts.{near_part, part_below}
+use Rattle.hd_tiles.proofs.TilesAlong.{near_part, part_below}
 
 -- the tile of a position of the grid is one of its tiles
 pub tile_inside : (s : Size) (t : ℕ) (p : Pos) → 1 ≤ t → InGrid s p → tile_of s t p < tile_count s t

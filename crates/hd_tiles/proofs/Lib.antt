@@ -1,4 +1,4 @@
-pub mod Parts
+pub mod TilesAlong
 pub mod Corners
 pub mod Stamping
 pub mod Changes

@@ -15,7 +15,7 @@ use Rattle.hd_words.specs.declared.command_lines.CommandLine.TheVariants.{Dales,
 use Rattle.hd_words.specs.declared.demo.Demo.{Demo}
 use Rattle.hd_words.specs.declared.found.Stage.TheVariants.{Options}
 use Rattle.hd_words.proofs.ParsedWords.{ArePlain, Fits}
-use Rattle.hd_words.proofs.WordLemmas.{same_byte}
+use Rattle.hd_words.proofs.StartsWith.{same_byte}
 
 pub then_some : {X Y : Type 0} (o : Option X) (f : X → Option Y) (y : Y) → option_and_then f o ≡ Some y → (x : X) × (o ≡ Some x) × (f x ≡ Some y)
 then_some None f y is = absurd (cc)

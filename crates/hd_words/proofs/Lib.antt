@@ -1,4 +1,5 @@
-mod WordLemmas
+mod WordSteps
+mod StartsWith
 mod ParsedRows
 mod ParsedKeys
 mod ParsedWords

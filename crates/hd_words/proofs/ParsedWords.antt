@@ -15,7 +15,8 @@ use Rattle.hd_words.specs.Words.{Given, given_of, with_name, with_tile, with_sav
 use Rattle.hd_words.specs.WordSteps.{both_given, followed_by}
 use Rattle.hd_words.specs.declared.found.Stage.{Stage}
 use Rattle.hd_words.specs.declared.found.Stage.TheVariants.{Options, TileValue, SaveValue, Names}
-use Rattle.hd_words.proofs.WordLemmas.{one_name, same_byte}
+use Rattle.hd_words.proofs.StartsWith.{same_byte}
+use Rattle.hd_words.proofs.WordSteps.{one_name}
 use Rattle.hd_words.proofs.ParsedRows.{row_at, joins, lacks}
 use Rattle.hd_words.proofs.ParsedKeys.{Adds, AreDifferent, HasRows, Key, adds_name, adds_save, adds_tile, id_of, Name, row_added, said, Save, taken, Tile}
 

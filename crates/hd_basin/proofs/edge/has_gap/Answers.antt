@@ -3,7 +3,7 @@ use Rattle.std.proofs.lemmas.Bool.{cases_lt}
 use Rattle.hd_map.specs.declared.types.Pos.{Pos}
 use Rattle.hd_map.specs.Map.{Map, Present}
 use Rattle.hd_basin.proofs.Edges.{no_gap}
-use Rattle.hd_basin.proofs.Linking.{low-absent, low-present}
+use Rattle.hd_basin.proofs.AreLinks.{low-absent, low-present}
 use Rattle.hd_basin.proofs.edge.has_gap.Goals as goal
 
 abbrev beside : Pos → ℕ → Pos

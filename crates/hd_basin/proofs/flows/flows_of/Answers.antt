@@ -11,7 +11,7 @@ use Rattle.hd_steep.specs.Lowest.{IsLow, IsRound}
 use Rattle.hd_steep.proofs.Round.{found_inside, pit_found, next_at}
 use Rattle.hd_basin.specs.declared.frame.Frame.{Frame}
 use Rattle.hd_basin.specs.Round.{low_round}
-use Rattle.hd_basin.proofs.Rounding.{lowest-at}
+use Rattle.hd_basin.proofs.LowRound.{lowest-at}
 use Rattle.hd_basin.proofs.flows.flows_of.Goals as goal
 
 pub lowest_round-lowest-requires-clause-inside : goal.lowest_round-lowest-requires-clause-inside

@@ -2,7 +2,7 @@ use Rattle.std.proofs.Common.{ℕ, ◌<◌, ◌≤◌, ◌*◌, ◌/◌, ◌%◌
 use Rattle.std.proofs.lemmas.Nat.{mod_below}
 use Rattle.hd_map.specs.declared.types.Size.{Size}
 use Rattle.hd_tiles.specs.Tile.{tiles_across}
-use Rattle.hd_basin.proofs.Framing.{some_across, part_start, column_start}
+use Rattle.hd_basin.proofs.Frames.{some_across, part_start, column_start}
 use Rattle.hd_basin.proofs.frame.area_of.Goals as goal
 
 pub overflow_sub-size-2 : goal.overflow_sub-size-2

@@ -3,7 +3,7 @@ use Rattle.std.proofs.lemmas.Nat.{mod_below}
 use Rattle.hd_map.specs.declared.types.Size.{Size}
 use Rattle.hd_tiles.specs.Tile.{tiles_across}
 use Rattle.hd_basin.specs.declared.frame.Frame.{Frame}
-use Rattle.hd_basin.proofs.Framing.{some_across, part_start, column_start, frame_holds, frame_only}
+use Rattle.hd_basin.proofs.Frames.{some_across, part_start, column_start, frame_holds, frame_only}
 use Rattle.hd_basin.proofs.frame.frame_of.Goals as goal
 
 pub stretch_of-y-requires-clause-some : goal.stretch_of-y-requires-clause-some

@@ -1,5 +1,5 @@
 use Rattle.std.proofs.Common.{◌∙◌, [], ap, map}
-use Rattle.hd_basin.specs.Listing.{as_low, lows_in}
+use Rattle.hd_basin.specs.Graph.{as_low, lows_in}
 use Rattle.hd_basin.proofs.Listed.{flat-more, flat-whole}
 use Rattle.hd_basin.proofs.graph.lows_of.Goals as goal
 

@@ -1,6 +1,6 @@
 use Rattle.std.proofs.Common.{◌≡◌, take}
 use Rattle.std.specs.List.{flat_map}
-use Rattle.hd_basin.specs.Listing.{passes_in}
+use Rattle.hd_basin.specs.Graph.{passes_in}
 use Rattle.hd_basin.proofs.graph.passes_of.Given as goal
 
 abbrev pub invariant-parts : goal.invariant-parts

@@ -1,5 +1,5 @@
 use Rattle.std.proofs.Common.{◌∙◌, refl}
-use Rattle.hd_basin.specs.Listing.{pass_of}
+use Rattle.hd_basin.specs.Graph.{pass_of}
 use Rattle.hd_basin.proofs.Listed.{flat-more, flat-whole}
 use Rattle.hd_basin.proofs.graph.push_across.Goals as goal
 

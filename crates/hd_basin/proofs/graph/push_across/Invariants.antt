@@ -1,6 +1,6 @@
 use Rattle.std.proofs.Common.{◌≡◌, ◌++◌, take}
 use Rattle.std.specs.List.{flat_map}
-use Rattle.hd_basin.specs.Listing.{pass_of}
+use Rattle.hd_basin.specs.Graph.{pass_of}
 use Rattle.hd_basin.proofs.graph.push_across.Given as goal
 
 abbrev pub invariant-seams : goal.invariant-seams

@@ -1,5 +1,5 @@
 use Rattle.std.proofs.Common.{◌≡◌, ◌++◌, map, take}
-use Rattle.hd_basin.specs.Listing.{in_order}
+use Rattle.hd_basin.specs.Graph.{in_order}
 use Rattle.hd_basin.specs.Parts.{pass_named}
 use Rattle.hd_basin.proofs.graph.push_inside.Given as goal
 

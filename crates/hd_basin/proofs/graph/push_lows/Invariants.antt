@@ -1,5 +1,5 @@
 use Rattle.std.proofs.Common.{◌≡◌, ◌++◌, map, take}
-use Rattle.hd_basin.specs.Listing.{as_low}
+use Rattle.hd_basin.specs.Graph.{as_low}
 use Rattle.hd_basin.proofs.graph.push_lows.Given as goal
 
 abbrev pub invariant-nodes : goal.invariant-nodes

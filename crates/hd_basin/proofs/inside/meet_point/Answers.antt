@@ -1,6 +1,6 @@
 use Rattle.std.proofs.Common.{◌≡◌, ℕ, length, subst, arith}
 use Rattle.hd_basin.specs.Inside.{AreMet, place_of_frame}
-use Rattle.hd_basin.proofs.Meets.{met-place}
+use Rattle.hd_basin.proofs.AreMet.{met-place}
 use Rattle.hd_basin.proofs.inside.meet_point.Goals as goal
 
 pub returns : goal.returns

@@ -1,5 +1,5 @@
 use Rattle.std.proofs.Common.{◌≡◌, ℕ, length, inl, inr, refl, sym, ◌∙◌, subst, arith}
-use Rattle.hd_basin.proofs.Meets.{met-outside, met-step}
+use Rattle.hd_basin.proofs.AreMet.{met-outside, met-step}
 use Rattle.hd_basin.specs.Inside.{IsPairAt, place_of_frame}
 use Rattle.hd_basin.proofs.inside.meet_step.Goals as goal
 

@@ -4,7 +4,7 @@ use Rattle.hd_map.specs.declared.types.Adjacency.{Adjacency}
 use Rattle.hd_map.specs.Map.{Map}
 use Rattle.hd_map.specs.Neighbour.{AreBesideUnder}
 use Rattle.hd_basin.specs.Inside.{IsPairAt, label_at}
-use Rattle.hd_basin.proofs.Meets.{pair-equal, pair-few, pair-up}
+use Rattle.hd_basin.proofs.AreMet.{pair-equal, pair-few, pair-up}
 use Rattle.hd_basin.proofs.inside.pair_at.Goals as goal
 
 pub returns-then-a-b : goal.returns-then-a-b

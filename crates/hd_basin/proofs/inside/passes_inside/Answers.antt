@@ -5,7 +5,7 @@ use Rattle.hd_basin.specs.Built.{HasPasses}
 use Rattle.hd_basin.specs.Inside.{AreMet, join_of}
 use Rattle.hd_basin.specs.Parts.{pass_named}
 use Rattle.hd_basin.specs.Meetings.{AreChained}
-use Rattle.hd_basin.proofs.Meets.{met-none, passes-all}
+use Rattle.hd_basin.proofs.AreMet.{met-none, passes-all}
 use Rattle.hd_basin.proofs.inside.passes_inside.Goals as goal
 
 pub loop-row-init : goal.loop-row-init

@@ -7,7 +7,7 @@ use Rattle.hd_basin.specs.Built.{IsAsked, IsNoded}
 use Rattle.hd_basin.specs.declared.part.Seam.{Seam}
 use Rattle.hd_basin.specs.Seams.{AreCandidates, KeepLowest}
 use Rattle.hd_basin.specs.Sinks.{IsArea}
-use Rattle.hd_basin.proofs.Joining.{joined-built}
+use Rattle.hd_basin.proofs.BuiltSeams.{joined-built}
 use Rattle.hd_basin.proofs.joined.joined.Goals as goal
 
 pub returns-clause-built : goal.returns-clause-built

@@ -5,8 +5,8 @@ use Rattle.hd_map.specs.declared.types.SideName.{SideName}
 use Rattle.hd_tiles.specs.Stamps.{ComesFrom}
 use Rattle.hd_basin.specs.InStep.{IsInStep}
 use Rattle.hd_basin.specs.Parts.{Pool, HasNode, IsLinked, IsFresh, label_of}
-use Rattle.hd_basin.proofs.Keeping.{Keeps}
-use Rattle.hd_basin.proofs.Steps.{right-kept, fresh-before}
+use Rattle.hd_basin.proofs.Keeps.{Keeps}
+use Rattle.hd_basin.proofs.InStep.{right-kept, fresh-before}
 use Rattle.hd_basin.proofs.laws.pool_stays_in_step.Goals as goal
 
 -- what is fresh now was fresh before, and is kept

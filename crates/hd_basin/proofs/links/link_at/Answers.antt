@@ -10,7 +10,7 @@ use Rattle.hd_basin.specs.declared.frame.Frame.{Frame}
 use Rattle.hd_basin.specs.Round.{low_round}
 use Rattle.hd_basin.specs.Sinks.{at_place}
 use Rattle.hd_basin.proofs.Areas.{area-small, place-below}
-use Rattle.hd_basin.proofs.Linking.{place-absent, place-present, place-low, link-inside, link-outside}
+use Rattle.hd_basin.proofs.AreLinks.{place-absent, place-present, place-low, link-inside, link-outside}
 use Rattle.hd_basin.proofs.links.link_at.Goals as goal
 
 pub returns-then-is_missing : goal.returns-then-is_missing

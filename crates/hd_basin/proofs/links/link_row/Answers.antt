@@ -1,6 +1,6 @@
 use Rattle.std.proofs.Common.{◌≡◌, ◌+◌, ◌*◌, ℕ, sym, subst, arith}
 use Rattle.hd_basin.specs.Links.{AreLinksTo}
-use Rattle.hd_basin.proofs.Linking.{links-more}
+use Rattle.hd_basin.proofs.AreLinks.{links-more}
 use Rattle.hd_basin.proofs.links.link_row.Goals as goal
 
 pub loop-column-preserved : goal.loop-column-preserved

@@ -1,7 +1,7 @@
 use Rattle.std.proofs.Common.{◌≡◌, ◌+◌, ◌*◌, ℕ, List, refl, sym, subst, arith}
 use Rattle.hd_map.specs.declared.types.Rank.{Rank}
 use Rattle.hd_basin.specs.Round.{AreRanks}
-use Rattle.hd_basin.proofs.Rounding.{ranks-more}
+use Rattle.hd_basin.proofs.LowRound.{ranks-more}
 use Rattle.hd_basin.proofs.round.push_row.Goals as goal
 
 pub loop-column-preserved : goal.loop-column-preserved

@@ -1,4 +1,4 @@
-use Rattle.hd_basin.proofs.Rounding.{entry-at}
+use Rattle.hd_basin.proofs.LowRound.{entry-at}
 use Rattle.hd_basin.proofs.round.rank_beside.Goals as goal
 
 pub returns : goal.returns

@@ -1,5 +1,5 @@
 use Rattle.std.proofs.Common.{◌<◌, ◌*◌, inl, inr, arith}
-use Rattle.hd_basin.proofs.Linking.{Takes, link_after, link_set}
+use Rattle.hd_basin.proofs.AreLinks.{Takes, link_after, link_set}
 use Rattle.hd_basin.proofs.sinks.lead_once.Goals as goal
 use Rattle.hd_basin.proofs.sinks.lead_once.Goals.{then-link, else-link}
 

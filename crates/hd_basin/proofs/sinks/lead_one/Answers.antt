@@ -1,5 +1,5 @@
 use Rattle.std.proofs.Common.{arith}
-use Rattle.hd_basin.proofs.Linking.{led-set, led-none}
+use Rattle.hd_basin.proofs.AreLinks.{led-set, led-none}
 use Rattle.hd_basin.proofs.sinks.lead_one.Goals as goal
 
 pub returns-then-link : goal.returns-then-link

@@ -1,5 +1,5 @@
 use Rattle.std.proofs.Common.{arith}
-use Rattle.hd_basin.proofs.Linking.{point_of, way_start, way_more, way_end}
+use Rattle.hd_basin.proofs.AreLinks.{point_of, way_start, way_more, way_end}
 use Rattle.hd_basin.proofs.sinks.sink_from.Goals as goal
 
 pub walk-init : goal.walk-init

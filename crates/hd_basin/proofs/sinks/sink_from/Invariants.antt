@@ -1,4 +1,4 @@
-use Rattle.hd_basin.proofs.Linking.{IsOnWay, depth_of}
+use Rattle.hd_basin.proofs.AreLinks.{IsOnWay, depth_of}
 use Rattle.hd_basin.proofs.sinks.sink_from.Given as goal
 
 abbrev pub invariant-walk : goal.invariant-walk

@@ -4,7 +4,7 @@ use Rattle.std.proofs.lemmas.List.{take_rest}
 use Rattle.std.proofs.lemmas.List.Splits.{slice_split_first}
 use Rattle.std.proofs.lemmas.List.Sums.{position_or_len_is}
 use Rattle.hd_feature.specs.Parts.{is_separator, parts_of}
-use Rattle.hd_feature.proofs.Values.{one_part}
+use Rattle.hd_feature.proofs.WordParts.{one_part}
 use Rattle.hd_feature.proofs.parts.split_part.Goals as goal
 
 pub returns-then-byte-eq59 : goal.returns-then-byte-eq59

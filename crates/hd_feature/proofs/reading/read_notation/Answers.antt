@@ -8,7 +8,7 @@ use Rattle.hd_feature.specs.declared.notation.Significance.{Significance}
 use Rattle.hd_feature.specs.declared.notation.Statistic.{Statistic}
 use Rattle.hd_feature.specs.Notation.{attribute_of, kind_of, paired, pruning_of, significance_of, statistic_of}
 use Rattle.hd_feature.specs.Parts.{and_then, left, no_part, part}
-use Rattle.hd_feature.proofs.Values.{one_too_many}
+use Rattle.hd_feature.proofs.WordParts.{one_too_many}
 use Rattle.hd_feature.proofs.reading.read_notation.Goals as goal
 
 -- what the parts give after the first six, five, four, three, two and one

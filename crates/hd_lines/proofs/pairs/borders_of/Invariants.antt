@@ -1,5 +1,5 @@
 use Rattle.std.proofs.Common.{length, ◌≡◌, []}
-use Rattle.hd_lines.proofs.Gathering.{AreBordersBefore}
+use Rattle.hd_lines.proofs.Borders.{AreBordersBefore}
 use Rattle.hd_lines.proofs.pairs.borders_of.Given as goal
 
 abbrev pub invariant-places : goal.invariant-places

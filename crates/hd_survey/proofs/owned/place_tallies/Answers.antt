@@ -3,7 +3,7 @@ use Rattle.std.specs.Prelude.{pos}
 use Rattle.hd_map.specs.declared.types.Rank.{Rank}
 use Rattle.hd_prune.specs.declared.step.Owned.{Owned}
 use Rattle.hd_survey.specs.Tallies.{no_tally}
-use Rattle.hd_survey.proofs.Joining.{placed_more}
+use Rattle.hd_survey.proofs.PlacedTallies.{placed_more}
 use Rattle.hd_survey.proofs.owned.place_tallies.Goals as goal
 
 pub pits-preserved : goal.pits-preserved

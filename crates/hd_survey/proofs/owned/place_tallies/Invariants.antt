@@ -1,4 +1,4 @@
-use Rattle.hd_survey.proofs.Joining.{ArePlacedBefore}
+use Rattle.hd_survey.proofs.PlacedTallies.{ArePlacedBefore}
 use Rattle.hd_survey.proofs.owned.place_tallies.Given as goal
 
 -- the tallies so far, and then those of the pits that are left

@@ -3,7 +3,8 @@ use Rattle.std.specs.List.{starts_with}
 use Rattle.hd_words.specs.Words.{given_of, begins_with_dash}
 use Rattle.hd_words.specs.WordSteps.{found_so_far, followed_by}
 use Rattle.hd_words.specs.declared.found.Stage.TheVariants.{Options}
-use Rattle.hd_words.proofs.WordLemmas.{absent-false, full_names, one_name, plain_word, refused_word}
+use Rattle.hd_words.proofs.StartsWith.{absent-false}
+use Rattle.hd_words.proofs.WordSteps.{full_names, one_name, plain_word, refused_word}
 use Rattle.hd_words.proofs.found.after_joined.Goals as goal
 
 pub returns-then-is_option-clause-none : goal.returns-then-is_option-clause-none

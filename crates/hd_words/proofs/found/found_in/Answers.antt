@@ -1,9 +1,12 @@
-use Rattle.std.proofs.Common.{◌≡◌, ◌+◌, ◌∙◌, ◌∷◌, ap, arith, drop, map, string_bytes, suc, sym}
+use Rattle.std.proofs.Common.{◌≡◌, ◌<◌, ◌+◌, ◌∙◌, ℕ, List, ◌∷◌, ap, arith, drop, drop-cons, get_or, length, map, string_bytes, suc, sym}
 use Rattle.hd_words.specs.Words.{given_of}
 use Rattle.hd_words.specs.WordSteps.{given_after}
 use Rattle.hd_words.specs.declared.found.Stage.TheVariants.{Options}
-use Rattle.hd_words.proofs.WordLemmas.{left_item, none_before}
+use Rattle.hd_words.proofs.WordSteps.{none_before}
 use Rattle.hd_words.proofs.found.found_in.Goals as goal
+
+left_item : {X Y : Type 0} (f : X → Y) (xs : List X) (i : ℕ) (x : X) → x ≡ get_or xs i x → i < length xs → map f (drop i xs) ≡ f x ∷ map f (drop (suc i) xs)
+left_item f xs i x is within = ap (map f) (drop-cons xs i x within) ∙ ap (λ y. f y ∷ map f (drop (suc i) xs)) (sym is)
 
 pub loop-word-init : goal.loop-word-init
 loop-word-init c = none_before (given_of Options (map string_bytes c.args.words.now))

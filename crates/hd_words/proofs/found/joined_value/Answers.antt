@@ -1,4 +1,4 @@
-use Rattle.hd_words.proofs.WordLemmas.{strips}
+use Rattle.hd_words.proofs.StartsWith.{strips}
 use Rattle.hd_words.proofs.found.joined_value.Goals as goal
 
 pub returns : goal.returns

@@ -1,7 +1,7 @@
 use Rattle.hd_words.specs.Words.{given_of}
 use Rattle.hd_words.specs.WordSteps.{found_so_far, names_in}
 use Rattle.hd_words.specs.declared.found.Stage.TheVariants.{Options}
-use Rattle.hd_words.proofs.WordLemmas.{first_save, full_saves}
+use Rattle.hd_words.proofs.WordSteps.{first_save, full_saves}
 use Rattle.hd_words.proofs.found.with_save.Goals as goal
 
 pub returns-in-Some-clause-none : goal.returns-in-Some-clause-none

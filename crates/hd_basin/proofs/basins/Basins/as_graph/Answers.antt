@@ -4,9 +4,9 @@ use Rattle.hd_map.specs.declared.types.Pass.{Pass}
 use Rattle.hd_map.specs.Rank.{below_by}
 use Rattle.hd_graph.specs.declared.graph.Low.{Low}
 use Rattle.hd_graph.specs.Graph.{IsGraph}
-use Rattle.hd_basin.specs.Listing.{lows_in, passes_in}
+use Rattle.hd_basin.specs.Graph.{lows_in, passes_in}
 use Rattle.hd_basin.specs.Reading.{IsGraphOf}
-use Rattle.hd_basin.proofs.Netted.{pool-is_graph, pool-graph}
+use Rattle.hd_basin.proofs.PoolGraph.{pool-is_graph, pool-graph}
 use Rattle.hd_basin.proofs.basins.Basins.as_graph.Goals as goal
 
 pub new-requires : goal.new-requires

@@ -3,7 +3,7 @@ use Rattle.std.specs.List.{flat_map}
 use Rattle.std.proofs.lemmas.Result.{IfOk-weaker}
 use Rattle.hd_basin.specs.declared.node.Node.{Node}
 use Rattle.hd_basin.specs.Extents.{AreGathered, nodes_in}
-use Rattle.hd_basin.proofs.Extending.{extents-right}
+use Rattle.hd_basin.proofs.GatheredExtents.{extents-right}
 use Rattle.hd_basin.proofs.basins.Basins.extents.Goals as goal
 
 pub gather-requires-clause-nodes : goal.gather-requires-clause-nodes

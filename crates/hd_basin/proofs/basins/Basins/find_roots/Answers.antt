@@ -2,7 +2,7 @@ use Rattle.std.proofs.Common.{◌≡◌, ◌∙◌, ◌<◌, ◌≤◌, ◌*◌,
 use Rattle.hd_map.specs.Map.{cell_count}
 use Rattle.hd_basin.specs.declared.part.Part.{Part}
 use Rattle.hd_basin.specs.Roots.{AreKnownRoots, AreSettled, unknown}
-use Rattle.hd_basin.proofs.Settling.{parts-first, parts-more, parts-whole, roots-none}
+use Rattle.hd_basin.proofs.AreRoots.{parts-first, parts-more, parts-whole, roots-none}
 use Rattle.hd_basin.proofs.basins.Basins.find_roots.Goals as goal
 
 pub parts-init : goal.parts-init

@@ -1,4 +1,4 @@
-use Rattle.hd_basin.proofs.Settling.{ArePartsSettled}
+use Rattle.hd_basin.proofs.AreRoots.{ArePartsSettled}
 use Rattle.hd_basin.proofs.basins.Basins.find_roots.Given as goal
 
 abbrev pub invariant-parts : goal.invariant-parts

@@ -4,8 +4,8 @@ use Rattle.std.proofs.lemmas.List.Elements.{Contains-get_or}
 use Rattle.hd_map.specs.Map.{cell_count}
 use Rattle.hd_basin.specs.declared.node.Node.{Node}
 use Rattle.hd_basin.specs.Extents.{AreGathered}
-use Rattle.hd_basin.proofs.Extending.{gathered-few, gathered-none, gathered-pits, gathered-step, node-had}
-use Rattle.hd_basin.proofs.Settling.{pit-inside}
+use Rattle.hd_basin.proofs.GatheredExtents.{gathered-few, gathered-none, gathered-pits, gathered-step, node-had}
+use Rattle.hd_basin.proofs.AreRoots.{pit-inside}
 use Rattle.hd_basin.proofs.basins.Basins.gather.Goals as goal
 
 pub nodes-init : goal.nodes-init

@@ -2,7 +2,7 @@ use Rattle.std.proofs.Common.{◌<◌, refl, sym, subst}
 use Rattle.hd_map.specs.Map.{position_at}
 use Rattle.hd_basin.proofs.Rooted.{onward-inside, onward-labelled, root-here}
 use Rattle.hd_basin.proofs.Rooting.{way-own, way-smaller}
-use Rattle.hd_basin.proofs.Settling.{from-more, low-inside}
+use Rattle.hd_basin.proofs.AreRoots.{from-more, low-inside}
 use Rattle.hd_basin.proofs.basins.Basins.known_root.Goals as goal
 
 pub bounds-roots-here : goal.bounds-roots-here

@@ -1,5 +1,5 @@
 use Rattle.hd_map.proofs.Depth.{depth_by}
-use Rattle.hd_basin.proofs.Settling.{IsFrom}
+use Rattle.hd_basin.proofs.AreRoots.{IsFrom}
 use Rattle.hd_basin.proofs.basins.Basins.known_root.Given as goal
 
 abbrev pub invariant-walk : goal.invariant-walk

@@ -1,5 +1,5 @@
 use Rattle.hd_map.proofs.Depth.{depth_by}
-use Rattle.hd_basin.proofs.Settling.{AreNoted}
+use Rattle.hd_basin.proofs.AreRoots.{AreNoted}
 use Rattle.hd_basin.proofs.basins.Basins.note_root.Given as goal
 
 abbrev pub invariant-walk : goal.invariant-walk

@@ -1,7 +1,7 @@
 use Rattle.std.proofs.Common.{◌≡◌, ◌<◌, ◌∙◌, ap₂, rules, subst, sym}
 use Rattle.hd_map.specs.declared.types.Size.{Size}
 use Rattle.hd_map.specs.Map.{InGrid, cell_count, position_at}
-use Rattle.hd_basin.proofs.Settling.{low-inside, root-found, root-inside, root-kept, root-labelled}
+use Rattle.hd_basin.proofs.AreRoots.{low-inside, root-found, root-inside, root-kept, root-labelled}
 use Rattle.hd_basin.proofs.basins.Basins.pit_of.Goals as goal
 
 pub of_sink-index-requires : goal.of_sink-index-requires

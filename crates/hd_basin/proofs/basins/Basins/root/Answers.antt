@@ -3,7 +3,7 @@ use Rattle.hd_map.specs.declared.types.Size.{Size}
 use Rattle.hd_map.specs.Map.{cell_count, position_at}
 use Rattle.hd_tiles.specs.Tile.{tile_of}
 use Rattle.hd_basin.proofs.Rooting.{node-had}
-use Rattle.hd_basin.proofs.Settling.{low-inside, root-inside, root-told}
+use Rattle.hd_basin.proofs.AreRoots.{low-inside, root-inside, root-told}
 use Rattle.hd_basin.proofs.basins.Basins.root.Goals as goal
 
 pub of_sink-index-requires : goal.of_sink-index-requires

@@ -2,7 +2,7 @@ use Rattle.std.proofs.Common.{List, subst, ◌∙◌}
 use Rattle.std.proofs.lemmas.List.{take_all}
 use Rattle.hd_basin.specs.declared.node.Node.{Node}
 use Rattle.hd_basin.specs.Roots.{AreSettled}
-use Rattle.hd_basin.proofs.Settling.{part-item, settled-more}
+use Rattle.hd_basin.proofs.AreRoots.{part-item, settled-more}
 use Rattle.hd_basin.proofs.basins.Basins.settle_part.Goals as goal
 
 pub known_root-root-requires-clause-node : goal.known_root-root-requires-clause-node

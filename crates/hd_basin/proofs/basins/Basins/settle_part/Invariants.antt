@@ -1,4 +1,4 @@
-use Rattle.hd_basin.proofs.Settling.{AreSettledTo}
+use Rattle.hd_basin.proofs.AreRoots.{AreSettledTo}
 use Rattle.hd_basin.proofs.basins.Basins.settle_part.Given as goal
 
 abbrev pub invariant-nodes : goal.invariant-nodes

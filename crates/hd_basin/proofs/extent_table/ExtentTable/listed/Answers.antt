@@ -1,6 +1,6 @@
 use Rattle.std.proofs.Common.{◌≡◌, ◌∙◌, ◌+◌, arith, length, rules, subst, sym}
 use Rattle.hd_basin.specs.ExtentTable.{AreFiled, AreListedTo}
-use Rattle.hd_basin.proofs.Filed.{listed-more, listed-same}
+use Rattle.hd_basin.proofs.ExtentTable.{listed-more, listed-same}
 use Rattle.hd_basin.proofs.extent_table.ExtentTable.listed.Goals as goal
 use Rattle.hd_basin.proofs.extent_table.ExtentTable.listed.Goals.{in-Some+in_ok-push, in_default}
 

@@ -2,7 +2,7 @@ use Rattle.std.proofs.Common.{◌≡◌, ◌<◌, ◌++◌, ◌∷◌, ◌∙◌
 use Rattle.std.proofs.lemmas.List.{get_or_default}
 use Rattle.hd_basin.specs.declared.extent.Extent.{Extent}
 use Rattle.hd_basin.specs.ExtentTable.{AreFiled, Files, Table, no_extent}
-use Rattle.hd_basin.proofs.Filed.{number, pushed-filed, pushed-files}
+use Rattle.hd_basin.proofs.ExtentTable.{number, pushed-filed, pushed-files}
 use Rattle.hd_basin.proofs.extent_table.ExtentTable.put.Goals as goal
 
 pub invariant_of-self-2 : goal.invariant_of-self-2

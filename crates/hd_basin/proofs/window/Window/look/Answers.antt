@@ -1,5 +1,5 @@
 use Rattle.std.proofs.Common.{◌≡◌, ◌*◌, arith}
-use Rattle.hd_basin.proofs.Framing.{AreFilled, filled_more, filled-window, filled-shows, frame-in_grid, step-in_frame}
+use Rattle.hd_basin.proofs.Frames.{AreFilled, filled_more, filled-window, filled-shows, frame-in_grid, step-in_frame}
 use Rattle.hd_basin.proofs.window.Window.look.Goals as goal
 
 pub look-height-requires : goal.look-height-requires

@@ -1,5 +1,5 @@
 use Rattle.std.proofs.Common.{◌≡◌, ◌+◌}
-use Rattle.hd_basin.proofs.Framing.{AreFilled}
+use Rattle.hd_basin.proofs.Frames.{AreFilled}
 use Rattle.hd_basin.proofs.window.Window.look.Given as goal
 
 abbrev pub invariant-loop-index : goal.invariant-loop-index

@@ -1,7 +1,7 @@
 use Rattle.std.proofs.Common.{ℕ, ◌<◌, ◌+◌, ◌*◌, ◌-◌, length, None, refl, sym, ◌∙◌}
 use Rattle.std.proofs.lemmas.List.{get_or_default}
 use Rattle.std.proofs.lemmas.Bool.{false≢true}
-use Rattle.hd_basin.proofs.Framing.{frame_step, framed-height, seen-inside, seen-outside}
+use Rattle.hd_basin.proofs.Frames.{frame_step, framed-height, seen-inside, seen-outside}
 use Rattle.hd_basin.proofs.window.WindowHeights.height.Goals as goal
 
 pub returns-then-is_in_frame : goal.returns-then-is_in_frame

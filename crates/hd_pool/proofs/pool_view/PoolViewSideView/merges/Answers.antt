@@ -1,16 +1,17 @@
 use Rattle.std.proofs.Common.{List, subst, sym}
 use Rattle.std.specs.Prelude.{Contains}
 use Rattle.hd_basin.specs.Basin.{IsSinkOf}
-use Rattle.hd_basin.proofs.Netted.{graph-crossings}
+use Rattle.hd_basin.proofs.PoolGraph.{graph-crossings}
 use Rattle.hd_basin.proofs.SinkLaws.{sink-is_sink, sink-root}
 use Rattle.hd_graph.specs.declared.graph.Low.{Low}
 use Rattle.hd_graph.specs.Graph.{Net}
 use Rattle.hd_map.specs.declared.types.Pass.{Pass}
 use Rattle.hd_map.specs.Pruning.{ArePits}
 use Rattle.hd_prune.specs.Pruned.{AreInOrder}
-use Rattle.hd_pool.specs.Crossed.{AreBetweenRoots, pits_of}
+use Rattle.hd_pool.specs.BetweenRoots.{AreBetweenRoots}
+use Rattle.hd_pool.specs.PitsOf.{pits_of}
 use Rattle.hd_pool.proofs.Labels.{regions_of}
-use Rattle.hd_pool.proofs.Pits.{pits-among}
+use Rattle.hd_pool.proofs.PitsOf.{pits-among}
 use Rattle.hd_pool.proofs.Rooted.{between-crossings}
 use Rattle.hd_pool.proofs.pool_view.PoolViewSideView.merges.Goals as goal
 

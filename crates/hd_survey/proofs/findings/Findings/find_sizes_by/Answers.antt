@@ -1,7 +1,7 @@
 use Rattle.std.proofs.Common.{subst, sym}
 use Rattle.hd_survey.specs.Findings.{AreFindings, Found}
 use Rattle.hd_survey.proofs.Found.{with_sizes}
-use Rattle.hd_survey.proofs.MapPits.{sizes_inside}
+use Rattle.hd_survey.proofs.RegionSizes.{sizes_inside}
 use Rattle.hd_survey.proofs.findings.Findings.find_sizes_by.Goals as goal
 use Rattle.hd_survey.proofs.findings.Findings.find_sizes_by.Goals.{in-Some-1, in-None-1}
 

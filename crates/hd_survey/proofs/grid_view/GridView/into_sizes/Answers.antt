@@ -2,7 +2,7 @@ use Rattle.std.proofs.Common.{subst, arith}
 use Rattle.std.proofs.lemmas.Result.{IfOk-weaker}
 use Rattle.hd_steep.proofs.Numbered.{numbers_whole}
 use Rattle.hd_survey.specs.Regions.{AreRegionSizes}
-use Rattle.hd_survey.proofs.MapPits.{sizes_numbered}
+use Rattle.hd_survey.proofs.RegionSizes.{sizes_numbered}
 use Rattle.hd_survey.proofs.grid_view.GridView.into_sizes.Goals as goal
 
 pub into_sizes-requires-clause-few : goal.into_sizes-requires-clause-few

@@ -1,0 +1,23 @@
+-- The parts of a word: one without a separator, and one too many.
+use Rattle.std.proofs.Common.{◌≡◌, ℕ, suc, ◌<◌, List, [], ◌∷◌, length, get_or, Bool, true, false, Result, Err, Option, Some, None, is_some, true≢false, refl, ap, ◌∙◌, arith}
+use Rattle.std.specs.List.{slice_split, onto_first}
+use Rattle.std.proofs.lemmas.List.Splits.{length-slice_split, slice_split-cons_no}
+use denote.Bor.{Bor}
+use Rattle.hd_feature.specs.declared.notation.Notation.{Notation}
+use Rattle.hd_feature.specs.declared.notation.NotationError.{NotationError}
+use Rattle.hd_feature.specs.declared.notation.NotationError.TheVariants.{BadPart}
+use Rattle.hd_feature.specs.Parts.{is_separator, left, no_part}
+
+-- a text without the byte is one part
+pub one_part : (test : ℕ → Bool) (xs : List ℕ) → ((k : ℕ) → k < length xs → test (get_or xs k 0) ≡ false) → slice_split test xs ≡ xs ∷ []
+one_part test [] none = refl
+one_part test (x ∷ xs) none = slice_split-cons_no test x xs (none 0 (omega arith)) ∙ ap (onto_first x) (one_part test xs (λ k lt. none (suc k) (omega arith)))
+
+-- a text has a part, which is one too many
+pub one_too_many : (number : ℕ) (rest : Option (Bor (List ℕ))) (made : Result Notation NotationError) → true ≡ is_some rest → no_part number (left rest) made ≡ Err (BadPart number)
+one_too_many number None made h = absurd (true≢false h)
+one_too_many number (Some text) made h = filled (slice_split is_separator text.now) (let n = length-slice_split is_separator text.now in omega (arith, n))
+  where
+    filled : (parts : List (List ℕ)) → 0 < length parts → no_part number parts made ≡ Err (BadPart number)
+    filled [] some = absurd (omega arith)
+    filled (part ∷ more) some = refl
