@@ -10,7 +10,7 @@ use Rattle.hd_map.specs.declared.types.SideName.{SideName}
 use Rattle.hd_map.specs.Map.{Map, IsMap, Present, InGrid, place_of, position_at, cell_count}
 use Rattle.hd_map.specs.Rank.{rank, IsPoint}
 use Rattle.hd_map.specs.Region.{IsRoot}
-use Rattle.hd_map.proofs.Points.{place_inside, point_inside, same_place, same_index, point_at, present_or_not, position_at-inside, position_at-place}
+use Rattle.hd_map.proofs.Points.{point_inside, same_place, same_index, point_at, present_or_not, position_at-inside, position_at-place}
 use Rattle.hd_map.proofs.Nexts.{root-pit, root-of_pit}
 use Rattle.hd_steep.specs.Links.{no_link, LeadsOnward, NoPointAt, IsLinkOf, AreLinks, IsRootAt}
 use Rattle.hd_steep.proofs.Ways.{onward-root, onward-trans, onward-falls, depth_at}

@@ -1,7 +1,5 @@
 -- Labels as they are listed by index.
-use Rattle.std.proofs.Common.{◌≡◌, ◌<◌, ◌+◌, ℕ, List, [], ◌∷◌, ◌++◌, length, get_or, Option, Some, None, inl, inr, ap, ◌∙◌, sym, subst, refl, arith}
-use Rattle.std.proofs.lemmas.List.{get_or_append_left, get_or_push, length_push}
-use Rattle.std.proofs.lemmas.Bool.{cases_eq}
+use Rattle.std.proofs.Common.{◌≡◌, ◌<◌, ℕ, List, length, get_or, Option, Some, None, inl, inr, ap, ◌∙◌, sym, subst, refl}
 use Rattle.std.specs.Prelude.{unwrap_or, MatchOption}
 use Rattle.std.proofs.lemmas.Option.{slice_get-get_or, unwrap_or-slice_get}
 use Rattle.hd_map.specs.declared.types.Pos.{Pos}

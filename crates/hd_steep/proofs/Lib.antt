@@ -6,6 +6,7 @@ pub mod Looking
 pub mod Ways
 pub mod Round
 pub mod Linking
+pub mod FirstLink
 pub mod Following
 pub mod Pits
 pub mod PitNumbers

@@ -1,25 +1,20 @@
 -- The regions of a map, where points have the numbers of their pits.
-use Rattle.std.proofs.Common.{◌≡◌, ◌<◌, ◌≤◌, ℕ, List, length, get_or, slice_index, Option, Some, None, inl, inr, sym, ap, ◌∙◌, subst, arith}
+use Rattle.std.proofs.Common.{◌≡◌, ◌<◌, ℕ, List, length, get_or, slice_index, Some, None, sym, ◌∙◌, subst}
 use Rattle.std.specs.Prelude.{slice_get}
-use Rattle.std.proofs.lemmas.Bool.{cases_lt}
 use Rattle.std.proofs.lemmas.List.{get_or-map, length-map}
 use Rattle.std.proofs.lemmas.List.Elements.{Contains-get_or}
-use Rattle.std.proofs.lemmas.Option.{slice_get-get_or, unwrap_or-slice_get, same_Some}
-use Rattle.std.specs.Option.{unwrap_or}
-use Rattle.hd_map.specs.declared.types.Pos.{Pos}
+use Rattle.std.proofs.lemmas.Option.{slice_get-get_or, same_Some}
 use Rattle.hd_map.specs.declared.types.Rank.{Rank}
 use Rattle.hd_map.specs.declared.types.SideName.{SideName}
-use Rattle.hd_map.specs.Map.{Map, InGrid, Present, place_of, cell_count}
+use Rattle.hd_map.specs.Map.{Map, cell_count}
 use Rattle.hd_map.specs.Pruning.{ArePits}
 use Rattle.hd_map.specs.Rank.{IsPoint}
 use Rattle.hd_map.specs.Region.{IsPit, IsRoot}
-use Rattle.hd_map.proofs.Nexts.{root-is_pit, root-of_pit}
-use Rattle.hd_map.proofs.Points.{place_inside, same_index, point_inside}
+use Rattle.hd_map.proofs.Nexts.{root-is_pit}
+use Rattle.hd_map.proofs.Points.{same_index, point_inside}
 use Rattle.hd_steep.specs.Numbering.{Numbering, root_of, roots_of, IsLabelOf, AreNumbers, AreNumbered}
-use Rattle.hd_steep.specs.Rows.{past_end}
 use Rattle.hd_steep.proofs.Labels.{labels_all, label_of_point}
 use Rattle.hd_steep.proofs.PitNumbers.{root_at, root_below}
-use Rattle.hd_steep.proofs.Pits.{rising_apart}
 
 -- the root of an index is the pit of its number
 pub roots_of-at : (regions : Numbering) (k : ℕ) → k < length regions.numbers → get_or (roots_of regions) k None ≡ root_of regions.pits (slice_index regions.numbers k)

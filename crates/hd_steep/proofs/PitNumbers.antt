@@ -1,12 +1,12 @@
 -- Numbers of pits, as they take the places of the links.
-use Rattle.std.proofs.Common.{◌≡◌, ◌≢◌, ◌<◌, ◌≤◌, ◌+◌, ◌++◌, ℕ, List, [], ◌∷◌, length, get_or, set, slice_index, Option, Some, None, inl, inr, refl, sym, ap, ◌∙◌, subst, arith}
+use Rattle.std.proofs.Common.{◌≡◌, ◌≢◌, ◌<◌, ◌≤◌, ◌+◌, ℕ, List, length, get_or, set, slice_index, Option, Some, None, inl, inr, sym, ap, ◌∙◌, subst, arith}
 use Rattle.std.specs.Option.{option_map}
 use Rattle.std.proofs.Math.ListN.{length-set}
 use Rattle.std.specs.Prelude.{nat_eq}
 use Rattle.std.specs.Bool.{OnTrue, OnFalse}
 use Rattle.std.proofs.lemmas.Bool.{OnTrue_from, OnFalse_from, cases_eq, cases_lt}
 use Rattle.std.proofs.lemmas.Bool.Decides.{nat_tests}
-use Rattle.std.proofs.lemmas.List.{get_or_default, get_or_append_left, get_or_push, length_push, get_or-set_same, get_or-set_other}
+use Rattle.std.proofs.lemmas.List.{get_or_default, get_or-set_same, get_or-set_other}
 use Rattle.std.proofs.lemmas.List.Elements.{Contains-get_or}
 use Rattle.std.proofs.lemmas.Option.{slice_get-get_or, slice_get_past}
 use Rattle.hd_map.specs.declared.types.Pos.{Pos}
@@ -19,7 +19,7 @@ use Rattle.hd_map.specs.Region.{IsPit, IsRoot}
 use Rattle.hd_map.proofs.Nexts.{root-pit, root-is_pit, root-unique}
 use Rattle.hd_map.proofs.Points.{same_index, rank_position, point_inside}
 use Rattle.hd_steep.specs.Links.{no_link, NoPointAt, AreLinks, IsRootAt, IsRootLink, AreRootLinks}
-use Rattle.hd_steep.specs.Numbering.{root_of, AreNumbersOfPits, IsLabelOf, AreLabelledTo, NextIsFrom, AreNumbers}
+use Rattle.hd_steep.specs.Numbering.{root_of, AreNumbersOfPits, IsLabelOf, AreLabelledTo, NextIsFrom}
 use Rattle.hd_steep.proofs.Following.{index_inside, link_at}
 use Rattle.hd_steep.proofs.Pits.{rising_apart, pits_few}
 

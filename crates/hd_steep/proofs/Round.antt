@@ -12,12 +12,10 @@ use Rattle.hd_map.specs.Rank.{rank, below_by}
 use Rattle.hd_map.specs.Region.{LowerNeighbour, IsNext, IsPit}
 use Rattle.hd_map.specs.SideLaws.{below_by-order}
 use Rattle.hd_map.proofs.Points.{place_inside, same_place, same_point, point_at, Near-at}
-use Rattle.hd_map.proofs.Nexts.{root-pit}
 use Rattle.hd_map.proofs.Settings.{beside-itself}
 use Rattle.hd_steep.specs.Lowest.{IsChosen, IsLow, IsRound}
-use Rattle.hd_steep.specs.Links.{IsOnward}
+use Rattle.hd_steep.specs.FirstLinks.{IsFirst}
 use Rattle.hd_steep.proofs.Lows.{low_missing}
-use Rattle.hd_steep.proofs.Ways.{onward-next, onward-root}
 
 -- what is not above another one is that one, or below it
 pub same_or_below : {V : Type 0} (below : V → V → Bool) (laws : IsStrictOrder below) (a b : V) → IsNotAbove below a b → (a ≡ b) ⊎ (below a b ≡ true)
@@ -99,9 +97,9 @@ module _ (m : Map) (side : SideName) (whole : IsMap m) (at : Pos) (here : Presen
       let places : place_of m.size next.0 ≡ place_of m.size q = ap (λ (r : Rank). r.index) (sym next.2) ∙ sym place ∙ ap (λ (t : Size). place_of t q) size in
       subst (λ (p : Pos). Present m p × IsNext m side (rank m at) (rank m p)) (same_place m.size next.0 q next.1.in_grid inside places) (next.1, next.3)
 
-  -- it is onward
-  pub onward-low : IsOnward m side (rank m at) low
-  onward-low = elim (cases_eq low.index (place_of m.size at)) [
-    | inl same ↦ let pit = pit_found same in rw pit.0 (onward-root m side (rank m at) (rank m at) (root-pit m side (rank m at) pit.1))
-    | inr other ↦ let next = next_found other in rw next.2 (onward-next m side (rank m at) (rank m next.0) next.3)
+  -- it comes first from the point
+  pub first-low : IsFirst m side (rank m at) low
+  first-low = elim (cases_eq low.index (place_of m.size at)) [
+    | inl same ↦ inr (pit_found same)
+    | inr other ↦ let next = next_found other in inl (subst (IsNext m side (rank m at)) (sym next.2) next.3)
   ]

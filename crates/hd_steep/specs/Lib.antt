@@ -2,6 +2,7 @@ pub mod Lowest
 pub mod Rows
 pub mod Profiles
 pub mod Links
+pub mod FirstLinks
 pub mod Borders
 pub mod Meetings
 pub mod Ring

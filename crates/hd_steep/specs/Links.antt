@@ -1,5 +1,5 @@
 -- Links by index, along which each point leads to its root.
-use Rattle.std.specs.Prelude.{◌≡◌, ◌↔◌, ◌⊎◌, ◌<◌, ◌+◌, ℕ, true, List, length, slice_index}
+use Rattle.std.specs.Prelude.{◌≡◌, ◌↔◌, ◌⊎◌, ◌<◌, ℕ, true, List, length, slice_index}
 use Rattle.hd_map.specs.declared.types.Rank.{Rank}
 use Rattle.hd_map.specs.declared.types.SideName.{SideName}
 use Rattle.hd_map.specs.Map.{Map, cell_count}
@@ -31,10 +31,6 @@ NoPointAt m k = (p : Rank) → IsPoint m p → p.index ≡ k → ⊥
 pub record IsLinkOf (m : Map) (side : SideName) (k link : ℕ) : Type 0 where
   pub point : (p : Rank) → IsPoint m p → p.index ≡ k → LeadsOnward m side p link
   pub none : NoPointAt m k → link ≡ no_link
-
--- the links of the indexes from a first one on
-abbrev pub AreLinksFrom : Map → SideName → ℕ → List ℕ → Type 0
-AreLinksFrom m side first links = (k : ℕ) → k < length links → IsLinkOf m side (first + k) (slice_index links k)
 
 -- the links of all indexes of the map
 pub record AreLinks (m : Map) (side : SideName) (links : List ℕ) : Type 0 where

@@ -4,6 +4,7 @@
 
 mod borders;
 mod crossing;
+mod kept_links;
 mod laws;
 mod leading;
 mod links;
@@ -18,6 +19,7 @@ mod steep;
 
 pub use borders::passes;
 pub use crossing::{crossings, passes_of};
+pub use kept_links::FirstLinks;
 pub use laws::{
     next_is_determined, pit_is_its_own_root, regions_are_determined, root_is_determined,
 };

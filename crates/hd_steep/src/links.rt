@@ -3,7 +3,7 @@
 ghost use Rattle.std.specs.Prelude.{◌≡◌, ◌<◌, ◌+◌, ◌*◌, IfOk, length};
 ghost use Rattle.hd_steep.specs.Profiles.{AreProfilesRound};
 ghost use Rattle.hd_steep.specs.Rows.{AreLinked};
-ghost use Rattle.hd_steep.specs.Links.{AreLinksFrom, AreLinks};
+ghost use Rattle.hd_steep.specs.FirstLinks.{AreFirstLinks, AreFirstLinksFrom};
 
 use crate::lowest::{lower, missing_rank};
 use crate::rolling::Profiles;
@@ -19,7 +19,7 @@ pub const NO_LINK: u32 = u32::MAX;
 ///
 /// It takes 4 bytes a point, and 100 a column. `Memory` comes where these are refused.
 pub fn first_links<S: Side, G: Heights>(alloc: Global, grid: &G) -> Result<Vec<u32>, Memory>
-    ensures { IfOk result (λ links. AreLinks (G.map grid.now) S.NAME links.items) }
+    ensures { IfOk result (λ links. AreFirstLinks (G.map grid.now) S.NAME links.items) }
 {
     let size = grid.size();
     let width = size.points as usize;
@@ -39,7 +39,7 @@ fn link_profile<S: Side, G: Heights>(grid: &G, y: u32, profiles: &Profiles, link
     requires profile { y < (G.map grid.now).size.profiles }
     requires round { AreProfilesRound (G.map grid.now) S.NAME y profiles.now }
     requires links { length links.old ≡ (G.map grid.now).size.points }
-    ensures { AreLinksFrom (G.map grid.now) S.NAME (y * (G.map grid.now).size.points) links.new }
+    ensures { AreFirstLinksFrom (G.map grid.now) S.NAME (y * (G.map grid.now).size.points) links.new }
 {
     let level = &profiles.level;
     let above = profiles.above.lows_above::<S, G>(grid, y);

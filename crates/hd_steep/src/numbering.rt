@@ -1,6 +1,7 @@
 // The regions of all points, by the numbers of their pits.
 ghost use Rattle.std.specs.Prelude.{◌≡◌, ◌<◌, ◌≤◌, ◌+◌, IfOk, length, slice_get, slice_index};
 ghost use Rattle.std.specs.Bool.{OnTrue};
+ghost use Rattle.hd_steep.specs.FirstLinks.{AreFirstLinks};
 ghost use Rattle.hd_steep.specs.Numbering.{AreNumbered, AreThree, AreOneAround, number_of, root_of, roots_of};
 
 use crate::leading::{lead_on, lead_to_roots};
@@ -109,7 +110,21 @@ fn are_three(numbers: &[u32], middle: usize, number: u32) -> bool
 pub fn find_regions<S: Side, G: Heights>(alloc: Global, grid: &G) -> Result<Regions, Memory>
     ensures { IfOk result (AreNumbered (G.map grid.now) S.NAME) }
 {
-    let mut numbers = first_links::<S, G>(alloc, grid)?;
+    let links = first_links::<S, G>(alloc, grid)?;
+    number_by_links::<S, G>(alloc, grid, links)
+}
+
+/// The regions of a side of a grid, to whose pits these first links lead. `Memory` comes where 16 bytes a pit, at first
+/// for one of eight points, are refused.
+pub(crate) fn number_by_links<S: Side, G: Heights>(
+    alloc: Global,
+    grid: &G,
+    links: Vec<u32>,
+) -> Result<Regions, Memory>
+    requires { AreFirstLinks (G.map grid.now) S.NAME links.items }
+    ensures { IfOk result (AreNumbered (G.map grid.now) S.NAME) }
+{
+    let mut numbers = links;
     lead_on::<S, G>(grid, &mut numbers);
     let pits = lead_to_roots::<S, G>(alloc, grid, &mut numbers)?;
     number_pits::<S, G>(grid, &pits, &mut numbers);

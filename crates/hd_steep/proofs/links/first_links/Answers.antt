@@ -1,7 +1,7 @@
 use Rattle.std.proofs.Common.{◌≡◌, ◌*◌, ◌∙◌, ◌++◌, ap, sym, subst, List, length, ℕ, arith, rules}
 use Rattle.std.proofs.lemmas.List.{take_at, length-append}
 use Rattle.hd_map.specs.declared.types.Size.{Size}
-use Rattle.hd_steep.specs.Links.{AreLinksFrom}
+use Rattle.hd_steep.specs.FirstLinks.{AreFirstLinksFrom}
 use Rattle.hd_steep.proofs.Linking.{links_append, links_all}
 use Rattle.hd_steep.proofs.ProfilesRound.{profiles-next}
 use Rattle.hd_steep.proofs.links.first_links.Goals as goal
@@ -35,7 +35,7 @@ profiles-preserved g c =
     record {
       before = profiles-next m side c.profiles.y c.advance.new.self c.advance.ensures;
       row_sized = ap length written ∙ long;
-      links = subst (λ (r : List ℕ). AreLinksFrom m side 0 r) (sym added) (links_append m side 0 (c.profiles.y * m.size.points) old row (omega (arith, count)) so_far.links c.link_profile.ensures);
+      links = subst (λ (r : List ℕ). AreFirstLinksFrom m side 0 r) (sym added) (links_append m side 0 (c.profiles.y * m.size.points) old row (omega (arith, count)) so_far.links c.link_profile.ensures);
       count = ap length added ∙ (omega (arith, total, count, long));
     }
 

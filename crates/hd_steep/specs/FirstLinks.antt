@@ -1,0 +1,47 @@
+-- The first links of points by index: each to the lowest of the point and its neighbours.
+use Rattle.std.specs.Prelude.{◌≡◌, ◌≢◌, ◌⊎◌, ◌<◌, ◌+◌, ℕ, List, length, slice_index}
+use Rattle.hd_map.specs.declared.types.Pos.{Pos}
+use Rattle.hd_map.specs.declared.types.Rank.{Rank}
+use Rattle.hd_map.specs.declared.types.SideName.{SideName}
+use Rattle.hd_map.specs.Map.{Map, InGrid, cell_at, mask_at, cell_count, place_of}
+use Rattle.hd_map.specs.Neighbour.{IsNear}
+use Rattle.hd_map.specs.Rank.{IsPoint}
+use Rattle.hd_map.specs.Region.{IsNext, IsPit}
+use Rattle.hd_steep.specs.Links.{no_link, NoPointAt}
+
+-- q is the next of p, or p itself where that is a pit
+abbrev pub IsFirst : Map → SideName → Rank → Rank → Type 0
+IsFirst m side p q = IsNext m side p q ⊎ ((q ≡ p) × IsPit m side p)
+
+-- k is the index of the point that comes first from p
+pub record LeadsFirst (m : Map) (side : SideName) (p : Rank) (k : ℕ) : Type 0 where
+  pub to : Rank
+  pub first : IsFirst m side p to
+  pub index_is : k ≡ to.index
+
+-- the link of the point with this index leads to the one that comes first from it; where no point has it, there is no link
+pub record IsFirstLink (m : Map) (side : SideName) (k link : ℕ) : Type 0 where
+  pub point : (p : Rank) → IsPoint m p → p.index ≡ k → LeadsFirst m side p link
+  pub none : NoPointAt m k → link ≡ no_link
+
+-- the first links of the indexes from one on
+abbrev pub AreFirstLinksFrom : Map → SideName → ℕ → List ℕ → Type 0
+AreFirstLinksFrom m side first links = (k : ℕ) → k < length links → IsFirstLink m side (first + k) (slice_index links k)
+
+-- the first links of all indexes of the map
+pub record AreFirstLinks (m : Map) (side : SideName) (links : List ℕ) : Type 0 where
+  pub whole : length links ≡ cell_count m.size
+  pub each : (k : ℕ) → k < length links → IsFirstLink m side k (slice_index links k)
+
+-- the link at a position is the first one in the map, and all others stay
+pub record IsRenewedAt (m : Map) (side : SideName) (at : Pos) (old new : List ℕ) : Type 0 where
+  pub whole : length new ≡ length old
+  pub here : IsFirstLink m side (place_of m.size at) (slice_index new (place_of m.size at))
+  pub others : (k : ℕ) → k ≢ place_of m.size at → slice_index new k ≡ slice_index old k
+
+-- two maps of one size have the same setting, and the same cells and masks at a position and the eight round it
+pub record AgreeRound (m n : Map) (at : Pos) : Type 0 where
+  pub size : m.size ≡ n.size
+  pub adjacency : m.adjacency ≡ n.adjacency
+  pub cells : (q : Pos) → InGrid m.size q → IsNear at.x q.x → IsNear at.y q.y → cell_at m q ≡ cell_at n q
+  pub masks : (q : Pos) → InGrid m.size q → IsNear at.x q.x → IsNear at.y q.y → mask_at m q ≡ mask_at n q
