@@ -1,11 +1,11 @@
 -- What is noted of the lines of present points.
-use Rattle.std.proofs.Common.{◌≡◌, ◌<◌, ℕ, List, length, Option, Some, None, sym, subst, ap, ◌∙◌, arith}
+use Rattle.std.proofs.Common.{◌≡◌, ◌<◌, ℕ, List, length, Option, Some, None, sym, subst, ap, ◌∙◌}
 use Rattle.std.proofs.lemmas.Option.{none-some, same_Some}
-use Rattle.hd_map.specs.Map.{Map, Present, cell_count, position_at}
+use Rattle.hd_map.specs.Map.{Map, Present, position_at}
 use Rattle.hd_audit.specs.declared.types.AuditLine.{AuditLine}
 use Rattle.hd_audit.specs.Lines.{line_at, IsLineOf, HasCut, SaysKept}
 use Rattle.hd_audit.specs.Places.{AreAllPlaces, place_at}
-use Rattle.hd_audit.specs.Rules.{IsEarlierNeighbour, IsNewPoint}
+use Rattle.hd_audit.specs.Rules.{IsNewPoint}
 use Rattle.hd_audit.proofs.Placing.{line_of_place, place_of_line}
 
 module _ (m : Map) (lines : List AuditLine) (places : List (Option ℕ)) (are : AreAllPlaces m lines places) where

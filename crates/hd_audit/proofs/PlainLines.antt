@@ -16,9 +16,8 @@ use Rattle.hd_check.specs.declared.lines.Place.{Place}
 use Rattle.hd_check.specs.Places.{IsPlace}
 use Rattle.hd_check.specs.Text.{line_text}
 use Rattle.hd_check.proofs.ReadsBack.{IsWord, clear_digits, filled, first_line}
-use Rattle.hd_audit.specs.declared.types.AuditLine.{AuditLine}
 use Rattle.hd_audit.specs.Plain.{BeginsWith, BeginsWithLine}
-use Rattle.hd_audit.specs.Reading.{count_or_none, given, line_of_parts, point_form}
+use Rattle.hd_audit.specs.Reading.{count_or_none, given, line_of_parts}
 
 -- what is read as a count is a word
 count_is_word : (w : List ℕ) (n : ℕ) → count_of w ≡ Some n → IsWord w

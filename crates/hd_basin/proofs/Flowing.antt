@@ -1,5 +1,5 @@
 -- Where a sink flows, by the labels of a pool, and that this ends.
-use Rattle.std.proofs.Common.{◌≡◌, ◌<◌, ℕ, true, false, Some, None, refl, sym, ◌∙◌, ap, subst, arith}
+use Rattle.std.proofs.Common.{◌≡◌, ◌<◌, ℕ, true, false, Some, refl, sym, ◌∙◌, ap, subst, arith}
 use Rattle.hd_map.specs.declared.types.Pos.{Pos}
 use Rattle.hd_map.specs.declared.types.Rank.{Rank}
 use Rattle.hd_map.specs.declared.types.SideName.{SideName}

@@ -10,7 +10,6 @@ use Rattle.hd_map.specs.declared.types.SideName.{SideName}
 use Rattle.hd_map.specs.Map.{Map, Present}
 use Rattle.hd_map.specs.Neighbour.{Neighbour}
 use Rattle.hd_map.specs.Rank.{rank}
-use Rattle.hd_map.proofs.Items.{Contains-none}
 use Rattle.hd_tiles.specs.Tile.{tile_of}
 use Rattle.hd_basin.specs.declared.frame.Frame.{Frame}
 use Rattle.hd_basin.specs.declared.part.Part.{Part}

@@ -1,10 +1,9 @@
 -- Texts that are added one after the other, and prefixes of them.
-use Rattle.std.proofs.Common.{◌≡◌, ◌<◌, ◌+◌, ℕ, zero, suc, List, [], ◌∷◌, ◌++◌, length, map, take, drop, Ok, Err, refl, sym, ap, ◌∙◌, append_assoc, append-nil, arith}
-use Rattle.std.specs.Prelude.{Result, OnOk, OnErr, slice_index_or}
+use Rattle.std.proofs.Common.{◌≡◌, ◌<◌, ◌+◌, ℕ, zero, suc, List, [], ◌∷◌, ◌++◌, length, map, take, drop, refl, sym, ap, ◌∙◌, append_assoc, append-nil, arith}
+use Rattle.std.specs.Prelude.{slice_index_or}
 use Rattle.std.specs.List.{flat_map}
-use Rattle.hd_list.specs.declared.list.Memory.{Memory}
 use Rattle.hd_num.specs.Text.{AppendsPrefix}
-use Rattle.hd_check.specs.Text.{Adds, line_text}
+use Rattle.hd_check.specs.Text.{line_text}
 
 -- a prefix of the first text is one of both
 prefix_front : (k : ℕ) (t u : List ℕ) → (j : ℕ) × (take k t ≡ take j (t ++ u))

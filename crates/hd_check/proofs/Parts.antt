@@ -1,11 +1,10 @@
 -- The text of a certificate by its parts.
-use Rattle.std.proofs.Common.{◌≡◌, ◌<◌, ◌+◌, ℕ, zero, suc, List, [], ◌∷◌, ◌++◌, length, map, take, drop, ap, ◌∙◌, sym, append_assoc, refl, arith, Some}
-use Rattle.std.specs.Prelude.{codes, decimal, slice_index_or, ℤ}
+use Rattle.std.proofs.Common.{◌≡◌, ◌<◌, ◌+◌, ℕ, List, [], ◌∷◌, ◌++◌, length, map, ap, ◌∙◌, Some}
+use Rattle.std.specs.Prelude.{codes, decimal, ℤ}
 use Rattle.std.specs.Fmt.{signed_decimal}
 use Rattle.std.specs.List.{flat_map}
 use Rattle.std.proofs.lemmas.List.Concat.{flat_map-append}
 use Rattle.hd_map.specs.declared.types.Pos.{Pos}
-use Rattle.hd_num.specs.Text.{AppendsPrefix}
 use Rattle.hd_check.specs.declared.types.Certificate.{Certificate}
 use Rattle.hd_check.specs.Text.{adjacency_word, certificate_text, line_text, point_line, point_words, saddle_lines, side_word}
 use Rattle.hd_check.proofs.Adding.{counted_text}

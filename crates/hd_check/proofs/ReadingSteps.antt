@@ -1,11 +1,9 @@
 -- Reading so many items, and lines without words.
-use Rattle.std.proofs.Common.{◌≡◌, ◌≤◌, ◌<◌, ◌+◌, ◌-◌, ℕ, suc, List, [], ◌∷◌, ◌++◌, length, map, Option, Ok, Err, refl, sym, ap, ◌∙◌, append_assoc, append-nil, arith}
-use Rattle.std.proofs.lemmas.List.{drop_all}
-use Rattle.hd_num.specs.Lines.{lines_of, words_of}
+use Rattle.std.proofs.Common.{◌≡◌, ◌≤◌, ◌<◌, ◌+◌, ◌-◌, ℕ, suc, List, [], ◌∷◌, ◌++◌, Option, Ok, Err, refl, sym, ap, ◌∙◌, append_assoc, arith}
 use Rattle.hd_check.specs.declared.lines.Place.{Place}
 use Rattle.hd_check.specs.declared.types.CertificateError.{CertificateError}
 use Rattle.hd_check.specs.declared.types.CertificateError.TheVariants.{BadLine}
-use Rattle.hd_check.specs.Reading.{Lines, Read, and_then, items_in, line_as, blank_among, none_form, saddle_words}
+use Rattle.hd_check.specs.Reading.{Lines, Read, and_then, items_in, line_as, blank_among}
 use Rattle.hd_check.specs.Places.{IsPlace, lines_at}
 
 module _ {A : Type 0} (form : List (List ℕ) → Option A) where

@@ -4,7 +4,7 @@ use Rattle.std.proofs.lemmas.List.Elements.{All-nil}
 use Rattle.std.specs.Prelude.{if◌then◌else◌}
 use Rattle.hd_map.specs.declared.types.Pos.{Pos}
 use Rattle.hd_map.specs.declared.types.Cell.{Cell}
-use Rattle.hd_map.specs.Map.{Map, IsMap, IsCellOf, InGrid, cell_at, mask_at, cell_count, place_of}
+use Rattle.hd_map.specs.Map.{Map, IsMap, IsCellOf, cell_at, mask_at, cell_count, place_of}
 use Rattle.hd_map.proofs.Points.{place_inside}
 use Rattle.hd_edit.specs.declared.stroke.Stroke.{Stroke}
 use Rattle.hd_edit.specs.declared.change.Change.{Change}

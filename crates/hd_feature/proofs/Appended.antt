@@ -1,6 +1,6 @@
 -- The parts of a word with `;Sum` after it.
 use Rattle.std.proofs.Common.{◌≡◌, ◌∙◌, ℕ, List, [], ◌∷◌, ◌++◌, ◌<◌, ◌+◌, length, cond, Bool, true, false, arith, Result, Ok, Err, Option, Some, None, codes, refl, sym, ap, is_some, true≢false}
-use Rattle.std.specs.List.{slice_split, onto_first}
+use Rattle.std.specs.List.{onto_first}
 use Rattle.std.proofs.lemmas.List.Splits.{length-slice_split}
 use denote.Bor.{Bor}
 use Rattle.hd_feature.specs.declared.notation.Notation.{Notation}

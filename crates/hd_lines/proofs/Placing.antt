@@ -14,7 +14,7 @@ use Rattle.hd_map.specs.Region.{IsPit, IsRoot}
 use Rattle.hd_map.proofs.Apart.{length-le_from_apart}
 use Rattle.hd_map.proofs.Items.{Contains-map, map-Contains}
 use Rattle.hd_map.proofs.Nexts.{root-is_pit, root-pit, root-unique}
-use Rattle.hd_map.proofs.Points.{Near-from, place_inside, point_inside}
+use Rattle.hd_map.proofs.Points.{Near-from, point_inside}
 use Rattle.hd_map.proofs.Prunings.{pits-unique}
 use Rattle.hd_graph.proofs.Places.{at_place, less_same_more, one_place, place_of as place_in}
 use Rattle.hd_prune.specs.declared.step.Kept.{Kept}

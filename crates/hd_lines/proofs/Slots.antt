@@ -1,7 +1,6 @@
 -- Borders that stand at the slots of their greater places.
 use Rattle.std.proofs.Common.{◌≡◌, ◌≢◌, ◌<◌, ◌≤◌, ◌∙◌, ℕ, inl, inr, List, [], ◌∷◌, ◌++◌, length, get_or, set, slice_get, Some, sym, ap, arith}
 use Rattle.std.specs.Prelude.{AllPairs}
-use Rattle.std.proofs.lemmas.Bool.{cases_eq}
 use Rattle.std.proofs.lemmas.Option.{get_or_from_slice_get, same_Some, slice_get_within}
 use Rattle.hd_map.proofs.Apart.{length-le_from_apart}
 use Rattle.hd_graph.proofs.Places.{get-push_cases, get-set_other, get-set_same, item_at, pairs_from_places, place_of}

@@ -9,7 +9,7 @@ use Rattle.hd_map.specs.Map.{InGrid, place_of, position_at, cell_count}
 use Rattle.hd_map.proofs.Points.{place_inside, position_at-place, position_at-inside}
 use Rattle.hd_morph.specs.Element.{ElementTable, IsElement, most_entry}
 use Rattle.hd_morph.specs.Greatest.{IsGreatest}
-use Rattle.hd_morph.specs.Filter.{Relief, Filter, Dilation, Erosion, Opening, Closing, IsRaised, IsLowered, IsDilation, IsErosion}
+use Rattle.hd_morph.specs.Filter.{Relief, Filter, Dilation, Erosion, IsRaised, IsLowered, IsDilation, IsErosion}
 use Rattle.hd_morph.specs.Plain.{missing, floor, shown, plain_at, value_at, relief, ArePlain, IsWithin, most_filtered}
 use Rattle.hd_morph.specs.Raised.{ArePlainlyFiltered, IsNumberWithin, AreTopped, IsSettled, AreSettled, plus}
 use Rattle.hd_morph.proofs.PlainLemmas.{entry_within, shown_above, shown_below, shown_is, some_or_none, none_past}

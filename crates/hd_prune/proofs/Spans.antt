@@ -1,21 +1,19 @@
 -- The range of the heights of a map, and how far they span.
-use Rattle.std.proofs.Common.{◌≡◌, ◌<◌, ◌≤◌, ◌++◌, ◌∙◌, ℕ, ℤ, zero, suc, List, [], ◌∷◌, Bool, true, false, Option, Some, None, ◌⊎◌, inl, inr, refl, ap, sym, subst, arith, add-one, SFits, w64}
+use Rattle.std.proofs.Common.{◌≡◌, ◌<◌, ◌≤◌, ◌++◌, ◌∙◌, ℕ, ℤ, zero, suc, List, [], ◌∷◌, Option, Some, None, ◌⊎◌, inl, inr, refl, ap, sym, subst, arith, add-one, SFits, w64}
 use Rattle.std.specs.Prelude.{All, Contains, fold, pos, ◌-ℤ◌, ◌≤ℤ◌}
 use Rattle.std.specs.Int.{int_min, int_max}
 use Rattle.std.specs.List.{cons_option}
 use Rattle.std.proofs.lemmas.Bool.{cases_lt}
 use Rattle.std.proofs.lemmas.Int.{ints, fold-int_min_bounds, fold-int_min_reached, fold-int_max_bounds, fold-int_max_reached}
 use Rattle.std.proofs.lemmas.List.Elements.{Contains-push, Contains-append_left, Contains-append_cases}
-use Rattle.hd_map.specs.declared.types.Cell.{Cell}
-use Rattle.hd_map.specs.declared.types.Cell.TheVariants.{Height, Bad}
 use Rattle.hd_map.specs.declared.types.Pos.{Pos}
 use Rattle.hd_map.specs.declared.types.Rank.{Rank}
-use Rattle.hd_map.specs.Map.{Map, IsMap, IsMeasured, Present, cell_at, mask_at, cell_count, place_of, position_at, shown_height, height_or_zero, height_at}
+use Rattle.hd_map.specs.Map.{Map, IsMap, Present, cell_at, mask_at, cell_count, place_of, position_at, height_or_zero, height_at}
 use Rattle.hd_map.specs.Pruning.{SzIs}
 use Rattle.hd_map.specs.Rank.{IsPoint, rank}
 use Rattle.hd_map.proofs.Depth.{point_limits}
 use Rattle.hd_map.proofs.Levels.{Contains-cases, Contains-none, Contains-head, Contains-tail}
-use Rattle.hd_map.proofs.Points.{of_shown, point_at, point_inside, position_at-of, position_at-inside, place_inside, shown_of}
+use Rattle.hd_map.proofs.Points.{of_shown, point_at, point_inside, position_at-of, position_at-inside, shown_of}
 use Rattle.hd_map.specs.declared.height_range.HeightRange.{HeightRange}
 use Rattle.hd_map.specs.Presence.{heights_below, present_heights}
 use Rattle.hd_map.specs.HeightRange.{range_of}

@@ -12,7 +12,7 @@ use Rattle.std.proofs.lemmas.Option.{get_or_from_slice_get, same_Some, slice_get
 use Rattle.hd_map.specs.declared.types.Pos.{Pos}
 use Rattle.hd_map.specs.declared.types.Rank.{Rank}
 use Rattle.hd_map.specs.Map.{InGrid, Map, Present, cell_count, place_of}
-use Rattle.hd_map.specs.Neighbour.{AreBesideUnder, Neighbour}
+use Rattle.hd_map.specs.Neighbour.{Neighbour}
 use Rattle.hd_map.specs.Path.{Leads}
 use Rattle.hd_map.specs.Rank.{IsPoint, Near, rank}
 use Rattle.hd_map.proofs.Gather.{same_pos, step_neighbour, step_of}

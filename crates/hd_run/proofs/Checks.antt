@@ -1,5 +1,5 @@
 -- What a check comes to, from its parts.
-use Rattle.std.proofs.Common.{◌≡◌, ◌<◌, ◌≤◌, ◌⊎◌, ℕ, Bool, true, false, List, length, Option, Result, Ok, Err, inl, inr, refl, sym, ap, ◌∙◌, subst, arith, nat_lt}
+use Rattle.std.proofs.Common.{◌≡◌, ◌<◌, ◌≤◌, ◌⊎◌, ℕ, Bool, true, false, List, length, Option, Result, Ok, Err, refl, sym, ap, ◌∙◌, subst, arith, nat_lt}
 use Rattle.std.specs.Prelude.{MatchResult, OnErr, OnOk, is_err}
 use Rattle.std.specs.Io.KnownBytes.{Appends}
 use Rattle.std.proofs.KnownBytes.{Keeps-refl}
@@ -13,20 +13,19 @@ use Rattle.hd_check.specs.declared.types.CertificateError.{CertificateError}
 use Rattle.hd_check.specs.declared.types.CertificateError.TheVariants.{BadLine}
 use Rattle.hd_check.specs.declared.types.CertificateError.TheVariants as unread
 use Rattle.hd_check.specs.declared.types.Verdict.{Verdict}
-use Rattle.hd_check.specs.declared.types.Verdict.TheVariants.{Yes, No}
 use Rattle.hd_check.specs.Reading.{certificate_of}
 use Rattle.hd_check.specs.Rules.{IsVerdict}
 use Rattle.hd_map.specs.Map.{Map}
 use Rattle.hd_num.specs.Lines.{lines_of}
 use Rattle.hd_sdf_read.specs.File.{File}
 use Rattle.hd_run.specs.declared.stop.Refusal.{Refusal}
-use Rattle.hd_run.specs.declared.stop.Refusal.TheVariants.{SecondTooLong, Unreadable, RuleFails}
+use Rattle.hd_run.specs.declared.stop.Refusal.TheVariants.{SecondTooLong, Unreadable}
 use Rattle.hd_run.specs.declared.stop.Stop.{Stop}
 use Rattle.hd_run.specs.declared.stop.Stop.TheVariants.{Memory, ReadFault, WriteFault, Refused}
 use Rattle.hd_run.specs.Limits.{certificate_limit}
 use Rattle.hd_run.specs.Inputs.{IsSurfaceRead, IsSecondRead}
 use Rattle.hd_run.specs.Outcome.{RunOutcome, IsTheRunOutcome, IsOutcomeOfCertificate, IsOutcomeOfCheck, IsOutcomeOfKind, IsOutcomeOfReading, acceptance, begins_pruning, certificate_text_of, judges, surface_of}
-use Rattle.hd_run.specs.RunResult.{IsCheck, IsJudged, IsJudgedAs, stop_at, stop_of}
+use Rattle.hd_run.specs.RunResult.{IsCheck, IsJudged}
 use Rattle.hd_run.specs.Texts.{accepted_text}
 
 -- that a certificate of either kind has one verdict on a map

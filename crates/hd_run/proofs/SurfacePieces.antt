@@ -1,11 +1,11 @@
 -- A surface file that is fed to a reader piece by piece.
-use Rattle.std.proofs.Common.{◌≡◌, ◌+◌, ◌<◌, ◌≤◌, ℕ, List, [], ◌++◌, length, take, drop, Option, Some, None, Result, Ok, Err, false, refl, sym, ◌∙◌, ap, subst, arith, append-nil, length-append, length-take, length-take-le}
+use Rattle.std.proofs.Common.{◌≡◌, ◌+◌, ◌<◌, ◌≤◌, ℕ, List, [], ◌++◌, length, take, Option, Some, Result, Ok, Err, false, ◌∙◌, arith, length-append, length-take-le}
 use Rattle.std.specs.Prelude.{OnOk}
 use Rattle.std.specs.Result.{is_err}
-use Rattle.std.specs.Io.KnownBytes.{Consumes, IsAtEnd, Keeps}
-use Rattle.std.proofs.KnownBytes.{Consumes-kept, Consumes-trans}
+use Rattle.std.specs.Io.KnownBytes.{Consumes}
+use Rattle.std.proofs.KnownBytes.{Consumes-trans}
 use Rattle.hd_base.specs.Told.{TakesFew}
-use Rattle.hd_base.proofs.Pieces.{few_kept, few_taken, past_limit, whole_read}
+use Rattle.hd_base.proofs.Pieces.{few_taken}
 use Rattle.hd_sdf_read.specs.declared.reader.SdfReader.{SdfReader}
 use Rattle.hd_sdf_read.specs.Reader.{StandsFor}
 use Rattle.hd_run.specs.Limits.{surface_limit}

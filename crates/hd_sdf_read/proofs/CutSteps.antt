@@ -1,5 +1,5 @@
 -- Data that are cut anywhere, one after another.
-use Rattle.std.proofs.Common.{◌≡◌, ◌+◌, ◌<◌, ◌≤◌, ℕ, ℤ, true, false, eqb, List, [], ◌∷◌, ◌++◌, length, Ok, Err, inl, inr, refl, sym, ap, ap₂, subst, arith, ◌∙◌, length-append}
+use Rattle.std.proofs.Common.{◌≡◌, ◌+◌, ◌<◌, ◌≤◌, ℕ, ℤ, true, false, eqb, List, [], ◌∷◌, ◌++◌, length, Ok, Err, refl, sym, ap, ap₂, subst, arith, ◌∙◌, length-append}
 use Rattle.std.proofs.lemmas.Bool.{eqb-true, ne_eqb}
 use Rattle.std.proofs.lemmas.Bool.Decides.{nat_tests}
 use Rattle.hd_map.specs.declared.cells.Cells as packed
@@ -11,7 +11,7 @@ use Rattle.hd_map.specs.Map.{IsCellOf, cell_count, greatest_height, least_height
 use Rattle.hd_sdf_read.specs.declared.error.SdfError.{SdfError}
 use Rattle.hd_sdf_read.specs.declared.error.SdfError.TheVariants.{TooFewData}
 use Rattle.hd_sdf_read.specs.Bodies.{whole_in}
-use Rattle.hd_sdf_read.specs.Cut.{ReadsOn, TakesWord}
+use Rattle.hd_sdf_read.specs.Cut.{TakesWord}
 use Rattle.std.specs.List.{list_any}
 use Rattle.hd_sdf_read.specs.File.{is_gap}
 use Rattle.hd_sdf_read.specs.Grammar.{cell_of, datum_at}

@@ -1,5 +1,5 @@
 -- Decimals, token by token.
-use Rattle.std.proofs.Common.{◌≡◌, ◌+◌, ◌-◌, ◌*◌, ◌<◌, ◌≤◌, ◌^◌, ℕ, suc, true, false, eqb, List, [], ◌∷◌, ◌++◌, length, take, drop, get_or, Some, None, Ok, Err, inl, inr, refl, sym, ap, ap₂, ◌∙◌, arith, length-append, append_assoc, append-nil}
+use Rattle.std.proofs.Common.{◌≡◌, ◌+◌, ◌-◌, ◌*◌, ◌<◌, ◌≤◌, ◌^◌, ℕ, suc, true, false, eqb, List, [], ◌∷◌, ◌++◌, length, take, drop, get_or, Some, None, Ok, Err, inl, inr, refl, sym, ap, ap₂, ◌∙◌, arith, length-append, append_assoc}
 use Rattle.std.specs.Prelude.{bytes_eq, codes}
 use Rattle.std.specs.Char.{is_ascii_digit}
 use Rattle.std.specs.List.{list_all}
@@ -17,14 +17,13 @@ use Rattle.hd_num.specs.Lines.{without_start}
 use Rattle.hd_sdf_read.specs.File.{is_gap}
 use Rattle.hd_num.specs.declared.decimal.Decimal.{Decimal}
 use Rattle.hd_sdf_read.specs.declared.error.SdfError.{SdfError}
-use Rattle.hd_sdf_read.specs.declared.error.SdfError.TheVariants.{DatumRange, Memory, TooFewData}
+use Rattle.hd_sdf_read.specs.declared.error.SdfError.TheVariants.{DatumRange, TooFewData}
 use Rattle.hd_sdf_read.specs.declared.scaled.Datum.{Datum}
 use Rattle.hd_sdf_read.specs.declared.scaled.Scaled.{Scaled}
 use Rattle.hd_map.specs.declared.types.DataType.{DataType}
-use Rattle.hd_sdf_read.specs.Keys.{with_places}
-use Rattle.hd_sdf_read.specs.Decimals.{IsSmall, cells_at, data_with, datum_of, decimals_from, measured, ranged}
+use Rattle.hd_sdf_read.specs.Decimals.{IsSmall, data_with, datum_of, decimals_from, measured, ranged}
 use Rattle.hd_sdf_read.specs.Reads.{◌>>=◌}
-use Rattle.hd_sdf_read.specs.Scales.{AreDecimals, AreUnits, IsNext, Pushes, Scales, TakesDecimal}
+use Rattle.hd_sdf_read.specs.Scales.{AreUnits, IsNext, Pushes, Scales, TakesDecimal}
 use Rattle.hd_sdf_read.specs.Tokens.{after_token, is_absent, is_star, token_of}
 use Rattle.hd_sdf_read.proofs.Heights.{rest_at, token_at}
 use Rattle.hd_sdf_read.proofs.Scaling.{not_small}

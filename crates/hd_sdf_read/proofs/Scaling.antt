@@ -1,6 +1,6 @@
 -- Decimals as cells, in steps of the last of so many places.
 use Rattle.std.proofs.Common.{◌≡◌, ◌+◌, ◌-◌, ◌*◌, ◌/◌, ◌^◌, ◌<◌, ◌≤◌, ◌*ℤ◌, ℕ, zero, suc, pos, neg_ℤ, max, unsigned_abs, Bool, true, false, List, [], ◌∷◌, ◌++◌, length, map, Ok, Err, cond, inl, inr, refl, sym, ap, ap₂, ◌∙◌, arith, length-append, mul_assoc, mul_comm}
-use Rattle.std.specs.Prelude.{negsuc, nat_le}
+use Rattle.std.specs.Prelude.{nat_le}
 use Rattle.std.specs.List.{list_all}
 use mir.Syntax.{w64}
 use mir.Val.{to_z}
@@ -15,7 +15,7 @@ use Rattle.hd_map.specs.declared.types.Cell.TheVariants.{Height, Bad}
 use Rattle.hd_map.specs.declared.types.DataType.{DataType}
 use Rattle.hd_map.specs.declared.types.DataType.TheVariants.{U8, U16, U32, I8, I16, I32, Single, Double}
 use Rattle.hd_map.specs.Cells.{wide_cells_in}
-use Rattle.hd_map.specs.Map.{AreCellsOf, IsCellOf, places_of}
+use Rattle.hd_map.specs.Map.{AreCellsOf, IsCellOf}
 use Rattle.hd_map.specs.Packing.{multiplied}
 use Rattle.hd_num.specs.Whole.{signed_number}
 use Rattle.hd_sdf_read.specs.declared.scaled.Datum.{Datum}

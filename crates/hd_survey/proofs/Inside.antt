@@ -1,5 +1,5 @@
 -- What stands in a path, and the saddles and pits of a change tree, are points of the map.
-use Rattle.std.proofs.Common.{◌≡◌, ◌<◌, List, [], ◌∷◌, length, get_or, inl, inr, refl, sym, ap, subst}
+use Rattle.std.proofs.Common.{◌≡◌, ◌<◌, List, [], ◌∷◌, length, get_or, inl, inr, refl, sym, subst}
 use Rattle.std.specs.Prelude.{All}
 use Rattle.std.specs.List.{Contains}
 use Rattle.std.proofs.lemmas.List.{get_or-map, length-map}
@@ -7,11 +7,11 @@ use Rattle.std.proofs.lemmas.List.Elements.{Contains-get_or}
 use Rattle.hd_map.specs.declared.types.Rank.{Rank}
 use Rattle.hd_map.specs.declared.types.SideName.{SideName}
 use Rattle.hd_map.specs.ChangeTree.{Joining, IsChangeTree}
-use Rattle.hd_map.specs.Map.{Map, cell_count}
+use Rattle.hd_map.specs.Map.{Map}
 use Rattle.hd_map.specs.Path.{Leads}
 use Rattle.hd_map.specs.Rank.{IsPoint, Near}
 use Rattle.hd_map.proofs.Levels.{Contains-cases, Contains-none}
-use Rattle.hd_map.proofs.Points.{Near-to, place_inside, point_inside}
+use Rattle.hd_map.proofs.Points.{Near-to, point_inside}
 use Rattle.hd_graph.specs.declared.trees.Join.{Join}
 use Rattle.hd_graph.specs.Tells.{joins_of}
 use Rattle.hd_survey.specs.Inside.{IsJoinOn}

@@ -8,7 +8,7 @@ use Rattle.hd_map.specs.declared.types.Size.{Size}
 use Rattle.hd_map.specs.declared.types.Cell.{Cell}
 use Rattle.hd_map.specs.declared.types.Cell.TheVariants.{Bad}
 use Rattle.hd_map.specs.Map.{Map, IsMap, IsCellOf, InGrid, cell_at, mask_at, place_of}
-use Rattle.hd_map.specs.Sets.{with_cell, with_mask, under, CountsChange}
+use Rattle.hd_map.specs.Sets.{with_cell, with_mask, under}
 use Rattle.hd_map.proofs.Points.{same_place, place_inside}
 use Rattle.hd_tiles.specs.Tile.{IsRound, Agree}
 use Rattle.hd_tiles.specs.Stamps.{ComesFrom, AreUpTo, Rise, Touches, TouchesRound, TouchesAll, AreStamped}

@@ -1,10 +1,9 @@
 -- The numbers that words ask for are within their limits.
-use Rattle.std.proofs.Common.{◌≡◌, ◌∙◌, ◌≤◌, ◌&&◌, ℕ, Bool, true, false, refl, sym, subst, arith, List, [], ◌∷◌, length, Option, Some, None, codes, nat_le, if◌then◌else◌}
+use Rattle.std.proofs.Common.{◌≡◌, ◌∙◌, ◌≤◌, ◌&&◌, ℕ, Bool, true, false, refl, sym, subst, arith, List, [], ◌∷◌, length, Some, None, codes, nat_le, if◌then◌else◌}
 use Rattle.std.specs.Prelude.{⊤}
 use Rattle.std.specs.Str.{bytes_eq}
 use Rattle.std.specs.Str.Parse.{digits_value}
 use Rattle.std.proofs.lemmas.Bool.Decides.{nat_tests}
-use Rattle.hd_map.specs.Map.{IsSize, cell_count, longest_side, most_cells}
 use Rattle.hd_num.specs.Whole.{count_of, is_numeral}
 use Rattle.hd_words.specs.Demo.{IsDemo, demo_of, demo_within, is_demo_side, is_size}
 use Rattle.hd_words.specs.Limits.{greatest_tile, least_tile, most_edits, usual_tile}

@@ -4,7 +4,7 @@ use Rattle.std.specs.List.{starts_with}
 use Rattle.std.specs.Option.{option_and_then}
 use Rattle.hd_words.specs.Words.{Given, given_of, with_name, with_tile, with_save, begins_with_dash, dales_names, run_names, check_names, demo_names, tile_of}
 use Rattle.hd_words.specs.WordSteps.{HasNoForm, IsNoOptionAlone, followed_by}
-use Rattle.hd_words.specs.declared.found.Stage.TheVariants.{Options, TileValue, SaveValue}
+use Rattle.hd_words.specs.declared.found.Stage.TheVariants.{Options}
 
 two_tiles-dales : (names saves : List (List ℕ)) (first second : List ℕ) (more : List (List ℕ)) → dales_names names (first ∷ (second ∷ more)) saves ≡ None
 two_tiles-dales [] saves first second more = refl

@@ -1,4 +1,4 @@
-use Rattle.std.proofs.Common.{◌≡◌, ◌+◌, ◌++◌, ◌∙◌, drop, append-nil, append_assoc, ap, sym, subst, arith}
+use Rattle.std.proofs.Common.{◌≡◌, ◌+◌, ◌++◌, ◌∙◌, drop, append-nil, append_assoc, ap, sym, arith}
 use Rattle.hd_report.specs.Volumes.{volume_lines}
 use Rattle.hd_report.proofs.VolumeRuns.{lines-next, lines-end}
 use Rattle.hd_report.proofs.volumes.push_volumes.Goals as goal

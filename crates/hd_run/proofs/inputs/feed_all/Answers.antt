@@ -1,7 +1,5 @@
-use Rattle.std.proofs.Common.{◌≡◌, ◌≤◌, ◌+◌, ◌++◌, List, ℕ, take, length, sym, ap, ◌∙◌, arith, length-take}
-use Rattle.std.proofs.lemmas.Grind.{common_steps}
+use Rattle.std.proofs.Common.{◌≡◌, ◌≤◌, ◌+◌, ◌++◌, ℕ, length, sym, ◌∙◌, arith, length-take}
 use Rattle.std.proofs.lemmas.List.{take-append-le}
-use Rattle.hd_run.specs.Limits.{surface_limit}
 use Rattle.hd_run.proofs.SurfacePieces.{fed_few, fed_more, on_ok}
 use Rattle.hd_run.proofs.inputs.feed_all.Goals as goal
 

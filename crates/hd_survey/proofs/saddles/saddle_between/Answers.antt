@@ -5,7 +5,6 @@ use Rattle.hd_graph.specs.declared.graph.Low.{Low}
 use Rattle.hd_graph.specs.Graph.{IsLow}
 use Rattle.hd_graph.specs.Links.{rank_at}
 use Rattle.hd_graph.specs.Tells.{AreMergesOf}
-use Rattle.hd_map.specs.Saddle.{SaddleIs}
 use Rattle.hd_survey.proofs.MapMerges.{few_lows, lows_different, merges_of_map}
 use Rattle.hd_survey.proofs.saddles.saddle_between.Goals as goal
 
