@@ -37,7 +37,9 @@ pub use pruning_law::pruning_is_determined;
 pub use range::{greatest_of, is_cell_of, is_narrow, least_of, over_least};
 pub use side::{Down, Side, Up, higher_of};
 pub use surface::Surface;
-pub use types::{Adjacency, Cell, DataType, Link, MapError, Pass, Pos, Rank, RegionSize, SideName, Size};
+pub use types::{
+    Adjacency, Cell, DataType, Link, MapError, Pass, Pos, Rank, RegionSize, SideName, Size,
+};
 pub use under::Under;
 pub use wide::Wide;
 pub use wide_cells::WideCells;
