@@ -2,7 +2,7 @@
 #![tactic(auto)]
 
 mod answer;
-mod by_pool;
+mod by_kept;
 mod copies;
 mod labels;
 mod laws;

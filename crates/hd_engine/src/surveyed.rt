@@ -13,7 +13,7 @@ ghost use Rattle.hd_engine.specs.Texts.{texts_view};
 ghost use Rattle.hd_tiles.specs.Tile.{IsTileSide};
 
 use crate::Answer;
-use crate::by_pool::{Need, find_by_pool};
+use crate::by_kept::{Need, find_by_kept};
 use crate::labels::show_label;
 use crate::texts::Texts;
 use crate::workpiece::Workpiece;
@@ -29,8 +29,8 @@ use hd_tiles::Tiles;
 use std::alloc::Global;
 use std::marker::Model;
 
-/// A grid in tiles that a script works on, with the texts of its file, what reports found of its present map, and the
-/// pools of its sides. Contracts see it as its state and the count of its changes.
+/// A grid in tiles that a script works on, with the texts of its file, what reports found of its present map, and what is
+/// kept of its sides. Contracts see it as its state and the count of its changes.
 #[derive(Drop)]
 pub struct Surveyed<G: Grid> {
     work: Workpiece<Tiles<G>>,
@@ -184,35 +184,35 @@ impl<G: Grid> Surveyed<G> {
         }
     }
 
-    // Finds by the pools what the report of a command asks for, where they serve.
+    // Finds by what is kept of the sides what the report of a command asks for, where that serves.
     fn prepare(&mut self, command: &Command) -> Result<(), Memory>
         ensures { self.new ≡ self.old }
     {
         match command {
-            Command::Dales => self.find_by_pool(SideName::Dales, Need::Regions),
-            Command::Hills => self.find_by_pool(SideName::Hills, Need::Regions),
+            Command::Dales => self.find_by_kept(SideName::Dales, Need::Regions),
+            Command::Hills => self.find_by_kept(SideName::Hills, Need::Regions),
             Command::Tree { side }
             | Command::Saddle { side, .. }
             | Command::Prune { side, .. }
             | Command::Lines { side, .. }
             | Command::Audit { side, .. }
-            | Command::Fill { side, .. } => self.find_by_pool(*side, Need::Merges),
+            | Command::Fill { side, .. } => self.find_by_kept(*side, Need::Merges),
             _ => Ok(()),
         }
     }
 
-    // Finds by the pool of a side what a report asks for, where it serves.
-    fn find_by_pool(&mut self, side: SideName, need: Need) -> Result<(), Memory>
+    // Finds by what is kept of a side what a report asks for, where that serves.
+    fn find_by_kept(&mut self, side: SideName, need: Need) -> Result<(), Memory>
         ensures { self.new ≡ self.old }
     {
         let alloc = self.work.alloc;
         let tiles = self.work.board.grid();
         match side {
             SideName::Dales => {
-                find_by_pool(alloc, tiles, &mut self.dales, &mut self.survey.dales, need)
+                find_by_kept(alloc, tiles, &mut self.dales, &mut self.survey.dales, need)
             }
             SideName::Hills => {
-                find_by_pool(alloc, tiles, &mut self.hills, &mut self.survey.hills, need)
+                find_by_kept(alloc, tiles, &mut self.hills, &mut self.survey.hills, need)
             }
         }
     }

@@ -1,11 +1,12 @@
--- A pool follows a map in tiles through its changes.
-use Rattle.std.proofs.Common.{◌≡◌, ℕ, List, Option, None, length, sym, ◌∙◌, subst}
+-- What is kept of a side follows a map in tiles through its changes.
+use Rattle.std.proofs.Common.{◌≡◌, ℕ, List, length, sym, ◌∙◌, subst}
 use Rattle.hd_map.specs.declared.types.SideName.{SideName}
 use Rattle.hd_map.specs.Map.{Map}
 use Rattle.hd_tiles.specs.Stamps.{ComesFrom}
 use Rattle.hd_basin.specs.InStep.{IsInStep}
 use Rattle.hd_basin.specs.Parts.{Pool}
-use Rattle.hd_pool.specs.Following.{Follows, IsFollowing}
+use Rattle.hd_pool.specs.Following.{Follows, IsFollowing, Kept, nothing_kept}
+use Rattle.hd_pool.proofs.TileLinks.{step-onward}
 
 -- pools in step with the map before stay in step
 abbrev pub StayInStep : Map → Map → SideName → List ℕ → List ℕ → Type 0
@@ -22,11 +23,14 @@ following-onward old new side t u before after pool stays same comes was =
       in_step = stays pool same (subst (λ (k : ℕ). ComesFrom old pool.side before new k after) one (subst (λ (k : ℕ). ComesFrom old k before new u after) (sym was.same_side) comes)) was.in_step;
     }
 
--- so does the pool, if there is one
-pub follows-onward : (old new : Map) (side : SideName) (t u : ℕ) (before after : List ℕ) (pool : Option Pool) → StayInStep old new side before after
-    → length before ≡ length after → ComesFrom old t before new u after → Follows old side t before pool → Follows new side u after pool
-follows-onward old new side t u before after pool stays same comes was = λ p is. following-onward old new side t u before after p stays same comes (was p is)
+-- so does what is kept of the side
+pub follows-onward : (old new : Map) (side : SideName) (t u : ℕ) (before after : List ℕ) (kept : Kept) → StayInStep old new side before after
+    → length before ≡ length after → ComesFrom old t before new u after → Follows old side t before kept → Follows new side u after kept
+follows-onward old new side t u before after kept stays same comes was = record {
+  pool = λ p is. following-onward old new side t u before after p stays same comes (was.pool p is);
+  links = λ l is. step-onward old new side t u before after l same comes (was.links l is);
+}
 
--- where there is no pool, nothing has to follow
-pub follows-none : (m : Map) (side : SideName) (t : ℕ) (stamps : List ℕ) (pool : Option Pool) → pool ≡ None → Follows m side t stamps pool
-follows-none m side t stamps pool none = λ p is. absurd (let no = sym none ∙ is in cc)
+-- where nothing is kept, nothing has to follow
+pub follows-none : (m : Map) (side : SideName) (t : ℕ) (stamps : List ℕ) (kept : Kept) → kept ≡ nothing_kept → Follows m side t stamps kept
+follows-none m side t stamps kept none = rw none (record { pool = λ p is. absurd (cc is); links = λ l is. absurd (cc is) })

@@ -8,4 +8,5 @@ mod BetweenRoots
 mod Rooted
 mod PitsOf
 mod Touched
+pub mod TileLinks
 pub mod Following

@@ -9,9 +9,13 @@ use Rattle.hd_pool.specs.declared.choice.Question.TheVariants.{Label, Report}
 abbrev pub touched_after : ℕ → List ℕ → ℕ
 touched_after changes stamps = count_by (λ stamp. nat_lt changes stamp) stamps
 
--- what was spent on labels counts no more where changes after these touched more than a fourth of the tiles
+-- whether changes after these touched more than a fourth of the tiles
+abbrev pub are_many_touched : ℕ → List ℕ → Bool
+are_many_touched changes stamps = nat_lt (length stamps) (touched_after changes stamps * 4)
+
+-- what was spent on labels counts no more where they touched that many
 abbrev pub spent_at : ℕ → ℕ → List ℕ → ℕ
-spent_at spent changes stamps = if nat_lt (length stamps) (touched_after changes stamps * 4) then 0 else spent
+spent_at spent changes stamps = if are_many_touched changes stamps then 0 else spent
 
 -- where the choice is free, a label is answered by the pool once labels went over all points sixteen times
 abbrev pub is_by_pool : Choice → Question → ℕ → ℕ → Bool

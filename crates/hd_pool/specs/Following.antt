@@ -1,22 +1,40 @@
--- A pool that follows a map in tiles.
-use Rattle.std.specs.Prelude.{◌≡◌, ℕ, List, Option, Some}
+-- What is kept of a side of a map in tiles follows the map.
+use Rattle.std.specs.Prelude.{◌≡◌, ℕ, List, Option, Some, None}
 use Rattle.std.specs.Option.{ForSome}
 use Rattle.hd_map.specs.declared.types.SideName.{SideName}
 use Rattle.hd_map.specs.Map.{Map}
 use Rattle.hd_basin.specs.InStep.{IsInStep, IsPoolOf}
 use Rattle.hd_basin.specs.Parts.{Pool}
+use Rattle.hd_steep.specs.FirstLinks.{AreFirstLinks}
+use Rattle.hd_pool.specs.TileLinks.{TileLinks, AreLinksInStep}
+
+-- what is kept of a side: its pool, and its first links, each where it is kept
+pub record Kept : Type 0 where
+  pub pool : Option Pool
+  pub links : Option TileLinks
+
+-- nothing is kept
+abbrev pub nothing_kept : Kept
+nothing_kept = record { pool = None; links = None }
 
 -- the pool is in step with the map and the stamps of its tiles, which have this side
 pub record IsFollowing (m : Map) (side : SideName) (t : ℕ) (stamps : List ℕ) (pool : Pool) : Type 0 where
   pub same_side : pool.side ≡ t
   pub in_step : IsInStep m side stamps pool
 
--- so is the pool, if there is one
-abbrev pub Follows : Map → SideName → ℕ → List ℕ → Option Pool → Type 0
-Follows m side t stamps pool = ForSome pool (IsFollowing m side t stamps)
+-- so are the pool and the links, where they are kept
+pub record Follows (m : Map) (side : SideName) (t : ℕ) (stamps : List ℕ) (kept : Kept) : Type 0 where
+  pub pool : ForSome kept.pool (IsFollowing m side t stamps)
+  pub links : ForSome kept.links (AreLinksInStep m side t stamps)
 
 -- there is a pool, and it is that of the map
-pub record IsReady (m : Map) (side : SideName) (pool : Option Pool) : Type 0 where
+pub record IsReady (m : Map) (side : SideName) (kept : Kept) : Type 0 where
   pub made : Pool
-  pub is : pool ≡ Some made
+  pub is : kept.pool ≡ Some made
   pub whole : IsPoolOf m side made
+
+-- there are links, and they are those of the map
+pub record HasLinks (m : Map) (side : SideName) (kept : Kept) : Type 0 where
+  pub found : TileLinks
+  pub is : kept.links ≡ Some found
+  pub whole : AreFirstLinks m side found.links

@@ -3,4 +3,5 @@ pub mod Told
 pub mod BetweenRoots
 pub mod PitsOf
 pub mod Choice
+pub mod TileLinks
 pub mod Following

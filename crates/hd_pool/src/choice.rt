@@ -1,6 +1,6 @@
 // Whether a question about a side of a grid is answered by its pool.
 ghost use Rattle.std.specs.Prelude.{◌≡◌, ◌<◌, ◌^◌, ℕ, List as Items};
-ghost use Rattle.hd_pool.specs.Choice.{is_by_pool, spent_at, touched_after};
+ghost use Rattle.hd_pool.specs.Choice.{are_many_touched, is_by_pool, spent_at, touched_after};
 
 use hd_map::Grid;
 use hd_tiles::{Looked, Tiles};
@@ -40,16 +40,23 @@ pub fn is_by_pool(choice: Choice, question: Question, spent: u64, points: u64) -
     }
 }
 
-/// What counts as spent on labels, where so much was before the changes after these. It is nothing again where more
-/// than a fourth of the tiles were touched, since the pool is as good as new to them.
+/// What counts as spent on labels, where so much was before the changes after these. It is nothing again where many
+/// tiles were touched, since the pool is as good as new to them.
 pub fn spent_at<G: Grid>(spent: u64, changes: u64, tiles: &Tiles<G>) -> u64
     ensures { result ≡ spent_at spent changes tiles.now.stamps.items }
 {
-    if count_touched(tiles, changes) * 4 > tiles.tiling().count() {
+    if are_many_touched(tiles, changes) {
         0
     } else {
         spent
     }
+}
+
+/// Whether changes after so many touched more than a fourth of the tiles.
+pub fn are_many_touched<G: Grid>(tiles: &Tiles<G>, changes: u64) -> bool
+    ensures { result ≡ are_many_touched changes tiles.now.stamps.items }
+{
+    count_touched(tiles, changes) * 4 > tiles.tiling().count()
 }
 
 // How many tiles a change after so many touched.

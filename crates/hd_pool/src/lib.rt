@@ -6,6 +6,7 @@ mod between;
 mod choice;
 mod pits;
 mod pool_view;
+mod side_links;
 mod side_pool;
 mod told;
 

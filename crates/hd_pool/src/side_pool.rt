@@ -1,47 +1,52 @@
-// The pool of a side of a grid in tiles.
-ghost use Rattle.std.specs.Prelude.{◌≡◌, IfOk, IsTrue, None, OnOk};
+// The pool and the first links of a side of a grid in tiles.
+ghost use Rattle.std.specs.Prelude.{◌≡◌, IfOk, IsTrue, OnOk};
 ghost use Rattle.hd_basin.specs.InStep.{IsPoolOf};
-ghost use Rattle.hd_pool.specs.Following.{Follows, IsFollowing, IsReady};
+ghost use Rattle.hd_pool.specs.Following.{Follows, HasLinks, IsFollowing, IsReady, nothing_kept};
 
 use crate::PoolView;
 use crate::choice::{Choice, Question, is_by_pool, spent_at};
+use crate::side_links::{SideLinks, links_of};
 use hd_basin::Basins;
 use hd_list::Memory;
 use hd_map::{Grid, Heights, Side};
+use hd_survey::GridView;
 use hd_tiles::{Steps, Tiles};
 use std::alloc::Global;
 use std::marker::{Brand, Model};
 use std::sync::ledger::{Blank, Ledger};
 
-/// The pool of a side of a grid in tiles, which is made and brought up to the grid where questions are answered by it.
-/// Contracts see it as the pool, if there is one.
+/// The pool and the first links of a side of a grid in tiles, each of which is made and brought up to the grid where
+/// questions are answered by it. Contracts see it as the pool and the links, where they are kept.
 #[derive(Drop)]
 pub struct SidePool<S: Side> {
     choice: Choice,
     pool: Option<Basins<S>>,
+    links: Option<SideLinks>,
     spent: u64,
     changes: u64,
+    reported: Option<u64>,
 }
 
 impl<S: Side> Model for SidePool<S> {
-    ghost use Rattle.std.specs.Prelude.{Option};
-    ghost use Rattle.hd_basin.specs.Parts.{Pool};
+    ghost use Rattle.hd_pool.specs.Following.{Kept};
 
-    ghost Value = { Option Pool };
+    ghost Value = { Kept };
 
-    ghost view = { λ s. s.pool };
+    ghost view = { λ s. record { pool = s.pool; links = s.links } };
 }
 
 impl<S: Side> SidePool<S> {
-    /// No pool yet, and nothing spent on labels.
+    /// Nothing is kept yet, nothing spent on labels, and no report was asked for.
     pub fn new(choice: Choice) -> SidePool<S>
-        ensures { result ≡ None }
+        ensures { result ≡ nothing_kept }
     {
         SidePool {
             choice,
             pool: None,
+            links: None,
             spent: 0,
             changes: 0,
+            reported: None,
         }
     }
 
@@ -99,6 +104,49 @@ impl<S: Side> SidePool<S> {
         let refreshed = refresh::<S, G, Brand>(&mut pool, tiles, Blank::new(1));
         self.pool = Some(pool);
         refreshed
+    }
+
+    /// Tells whether the links of the side are kept, and brings them up to the grid if so. They are kept from the first
+    /// report on that is asked for after changes since an earlier one.
+    ///
+    /// `Memory` comes where the links are refused their memory.
+    pub fn keeps_links<G: Grid>(&mut self, alloc: Global, tiles: &Tiles<G>) -> Result<bool, Memory>
+        requires { Follows (G.map tiles.now.grid) S.NAME tiles.now.tiling.side tiles.now.stamps.items self.old }
+        ensures follows { Follows (G.map tiles.now.grid) S.NAME tiles.now.tiling.side tiles.now.stamps.items self.new }
+        ensures links { IfOk result (λ keeps. IsTrue keeps → HasLinks (G.map tiles.now.grid) S.NAME self.new) }
+    {
+        if !self.was_changed(tiles.changes()) {
+            return Ok(false);
+        }
+        let links = links_of::<S, G>(alloc, self.links.take(), tiles)?;
+        self.links = Some(links);
+        Ok(true)
+    }
+
+    // Whether a report was asked for when there were fewer changes.
+    fn was_changed(&mut self, changes: u64) -> bool
+        ensures { self.new ≡ self.old }
+    {
+        let first = self.reported.unwrap_or(changes);
+        self.reported = Some(first);
+        first < changes
+    }
+
+    /// The side, by regions that are found by its links. The links are those of the grid. `Memory` comes where the
+    /// regions are refused their memory.
+    pub fn view_by_links<'a, G: Heights>(
+        &self,
+        alloc: Global,
+        grid: &'a G,
+    ) -> Result<GridView<'a, S, G>, Memory>
+        requires { HasLinks (G.map grid.now) S.NAME self.now }
+        ensures { IfOk result (λ view. view ≡ grid.now) }
+    {
+        let regions = match &self.links {
+            Some(links) => links.regions::<S, G>(alloc, grid)?,
+            None => unreachable!(),
+        };
+        Ok(GridView::from_regions(alloc, grid, regions))
     }
 
     /// The side, by its pool. The pool is that of the grid.

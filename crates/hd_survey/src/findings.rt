@@ -86,6 +86,13 @@ impl<S: Side> Findings<S> {
         Ok(())
     }
 
+    /// Whether the regions with the numbers of their points were found.
+    pub fn has_sizes(&self) -> bool
+        ensures { result ≡ is_some self.now.sizes }
+    {
+        self.sizes.is_some()
+    }
+
     /// The regions with the numbers of their points, in position order of their pits. They were found.
     pub fn sizes(&self) -> &[RegionSize]
         requires { is_some self.now.sizes ≡ true }
@@ -121,6 +128,13 @@ impl<S: Side> Findings<S> {
             self.merges = Some(view.merges()?);
         }
         Ok(())
+    }
+
+    /// Whether the merges of the pits were found.
+    pub fn has_merges(&self) -> bool
+        ensures { result ≡ is_some self.now.merges }
+    {
+        self.merges.is_some()
     }
 
     /// The pits with their merges, which were found.

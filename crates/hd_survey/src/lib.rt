@@ -27,6 +27,7 @@ mod view;
 mod way;
 
 pub use findings::Findings;
+pub use grid_view::GridView;
 pub use kept::KeptPits;
 pub use laws::{
     features_are_determined, kept_pits_are_determined, pruned_lines_are_determined,
