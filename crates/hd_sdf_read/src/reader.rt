@@ -58,12 +58,12 @@ impl SdfReader {
         let state = replace(&mut self.state, State::Refused(SdfError::Memory));
         match feed(alloc, state, piece) {
             Ok(state) => {
-                self.state = state;
+                drop(replace(&mut self.state, state));
                 self.fed += piece.len() as u64;
                 Ok(())
             }
             Err(refusal) => {
-                self.state = State::Refused(refusal);
+                drop(replace(&mut self.state, State::Refused(refusal)));
                 Err(refusal)
             }
         }

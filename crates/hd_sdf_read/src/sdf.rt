@@ -38,6 +38,7 @@ pub fn read_sdf(alloc: Global, bytes: &[u8]) -> Result<SdfFile, SdfError>
 {
     let mut reader = SdfReader::new(alloc)?;
     if let Err(refusal) = reader.feed(alloc, bytes) {
+        drop(reader);
         return Err(refusal);
     }
     reader.finish(alloc)
