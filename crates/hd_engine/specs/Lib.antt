@@ -18,4 +18,5 @@ pub mod Heights
 pub mod Distributions
 pub mod Audits
 pub mod Volumes
+pub mod Kinds
 pub mod Answers

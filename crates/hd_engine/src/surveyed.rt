@@ -7,6 +7,7 @@ ghost use Rattle.hd_engine.specs.Answers.{IsAnswer, IsCommandAnswer};
 ghost use Rattle.hd_engine.specs.Edits.{IsEditAnswer, IsUndoAnswer};
 ghost use Rattle.hd_engine.specs.Elements.{IsElementAnswer};
 ghost use Rattle.hd_engine.specs.Neighbours.{IsNeighboursAnswer};
+ghost use Rattle.hd_engine.specs.Kinds.{IsReport, AsksValue};
 ghost use Rattle.hd_engine.specs.Regions.{IsLabelAnswer};
 ghost use Rattle.hd_engine.specs.Reply.{refused_for, reply_of};
 ghost use Rattle.hd_engine.specs.Texts.{texts_view};
@@ -28,6 +29,7 @@ use hd_survey::Survey;
 use hd_tiles::Tiles;
 use std::alloc::Global;
 use std::marker::Model;
+use std::mem::replace;
 
 /// A grid in tiles that a script works on, with the texts of its file, what reports found of its present map, and what is
 /// kept of its sides. Contracts see it as its state and the count of its changes.
@@ -133,7 +135,6 @@ impl<G: Grid> Surveyed<G> {
         ensures memory { OnErr result (self.new.state ≡ self.old.state) }
         ensures changes { RisesUpTo (2 ^ 27) self.old.changes self.new.changes }
     {
-        self.prepare(&command)?;
         match command {
             Command::Do(edit) => self.edit(number, &edit),
             Command::Undo(count) => self.undo(number, count),
@@ -143,37 +144,31 @@ impl<G: Grid> Surveyed<G> {
                 height,
                 table,
             } => self.define(number, name, width, height, table),
-            Command::Elements => self.work.elements(),
             Command::Neighbours(adjacency) => self.set_adjacency(number, adjacency),
+            command => {
+                let answer = self.report(number, &command);
+                drop(command);
+                answer
+            }
+        }
+    }
+
+    // The answer to a command that changes nothing.
+    fn report(&mut self, number: u64, command: &Command) -> Result<Answer, Memory>
+        requires whole { IsWhole command.now }
+        requires report { IsReport command.now }
+        ensures ok { IfOk result (λ a. IsCommandAnswer self.old.state number command.now (reply_of a) self.new.state) }
+        ensures same { self.new ≡ self.old }
+    {
+        self.prepare(command)?;
+        match command {
+            Command::Elements => self.work.elements(),
             Command::Info => self.work.info(),
             Command::Dales => self.work.list::<Down>(&mut self.survey.dales),
             Command::Hills => self.work.list::<Up>(&mut self.survey.hills),
-            Command::Label { side, at } => self.label(number, side, at),
-            Command::Saddle { side, a, b } => self
-                .work
-                .saddle(&mut self.survey, number, side, a, b),
-            Command::Prune { side, percent } => self.work.prune(&mut self.survey, side, percent),
-            Command::Lines { side, percent } => self.work.borders(&mut self.survey, side, percent),
-            Command::Audit { side, percent } => self.work.audit(&mut self.survey, side, percent),
-            Command::Fill { side, percent } => self.work.fill(&mut self.survey, side, percent),
-            Command::Param { name, height } => {
-                self.work
-                    .param(&mut self.survey, number, name.as_slice(), height)
-            }
-            Command::Feature { word } => {
-                self.work.feature(&mut self.survey, number, word.as_slice())
-            }
-            Command::HeightValue { name, c } => {
-                self.work
-                    .height(&mut self.survey, number, name.as_slice(), c)
-            }
-            Command::Hist { bins, word } => {
-                self.work
-                    .hist(&mut self.survey, number, bins, word.as_slice())
-            }
-            Command::Perc { above, word } => {
-                self.work
-                    .perc(&mut self.survey, number, above, word.as_slice())
+            Command::Label { side, at } => self.label(number, *side, *at),
+            Command::Saddle { side, a, b } => {
+                self.work.saddle(&mut self.survey, number, *side, *a, *b)
             }
             Command::Tree {
                 side: SideName::Dales,
@@ -181,6 +176,42 @@ impl<G: Grid> Surveyed<G> {
             Command::Tree {
                 side: SideName::Hills,
             } => self.work.tree::<Up>(&mut self.survey.hills),
+            Command::Prune { side, percent } => self.work.prune(&mut self.survey, *side, *percent),
+            Command::Lines { side, percent } => self
+                .work
+                .borders(&mut self.survey, *side, *percent),
+            Command::Audit { side, percent } => self.work.audit(&mut self.survey, *side, *percent),
+            Command::Fill { side, percent } => self.work.fill(&mut self.survey, *side, *percent),
+            _ => self.tell_value(number, command),
+        }
+    }
+
+    // The answer to a command that asks for a parameter or for attribute values.
+    fn tell_value(&mut self, number: u64, command: &Command) -> Result<Answer, Memory>
+        requires whole { IsWhole command.now }
+        requires value { AsksValue command.now }
+        ensures ok { IfOk result (λ a. IsCommandAnswer self.old.state number command.now (reply_of a) self.new.state) }
+        ensures same { self.new ≡ self.old }
+    {
+        match command {
+            Command::Param { name, height } => {
+                self.work
+                    .param(&mut self.survey, number, name.as_slice(), *height)
+            }
+            Command::Feature { word } => self
+                .work
+                .feature(&mut self.survey, number, word.as_slice()),
+            Command::HeightValue { name, c } => {
+                self.work
+                    .height(&mut self.survey, number, name.as_slice(), *c)
+            }
+            Command::Hist { bins, word } => self
+                .work
+                .hist(&mut self.survey, number, *bins, word.as_slice()),
+            Command::Perc { above, word } => self
+                .work
+                .perc(&mut self.survey, number, *above, word.as_slice()),
+            _ => unreachable!(),
         }
     }
 
@@ -241,7 +272,7 @@ impl<G: Grid> Surveyed<G> {
         ensures memory { OnErr result (self.new.state ≡ self.old.state) }
         ensures changes { RisesUpTo (2 ^ 27) self.old.changes self.new.changes }
     {
-        self.survey = Survey::new();
+        drop(replace(&mut self.survey, Survey::new()));
         pool_stays_in_step();
         self.work.edit(number, edit)
     }
@@ -253,7 +284,7 @@ impl<G: Grid> Surveyed<G> {
         ensures memory { OnErr result (self.new.state ≡ self.old.state) }
         ensures changes { RisesUpTo (2 ^ 27) self.old.changes self.new.changes }
     {
-        self.survey = Survey::new();
+        drop(replace(&mut self.survey, Survey::new()));
         pool_stays_in_step();
         self.work.undo(number, count)
     }
@@ -265,7 +296,7 @@ impl<G: Grid> Surveyed<G> {
         ensures memory { OnErr result (self.new.state ≡ self.old.state) }
         ensures changes { RisesUpTo (2 ^ 27) self.old.changes self.new.changes }
     {
-        self.survey = Survey::new();
+        drop(replace(&mut self.survey, Survey::new()));
         pool_stays_in_step();
         self.work.set_adjacency(number, adjacency)
     }
