@@ -1,4 +1,4 @@
-use Rattle.std.proofs.Common.{ℕ, ◌≡◌, ◌<◌, ◌+◌, ◌-◌, ◌*◌, ◌/◌, length, List, set, arith, refl}
+use Rattle.std.proofs.Common.{ℕ, ◌≡◌, ◌<◌, ◌+◌, ◌-◌, ◌*◌, ◌/◌, length, List, set, ap, arith, refl, subst}
 use Rattle.std.specs.Prelude.{min}
 use Rattle.hd_map.specs.declared.types.Pos.{Pos}
 use Rattle.hd_map.specs.declared.types.Size.{Size}
@@ -8,6 +8,14 @@ use Rattle.hd_tiles.specs.Tile.{IsRound, IsTileSide, tile_count, tiles_across}
 use Rattle.hd_tiles.proofs.Corners.{few_tiles, top_left, top_right, bottom_left, bottom_right, at_corner, from_corner, round_inside}
 use Rattle.hd_tiles.proofs.Stamping.{stamped-none, stamped-more, stamped-as}
 use Rattle.hd_tiles.proofs.touch.touch_round.Goals as goal
+
+-- a part by the sides that a tiling answers
+before_as : (x side t part : ℕ) → part ≡ (x - 1) / side → side ≡ t → part ≡ (x - 1) / t
+before_as x side t part is same = subst (λ (t : ℕ). part ≡ (x - 1) / t) same is
+
+after_as : (x n m side t part : ℕ) → part ≡ min (x + 1) (n - 1) / side → n ≡ m → side ≡ t → part ≡ min (x + 1) (m - 1) / t
+after_as x n m side t part is long same =
+    subst (λ (t : ℕ). part ≡ min (x + 1) (m - 1) / t) same (subst (λ (n : ℕ). part ≡ min (x + 1) (n - 1) / side) long is)
 
 -- the parts that are found, and the tiles at the four corners of them
 module _ (s : Size) (t : ℕ) (p : Pos) (limits : IsSize s) (sides : IsTileSide t) (inside : InGrid s p) (across left right top bottom : ℕ) (across_is : across ≡ tiles_across s t)
@@ -50,64 +58,64 @@ module _ (s : Size) (t : ℕ) (p : Pos) (limits : IsSize s) (sides : IsTileSide 
 pub overflow_add-top : goal.overflow_add-top
 overflow_add-top c =
     let tiling = c.args.tiling in
-    let below = small tiling.size tiling.side c.args.at tiling.limits tiling.tile_side c.requires.in_grid c.across-across.result c.part_before-left.result c.part_after-right.result c.part_before.result c.part_after.result c.across-across.ensures (cc) (cc) (cc) (cc) _ (first tiling.size tiling.side c.args.at tiling.limits tiling.tile_side c.requires.in_grid c.across-across.result c.part_before-left.result c.part_after-right.result c.part_before.result c.part_after.result c.across-across.ensures (cc) (cc) (cc) (cc)) in
+    let below = small tiling.size tiling.side c.args.at tiling.limits tiling.tile_side c.requires.in_grid c.across-across.result c.part_before-left.result c.part_after-right.result c.part_before.result c.part_after.result c.across-across.ensures (before_as _ _ _ _ c.part_before-left.ensures c.side-side.ensures) (after_as _ _ _ _ _ _ c.part_after-right.ensures (ap (λ (s : Size). s.points) c.size-size.ensures) c.side-side.ensures) (before_as _ _ _ _ c.part_before.ensures c.side-side.ensures) (after_as _ _ _ _ _ _ c.part_after.ensures (ap (λ (s : Size). s.profiles) c.size-size.ensures) c.side-side.ensures) _ (first tiling.size tiling.side c.args.at tiling.limits tiling.tile_side c.requires.in_grid c.across-across.result c.part_before-left.result c.part_after-right.result c.part_before.result c.part_after.result c.across-across.ensures (before_as _ _ _ _ c.part_before-left.ensures c.side-side.ensures) (after_as _ _ _ _ _ _ c.part_after-right.ensures (ap (λ (s : Size). s.points) c.size-size.ensures) c.side-side.ensures) (before_as _ _ _ _ c.part_before.ensures c.side-side.ensures) (after_as _ _ _ _ _ _ c.part_after.ensures (ap (λ (s : Size). s.profiles) c.size-size.ensures) c.side-side.ensures)) in
     omega (arith, below)
 
 pub overflow_add-top-2 : goal.overflow_add-top-2
 overflow_add-top-2 c =
     let tiling = c.args.tiling in
-    let below = small tiling.size tiling.side c.args.at tiling.limits tiling.tile_side c.requires.in_grid c.across-across.result c.part_before-left.result c.part_after-right.result c.part_before.result c.part_after.result c.across-across.ensures (cc) (cc) (cc) (cc) _ (second tiling.size tiling.side c.args.at tiling.limits tiling.tile_side c.requires.in_grid c.across-across.result c.part_before-left.result c.part_after-right.result c.part_before.result c.part_after.result c.across-across.ensures (cc) (cc) (cc) (cc)) in
+    let below = small tiling.size tiling.side c.args.at tiling.limits tiling.tile_side c.requires.in_grid c.across-across.result c.part_before-left.result c.part_after-right.result c.part_before.result c.part_after.result c.across-across.ensures (before_as _ _ _ _ c.part_before-left.ensures c.side-side.ensures) (after_as _ _ _ _ _ _ c.part_after-right.ensures (ap (λ (s : Size). s.points) c.size-size.ensures) c.side-side.ensures) (before_as _ _ _ _ c.part_before.ensures c.side-side.ensures) (after_as _ _ _ _ _ _ c.part_after.ensures (ap (λ (s : Size). s.profiles) c.size-size.ensures) c.side-side.ensures) _ (second tiling.size tiling.side c.args.at tiling.limits tiling.tile_side c.requires.in_grid c.across-across.result c.part_before-left.result c.part_after-right.result c.part_before.result c.part_after.result c.across-across.ensures (before_as _ _ _ _ c.part_before-left.ensures c.side-side.ensures) (after_as _ _ _ _ _ _ c.part_after-right.ensures (ap (λ (s : Size). s.points) c.size-size.ensures) c.side-side.ensures) (before_as _ _ _ _ c.part_before.ensures c.side-side.ensures) (after_as _ _ _ _ _ _ c.part_after.ensures (ap (λ (s : Size). s.profiles) c.size-size.ensures) c.side-side.ensures)) in
     omega (arith, below)
 
 pub overflow_add-bottom : goal.overflow_add-bottom
 overflow_add-bottom c =
     let tiling = c.args.tiling in
-    let below = small tiling.size tiling.side c.args.at tiling.limits tiling.tile_side c.requires.in_grid c.across-across.result c.part_before-left.result c.part_after-right.result c.part_before.result c.part_after.result c.across-across.ensures (cc) (cc) (cc) (cc) _ (third tiling.size tiling.side c.args.at tiling.limits tiling.tile_side c.requires.in_grid c.across-across.result c.part_before-left.result c.part_after-right.result c.part_before.result c.part_after.result c.across-across.ensures (cc) (cc) (cc) (cc)) in
+    let below = small tiling.size tiling.side c.args.at tiling.limits tiling.tile_side c.requires.in_grid c.across-across.result c.part_before-left.result c.part_after-right.result c.part_before.result c.part_after.result c.across-across.ensures (before_as _ _ _ _ c.part_before-left.ensures c.side-side.ensures) (after_as _ _ _ _ _ _ c.part_after-right.ensures (ap (λ (s : Size). s.points) c.size-size.ensures) c.side-side.ensures) (before_as _ _ _ _ c.part_before.ensures c.side-side.ensures) (after_as _ _ _ _ _ _ c.part_after.ensures (ap (λ (s : Size). s.profiles) c.size-size.ensures) c.side-side.ensures) _ (third tiling.size tiling.side c.args.at tiling.limits tiling.tile_side c.requires.in_grid c.across-across.result c.part_before-left.result c.part_after-right.result c.part_before.result c.part_after.result c.across-across.ensures (before_as _ _ _ _ c.part_before-left.ensures c.side-side.ensures) (after_as _ _ _ _ _ _ c.part_after-right.ensures (ap (λ (s : Size). s.points) c.size-size.ensures) c.side-side.ensures) (before_as _ _ _ _ c.part_before.ensures c.side-side.ensures) (after_as _ _ _ _ _ _ c.part_after.ensures (ap (λ (s : Size). s.profiles) c.size-size.ensures) c.side-side.ensures)) in
     omega (arith, below)
 
 pub overflow_add-bottom-2 : goal.overflow_add-bottom-2
 overflow_add-bottom-2 c =
     let tiling = c.args.tiling in
-    let below = small tiling.size tiling.side c.args.at tiling.limits tiling.tile_side c.requires.in_grid c.across-across.result c.part_before-left.result c.part_after-right.result c.part_before.result c.part_after.result c.across-across.ensures (cc) (cc) (cc) (cc) _ (fourth tiling.size tiling.side c.args.at tiling.limits tiling.tile_side c.requires.in_grid c.across-across.result c.part_before-left.result c.part_after-right.result c.part_before.result c.part_after.result c.across-across.ensures (cc) (cc) (cc) (cc)) in
+    let below = small tiling.size tiling.side c.args.at tiling.limits tiling.tile_side c.requires.in_grid c.across-across.result c.part_before-left.result c.part_after-right.result c.part_before.result c.part_after.result c.across-across.ensures (before_as _ _ _ _ c.part_before-left.ensures c.side-side.ensures) (after_as _ _ _ _ _ _ c.part_after-right.ensures (ap (λ (s : Size). s.points) c.size-size.ensures) c.side-side.ensures) (before_as _ _ _ _ c.part_before.ensures c.side-side.ensures) (after_as _ _ _ _ _ _ c.part_after.ensures (ap (λ (s : Size). s.profiles) c.size-size.ensures) c.side-side.ensures) _ (fourth tiling.size tiling.side c.args.at tiling.limits tiling.tile_side c.requires.in_grid c.across-across.result c.part_before-left.result c.part_after-right.result c.part_before.result c.part_after.result c.across-across.ensures (before_as _ _ _ _ c.part_before-left.ensures c.side-side.ensures) (after_as _ _ _ _ _ _ c.part_after-right.ensures (ap (λ (s : Size). s.points) c.size-size.ensures) c.side-side.ensures) (before_as _ _ _ _ c.part_before.ensures c.side-side.ensures) (after_as _ _ _ _ _ _ c.part_after.ensures (ap (λ (s : Size). s.profiles) c.size-size.ensures) c.side-side.ensures)) in
     omega (arith, below)
 
 pub overflow_mul-top : goal.overflow_mul-top
 overflow_mul-top c =
     let tiling = c.args.tiling in
-    let below = small tiling.size tiling.side c.args.at tiling.limits tiling.tile_side c.requires.in_grid c.across-across.result ((c.args.at.x - 1) / c.args.tiling.side) (min (c.args.at.x + 1) (c.args.tiling.size.points - 1) / c.args.tiling.side) c.part_before.result (min (c.args.at.y + 1) (c.args.tiling.size.profiles - 1) / c.args.tiling.side) c.across-across.ensures refl refl (cc) refl _ (first tiling.size tiling.side c.args.at tiling.limits tiling.tile_side c.requires.in_grid c.across-across.result ((c.args.at.x - 1) / c.args.tiling.side) (min (c.args.at.x + 1) (c.args.tiling.size.points - 1) / c.args.tiling.side) c.part_before.result (min (c.args.at.y + 1) (c.args.tiling.size.profiles - 1) / c.args.tiling.side) c.across-across.ensures refl refl (cc) refl) in
+    let below = small tiling.size tiling.side c.args.at tiling.limits tiling.tile_side c.requires.in_grid c.across-across.result ((c.args.at.x - 1) / c.args.tiling.side) (min (c.args.at.x + 1) (c.args.tiling.size.points - 1) / c.args.tiling.side) c.part_before.result (min (c.args.at.y + 1) (c.args.tiling.size.profiles - 1) / c.args.tiling.side) c.across-across.ensures refl refl (before_as _ _ _ _ c.part_before.ensures c.side-side.ensures) refl _ (first tiling.size tiling.side c.args.at tiling.limits tiling.tile_side c.requires.in_grid c.across-across.result ((c.args.at.x - 1) / c.args.tiling.side) (min (c.args.at.x + 1) (c.args.tiling.size.points - 1) / c.args.tiling.side) c.part_before.result (min (c.args.at.y + 1) (c.args.tiling.size.profiles - 1) / c.args.tiling.side) c.across-across.ensures refl refl (before_as _ _ _ _ c.part_before.ensures c.side-side.ensures) refl) in
     omega (arith, below)
 
 pub overflow_mul-bottom : goal.overflow_mul-bottom
 overflow_mul-bottom c =
     let tiling = c.args.tiling in
-    let below = small tiling.size tiling.side c.args.at tiling.limits tiling.tile_side c.requires.in_grid c.across-across.result ((c.args.at.x - 1) / c.args.tiling.side) (min (c.args.at.x + 1) (c.args.tiling.size.points - 1) / c.args.tiling.side) ((c.args.at.y - 1) / c.args.tiling.side) c.part_after.result c.across-across.ensures refl refl refl (cc) _ (third tiling.size tiling.side c.args.at tiling.limits tiling.tile_side c.requires.in_grid c.across-across.result ((c.args.at.x - 1) / c.args.tiling.side) (min (c.args.at.x + 1) (c.args.tiling.size.points - 1) / c.args.tiling.side) ((c.args.at.y - 1) / c.args.tiling.side) c.part_after.result c.across-across.ensures refl refl refl (cc)) in
+    let below = small tiling.size tiling.side c.args.at tiling.limits tiling.tile_side c.requires.in_grid c.across-across.result ((c.args.at.x - 1) / c.args.tiling.side) (min (c.args.at.x + 1) (c.args.tiling.size.points - 1) / c.args.tiling.side) ((c.args.at.y - 1) / c.args.tiling.side) c.part_after.result c.across-across.ensures refl refl refl (after_as _ _ _ _ _ _ c.part_after.ensures (ap (λ (s : Size). s.profiles) c.size-size.ensures) c.side-side.ensures) _ (third tiling.size tiling.side c.args.at tiling.limits tiling.tile_side c.requires.in_grid c.across-across.result ((c.args.at.x - 1) / c.args.tiling.side) (min (c.args.at.x + 1) (c.args.tiling.size.points - 1) / c.args.tiling.side) ((c.args.at.y - 1) / c.args.tiling.side) c.part_after.result c.across-across.ensures refl refl refl (after_as _ _ _ _ _ _ c.part_after.ensures (ap (λ (s : Size). s.profiles) c.size-size.ensures) c.side-side.ensures)) in
     omega (arith, below)
 
 pub index_mut-requires : goal.index_mut-requires
 index_mut-requires c =
     let tiling = c.args.tiling in
-    let below = inside_list tiling.size tiling.side c.args.at tiling.limits tiling.tile_side c.requires.in_grid c.across-across.result c.part_before-left.result c.part_after-right.result c.part_before.result c.part_after.result c.across-across.ensures (cc) (cc) (cc) (cc) c.args.stamp c.args.stamps.now.items c.requires.tiles _ (first tiling.size tiling.side c.args.at tiling.limits tiling.tile_side c.requires.in_grid c.across-across.result c.part_before-left.result c.part_after-right.result c.part_before.result c.part_after.result c.across-across.ensures (cc) (cc) (cc) (cc)) in
+    let below = inside_list tiling.size tiling.side c.args.at tiling.limits tiling.tile_side c.requires.in_grid c.across-across.result c.part_before-left.result c.part_after-right.result c.part_before.result c.part_after.result c.across-across.ensures (before_as _ _ _ _ c.part_before-left.ensures c.side-side.ensures) (after_as _ _ _ _ _ _ c.part_after-right.ensures (ap (λ (s : Size). s.points) c.size-size.ensures) c.side-side.ensures) (before_as _ _ _ _ c.part_before.ensures c.side-side.ensures) (after_as _ _ _ _ _ _ c.part_after.ensures (ap (λ (s : Size). s.profiles) c.size-size.ensures) c.side-side.ensures) c.args.stamp c.args.stamps.now.items c.requires.tiles _ (first tiling.size tiling.side c.args.at tiling.limits tiling.tile_side c.requires.in_grid c.across-across.result c.part_before-left.result c.part_after-right.result c.part_before.result c.part_after.result c.across-across.ensures (before_as _ _ _ _ c.part_before-left.ensures c.side-side.ensures) (after_as _ _ _ _ _ _ c.part_after-right.ensures (ap (λ (s : Size). s.points) c.size-size.ensures) c.side-side.ensures) (before_as _ _ _ _ c.part_before.ensures c.side-side.ensures) (after_as _ _ _ _ _ _ c.part_after.ensures (ap (λ (s : Size). s.profiles) c.size-size.ensures) c.side-side.ensures)) in
     omega (arith, below, c.args.stamps.now.ok.0)
 
 pub index_mut-requires-2 : goal.index_mut-requires-2
 index_mut-requires-2 c =
     let tiling = c.args.tiling in
-    let below = inside_list tiling.size tiling.side c.args.at tiling.limits tiling.tile_side c.requires.in_grid c.across-across.result c.part_before-left.result c.part_after-right.result c.part_before.result c.part_after.result c.across-across.ensures (cc) (cc) (cc) (cc) c.args.stamp c.args.stamps.now.items c.requires.tiles _ (second tiling.size tiling.side c.args.at tiling.limits tiling.tile_side c.requires.in_grid c.across-across.result c.part_before-left.result c.part_after-right.result c.part_before.result c.part_after.result c.across-across.ensures (cc) (cc) (cc) (cc)) in
+    let below = inside_list tiling.size tiling.side c.args.at tiling.limits tiling.tile_side c.requires.in_grid c.across-across.result c.part_before-left.result c.part_after-right.result c.part_before.result c.part_after.result c.across-across.ensures (before_as _ _ _ _ c.part_before-left.ensures c.side-side.ensures) (after_as _ _ _ _ _ _ c.part_after-right.ensures (ap (λ (s : Size). s.points) c.size-size.ensures) c.side-side.ensures) (before_as _ _ _ _ c.part_before.ensures c.side-side.ensures) (after_as _ _ _ _ _ _ c.part_after.ensures (ap (λ (s : Size). s.profiles) c.size-size.ensures) c.side-side.ensures) c.args.stamp c.args.stamps.now.items c.requires.tiles _ (second tiling.size tiling.side c.args.at tiling.limits tiling.tile_side c.requires.in_grid c.across-across.result c.part_before-left.result c.part_after-right.result c.part_before.result c.part_after.result c.across-across.ensures (before_as _ _ _ _ c.part_before-left.ensures c.side-side.ensures) (after_as _ _ _ _ _ _ c.part_after-right.ensures (ap (λ (s : Size). s.points) c.size-size.ensures) c.side-side.ensures) (before_as _ _ _ _ c.part_before.ensures c.side-side.ensures) (after_as _ _ _ _ _ _ c.part_after.ensures (ap (λ (s : Size). s.profiles) c.size-size.ensures) c.side-side.ensures)) in
     omega (arith, below, c.args.stamps.now.ok.0)
 
 pub index_mut-requires-3 : goal.index_mut-requires-3
 index_mut-requires-3 c =
     let tiling = c.args.tiling in
-    let below = inside_list tiling.size tiling.side c.args.at tiling.limits tiling.tile_side c.requires.in_grid c.across-across.result c.part_before-left.result c.part_after-right.result c.part_before.result c.part_after.result c.across-across.ensures (cc) (cc) (cc) (cc) c.args.stamp c.args.stamps.now.items c.requires.tiles _ (third tiling.size tiling.side c.args.at tiling.limits tiling.tile_side c.requires.in_grid c.across-across.result c.part_before-left.result c.part_after-right.result c.part_before.result c.part_after.result c.across-across.ensures (cc) (cc) (cc) (cc)) in
+    let below = inside_list tiling.size tiling.side c.args.at tiling.limits tiling.tile_side c.requires.in_grid c.across-across.result c.part_before-left.result c.part_after-right.result c.part_before.result c.part_after.result c.across-across.ensures (before_as _ _ _ _ c.part_before-left.ensures c.side-side.ensures) (after_as _ _ _ _ _ _ c.part_after-right.ensures (ap (λ (s : Size). s.points) c.size-size.ensures) c.side-side.ensures) (before_as _ _ _ _ c.part_before.ensures c.side-side.ensures) (after_as _ _ _ _ _ _ c.part_after.ensures (ap (λ (s : Size). s.profiles) c.size-size.ensures) c.side-side.ensures) c.args.stamp c.args.stamps.now.items c.requires.tiles _ (third tiling.size tiling.side c.args.at tiling.limits tiling.tile_side c.requires.in_grid c.across-across.result c.part_before-left.result c.part_after-right.result c.part_before.result c.part_after.result c.across-across.ensures (before_as _ _ _ _ c.part_before-left.ensures c.side-side.ensures) (after_as _ _ _ _ _ _ c.part_after-right.ensures (ap (λ (s : Size). s.points) c.size-size.ensures) c.side-side.ensures) (before_as _ _ _ _ c.part_before.ensures c.side-side.ensures) (after_as _ _ _ _ _ _ c.part_after.ensures (ap (λ (s : Size). s.profiles) c.size-size.ensures) c.side-side.ensures)) in
     omega (arith, below, c.args.stamps.now.ok.0)
 
 pub index_mut-requires-4 : goal.index_mut-requires-4
 index_mut-requires-4 c =
     let tiling = c.args.tiling in
-    let below = inside_list tiling.size tiling.side c.args.at tiling.limits tiling.tile_side c.requires.in_grid c.across-across.result c.part_before-left.result c.part_after-right.result c.part_before.result c.part_after.result c.across-across.ensures (cc) (cc) (cc) (cc) c.args.stamp c.args.stamps.now.items c.requires.tiles _ (fourth tiling.size tiling.side c.args.at tiling.limits tiling.tile_side c.requires.in_grid c.across-across.result c.part_before-left.result c.part_after-right.result c.part_before.result c.part_after.result c.across-across.ensures (cc) (cc) (cc) (cc)) in
+    let below = inside_list tiling.size tiling.side c.args.at tiling.limits tiling.tile_side c.requires.in_grid c.across-across.result c.part_before-left.result c.part_after-right.result c.part_before.result c.part_after.result c.across-across.ensures (before_as _ _ _ _ c.part_before-left.ensures c.side-side.ensures) (after_as _ _ _ _ _ _ c.part_after-right.ensures (ap (λ (s : Size). s.points) c.size-size.ensures) c.side-side.ensures) (before_as _ _ _ _ c.part_before.ensures c.side-side.ensures) (after_as _ _ _ _ _ _ c.part_after.ensures (ap (λ (s : Size). s.profiles) c.size-size.ensures) c.side-side.ensures) c.args.stamp c.args.stamps.now.items c.requires.tiles _ (fourth tiling.size tiling.side c.args.at tiling.limits tiling.tile_side c.requires.in_grid c.across-across.result c.part_before-left.result c.part_after-right.result c.part_before.result c.part_after.result c.across-across.ensures (before_as _ _ _ _ c.part_before-left.ensures c.side-side.ensures) (after_as _ _ _ _ _ _ c.part_after-right.ensures (ap (λ (s : Size). s.points) c.size-size.ensures) c.side-side.ensures) (before_as _ _ _ _ c.part_before.ensures c.side-side.ensures) (after_as _ _ _ _ _ _ c.part_after.ensures (ap (λ (s : Size). s.profiles) c.size-size.ensures) c.side-side.ensures)) in
     omega (arith, below, c.args.stamps.now.ok.0)
 
 pub returns : goal.returns
 returns c =
     let tiling = c.args.tiling in
-    stamped tiling.size tiling.side c.args.at tiling.limits tiling.tile_side c.requires.in_grid c.across-across.result c.part_before-left.result c.part_after-right.result c.part_before.result c.part_after.result c.across-across.ensures (cc) (cc) (cc) (cc) c.args.stamp c.args.stamps.now.items c.requires.tiles
+    stamped tiling.size tiling.side c.args.at tiling.limits tiling.tile_side c.requires.in_grid c.across-across.result c.part_before-left.result c.part_after-right.result c.part_before.result c.part_after.result c.across-across.ensures (before_as _ _ _ _ c.part_before-left.ensures c.side-side.ensures) (after_as _ _ _ _ _ _ c.part_after-right.ensures (ap (λ (s : Size). s.points) c.size-size.ensures) c.side-side.ensures) (before_as _ _ _ _ c.part_before.ensures c.side-side.ensures) (after_as _ _ _ _ _ _ c.part_after.ensures (ap (λ (s : Size). s.profiles) c.size-size.ensures) c.side-side.ensures) c.args.stamp c.args.stamps.now.items c.requires.tiles
