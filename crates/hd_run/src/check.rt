@@ -65,7 +65,9 @@ pub fn check_certificate<S: Source, R: Source, W: Sink>(
         Ok(file) => file,
         Err(stop) => return Err(stop),
     };
-    check_second(alloc, job, &file, script, out)
+    let checked = check_second(alloc, job, &file, script, out);
+    drop(file);
+    checked
 }
 
 // Reads the certificate, and writes that it is accepted, where all rules hold of it on the surface of

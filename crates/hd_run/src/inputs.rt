@@ -41,7 +41,10 @@ fn read_open<S: Source>(alloc: Global, source: &mut S) -> Result<SdfFile, Stop>
     };
     match feed_all(alloc, source, &mut reader) {
         Ok(()) => finished(alloc, reader),
-        Err(stop) => Err(stop),
+        Err(stop) => {
+            drop(reader);
+            Err(stop)
+        }
     }
 }
 

@@ -78,7 +78,10 @@ pub fn run<S: Source, R: Source, W: Sink, V: Sink>(
     };
     let lines = match read_second(alloc, script, name, SCRIPT_LIMIT) {
         Ok(lines) => lines,
-        Err(stop) => return Err(stop),
+        Err(stop) => {
+            drop(file);
+            return Err(stop);
+        }
     };
     answer_all(alloc, file, job, lines.as_slice(), out, saved)
 }

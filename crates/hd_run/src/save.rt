@@ -46,5 +46,7 @@ fn saved_text(alloc: Global, session: &Session) -> Result<List<u8>, Memory>
     ensures { IfOk result (λ text. text ≡ canonical (saved_file session.now.state)) }
 {
     let file = session.file()?;
-    write_sdf(alloc, &file)
+    let text = write_sdf(alloc, &file);
+    drop(file);
+    text
 }

@@ -8,17 +8,17 @@ use Rattle.hd_run.proofs.Stops.{read_stays, surface_stopped}
 use Rattle.hd_run.proofs.check.check_certificate.Goals as goal
 
 pub returns-clause-told : goal.returns-clause-told
-returns-clause-told g c = λ bytes second told named. c.check_second.ensures.told bytes second (c.in-Ok.ensures.told bytes told) named
+returns-clause-told g c = λ bytes second told named. c.check_second-checked.ensures.told bytes second (c.in-Ok.ensures.told bytes told) named
 
 pub returns-clause-order : goal.returns-clause-order
 returns-clause-order g c =
     second_after (Some c.args.job.now.certificate.now) _ _ c.args.script.now _ c.args.job.now.certificate.now (file_of c.in-Ok.file) refl (read_stays _ _ c.in-Ok.file c.in-Ok.ensures.cause) c.in-Ok.ensures.told
 
 pub returns-clause-failed : goal.returns-clause-failed
-returns-clause-failed g c = λ bytes told e. inr (file_of c.in-Ok.file, c.in-Ok.ensures.told bytes told, c.check_second.ensures.failed e)
+returns-clause-failed g c = λ bytes told e. inr (file_of c.in-Ok.file, c.in-Ok.ensures.told bytes told, c.check_second-checked.ensures.failed e)
 
 pub returns-clause-cause : goal.returns-clause-cause
-returns-clause-cause g c = λ saved kept. c.check_second.ensures.cause _ saved (read_stays _ _ c.in-Ok.file c.in-Ok.ensures.cause) kept
+returns-clause-cause g c = λ saved kept. c.check_second-checked.ensures.cause _ saved (read_stays _ _ c.in-Ok.file c.in-Ok.ensures.cause) kept
 
 pub returns-in-Err-clause-open : goal.returns-in-Err-clause-open
 returns-in-Err-clause-open g c = c.requires.open
@@ -45,13 +45,13 @@ pub returns-in-Err-clause-cause : goal.returns-in-Err-clause-cause
 returns-in-Err-clause-cause g c = λ saved kept. surface_stopped _ _ _ saved c.in-Err.stop c.in-Err.ensures.cause refl refl kept
 
 pub returns-clause-open : goal.returns-clause-open
-returns-clause-open g c = c.check_second.ensures.open
+returns-clause-open g c = c.check_second-checked.ensures.open
 
 pub returns-clause-unwritten : goal.returns-clause-unwritten
-returns-clause-unwritten g c = c.check_second.ensures.unwritten
+returns-clause-unwritten g c = c.check_second-checked.ensures.unwritten
 
 pub returns-clause-surface_left : goal.returns-clause-surface_left
 returns-clause-surface_left g c = c.in-Ok.ensures.left
 
 pub returns-clause-certificate_left : goal.returns-clause-certificate_left
-returns-clause-certificate_left g c = inr c.check_second.ensures.certificate_left
+returns-clause-certificate_left g c = inr c.check_second-checked.ensures.certificate_left

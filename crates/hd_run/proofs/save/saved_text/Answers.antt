@@ -5,4 +5,4 @@ use Rattle.hd_sdf_write.specs.Canonical.{canonical}
 use Rattle.hd_run.proofs.save.saved_text.Goals as goal
 
 pub returns : goal.returns
-returns c = subst (λ (f : File). IfOk c.write_sdf.result (λ text. text ≡ canonical f)) c.in_ok-file.ensures c.write_sdf.ensures
+returns c = subst (λ (f : File). IfOk c.write_sdf-text.result (λ text. text ≡ canonical f)) c.in_ok-file.ensures c.write_sdf-text.ensures
