@@ -5,3 +5,4 @@ pub mod Adding
 pub mod Filled
 pub mod Totals
 pub mod Determined
+pub mod Deviations
