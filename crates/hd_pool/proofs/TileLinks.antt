@@ -15,9 +15,9 @@ use Rattle.hd_steep.proofs.FirstLink.{first_link-stays}
 use Rattle.hd_tiles.specs.Stamps.{ComesFrom}
 use Rattle.hd_tiles.specs.Tile.{Agree, tile_of, tile_count, tiles_across}
 use Rattle.hd_tiles.proofs.Corners.{tile_inside}
-use Rattle.hd_tiles.proofs.Parts.{part_below}
+use Rattle.hd_tiles.proofs.TilesAlong.{part_below}
 use Rattle.hd_tiles.proofs.Stamping.{get-set_same, get-set_other}
-use Rattle.hd_basin.proofs.Framing.{tile_parts}
+use Rattle.hd_basin.proofs.Frames.{tile_parts}
 use Rattle.hd_pool.specs.TileLinks.{TileLinks, IsLinked, IsTileLinked, AreSpanLinked, AreLinksInStep, KeepsLinked}
 
 -- the columns and the profiles of a tile
