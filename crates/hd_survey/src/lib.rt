@@ -35,7 +35,7 @@ pub use laws::{
 };
 pub use lines::pruned_lines;
 pub use merges::{PitMerges, merges_of_passes};
-pub use pruned::{PrunedRegions, pruned_regions, pruned_regions_by};
+pub use pruned::{PrunedRegions, pruned_regions};
 pub use saddles::saddle_between;
 pub use survey::Survey;
 pub use tally::Tally;

@@ -1,5 +1,6 @@
 // The pruning of a map.
-ghost use Rattle.std.specs.Prelude.{◌≡◌, ◌<◌, All, IfOk};
+ghost use Rattle.std.specs.Prelude.{◌≡◌, ◌<◌, All, IfOk, OnOk, true};
+ghost use Rattle.std.specs.Option.{is_some};
 ghost use Rattle.hd_map.specs.Map.{IsMap, Map, cell_count};
 ghost use Rattle.hd_map.specs.Presence.{present_heights};
 ghost use Rattle.hd_map.specs.HeightRange.{range_of};
@@ -46,31 +47,28 @@ pub fn pruned_regions<S: Side, G: Heights>(
     ensures kept { IfOk result (λ pruned. All (λ region. region.pit.index < cell_count (G.map grid.now).size) pruned.kept) }
     ensures findings { AreFindings (G.map grid.now) S.NAME findings.new }
 {
-    let view = GridView::<S, G>::new(alloc, grid)?;
-    pruned_regions_by::<S, G, GridView<'_, S, G>>(alloc, grid, &view, findings, percent)
+    let pruned = pruned_side::<S, G>(alloc, grid, findings, percent)?;
+    regions_left::<S, G>(alloc, grid, pruned, findings.sizes(), percent)
 }
 
-/// The same by a view of the side.
-pub fn pruned_regions_by<S: Side, G: Heights, V: SideView<S>>(
+// The pruning of a grid on a side. The region of each point, which it needs, is given up with it.
+fn pruned_side<S: Side, G: Heights>(
     alloc: Global,
     grid: &G,
-    view: &V,
     findings: &mut Findings<S>,
     percent: Percent,
-) -> Result<PrunedRegions, Memory>
-    requires view { V.map view.now ≡ G.map grid.now }
-    requires findings { AreFindings (G.map grid.now) S.NAME findings.old }
-    ensures are { IfOk result (λ pruned. ArePrunedRegions (G.map grid.now) S.NAME percent.thousandths (leavings_of pruned.steps) pruned.kept) }
-    ensures steps { IfOk result (λ pruned. All (IsStepOn (G.map grid.now).size) pruned.steps) }
-    ensures kept { IfOk result (λ pruned. All (λ region. region.pit.index < cell_count (G.map grid.now).size) pruned.kept) }
+) -> Result<Pruned, Memory>
+    requires { AreFindings (G.map grid.now) S.NAME findings.old }
+    ensures pruned { IfOk result (λ pruned. IsPruned (G.map grid.now) S.NAME percent.thousandths pruned.steps pruned.kept pruned.owners) }
+    ensures sizes { OnOk result (is_some findings.new.sizes ≡ true) }
     ensures findings { AreFindings (G.map grid.now) S.NAME findings.new }
 {
-    findings.find_merges_by(view)?;
-    findings.find_sizes_by(view)?;
+    let view = GridView::<S, G>::new(alloc, grid)?;
+    findings.find_merges_by(&view)?;
+    findings.find_sizes_by(&view)?;
     let range = presence_of(grid).range;
     let merges = findings.merges();
-    let pruned = pruned_pits::<S, G, V>(alloc, grid, view, merges, percent, range)?;
-    regions_left::<S, G>(alloc, grid, pruned, findings.sizes(), percent)
+    pruned_pits::<S, G, GridView<'_, S, G>>(alloc, grid, &view, merges, percent, range)
 }
 
 // The steps of a pruning, and the regions that it leaves of these, which are those of the grid.
