@@ -18,7 +18,7 @@ use Rattle.hd_map.proofs.Items.{Contains-cases}
 use Rattle.hd_map.proofs.Levels.{reach-trans, top_of}
 use Rattle.hd_map.proofs.Points.{Near-to, Near-apart}
 use Rattle.hd_map.proofs.Saddles.{saddle-exists, saddle-above_pit}
-use Rattle.hd_map.proofs.Sides.{compare, below-apart, below-not_above}
+use Rattle.hd_map.proofs.Order.{compare, below-apart, below-not_above}
 use Rattle.hd_audit.specs.Rules.{IsWithin}
 use Rattle.hd_audit.proofs.Within.{within-lower, within-higher, within-goes, first_step, StepsWithin, ReachesWithin, points-from_reach, reach-more, reach-last, reach-point, reach-back, reach-higher}
 

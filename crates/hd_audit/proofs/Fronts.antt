@@ -17,7 +17,7 @@ use Rattle.hd_map.specs.SideLaws.{below_by-order}
 use Rattle.hd_map.proofs.Gather.{same_pos, step_neighbour, step_of}
 use Rattle.hd_map.proofs.Items.{Contains-cases, Contains-head, Contains-none, Contains-tail}
 use Rattle.hd_map.proofs.Points.{place_inside}
-use Rattle.hd_map.proofs.Sides.{compare}
+use Rattle.hd_map.proofs.Order.{compare}
 use Rattle.hd_audit.specs.declared.types.AuditLine.{AuditLine}
 use Rattle.hd_audit.specs.declared.waiting.Waiting.{Waiting}
 use Rattle.hd_audit.specs.Flooding.{Adds, IsFront, IsOver, IsSpreading, Offers, OffersAt, ahead_at, is_under, rank_of_waiting, seen_at}

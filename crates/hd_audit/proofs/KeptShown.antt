@@ -16,7 +16,7 @@ use Rattle.hd_map.specs.Region.{IsPit}
 use Rattle.hd_map.specs.SideLaws.{below_by-order}
 use Rattle.hd_map.proofs.Levels.{here, step}
 use Rattle.hd_map.proofs.Points.{Near-at, position_at-place, rank_position}
-use Rattle.hd_map.proofs.Sides.{compare, below-not_above, not_above-refl}
+use Rattle.hd_map.proofs.Order.{compare, below-not_above, not_above-refl}
 use Rattle.hd_check.specs.declared.types.Verdict.TheVariants.{Yes}
 use Rattle.hd_check.specs.Judged.{TriedFrom}
 use Rattle.hd_audit.specs.declared.types.AuditLine.{AuditLine}

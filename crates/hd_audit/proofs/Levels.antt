@@ -17,7 +17,7 @@ use Rattle.hd_map.specs.Rank.{IsPoint, below_by}
 use Rattle.hd_map.specs.SideLaws.{below_by-order}
 use Rattle.hd_map.proofs.Items.{Contains-cases, Contains-head, Contains-tail}
 use Rattle.hd_map.proofs.Points.{same_index, point_inside}
-use Rattle.hd_map.proofs.Sides.{below-apart, below-not_above, compare, not_above-refl}
+use Rattle.hd_map.proofs.Order.{below-apart, below-not_above, compare, not_above-refl}
 use Rattle.hd_prune.specs.declared.step.Kept.{Kept}
 use Rattle.hd_audit.specs.declared.types.AuditLine.{AuditLine}
 use Rattle.hd_audit.specs.declared.waiting.Waiting.{Waiting}

@@ -22,7 +22,8 @@ mod Heights
 mod Placing
 mod Tests
 mod Noted
-mod Chaining
+mod Lines
+mod ChainTops
 mod Leaking
 mod Determined
 mod Blank

@@ -13,7 +13,7 @@ use Rattle.hd_map.specs.SideLaws.{below_by-order}
 use Rattle.hd_map.specs.Undercut.{Undercuts}
 use Rattle.hd_map.proofs.Levels.{here, reach-trans, top_of}
 use Rattle.hd_map.proofs.Points.{Near-at}
-use Rattle.hd_map.proofs.Sides.{below-not_above, not_above-refl, not_above-trans}
+use Rattle.hd_map.proofs.Order.{below-not_above, not_above-refl, not_above-trans}
 use Rattle.hd_map.proofs.Saddles.{near-sym}
 use Rattle.hd_audit.specs.declared.types.AuditLine.{AuditLine}
 use Rattle.hd_audit.specs.Lines.{line_at, point_at, rank_at, AreParents}

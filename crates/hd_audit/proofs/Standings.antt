@@ -12,7 +12,7 @@ use Rattle.hd_map.specs.Map.{InGrid, Map, Present, cell_count, place_of, positio
 use Rattle.hd_map.specs.Rank.{IsPoint, below_by, rank}
 use Rattle.hd_map.specs.SideLaws.{below_by-order}
 use Rattle.hd_map.proofs.Points.{place_inside, position_at-of, same_index}
-use Rattle.hd_map.proofs.Sides.{below-not_above}
+use Rattle.hd_map.proofs.Order.{below-not_above}
 use Rattle.hd_audit.specs.declared.standing.Standing.{Standing}
 use Rattle.hd_audit.specs.declared.standing.Standing.TheVariants.{Absent, Over, Under, Seen}
 use Rattle.hd_audit.specs.declared.waiting.Waiting.{Waiting}

@@ -18,7 +18,7 @@ use Rattle.hd_map.proofs.Gather.{same_pos}
 use Rattle.hd_map.proofs.Depth.{depth_by, depth_falls}
 use Rattle.hd_map.proofs.Nexts.{next-unique}
 use Rattle.hd_map.proofs.Points.{point_at, present_or_not, rank_position, same_index, same_point}
-use Rattle.hd_map.proofs.Sides.{below-apart}
+use Rattle.hd_map.proofs.Order.{below-apart}
 use Rattle.hd_steep.specs.Lowest.{missing, IsLow, IsAtPlace, IsRound}
 use Rattle.hd_steep.specs.Rows.{rank_in}
 use Rattle.hd_steep.proofs.Lows.{low_missing, point_apart}

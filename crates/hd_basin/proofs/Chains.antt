@@ -9,7 +9,7 @@ use Rattle.hd_map.specs.declared.types.SideName.{SideName}
 use Rattle.hd_map.specs.Order.{IsNotAbove}
 use Rattle.hd_map.specs.Rank.{below_by}
 use Rattle.hd_map.specs.SideLaws.{below_by-order}
-use Rattle.hd_map.proofs.Sides.{below-not_above, not_above-refl, not_above-trans}
+use Rattle.hd_map.proofs.Order.{below-not_above, not_above-refl, not_above-trans}
 use Rattle.hd_tiles.proofs.Stamping.{get-set_same, get-set_other}
 use Rattle.hd_basin.specs.declared.meetings.Meeting.{Meeting}
 use Rattle.hd_basin.specs.Meetings.{IsLast, AreChained, IsUnknown, IsMeetingAt, Notes, AreKept}

@@ -27,7 +27,7 @@ use Rattle.hd_basin.proofs.Listed.{Contains-flat, flat-Contains, pairs-flat}
 use Rattle.hd_basin.proofs.Sums.{Either}
 use Rattle.hd_basin.proofs.PoolGraph.{has_sink, node-tile, sink_of-point}
 use Rattle.hd_basin.proofs.SinkLaws.{sink-is_sink, sink-root, sink-unique}
-use Rattle.hd_basin.proofs.Together.{count-few, sums-both, sums-by}
+use Rattle.hd_basin.proofs.ExtentSums.{count-few, sums-both, sums-by}
 
 -- what a list of one item has
 pub only : {X : Type 0} → (x y : X) → Contains (x ∷ []) y → y ≡ x

@@ -16,7 +16,7 @@ use Rattle.hd_basin.specs.Basin.{IsBasinMeeting, IsBasinPass}
 use Rattle.hd_tiles.specs.Stamps.{ComesFrom}
 use Rattle.std.proofs.lemmas.Option.{slice_get_within, slice_get-get_or}
 use Rattle.hd_basin.specs.Pool.{IsTileRight, IsRightOn}
-use Rattle.hd_basin.proofs.Keeps.{Keeps, agree-show, keeps-show, keeps-sym, sink_kept, node_kept, label_kept, meeting_kept, pass_kept}
+use Rattle.hd_basin.proofs.Views.{Keeps, agree-show, keeps-show, keeps-sym, sink_kept, node_kept, label_kept, meeting_kept, pass_kept}
 
 -- what is right on some tiles is right on those that a map keeps of them
 pub right-kept : (m n : Map) (side : SideName) (t : ℕ) (Seen Still : ℕ → Type 0) (HasNode : ℕ → Node → Type 0) (label : Pos → Option Rank) (Has : Rank → Rank → Rank → Type 0) →

@@ -1,4 +1,4 @@
-pub mod Keeps
+pub mod Views
 pub mod InStep
 pub mod SinkLaws
 pub mod Flowing
@@ -25,7 +25,7 @@ pub mod BuiltSeams
 pub mod AreMet
 pub mod Listed
 pub mod PoolGraph
-pub mod Together
+pub mod ExtentSums
 pub mod GatheredExtents
 pub mod Rooted
 pub mod AreRoots

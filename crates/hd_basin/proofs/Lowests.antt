@@ -15,7 +15,7 @@ use Rattle.hd_map.specs.Order.{IsNotAbove}
 use Rattle.hd_map.specs.Rank.{below_by}
 use Rattle.hd_map.specs.SideLaws.{below_by-order}
 use Rattle.hd_map.proofs.Items.{Contains-map, map-Contains}
-use Rattle.hd_map.proofs.Sides.{below-not_above, not_above-refl, not_above-trans}
+use Rattle.hd_map.proofs.Order.{below-not_above, not_above-refl, not_above-trans}
 use Rattle.hd_basin.specs.declared.part.Seam.{Seam}
 use Rattle.hd_basin.specs.Seams.{KeepLowest}
 use Rattle.hd_basin.specs.Lowest.{HasLowest, key_of, lower_of, pair_cmp}

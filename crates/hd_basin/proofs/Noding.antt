@@ -23,7 +23,7 @@ use Rattle.hd_basin.specs.Sinks.{IsArea, at_place, no_node}
 use Rattle.hd_basin.proofs.Areas.{area-in, area-below, area-at, tile-of_point}
 use Rattle.hd_basin.proofs.Sums.{sums-same}
 use Rattle.hd_basin.proofs.Frames.{frame_step}
-use Rattle.hd_basin.proofs.Keeps.{Keeps, keeps-sym, node_kept, label_kept, sink_kept, meeting_kept, pass_kept}
+use Rattle.hd_basin.proofs.Views.{Keeps, keeps-sym, node_kept, label_kept, sink_kept, meeting_kept, pass_kept}
 use Rattle.hd_basin.proofs.Rooting.{read-contains}
 use Rattle.hd_basin.proofs.SinkLaws.{sink-unique, sink-own, sink-tile}
 

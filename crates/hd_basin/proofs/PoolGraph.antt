@@ -21,7 +21,7 @@ use Rattle.hd_map.proofs.Items.{Contains-map, map-Contains, Contains-cases, Cont
 use Rattle.hd_map.proofs.Levels.{path-from_reach, same_or_not}
 use Rattle.hd_map.proofs.Points.{same_index, Near-from}
 use Rattle.hd_map.proofs.Saddles.{near-sym}
-use Rattle.hd_map.proofs.Sides.{not_above-refl, below-apart, below-not_above}
+use Rattle.hd_map.proofs.Order.{not_above-refl, below-apart, below-not_above}
 use Rattle.hd_graph.specs.declared.graph.Low.{Low}
 use Rattle.hd_graph.specs.Basins.{AreBasins, AreLowsOf}
 use Rattle.hd_graph.specs.Graph.{IsGraph, Net}

@@ -9,7 +9,7 @@ use Rattle.hd_map.specs.Order.{IsNotAbove}
 use Rattle.hd_map.specs.Rank.{Near, below_by, rank}
 use Rattle.hd_map.specs.Region.{IsNext, IsPit, IsRoot}
 use Rattle.hd_map.specs.SideLaws.{below_by-order}
-use Rattle.hd_map.proofs.Sides.{below-not_above, not_above-trans, not_above-refl}
+use Rattle.hd_map.proofs.Order.{below-not_above, not_above-trans, not_above-refl}
 use Rattle.hd_map.proofs.Points.{point_at}
 use Rattle.hd_map.proofs.Nexts.{next-unique, root-step, root-next}
 use Rattle.hd_tiles.specs.Tile.{tile_of}

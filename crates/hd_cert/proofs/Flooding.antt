@@ -16,7 +16,7 @@ use Rattle.hd_cert.specs.declared.residue.Residue.TheVariants.{Unreached, Zero}
 use Rattle.hd_cert.specs.Residues.{residue_after, residue_of, residue_at, AreResidues, Reaches, ReachesAt}
 use Rattle.hd_cert.specs.Steps.{IsWanted, OpenStep, steps_at, AreSteps}
 use Rattle.hd_cert.proofs.Residues.{none_noted, none_reached, one_more, residue_read, steps_noted}
-use Rattle.hd_cert.specs.Flood.{Reached, no_entry, entry_of, is_free, IsWithin, IsEntry, IsFlood, IsFlooding, IsAtHead}
+use Rattle.hd_cert.specs.Flood.{Reached, no_entry, entry_of, is_free, HasStepsWithin, IsEntry, IsFlood, IsFlooding, IsAtHead}
 
 -- a step from a neighbour
 pub turned : (m : Map) (IsOpen : Pos → Type 0) (p q : Pos) → OpenStep m IsOpen p q → OpenStep m IsOpen q p
@@ -116,7 +116,7 @@ module _ (m : Map) (IsOpen : Pos → Type 0) (start : Pos) where
     pub begun : head < length flooding.queue
     pub same : entry_of flooding.queue head ≡ first
     pub kept : (p : Pos) (k : ℕ) → InGrid m.size p → steps_at m.size steps p ≡ Some k → steps_at m.size flooding.steps p ≡ Some k
-    pub found : IsOpen at → IsWithin m flooding.steps at n
+    pub found : IsOpen at → HasStepsWithin m flooding.steps at n
 
   -- a position that is closed, or has its steps
   goes_on_same : (residues : List Residue) (places : List ℕ) (head : ℕ) (at : Pos) (n : ℕ) (f : IsFlooding m IsOpen start residues places head) → head < length f.queue → InGrid m.size at
@@ -186,7 +186,7 @@ module _ (m : Map) (IsOpen : Pos → Type 0) (start : Pos) where
     pub flooding : IsFlooding m IsOpen start residues places head
     pub begun : head < length flooding.queue
     pub here_is : entry_of flooding.queue head ≡ record { at = here; steps = n }
-    pub found : (q : Pos) → Neighbour m here q → IsBefore here step q → IsOpen q → IsWithin m flooding.steps q (n + 1)
+    pub found : (q : Pos) → Neighbour m here q → IsBefore here step q → IsOpen q → HasStepsWithin m flooding.steps q (n + 1)
 
   -- a neighbour that is not before a step, and before the next, is at the step
   at_step : (at q : Pos) (step : ℕ) → step < 9 → Neighbour m at q → IsBefore at (step + 1) q → (IsBefore at step q → ⊥) → IsAtStep at step q
@@ -250,7 +250,7 @@ module _ (m : Map) (IsOpen : Pos → Type 0) (start : Pos) where
                 let x' = is.0 in
                 let y' = is.1 in
                 let same : p ≡ q = same_pos p q (omega (arith, x', x)) (omega (arith, y', y)) in
-                subst (λ (o : Pos). IsOpen o → IsWithin m g.flooding.steps o (n + 1)) same g.found is_open
+                subst (λ (o : Pos). IsOpen o → HasStepsWithin m g.flooding.steps o (n + 1)) same g.found is_open
           ];
         }
     | inr none ↦ rw (none.1, none.2) (round_past here n residues places head step below (λ q near at. none.0 q at.0 at.1 near.to.in_grid near.beside) r)
@@ -289,8 +289,8 @@ module _ (m : Map) (IsOpen : Pos → Type 0) (start : Pos) where
                 let near : Neighbour m here q = subst (λ (x : Reached). Neighbour m x.at q) is s.neighbour in
                 let x = near.columns.1 in
                 let y = near.rows.1 in
-                let w' : IsWithin m steps q (n + 1) = r.found q near (omega (arith, x, y, done)) s.to in
-                subst (λ (x : Reached). IsWithin m steps q (x.steps + 1)) (sym is) w'
+                let w' : HasStepsWithin m steps q (n + 1) = r.found q near (omega (arith, x, y, done)) s.to in
+                subst (λ (x : Reached). HasStepsWithin m steps q (x.steps + 1)) (sym is) w'
           ];
         };
       }

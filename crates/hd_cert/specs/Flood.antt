@@ -28,8 +28,8 @@ is_free None = 1
 is_free (Some n) = 0
 
 -- the steps of p are noted, and are at most n
-abbrev pub IsWithin : Map → List (Option ℕ) → Pos → ℕ → Type 0
-IsWithin m steps p n = (k : ℕ) × (k ≤ n) × (steps_at m.size steps p ≡ Some k)
+abbrev pub HasStepsWithin : Map → List (Option ℕ) → Pos → ℕ → Type 0
+HasStepsWithin m steps p n = (k : ℕ) × (k ≤ n) × (steps_at m.size steps p ≡ Some k)
 
 -- the steps of an entry are noted, they are no more than its place, and so many steps lead to the start
 pub record IsEntry (m : Map) (IsOpen : Pos → Type 0) (start : Pos) (steps : List (Option ℕ)) (e : Reached) (k : ℕ) : Type 0 where
@@ -56,7 +56,7 @@ pub record IsFlood (m : Map) (IsOpen : Pos → Type 0) (start : Pos) (steps : Li
   pub queued : (p : Pos) → InGrid m.size p → (n : ℕ) → steps_at m.size steps p ≡ Some n → HasEntry queue p n
   pub rising : (i j : ℕ) → i ≤ j → j < length queue → (entry_of queue i).steps ≤ (entry_of queue j).steps
   pub narrow : (k : ℕ) → k < length queue → head < length queue → (entry_of queue k).steps ≤ (entry_of queue head).steps + 1
-  pub closed : (k : ℕ) → k < head → k < length queue → (q : Pos) → OpenStep m IsOpen (entry_of queue k).at q → IsWithin m steps q ((entry_of queue k).steps + 1)
+  pub closed : (k : ℕ) → k < head → k < length queue → (q : Pos) → OpenStep m IsOpen (entry_of queue k).at q → HasStepsWithin m steps q ((entry_of queue k).steps + 1)
 
 -- the indexes of the points of a queue
 abbrev pub places_of : Size → List Reached → List ℕ

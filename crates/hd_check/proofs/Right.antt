@@ -12,7 +12,7 @@ use Rattle.hd_map.specs.Neighbour.{Neighbour}
 use Rattle.hd_map.specs.Path.{Leads, IsTop}
 use Rattle.hd_map.specs.Rank.{rank, below_by, Near}
 use Rattle.hd_map.proofs.Points.{same_point, point_at}
-use Rattle.hd_map.proofs.Sides.{not_above-trans}
+use Rattle.hd_map.proofs.Order.{not_above-trans}
 use Rattle.hd_map.proofs.Items.{map-Contains}
 use Rattle.hd_map.specs.SideLaws.{below_by-order}
 use Rattle.hd_check.specs.declared.types.Certificate.{Certificate}

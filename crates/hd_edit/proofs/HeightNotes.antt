@@ -7,7 +7,7 @@ use Rattle.hd_edit.specs.declared.change.Was.TheVariants as was
 use Rattle.hd_edit.specs.declared.notes.HeightNote.{HeightNote}
 use Rattle.hd_edit.specs.declared.notes.NewNotes.TheInside.{Inside}
 use Rattle.hd_edit.specs.Notes.{changes_after, last_after, note_at}
-use Rattle.hd_edit.specs.Over.{widened}
+use Rattle.hd_edit.specs.SevenBytes.{widened}
 
 -- one more is told from the last
 pub changes-push : (i : ℕ) (notes : List HeightNote) (note : HeightNote) → changes_after i (notes ++ note ∷ []) ≡ changes_after i notes ++ note_at (last_after i notes) note ∷ []

@@ -1,13 +1,14 @@
 pub mod DataTypes
+pub mod IfLess
 pub mod Rectangles
 pub mod Strokes
 pub mod Changes
 pub mod HeightNotes
 pub mod Touches
 pub mod Walks
-pub mod Draws
+pub mod NotedStrokes
 pub mod Logs
 pub mod Outcomes
-pub mod Unique
+pub mod Determined
 pub mod CellLists
 pub mod Named

@@ -32,7 +32,8 @@ use Rattle.hd_edit.specs.Filter.{IsFilteredBy}
 use Rattle.hd_edit.specs.Board.{IsEdited, IsRefusalBy}
 use Rattle.hd_edit.specs.Edit.{height_set, height_taken, heights_raised, masks_set, in_rectangle, cell_in_range, by_index, height_refusal, rectangle_refusal, unless, masks_with}
 use Rattle.hd_edit.specs.Stroke.{IsRectangle, IsStrokeOf, new_cell, new_mask, stroked, stroke_parts, outcome}
-use Rattle.hd_edit.proofs.Rectangles.{IsIn, in_rectangle-true, chosen_past, stands_first}
+use Rattle.hd_edit.proofs.IfLess.{if-not_less}
+use Rattle.hd_edit.proofs.Rectangles.{IsIn, in_rectangle-true, stands_first}
 use Rattle.hd_edit.proofs.Strokes.{same_map, new_cell-in}
 use Rattle.hd_edit.proofs.Walks.{cell_in_range-is, cell_in_range-of, counted_first, refused_here}
 
@@ -41,7 +42,7 @@ pub height_refusal-none : (m : Map) (cells : List Cell) → AreCellsOf m.data_ty
 height_refusal-none m cells are =
     let out : Cell → Bool = λ c. not (cell_in_range m.data_type c) in
     let none : position_or_len out cells ≡ length cells = position_or_len_is out cells (length cells) Bad (omega arith) (λ k inside. rw (cell_in_range-is m.data_type (get_or cells k Bad) (are k inside))) (λ less. absurd (omega (arith, less))) in
-    let nowhere : position out cells ≡ None = rw none (chosen_past (length cells) (length cells) (Some (length cells)) None (omega arith)) in
+    let nowhere : position out cells ≡ None = rw none (if-not_less (length cells) (length cells) (Some (length cells)) None (omega arith)) in
     ap (option_map (λ k. HeightRange (position_at m.size k))) nowhere
 
 -- a place, or none

@@ -1,6 +1,5 @@
 -- The positions of a rectangle, profile by profile.
 use Rattle.std.proofs.Common.{◌≡◌, ◌<◌, ◌≤◌, ◌+◌, ◌%◌, ℕ, true, false, inl, inr, arith}
-use Rattle.std.specs.Prelude.{nat_lt, if◌then◌else◌}
 use Rattle.std.proofs.Math.Nat.{mul-le-mul_right}
 use Rattle.std.proofs.lemmas.Bool.{cases_lt, false_from_ne_true}
 use Rattle.std.proofs.lemmas.Bool.Decides.{nat_tests}
@@ -10,6 +9,7 @@ use Rattle.hd_map.specs.Map.{InGrid, place_of, position_at}
 use Rattle.hd_map.proofs.Points.{position_at-place}
 use Rattle.hd_edit.specs.Edit.{in_rectangle}
 use Rattle.hd_edit.specs.Stroke.{IsRectangle, next_in}
+use Rattle.hd_edit.proofs.IfLess.{if-less, if-not_less}
 
 -- a position of the rectangle
 pub record IsIn (from to p : Pos) : Type 0 where
@@ -61,13 +61,6 @@ pub record StandsAt (from to at : Pos) : Type 0 where
 pub stands_first : (s : Size) (from to : Pos) → IsRectangle s from to → StandsAt from to from
 stands_first s from to is = record { left = omega arith; right = is.columns; top = omega arith; bottom = omega (arith, is.profiles) }
 
--- a choice by the order of two numbers
-pub chosen_below : {X : Type 0} (m n : ℕ) (a b : X) → m < n → (if nat_lt m n then a else b) ≡ a
-chosen_below m n a b less = grind (arith, nat_tests)
-
-pub chosen_past : {X : Type 0} (m n : ℕ) (a b : X) → n ≤ m → (if nat_lt m n then a else b) ≡ b
-chosen_past m n a b more = grind (arith, nat_tests)
-
 -- the next position is that of the next column, or that of the profile below
 data NextIs (from to at : Pos) : Pos → Type 0 where
   beside : at.x < to.x → NextIs from to at (record { x = at.x + 1; y = at.y })
@@ -75,8 +68,8 @@ data NextIs (from to at : Pos) : Pos → Type 0 where
 
 next_is : (from to at : Pos) → NextIs from to at (next_in from to at)
 next_is from to at = elim (cases_lt at.x to.x) [
-  | inl less ↦ rw (chosen_below at.x to.x (record { x = at.x + 1; y = at.y }) (row_below from at) less) (beside less)
-  | inr more ↦ rw (chosen_past at.x to.x (record { x = at.x + 1; y = at.y }) (row_below from at) more) (under more)
+  | inl less ↦ rw (if-less at.x to.x (record { x = at.x + 1; y = at.y }) (row_below from at) less) (beside less)
+  | inr more ↦ rw (if-not_less at.x to.x (record { x = at.x + 1; y = at.y }) (row_below from at) more) (under more)
 ]
 
 module _ (s : Size) (from to at : Pos) (is : IsRectangle s from to) (stands : StandsAt from to at) (here : at.y ≤ to.y) where

@@ -14,17 +14,18 @@ use Rattle.hd_map.proofs.Points.{position_at-place, position_at-of, place_inside
 use Rattle.hd_edit.specs.declared.stroke.Stroke.{Stroke}
 use Rattle.hd_edit.specs.Edit.{in_rectangle}
 use Rattle.hd_edit.specs.Stroke.{cell_after, mask_after, new_cell, new_mask, stroked, touched, count_below}
-use Rattle.hd_edit.proofs.Rectangles.{IsIn, in_rectangle-is, chosen_below, chosen_past}
+use Rattle.hd_edit.proofs.IfLess.{if-less, if-not_less}
+use Rattle.hd_edit.proofs.Rectangles.{IsIn, in_rectangle-is}
 
 -- new before an index, and old from there on
 abbrev pub mix : {X : Type 0} → ℕ → (ℕ → X) → (ℕ → X) → ℕ → X
 mix n new old k = if nat_lt k n then new k else old k
 
 pub mix-before : {X : Type 0} (n : ℕ) (new old : ℕ → X) (k : ℕ) → k < n → mix n new old k ≡ new k
-mix-before n new old k h = chosen_below k n (new k) (old k) h
+mix-before n new old k h = if-less k n (new k) (old k) h
 
 pub mix-from : {X : Type 0} (n : ℕ) (new old : ℕ → X) (k : ℕ) → n ≤ k → mix n new old k ≡ old k
-mix-from n new old k h = chosen_past k n (new k) (old k) h
+mix-from n new old k h = if-not_less k n (new k) (old k) h
 
 mix-skip : {X : Type 0} (n n' : ℕ) (new old : ℕ → X) (k : ℕ) → n ≤ n' → (n ≤ k → k < n' → new k ≡ old k) → mix n new old k ≡ mix n' new old k
 mix-skip n n' new old k on same = elim (cases_lt k n) [

@@ -18,7 +18,8 @@ use Rattle.hd_edit.specs.declared.stroke.Stroke.{Stroke}
 use Rattle.hd_edit.specs.declared.edit.EditError.TheVariants.{HeightRange}
 use Rattle.hd_edit.specs.Edit.{in_rectangle, cell_in_range, height_refusal}
 use Rattle.hd_edit.specs.Stroke.{IsRectangle, IsStrokeOf, cell_after, new_cell, stroked, changes, changes_to, changes_at, count_below, next_in}
-use Rattle.hd_edit.proofs.Rectangles.{IsIn, StandsAt, in_rectangle-is, stands_in, stands_inside, next_later, none_between, none_before, none_past, chosen_below}
+use Rattle.hd_edit.proofs.IfLess.{if-less}
+use Rattle.hd_edit.proofs.Rectangles.{IsIn, StandsAt, in_rectangle-is, stands_in, stands_inside, next_later, none_between, none_before, none_past}
 use Rattle.hd_edit.proofs.Strokes.{new_cells, new_cell-in, count-more, count-skip}
 use Rattle.hd_edit.proofs.Changes.{cell_of}
 
@@ -36,7 +37,7 @@ cell_out_of_range t c never = false_from_ne_true (cell_in_range t c) (λ passes.
 
 -- the first place that passes
 position_is : {X : Type 0} (p : X → Bool) (xs : List X) (n : ℕ) → position_or_len p xs ≡ n → n < length xs → position p xs ≡ Some n
-position_is p xs n first below = rw first (chosen_below n (length xs) (Some n) None below)
+position_is p xs n first below = rw first (if-less n (length xs) (Some n) None below)
 
 module _ (m : Map) (from to : Pos) (s : Stroke) where
   -- how many points before an index are changed, and that their new heights are of the type

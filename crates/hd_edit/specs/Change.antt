@@ -8,8 +8,8 @@ use Rattle.hd_map.specs.Map.{Map, IsCellOf, cell_count, least_height}
 use Rattle.hd_edit.specs.declared.change.Change.{Change}
 use Rattle.hd_edit.specs.declared.change.Was.{Was}
 use Rattle.hd_edit.specs.declared.change.Was.TheVariants as was
-use Rattle.hd_edit.specs.declared.over.OverLeast.{OverLeast}
-use Rattle.hd_edit.specs.Over.{number_of}
+use Rattle.hd_edit.specs.declared.height_bytes.OverLeast.{OverLeast}
+use Rattle.hd_edit.specs.SevenBytes.{number_of}
 
 -- the height that is this much over the least one of a data type
 abbrev pub height_over : DataType → OverLeast → ℤ

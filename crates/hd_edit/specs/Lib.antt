@@ -3,7 +3,7 @@ pub mod Elements
 pub mod Filter
 pub mod Board
 pub mod Stroke
-pub mod Over
+pub mod SevenBytes
 pub mod Change
 pub mod Notes
 pub mod NewNotes

@@ -3,7 +3,7 @@ use Rattle.std.specs.Prelude.{◌+◌, ◌∷◌, [], ℕ, List}
 use Rattle.hd_edit.specs.declared.change.Change.{Change}
 use Rattle.hd_edit.specs.declared.change.Was.TheVariants as was
 use Rattle.hd_edit.specs.declared.notes.HeightNote.{HeightNote}
-use Rattle.hd_edit.specs.Over.{widened}
+use Rattle.hd_edit.specs.SevenBytes.{widened}
 
 -- the change that a note tells after one at an index
 abbrev pub note_at : ℕ → HeightNote → Change

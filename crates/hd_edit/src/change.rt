@@ -6,8 +6,8 @@ ghost use Rattle.hd_map.specs.Sets.{with_cell, with_mask};
 ghost use Rattle.hd_edit.specs.Board.{RisesUpTo};
 ghost use Rattle.hd_edit.specs.Change.{height_over, IsCellThatWas, IsChange, AreChanges, with_was, before_changes};
 
+use crate::height_bytes::OverLeast;
 use crate::notes::{NewNotes, Notes};
-use crate::over::OverLeast;
 use hd_map::{Cell, DataType, Grid, Heights, Pos, index_of, least_of, position_of};
 
 /// What stood at a point before it was changed.

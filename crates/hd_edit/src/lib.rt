@@ -6,10 +6,10 @@ mod change;
 mod edit;
 mod elements;
 mod filter;
+mod height_bytes;
 mod laws;
 mod make;
 mod notes;
-mod over;
 mod paint;
 mod stroke;
 

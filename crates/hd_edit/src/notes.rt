@@ -3,7 +3,7 @@ ghost use Rattle.std.specs.Prelude.{◌≡◌, ◌<◌, ◌++◌, ◌∷◌, [],
 ghost use Rattle.hd_edit.specs.Notes.{note_at};
 
 use crate::change::{Change, Was};
-use crate::over::OverLeast;
+use crate::height_bytes::OverLeast;
 use hd_list::Memory;
 use std::alloc::Global;
 use std::marker::Model;

@@ -73,7 +73,7 @@ use Rattle.hd_engine.specs.State.{State, IsState}
 use Rattle.hd_engine.specs.Trees.{IsTreeAnswer}
 use Rattle.hd_engine.specs.Values.{IsNamedAnswer, IsNotationAnswer}
 use Rattle.hd_engine.specs.Volumes.{IsVolumesAnswer}
-use Rattle.hd_engine.proofs.Makes.{made_once}
+use Rattle.hd_engine.proofs.MadeElement.{made_once}
 use Rattle.hd_engine.proofs.SaddleAnswers.{saddle-one}
 
 -- an answer is the reply, and the state after it

@@ -1,7 +1,7 @@
 mod EditAnswers
-mod Kept
+mod LeavesMaps
 mod KeepsUp
-mod Makes
+mod MadeElement
 mod NamedSums
 mod SaddleAnswers
 pub mod Determined

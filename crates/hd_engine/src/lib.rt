@@ -2,7 +2,7 @@
 #![tactic(auto)]
 
 mod answer;
-mod by_kept;
+mod by_pool_or_links;
 mod copies;
 mod labels;
 mod laws;

@@ -14,7 +14,7 @@ ghost use Rattle.hd_engine.specs.Texts.{texts_view};
 ghost use Rattle.hd_tiles.specs.Tile.{IsTileSide};
 
 use crate::Answer;
-use crate::by_kept::{Need, find_by_kept};
+use crate::by_pool_or_links::{Need, find_by_pool_or_links};
 use crate::labels::show_label;
 use crate::texts::Texts;
 use crate::workpiece::Workpiece;
@@ -220,30 +220,30 @@ impl<G: Grid> Surveyed<G> {
         ensures { self.new ≡ self.old }
     {
         match command {
-            Command::Dales => self.find_by_kept(SideName::Dales, Need::Regions),
-            Command::Hills => self.find_by_kept(SideName::Hills, Need::Regions),
+            Command::Dales => self.find_by_pool_or_links(SideName::Dales, Need::Regions),
+            Command::Hills => self.find_by_pool_or_links(SideName::Hills, Need::Regions),
             Command::Tree { side }
             | Command::Saddle { side, .. }
             | Command::Prune { side, .. }
             | Command::Lines { side, .. }
             | Command::Audit { side, .. }
-            | Command::Fill { side, .. } => self.find_by_kept(*side, Need::Merges),
+            | Command::Fill { side, .. } => self.find_by_pool_or_links(*side, Need::Merges),
             _ => Ok(()),
         }
     }
 
     // Finds by what is kept of a side what a report asks for, where that serves.
-    fn find_by_kept(&mut self, side: SideName, need: Need) -> Result<(), Memory>
+    fn find_by_pool_or_links(&mut self, side: SideName, need: Need) -> Result<(), Memory>
         ensures { self.new ≡ self.old }
     {
         let alloc = self.work.alloc;
         let tiles = self.work.board.grid();
         match side {
             SideName::Dales => {
-                find_by_kept(alloc, tiles, &mut self.dales, &mut self.survey.dales, need)
+                find_by_pool_or_links(alloc, tiles, &mut self.dales, &mut self.survey.dales, need)
             }
             SideName::Hills => {
-                find_by_kept(alloc, tiles, &mut self.hills, &mut self.survey.hills, need)
+                find_by_pool_or_links(alloc, tiles, &mut self.hills, &mut self.survey.hills, need)
             }
         }
     }

@@ -9,7 +9,7 @@ use Rattle.hd_feature.specs.declared.notation.NotationError.TheVariants.{BadPart
 use Rattle.hd_feature.specs.declared.notation.Statistic.{Statistic}
 use Rattle.hd_feature.specs.declared.notation.Statistic.TheVariants.{Sum}
 use Rattle.hd_feature.specs.Notation.{notation_of, notation_of_parts, statistic_of}
-use Rattle.hd_feature.specs.Parts.{Reads, and_then, is_separator, left, no_part, part, parts_of, read_or_bad}
+use Rattle.hd_feature.specs.Parts.{Reads, and_then, is_separator, parts_left, no_part, part, parts_of, read_or_bad}
 
 -- the part that comes after
 abbrev pub sum_part : List ℕ
@@ -41,12 +41,12 @@ part-followed number form none [] make = ap (λ o. and_then (read_or_bad number 
 part-followed number form none (text ∷ more) make = refl
 
 pub reads-followed : {A : Type 0} (number : ℕ) (form : List ℕ → Option A) (parts : List (List ℕ)) (result : Result (A × Option (Bor (List ℕ))) NotationError) → form sum_part ≡ None → Reads number form parts result
-    → (make : A → List (List ℕ) → Result Notation NotationError) → part number form (followed parts) make ≡ and_then result (λ p. make p.0 (followed (left p.1)))
+    → (make : A → List (List ℕ) → Result Notation NotationError) → part number form (followed parts) make ≡ and_then result (λ p. make p.0 (followed (parts_left p.1)))
 reads-followed number form parts result none reads make = part-followed number form none parts make ∙ reads (λ x more. make x (followed more))
 
 -- where no part is left, that one is read as part 6
 pub sum_alone : (rest : Option (Bor (List ℕ))) (make : Statistic → List (List ℕ) → Result Notation NotationError) → is_some rest ≡ false
-    → part 6 statistic_of (followed (left rest)) make ≡ make Sum []
+    → part 6 statistic_of (followed (parts_left rest)) make ≡ make Sum []
 sum_alone None make h = refl
 sum_alone (Some text) make h = absurd (true≢false h)
 
@@ -66,7 +66,7 @@ sixth_then (text ∷ more) made some = read_then (read_or_bad 6 (statistic_of te
 
 -- where one is left, part 6 is read of it, and that one is too many
 pub sum_seventh : (rest : Option (Bor (List ℕ))) (result : Result (Statistic × Option (Bor (List ℕ))) NotationError) (made : Statistic → Result Notation NotationError) → is_some rest ≡ true
-    → Reads 6 statistic_of (left rest) result → part 6 statistic_of (followed (left rest)) (λ s more. no_part 7 more (made s)) ≡ and_then result (λ p. Err (BadPart 7))
+    → Reads 6 statistic_of (parts_left rest) result → part 6 statistic_of (followed (parts_left rest)) (λ s more. no_part 7 more (made s)) ≡ and_then result (λ p. Err (BadPart 7))
 sum_seventh None result made h reads = absurd (true≢false (sym h))
 sum_seventh (Some text) result made h reads =
     sixth_then (parts_of text.now) made (let n = length-slice_split is_separator text.now in omega (arith, n)) ∙ reads (λ s more. Err (BadPart 7))

@@ -6,7 +6,7 @@ use denote.Bor.{Bor}
 use Rattle.hd_feature.specs.declared.notation.Notation.{Notation}
 use Rattle.hd_feature.specs.declared.notation.NotationError.{NotationError}
 use Rattle.hd_feature.specs.declared.notation.NotationError.TheVariants.{BadPart}
-use Rattle.hd_feature.specs.Parts.{is_separator, left, no_part}
+use Rattle.hd_feature.specs.Parts.{is_separator, parts_left, no_part}
 
 -- a text without the byte is one part
 pub one_part : (test : ℕ → Bool) (xs : List ℕ) → ((k : ℕ) → k < length xs → test (get_or xs k 0) ≡ false) → slice_split test xs ≡ xs ∷ []
@@ -14,7 +14,7 @@ one_part test [] none = refl
 one_part test (x ∷ xs) none = slice_split-cons_no test x xs (none 0 (omega arith)) ∙ ap (onto_first x) (one_part test xs (λ k lt. none (suc k) (omega arith)))
 
 -- a text has a part, which is one too many
-pub one_too_many : (number : ℕ) (rest : Option (Bor (List ℕ))) (made : Result Notation NotationError) → true ≡ is_some rest → no_part number (left rest) made ≡ Err (BadPart number)
+pub one_too_many : (number : ℕ) (rest : Option (Bor (List ℕ))) (made : Result Notation NotationError) → true ≡ is_some rest → no_part number (parts_left rest) made ≡ Err (BadPart number)
 one_too_many number None made h = absurd (true≢false h)
 one_too_many number (Some text) made h = filled (slice_split is_separator text.now) (let n = length-slice_split is_separator text.now in omega (arith, n))
   where

@@ -36,10 +36,10 @@ no_part number [] made = made
 no_part number (text ∷ more) made = Err (BadPart number)
 
 -- the parts that are left of a word: those of a text, or none
-abbrev pub left : Option (Bor (List ℕ)) → List (List ℕ)
-left None = []
-left (Some text) = parts_of text.now
+abbrev pub parts_left : Option (Bor (List ℕ)) → List (List ℕ)
+parts_left None = []
+parts_left (Some text) = parts_of text.now
 
 -- what was read is what the first of the parts writes, whatever is made of it and the others
 abbrev pub Reads : {A : Type 0} → ℕ → (List ℕ → Option A) → List (List ℕ) → Result (A × Option (Bor (List ℕ))) NotationError → Type 0
-Reads {A} number form parts result = (make : A → List (List ℕ) → Result Notation NotationError) → part number form parts make ≡ and_then result (λ p. make p.0 (left p.1))
+Reads {A} number form parts result = (make : A → List (List ℕ) → Result Notation NotationError) → part number form parts make ≡ and_then result (λ p. make p.0 (parts_left p.1))

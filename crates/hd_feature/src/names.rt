@@ -23,10 +23,10 @@ pub fn named(name: &[u8], c: Option<i64>) -> Result<Parameter, NotationError>
     ensures { result ≡ parameter_of name.now c }
 {
     match name {
-        b"Spd" => plain(peak_density(), c),
-        b"S5p" => plain(Parameter::One(five_peaks()), c),
-        b"S5v" => plain(Parameter::One(five_pits()), c),
-        b"S10z" => plain(Parameter::Sum(five_peaks(), five_pits()), c),
+        b"Spd" => without_height(peak_density(), c),
+        b"S5p" => without_height(Parameter::One(five_peaks()), c),
+        b"S5v" => without_height(Parameter::One(five_pits()), c),
+        b"S10z" => without_height(Parameter::Sum(five_peaks(), five_pits()), c),
         b"Sda" => closed_area(Kind::Dale, c),
         b"Sha" => closed_area(Kind::Hill, c),
         _ => Err(NotationError::UnknownName),
@@ -34,7 +34,7 @@ pub fn named(name: &[u8], c: Option<i64>) -> Result<Parameter, NotationError>
 }
 
 // A parameter that takes no height.
-fn plain(parameter: Parameter, c: Option<i64>) -> Result<Parameter, NotationError>
+fn without_height(parameter: Parameter, c: Option<i64>) -> Result<Parameter, NotationError>
     ensures { result ≡ given (Plain parameter) c }
 {
     match c {

@@ -1,6 +1,6 @@
 // The parts of a notation, one after another.
 ghost use Rattle.std.specs.Prelude.{◌≡◌, ◌∷◌, ◌<◌, ◌^◌, ℕ, List, Option};
-ghost use Rattle.hd_feature.specs.Parts.{left, parts_of, Reads};
+ghost use Rattle.hd_feature.specs.Parts.{parts_left, parts_of, Reads};
 
 use crate::NotationError;
 
@@ -20,7 +20,7 @@ pub fn read_part<P: Part>(
     number: u8,
     rest: Option<&[u8]>,
 ) -> Result<(P, Option<&[u8]>), NotationError>
-    ensures { Reads number P.form_of (left rest.entry) result }
+    ensures { Reads number P.form_of (parts_left rest.entry) result }
 {
     let Some(text) = rest else {
         return Err(NotationError::BadPart(number));
@@ -34,7 +34,7 @@ pub fn read_part<P: Part>(
 
 // The text before the first `;`, and the text after it, or none without a `;`.
 fn split_part(text: &[u8]) -> (&[u8], Option<&[u8]>)
-    ensures { parts_of text.now ≡ result.0.now ∷ left result.1 }
+    ensures { parts_of text.now ≡ result.0.now ∷ parts_left result.1 }
 {
     'bytes: for (place, byte) in text.iter().enumerate() {
         if *byte == b';' {

@@ -20,7 +20,7 @@ use Rattle.hd_map.proofs.Depth.{point_limits}
 use Rattle.hd_map.proofs.Levels.{Reach, here, step, PointStep, reach-trans, reach-sym, reach-from_path, path-from_reach, reach-higher, points-both, same_or_not, none_above-higher, top_of}
 use Rattle.hd_map.proofs.Points.{Near-to, Near-apart}
 use Rattle.hd_map.proofs.Saddles.{near-sym, level-from_saddle, saddle-from_level}
-use Rattle.hd_map.proofs.Sides.{not_above-trans, not_above-refl, below-not_above, below-apart}
+use Rattle.hd_map.proofs.Order.{not_above-trans, not_above-refl, below-not_above, below-apart}
 use Rattle.hd_graph.specs.declared.graph.Low.{Low}
 use Rattle.hd_graph.specs.declared.line.Stop.{Stop}
 use Rattle.hd_graph.specs.Basins.{AreBasins, AreLowsOf}

@@ -10,7 +10,7 @@ use Rattle.hd_map.specs.declared.types.Rank.{Rank}
 use Rattle.hd_map.specs.Order.{IsNotAbove, IsStrictOrder}
 use Rattle.hd_map.specs.Path.{IsTop}
 use Rattle.hd_map.proofs.Levels.{Reach, here, step, reach-trans, reach-sym, reach-crosses, NoneAbove, top_of, top-not_above}
-use Rattle.hd_map.proofs.Sides.{not_above-trans}
+use Rattle.hd_map.proofs.Order.{not_above-trans}
 use Rattle.hd_graph.specs.declared.line.Stop.{Stop}
 use Rattle.hd_graph.specs.Line.{IsPrimOrder, TellsPasses, rise_between}
 use Rattle.hd_map.specs.Walks.{HasPass, Stride, IsWalk, passes_of}

@@ -11,14 +11,14 @@ use Rattle.std.proofs.lemmas.List.Kept.{AllPairs-cons}
 use Rattle.std.proofs.lemmas.Option.{same_Some}
 use Rattle.std.proofs.lemmas.List.Sorted.{sorted_far}
 use Rattle.hd_map.specs.Order.{IsStrictOrder}
-use Rattle.hd_map.proofs.Sides.{below-not_above, not_above-trans, compare}
+use Rattle.hd_map.proofs.Order.{below-not_above, not_above-trans, compare}
 use Rattle.hd_map.specs.declared.types.Rank.{Rank}
 use Rattle.hd_map.proofs.Items.{Contains-head, Contains-cases, Contains-none, Contains-tail, AllPairs-first, AllPairs-tail}
 use Rattle.hd_graph.specs.declared.parts.Part.{Part}
 use Rattle.hd_graph.specs.declared.parts.Rise.{Rise}
 use Rattle.hd_graph.proofs.LeftParts.{from-sides}
 use Rattle.hd_map.specs.ChangeTree.{Joining}
-use Rattle.hd_graph.specs.Parts.{AreGrouped, IsListed, comes_before, join_of, grown, left_of, right_of, sides_of, with_low, with_part}
+use Rattle.hd_graph.specs.Parts.{AreGrouped, IsListed, comes_before, join_of, grown, left_of, right_of, rise_parts, with_low, with_part}
 use Rattle.hd_graph.proofs.Adding.{with_part-grows, with_part-adds}
 
 module _ (below : Rank → Rank → Bool) (order : IsStrictOrder below) where
@@ -237,13 +237,13 @@ module _ (below : Rank → Rank → Bool) (order : IsStrictOrder below) where
     | inr later ↦ (let r = from_take xs n y d later in let a = r.1 in let b = r.2 in (suc r.0, omega arith, omega arith, r.3))
   ]
 
-  pub sides_of-push : (xs : List Rise) (x : Rise) → sides_of (xs ++ x ∷ []) ≡ (sides_of xs ++ left_of x ∷ []) ++ right_of x ∷ []
-  sides_of-push [] x = refl
-  sides_of-push (y ∷ ys) x = ap (λ (ps : List Part). left_of y ∷ right_of y ∷ ps) (sides_of-push ys x)
+  pub rise_parts-push : (xs : List Rise) (x : Rise) → rise_parts (xs ++ x ∷ []) ≡ (rise_parts xs ++ left_of x ∷ []) ++ right_of x ∷ []
+  rise_parts-push [] x = refl
+  rise_parts-push (y ∷ ys) x = ap (λ (ps : List Part). left_of y ∷ right_of y ∷ ps) (rise_parts-push ys x)
 
   -- both parts of the next rise
-  pub grouped-more : (rises : List Rise) → IsSortedBy (comes_before below) rises → (n : ℕ) (d : Rise) → n < length rises → (joins : List Joining) → AreGrouped below (sides_of (take n rises)) joins →
-      AreGrouped below (sides_of (take (n + 1) rises)) (with_part below (right_of (get_or rises n d)) (with_part below (left_of (get_or rises n d)) joins))
+  pub grouped-more : (rises : List Rise) → IsSortedBy (comes_before below) rises → (n : ℕ) (d : Rise) → n < length rises → (joins : List Joining) → AreGrouped below (rise_parts (take n rises)) joins →
+      AreGrouped below (rise_parts (take (n + 1) rises)) (with_part below (right_of (get_or rises n d)) (with_part below (left_of (get_or rises n d)) joins))
   grouped-more rises sorted n d inside joins so =
       subst (λ ps. AreGrouped below ps (with_part below (right_of x) (with_part below (left_of x) joins))) (sym next)
       (grouped-with (before ++ left_of x ∷ []) (right_of x) (with_part below (left_of x) joins) (grouped-with before (left_of x) joins so after) (λ f at. elim (Contains-push_cases before (left_of x) f at) [
@@ -255,10 +255,10 @@ module _ (below : Rank → Rank → Bool) (order : IsStrictOrder below) where
       x = get_or rises n d
 
       before : List Part
-      before = sides_of (take n rises)
+      before = rise_parts (take n rises)
 
-      next : sides_of (take (n + 1) rises) ≡ (before ++ left_of x ∷ []) ++ right_of x ∷ []
-      next = ap sides_of (take_more rises n d inside) ∙ sides_of-push (take n rises) x
+      next : rise_parts (take (n + 1) rises) ≡ (before ++ left_of x ∷ []) ++ right_of x ∷ []
+      next = ap rise_parts (take_more rises n d inside) ∙ rise_parts-push (take n rises) x
 
       not_above : (y : Rise) → Contains (take n rises) y → below x.saddle y.saddle ≡ false
       not_above y at =

@@ -10,7 +10,7 @@ use Rattle.hd_map.specs.Saddle.{IsSaddle}
 use Rattle.hd_map.specs.SideLaws.{below_by-order}
 use Rattle.hd_map.proofs.Levels.{PointStep, Reach, path-from_reach, reach-higher, reach-trans}
 use Rattle.hd_map.proofs.Saddles.{level-from_saddle, saddle-exists, saddle-sym, saddle-ultrametric, saddle-unique}
-use Rattle.hd_map.proofs.Sides.{below-not_above, not_above-refl, not_above-trans}
+use Rattle.hd_map.proofs.Order.{below-not_above, not_above-refl, not_above-trans}
 use Rattle.hd_graph.proofs.Basins.{higher-bounds, higher-least}
 
 module _ (m : Map) (side : SideName) where

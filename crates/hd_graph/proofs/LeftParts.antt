@@ -8,11 +8,11 @@ use Rattle.hd_map.specs.declared.types.Rank.{Rank}
 use Rattle.hd_graph.specs.declared.line.Stop.{Stop}
 use Rattle.hd_graph.proofs.Places.{less_same_more, get-push_old, get-push_new, item_at}
 use Rattle.hd_graph.proofs.Lows.{reverse-take}
-use Rattle.hd_graph.proofs.Round.{length-round, same_rise}
+use Rattle.hd_graph.proofs.TurnedLine.{length-round, same_rise}
 use Rattle.hd_map.proofs.Items.{Contains-head, Contains-tail, Contains-cases, Contains-none}
 use Rattle.hd_graph.specs.declared.parts.Part.{Part}
 use Rattle.hd_graph.specs.declared.parts.Rise.{Rise}
-use Rattle.hd_graph.specs.Parts.{lower, rise_below, lowest_to, LookAlike, turned_round, IsLeftPart, IsSidePart, AreLeftLows, IsRiseOf, left_of, right_of, sides_of}
+use Rattle.hd_graph.specs.Parts.{lower, rise_below, lowest_to, LookAlike, turned_round, IsLeftPart, IsRisePart, AreLeftLows, IsRiseOf, left_of, right_of, rise_parts}
 use Rattle.hd_graph.proofs.Stacks.{look-behind}
 
 less_or_same : (k m : ℕ) → k < m + 1 → (k < m) ⊎ (k ≡ m)
@@ -99,36 +99,36 @@ module _ (line : List Stop) (lefts rights : List Rank) where
   rises-all n rises end so x = (λ h. (so.from x h).0, λ h. so.found x h (let lt = slice_get_within line h.place h.stop h.at in omega arith))
 
 -- the parts of a rise are among those of all
-pub to-left : (xs : List Rise) (x : Rise) → Contains xs x → Contains (sides_of xs) (left_of x)
+pub to-left : (xs : List Rise) (x : Rise) → Contains xs x → Contains (rise_parts xs) (left_of x)
 to-left [] x h = absurd (Contains-none x h)
 to-left (y ∷ ys) x h = elim (Contains-cases y x ys h) [
-  | inl e ↦ subst (λ (z : Rise). Contains (sides_of (y ∷ ys)) (left_of z)) (sym e) (Contains-head (left_of y) (right_of y ∷ sides_of ys))
-  | inr later ↦ Contains-tail (left_of y) (left_of x) (right_of y ∷ sides_of ys) (Contains-tail (right_of y) (left_of x) (sides_of ys) (to-left ys x later))
+  | inl e ↦ subst (λ (z : Rise). Contains (rise_parts (y ∷ ys)) (left_of z)) (sym e) (Contains-head (left_of y) (right_of y ∷ rise_parts ys))
+  | inr later ↦ Contains-tail (left_of y) (left_of x) (right_of y ∷ rise_parts ys) (Contains-tail (right_of y) (left_of x) (rise_parts ys) (to-left ys x later))
 ]
 
-pub to-right : (xs : List Rise) (x : Rise) → Contains xs x → Contains (sides_of xs) (right_of x)
+pub to-right : (xs : List Rise) (x : Rise) → Contains xs x → Contains (rise_parts xs) (right_of x)
 to-right [] x h = absurd (Contains-none x h)
 to-right (y ∷ ys) x h = elim (Contains-cases y x ys h) [
-  | inl e ↦ subst (λ (z : Rise). Contains (sides_of (y ∷ ys)) (right_of z)) (sym e) (Contains-tail (left_of y) (right_of y) (right_of y ∷ sides_of ys) (Contains-head (right_of y) (sides_of ys)))
-  | inr later ↦ Contains-tail (left_of y) (right_of x) (right_of y ∷ sides_of ys) (Contains-tail (right_of y) (right_of x) (sides_of ys) (to-right ys x later))
+  | inl e ↦ subst (λ (z : Rise). Contains (rise_parts (y ∷ ys)) (right_of z)) (sym e) (Contains-tail (left_of y) (right_of y) (right_of y ∷ rise_parts ys) (Contains-head (right_of y) (rise_parts ys)))
+  | inr later ↦ Contains-tail (left_of y) (right_of x) (right_of y ∷ rise_parts ys) (Contains-tail (right_of y) (right_of x) (rise_parts ys) (to-right ys x later))
 ]
 
 -- and each of those is one of some rise
-pub from-sides : (xs : List Rise) (e : Part) → Contains (sides_of xs) e → (x : Rise) × Contains xs x × ((left_of x ≡ e) ⊎ (right_of x ≡ e))
+pub from-sides : (xs : List Rise) (e : Part) → Contains (rise_parts xs) e → (x : Rise) × Contains xs x × ((left_of x ≡ e) ⊎ (right_of x ≡ e))
 from-sides [] e h = absurd (Contains-none e h)
-from-sides (y ∷ ys) e h = elim (Contains-cases (left_of y) e (right_of y ∷ sides_of ys) h) [
+from-sides (y ∷ ys) e h = elim (Contains-cases (left_of y) e (right_of y ∷ rise_parts ys) h) [
   | inl is ↦ (y, Contains-head y ys, inl (sym is))
-  | inr more ↦ elim (Contains-cases (right_of y) e (sides_of ys) more) [
+  | inr more ↦ elim (Contains-cases (right_of y) e (rise_parts ys) more) [
     | inl is ↦ (y, Contains-head y ys, inr (sym is))
     | inr later ↦ (let r = from-sides ys e later in (r.0, Contains-tail y r.0 ys r.1, r.2))
   ]
 ]
 
 -- so the rises may stand in another order
-pub sides-moved : (xs ys : List Rise) → ((x : Rise) → Contains xs x → Contains ys x) → (e : Part) → Contains (sides_of xs) e → Contains (sides_of ys) e
+pub sides-moved : (xs ys : List Rise) → ((x : Rise) → Contains xs x → Contains ys x) → (e : Part) → Contains (rise_parts xs) e → Contains (rise_parts ys) e
 sides-moved xs ys moved e h = (let r = from-sides xs e h in elim r.2 [
-  | inl is ↦ subst (λ (p : Part). Contains (sides_of ys) p) is (to-left ys r.0 (moved r.0 r.1))
-  | inr is ↦ subst (λ (p : Part). Contains (sides_of ys) p) is (to-right ys r.0 (moved r.0 r.1))
+  | inl is ↦ subst (λ (p : Part). Contains (rise_parts ys) p) is (to-left ys r.0 (moved r.0 r.1))
+  | inr is ↦ subst (λ (p : Part). Contains (rise_parts ys) p) is (to-right ys r.0 (moved r.0 r.1))
 ])
 
 module _ (below : Rank → Rank → Bool) where
@@ -166,7 +166,7 @@ module _ (below : Rank → Rank → Bool) where
   -- with the lows of both passes, the parts of the rises are those on their sides
   module _ (line : List Stop) (lefts rights : List Rank) (long : length lefts ≡ length line) (long' : length rights ≡ length line) (left : AreLeftLows below line lefts) (right : AreLeftLows below (turned_round line) rights)
       (rises : List Rise) (each : (x : Rise) → Contains rises x ↔ IsRiseOf line lefts rights x) where
-    from_rise : (x : Rise) → Contains rises x → IsSidePart below line (left_of x) × IsSidePart below line (right_of x)
+    from_rise : (x : Rise) → Contains rises x → IsRisePart below line (left_of x) × IsRisePart below line (right_of x)
     from_rise x at =
         let h = (each x).0 at in
         let pos = h.later in
@@ -178,11 +178,11 @@ module _ (below : Rank → Rank → Bool) where
           inr (left-is (turned_round line) rights right (length line - h.place) w.0 x.saddle x.right (omega arith) w.1 (sym rise ∙ h.rise_is) h.right_is),
         )
 
-    pub sides-are : (e : Part) → Contains (sides_of rises) e ↔ IsSidePart below line e
+    pub sides-are : (e : Part) → Contains (rise_parts rises) e ↔ IsRisePart below line e
     sides-are e = (
       λ h. (let r = from-sides rises e h in let both = from_rise r.0 r.1 in elim r.2 [
-        | inl is ↦ subst (λ (p : Part). IsSidePart below line p) is both.0
-        | inr is ↦ subst (λ (p : Part). IsSidePart below line p) is both.1
+        | inl is ↦ subst (λ (p : Part). IsRisePart below line p) is both.0
+        | inr is ↦ subst (λ (p : Part). IsRisePart below line p) is both.1
       ]),
       λ h. elim h [
         | inl l ↦ (

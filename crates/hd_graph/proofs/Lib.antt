@@ -18,10 +18,10 @@ pub mod Lows
 pub mod Highest
 pub mod Stacks
 pub mod Adding
-pub mod Round
+pub mod TurnedLine
 pub mod Lowest
 pub mod LeftParts
-pub mod SideParts
+pub mod RiseParts
 pub mod Grouped
 pub mod TreeOf
 pub mod GoesFrom

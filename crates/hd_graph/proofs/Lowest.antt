@@ -3,13 +3,13 @@ use Rattle.std.proofs.Common.{◌≡◌, ℕ, zero, suc, ◌<◌, ◌≤◌, inl
 use Rattle.std.specs.Prelude.{reverse}
 use Rattle.std.proofs.lemmas.Option.{same_Some}
 use Rattle.hd_map.specs.Order.{IsNotAbove, IsStrictOrder}
-use Rattle.hd_map.proofs.Sides.{below-not_above, not_above-trans}
+use Rattle.hd_map.proofs.Order.{below-not_above, not_above-trans}
 use Rattle.hd_map.specs.declared.types.Rank.{Rank}
 use Rattle.hd_graph.specs.declared.line.Stop.{Stop}
 use Rattle.hd_graph.proofs.Places.{less_same_more}
 use Rattle.hd_graph.proofs.Lows.{reverse-take}
 use Rattle.hd_graph.specs.Parts.{lower, rise_below, lowest_to}
-use Rattle.hd_graph.proofs.Round.{stop_at}
+use Rattle.hd_graph.proofs.TurnedLine.{stop_at}
 
 module _ (below : Rank → Rank → Bool) (order : IsStrictOrder below) (line : List Stop) (s : Rank) where
   -- the rise is there and below s

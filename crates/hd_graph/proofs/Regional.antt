@@ -13,7 +13,7 @@ use Rattle.hd_map.specs.Region.{AreNexts, AreRegions}
 use Rattle.hd_map.specs.SideLaws.{below_by-order}
 use Rattle.hd_map.proofs.Nexts.{root-is_pit, root-unique, root-pit}
 use Rattle.hd_map.proofs.Regions.{labelled-root, region-of, root-labelled}
-use Rattle.hd_map.proofs.Sides.{not_above-trans, below-not_above}
+use Rattle.hd_map.proofs.Order.{not_above-trans, below-not_above}
 use Rattle.hd_graph.specs.declared.graph.Low.{Low}
 use Rattle.hd_graph.specs.Basins.{AreBasins, AreLowsOf, ArePitsOf}
 

@@ -6,16 +6,16 @@ use Rattle.hd_map.specs.Order.{IsStrictOrder}
 use Rattle.hd_map.specs.declared.types.Rank.{Rank}
 use Rattle.hd_graph.specs.declared.line.Stop.{Stop}
 use Rattle.hd_graph.proofs.Places.{less_same_more}
-use Rattle.hd_map.proofs.Sides.{below-apart}
+use Rattle.hd_map.proofs.Order.{below-apart}
 use Rattle.hd_graph.proofs.Lows.{IsLowOn, place_of_low}
 use Rattle.hd_map.proofs.Items.{Contains-cases, Contains-none, AllPairs-first, AllPairs-tail}
 use Rattle.hd_graph.specs.declared.parts.Part.{Part}
 use Rattle.hd_map.proofs.Trees.{Agree, part-agrees}
 use Rattle.hd_map.specs.ChangeTree.{Joining, IsSaddleOfPits, AreTogether, IsPart, IsTree}
 use Rattle.hd_graph.proofs.Highest.{OnePlace, TellsHighest}
-use Rattle.hd_graph.specs.Parts.{AreGrouped, turned_round, IsSidePart}
-use Rattle.hd_graph.proofs.Round.{stop_at, length-round, same_low, lows_of-round, once-round, tells-round}
-use Rattle.hd_graph.proofs.SideParts.{left-is_part, part-from, part-left}
+use Rattle.hd_graph.specs.Parts.{AreGrouped, turned_round, IsRisePart}
+use Rattle.hd_graph.proofs.TurnedLine.{stop_at, length-round, same_low, lows_of-round, once-round, tells-round}
+use Rattle.hd_graph.proofs.RiseParts.{left-is_part, part-from, part-left}
 
 -- parts that name the classes of pits which saddles join
 module _ (below : Rank → Rank → Bool) (order : IsStrictOrder below) (Has : Rank → Rank → Rank → Type 0) (Pit : Rank → Type 0) where
@@ -72,13 +72,13 @@ module _ (below : Rank → Rank → Bool) (order : IsStrictOrder below) (IsSaddl
   same_lows = record { pits = lows_of-round line; saddles = λ p q s hp hq ne. (λ h. h, λ h. h) }
 
   -- a part beside a rise is one of the tree
-  side-is_part : (e : Part) → IsSidePart below line e → IsPart below IsSaddle (IsLowOn line) e.saddle e.low
+  side-is_part : (e : Part) → IsRisePart below line e → IsPart below IsSaddle (IsLowOn line) e.saddle e.low
   side-is_part e (inl h) = left-is_part below order IsSaddle line tells once e h
   side-is_part e (inr h) = part-agrees below order IsSaddle IsSaddle (IsLowOn (turned_round line)) (IsLowOn line) same_lows e.saddle e.low
       (left-is_part below order IsSaddle (turned_round line) (tells-round below IsSaddle line tells) (once-round line once) e h)
 
   -- and the other way round
-  part-is_side : (s r : Rank) → IsPart below IsSaddle (IsLowOn line) s r → IsSidePart below line (record { saddle = s; low = r })
+  part-is_side : (s r : Rank) → IsPart below IsSaddle (IsLowOn line) s r → IsRisePart below line (record { saddle = s; low = r })
   part-is_side s r h =
       let j = h.joined in
       let p : Rank = j.0 in
@@ -111,7 +111,7 @@ module _ (below : Rank → Rank → Bool) (order : IsStrictOrder below) (IsSaddl
       ]
 
   -- a saddle of two pits has a part beside a rise
-  some_part : (p q s : Rank) → IsSaddleOfPits below IsSaddle (IsLowOn line) p q s → (r : Rank) × IsSidePart below line (record { saddle = s; low = r })
+  some_part : (p q s : Rank) → IsSaddleOfPits below IsSaddle (IsLowOn line) p q s → (r : Rank) × IsRisePart below line (record { saddle = s; low = r })
   some_part p q s h =
       let a = place_of_low line p h.first in
       let b = place_of_low line q h.second in
@@ -127,5 +127,5 @@ module _ (below : Rank → Rank → Bool) (order : IsStrictOrder below) (IsSaddl
       ]
 
   -- the parts, grouped, are the tree
-  pub tree-of_parts : (es : List Part) (joins : List Joining) → ((e : Part) → Contains es e ↔ IsSidePart below line e) → AreGrouped below es joins → IsTree below IsSaddle (IsLowOn line) joins
-  tree-of_parts es joins exactly grouped = tree-of_classes below order IsSaddle (IsLowOn line) (IsSidePart below line) (record { are = side-is_part; all = part-is_side; some = some_part }) es joins exactly grouped
+  pub tree-of_parts : (es : List Part) (joins : List Joining) → ((e : Part) → Contains es e ↔ IsRisePart below line e) → AreGrouped below es joins → IsTree below IsSaddle (IsLowOn line) joins
+  tree-of_parts es joins exactly grouped = tree-of_classes below order IsSaddle (IsLowOn line) (IsRisePart below line) (record { are = side-is_part; all = part-is_side; some = some_part }) es joins exactly grouped

@@ -53,8 +53,8 @@ pub record IsLeftPart (below : Rank → Rank → Bool) (line : List Stop) (e : P
   pub low_is : lowest_to below e.saddle (reverse (take place line)) ≡ Some e.low
 
 -- a part beside a rise, on either side
-abbrev pub IsSidePart : (Rank → Rank → Bool) → List Stop → Part → Type 0
-IsSidePart below line e = IsLeftPart below line e ⊎ IsLeftPart below (turned_round line) e
+abbrev pub IsRisePart : (Rank → Rank → Bool) → List Stop → Part → Type 0
+IsRisePart below line e = IsLeftPart below line e ⊎ IsLeftPart below (turned_round line) e
 
 -- by place, the low of the part to the left of the rise, where there is one
 abbrev pub AreLeftLows : (Rank → Rank → Bool) → List Stop → List Rank → Type 0
@@ -78,9 +78,9 @@ abbrev pub right_of : Rise → Part
 right_of x = record { saddle = x.saddle; low = x.right }
 
 -- the parts on the two sides of all rises
-abbrev pub sides_of : List Rise → List Part
-sides_of [] = []
-sides_of (x ∷ xs) = left_of x ∷ right_of x ∷ sides_of xs
+abbrev pub rise_parts : List Rise → List Part
+rise_parts [] = []
+rise_parts (x ∷ xs) = left_of x ∷ right_of x ∷ rise_parts xs
 
 -- a merge as a rise between the classes of its two lows
 abbrev pub rise_of : List Low → Merge → Rise

@@ -3,7 +3,7 @@ ghost use Rattle.std.specs.Prelude.{◌≡◌, ◌∷◌, ◌↔◌, Some, None,
 ghost use Rattle.hd_map.specs.declared.types.Rank.{Rank};
 ghost use Rattle.hd_map.specs.Order.{IsNotAbove};
 ghost use Rattle.hd_map.specs.Rank.{below_by};
-ghost use Rattle.hd_graph.specs.Parts.{over, only_pits, lower, rise_below, lowest_to, LookAlike, AreLeftLows, IsRiseOf, IsSidePart, sides_of, turned_round};
+ghost use Rattle.hd_graph.specs.Parts.{over, only_pits, lower, rise_below, lowest_to, LookAlike, AreLeftLows, IsRiseOf, IsRisePart, rise_parts, turned_round};
 
 use crate::line::Stop;
 use hd_list::Memory;
@@ -54,8 +54,8 @@ pub fn pits_line<S: Side>(alloc: Global, line: &[Stop]) -> Result<Vec<Stop>, Mem
 
 /// The rises of a line of pits, in order, each with the lowest pits on its two sides.
 pub fn rises_of<S: Side>(alloc: Global, line: &[Stop]) -> Result<Vec<Rise>, Memory>
-    ensures { IfOk result (λ rises. (e : Part) → Contains (sides_of rises.items) e
-        ↔ IsSidePart (below_by S.NAME) line.now e) }
+    ensures { IfOk result (λ rises. (e : Part) → Contains (rise_parts rises.items) e
+        ↔ IsRisePart (below_by S.NAME) line.now e) }
 {
     let lefts = left_lows::<S>(alloc, line)?;
     let rights = right_lows::<S>(alloc, line)?;

@@ -5,7 +5,7 @@ ghost use Rattle.std.specs.Ordering.{is_lt};
 ghost use Rattle.hd_map.specs.ChangeTree.{IsTree, IsChangeTree};
 ghost use Rattle.hd_map.specs.Map.{IsMap, Map};
 ghost use Rattle.hd_map.specs.Rank.{below_by};
-ghost use Rattle.hd_graph.specs.Parts.{AreGrouped, comes_before, join_of, left_of, right_of, rise_of, rises_of as rises_of_merges, sides_of, with_low, with_part};
+ghost use Rattle.hd_graph.specs.Parts.{AreGrouped, comes_before, join_of, left_of, right_of, rise_of, rises_of as rises_of_merges, rise_parts, with_low, with_part};
 ghost use Rattle.hd_graph.specs.Tells.{AreMergesOf, IsPitOn, IsSaddleOn, TellsSaddles, joins_of};
 
 use crate::graph::Low;
@@ -70,11 +70,11 @@ pub fn tree_of_merges<S: Side>(
 // The parts that the merges join, those of one saddle put together, each once.
 fn group_merges<S: Side>(alloc: Global, lows: &[Low], merges: &[Merge]) -> Result<Vec<Join>, Memory>
     requires { (m : Map) × AreMergesOf m S.NAME lows.now merges.now }
-    ensures { IfOk result (λ joins. AreGrouped (below_by S.NAME) (sides_of (rises_of_merges lows.now merges.now)) (joins_of joins.items)) }
+    ensures { IfOk result (λ joins. AreGrouped (below_by S.NAME) (rise_parts (rises_of_merges lows.now merges.now)) (joins_of joins.items)) }
 {
     let mut joins = Vec::with_capacity(alloc, merges.len())?;
     for merge in merges {
-        add_sides::<S>(alloc, &mut joins, rise_of(lows, *merge))?;
+        add_rise_parts::<S>(alloc, &mut joins, rise_of(lows, *merge))?;
     }
     Ok(joins)
 }
@@ -95,17 +95,17 @@ fn rise_of(lows: &[Low], merge: Merge) -> Rise
 // The parts on the sides of the sorted rises, those of one saddle put together, each once.
 fn group<S: Side>(alloc: Global, rises: &[Rise]) -> Result<Vec<Join>, Memory>
     requires { IsSortedBy (comes_before (below_by S.NAME)) rises.now }
-    ensures { IfOk result (λ joins. AreGrouped (below_by S.NAME) (sides_of rises.now) (joins_of joins.items)) }
+    ensures { IfOk result (λ joins. AreGrouped (below_by S.NAME) (rise_parts rises.now) (joins_of joins.items)) }
 {
     let mut joins = Vec::with_capacity(alloc, rises.len())?;
     for rise in rises {
-        add_sides::<S>(alloc, &mut joins, *rise)?;
+        add_rise_parts::<S>(alloc, &mut joins, *rise)?;
     }
     Ok(joins)
 }
 
 // Adds the parts on the two sides of a rise.
-fn add_sides<S: Side>(alloc: Global, joins: &mut Vec<Join>, rise: Rise) -> Result<(), Memory>
+fn add_rise_parts<S: Side>(alloc: Global, joins: &mut Vec<Join>, rise: Rise) -> Result<(), Memory>
     ensures { OnOk result (joins_of joins.new.items ≡ with_part (below_by S.NAME) (right_of rise) (with_part (below_by S.NAME) (left_of rise) (joins_of joins.old.items))) }
 {
     let saddle = rise.saddle;

@@ -16,7 +16,7 @@ use Rattle.hd_map.proofs.Apart.{length-le_from_apart}
 use Rattle.hd_map.proofs.Depth.{point_limits}
 use Rattle.hd_map.proofs.Items.{Contains-cases, Contains-head, Contains-none}
 use Rattle.hd_map.proofs.Points.{same_index}
-use Rattle.hd_map.proofs.Sides.{below-not_above, not_above-refl, not_above-trans}
+use Rattle.hd_map.proofs.Order.{below-not_above, not_above-refl, not_above-trans}
 use Rattle.hd_lines.specs.Lines.{AreCounted, Pair, higher_of}
 use Rattle.hd_lines.proofs.Once.{length-from_once}
 

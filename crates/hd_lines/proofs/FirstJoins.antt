@@ -12,7 +12,7 @@ use Rattle.hd_map.specs.SideLaws.{below_by-order}
 use Rattle.hd_map.proofs.Levels.{Reach, here, reach-trans, step}
 use Rattle.hd_map.proofs.Points.{Near-to}
 use Rattle.hd_map.proofs.Saddles.{level-from_saddle, near-sym, saddle-from_level}
-use Rattle.hd_map.proofs.Sides.{not_above-along}
+use Rattle.hd_map.proofs.Order.{not_above-along}
 use Rattle.hd_graph.proofs.Basins.{higher-bounds}
 use Rattle.hd_prune.proofs.Points.{JoinedBy, joined_along, joined_both, joined_higher, not_above_level}
 use Rattle.hd_lines.specs.declared.border.Border.{Border}

@@ -11,7 +11,7 @@ pub mod Owners
 pub mod FirstJoins
 pub mod Placing
 pub mod Listing
-pub mod Lining
+pub mod BorderLines
 pub mod Nearest
 pub mod Once
 pub mod Determined

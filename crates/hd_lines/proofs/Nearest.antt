@@ -16,7 +16,7 @@ use Rattle.hd_map.proofs.Levels.{here, same_or_not, step}
 use Rattle.hd_map.proofs.Nexts.{root-is_pit, root-of_pit}
 use Rattle.hd_map.proofs.Points.{Near-from, same_index}
 use Rattle.hd_map.proofs.Saddles.{level-from_saddle, near-sym, saddle-above_pits, saddle-point, saddle-sym}
-use Rattle.hd_map.proofs.Sides.{below-not_above, not_above-trans}
+use Rattle.hd_map.proofs.Order.{below-not_above, not_above-trans}
 use Rattle.hd_graph.proofs.Basins.{higher-bounds, higher-sym}
 use Rattle.hd_graph.proofs.Places.{less_same_more}
 use Rattle.hd_prune.proofs.Existing.{root_of}

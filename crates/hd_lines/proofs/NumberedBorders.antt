@@ -11,7 +11,7 @@ use Rattle.std.proofs.lemmas.Option.{slice_get-get_or, slice_get_within, get_or_
 use Rattle.hd_map.specs.declared.types.Rank.{Rank}
 use Rattle.hd_map.specs.Order.{IsNotAbove, IsStrictOrder}
 use Rattle.hd_map.proofs.Levels.{Reach, here, step}
-use Rattle.hd_map.proofs.Sides.{below-along, below-not_above, not_above-trans}
+use Rattle.hd_map.proofs.Order.{below-along, below-not_above, not_above-trans}
 use Rattle.hd_graph.specs.Classes.{AreJoined, AreOneClass, IsLeast, Joins}
 use Rattle.hd_graph.proofs.Places.{at_place, get-set_other, get-set_same, item_at, place_of}
 use Rattle.hd_graph.proofs.Reach.{reach-by}

@@ -1,7 +1,7 @@
 -- The least level at which something holds, where what holds at a level holds at each that it is not above.
 use Rattle.std.proofs.Common.{Bool, ◌⊎◌, inl, inr}
 use Rattle.hd_map.specs.Order.{IsNotAbove, IsStrictOrder}
-use Rattle.hd_map.proofs.Sides.{not_above-refl, not_above-trans, not_above-total}
+use Rattle.hd_map.proofs.Order.{not_above-refl, not_above-trans, not_above-total}
 
 module _ {V : Type 0} (below : V → V → Bool) (laws : IsStrictOrder below) where
   -- s is the least at which P holds

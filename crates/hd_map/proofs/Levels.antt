@@ -5,7 +5,7 @@ use Rattle.std.proofs.lemmas.List.Elements.{All-nil, All-cons, All-head, All-tai
 pub use Rattle.hd_map.proofs.Items.{Contains-head, Contains-tail, Contains-cases, Contains-none}
 use Rattle.hd_map.specs.Order.{IsNotAbove, IsStrictOrder}
 use Rattle.hd_map.specs.Path.{Leads, IsTop}
-use Rattle.hd_map.proofs.Sides.{not_above-refl, not_above-trans, below-not_above, below-apart}
+use Rattle.hd_map.proofs.Order.{not_above-refl, not_above-trans, below-not_above, below-apart}
 
 -- reached by steps that R allows
 pub data Reach {V : Type 0} (R : V → V → Type 0) : V → V → Type 0 where

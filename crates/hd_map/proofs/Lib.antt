@@ -1,6 +1,6 @@
 pub mod Items
 pub mod Gather
-pub mod Sides
+pub mod Order
 pub mod Points
 pub mod DataTypes
 pub mod Depth
@@ -15,7 +15,7 @@ pub mod Saddles
 pub mod Settings
 pub mod Trees
 pub mod Prunings
-pub mod Walks
+pub mod PositionOrder
 pub mod Presences
 pub mod Ranks
 mod Sets

@@ -15,7 +15,7 @@ use Rattle.hd_map.proofs.Levels.{Reach, PointStep, NoneAbove, IsLevel, here, ste
 use Rattle.hd_map.proofs.Decided.{near_or_not}
 use Rattle.hd_map.proofs.Points.{Near-to, Near-apart, neighbour-sym, ranks_of, point-listed}
 use Rattle.hd_map.specs.SideLaws.{below_by-order}
-use Rattle.hd_map.proofs.Sides.{not_above-trans, compare, below-along}
+use Rattle.hd_map.proofs.Order.{not_above-trans, compare, below-along}
 use Rattle.hd_map.proofs.Through.{level_exists}
 
 -- near is near both ways

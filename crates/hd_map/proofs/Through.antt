@@ -6,7 +6,7 @@ use Rattle.hd_map.specs.Order.{IsNotAbove, IsStrictOrder}
 use Rattle.hd_map.proofs.Items.{Contains-cases, Contains-none}
 use Rattle.hd_map.proofs.Least.{HasLeast, least-of_not_above, least-of_either, least-of_both, least-where}
 use Rattle.hd_map.proofs.Levels.{Reach, PointStep, IsLevel, here, step, reach-trans, same_or_not}
-use Rattle.hd_map.proofs.Sides.{not_above-trans}
+use Rattle.hd_map.proofs.Order.{not_above-trans}
 
 module _ {V : Type 0} (Near : V → V → Type 0) (below : V → V → Bool) (laws : IsStrictOrder below) where
   -- the same point, or one near it

@@ -7,7 +7,7 @@ use Rattle.hd_map.specs.Order.{IsStrictOrder}
 pub use Rattle.hd_map.proofs.Items.{AllPairs-first, AllPairs-tail}
 use Rattle.hd_map.proofs.Items.{Contains-head, Contains-tail, Contains-cases, Contains-none}
 use Rattle.hd_map.proofs.Levels.{same_or_not}
-use Rattle.hd_map.proofs.Sides.{below-not_above}
+use Rattle.hd_map.proofs.Order.{below-not_above}
 
 module _ {X : Type 0} (R : X → X → Type 0) where
   -- lists in order with the same items are one

@@ -8,7 +8,7 @@ use Rattle.hd_map.specs.Map.{InGrid}
 use Rattle.hd_morph.specs.Element.{ElementTable, IsElement, number_at, centre}
 use Rattle.hd_morph.specs.Filter.{Relief, Links, IsRaised, IsLowered, IsDilation, IsErosion, IsOpening, IsClosing}
 use Rattle.hd_morph.specs.Compare.{HaveSamePoints, IsNowhereAbove}
-use Rattle.hd_morph.proofs.PlainLemmas.{some_or_none}
+use Rattle.hd_morph.proofs.PlainNumbers.{some_or_none}
 
 -- two numbers of one value are one
 pub one_number : (v : Option ℤ) (x y : ℤ) → v ≡ Some x → v ≡ Some y → x ≡ y

@@ -13,7 +13,7 @@ use Rattle.hd_morph.specs.Filter.{Relief, Filter, Dilation, Erosion, Opening, Cl
 use Rattle.hd_morph.specs.Compare.{AreSame}
 use Rattle.hd_morph.specs.Answer.{AreFilteredCells, IsFirstOutside, IsOutOfRange, with_cells}
 use Rattle.hd_morph.proofs.Greatest.{greatest_same, least_same, greatest_of, least_of}
-use Rattle.hd_morph.proofs.PlainLemmas.{some_or_none}
+use Rattle.hd_morph.proofs.PlainNumbers.{some_or_none}
 
 same_back : (s : Size) (f g : Relief) → AreSame s f g → AreSame s g f
 same_back s f g same = λ p inside. sym (same p inside)

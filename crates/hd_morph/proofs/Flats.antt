@@ -12,7 +12,7 @@ use Rattle.hd_morph.specs.Filter.{IsRaised}
 use Rattle.hd_morph.specs.Plain.{relief, ArePlain, most_between, most_filtered}
 use Rattle.hd_morph.specs.Raised.{IsFlat, AreFlatlyDilated, AreTopped, AreSettled, plus}
 use Rattle.hd_morph.specs.Round.{IsRound, AreRoundGreatests}
-use Rattle.hd_morph.proofs.PlainLemmas.{entry_within, some_inside}
+use Rattle.hd_morph.proofs.PlainNumbers.{entry_within, some_inside}
 use Rattle.hd_morph.proofs.Settling.{settled_filtered}
 
 -- the heights round a position are those that the element leads from

@@ -1,5 +1,5 @@
 pub mod Greatest
-pub mod PlainLemmas
+pub mod PlainNumbers
 pub mod Windows
 pub mod Rectangles
 pub mod Settling

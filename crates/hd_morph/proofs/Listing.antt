@@ -23,7 +23,7 @@ use Rattle.hd_morph.specs.Plain.{missing, floor, shown, plain_at, value_at, reli
 use Rattle.hd_morph.specs.Raised.{ArePlainlyFiltered}
 use Rattle.hd_morph.specs.Listed.{IsPlainHeight, AreHeightsOf, AreOfType, MakesHeights}
 use Rattle.hd_morph.specs.NewHeights.{cell_with, cell_after, cells_after, MakesNewHeights}
-use Rattle.hd_morph.proofs.PlainLemmas.{shown_above, shown_below}
+use Rattle.hd_morph.proofs.PlainNumbers.{shown_above, shown_below}
 use Rattle.hd_morph.proofs.Determined.{filtered_of_same}
 
 -- a shown height is that of its cell

@@ -17,9 +17,9 @@ use Rattle.hd_morph.specs.Filter.{Relief, Dilation, IsOffset, IsRaised}
 use Rattle.hd_morph.specs.Plain.{missing, shown, plain_at, value_at, relief, ArePlain, most_between, most_filtered}
 use Rattle.hd_morph.specs.Raised.{ArePlainlyFiltered, AreTopped, AreSettled, plus, AreRaisedTo, AreRaisedAcross, IsRaisedBy, IsRowRaisedOnce, AreBlank, IsBlankRow, IsRowRaised, AreRaised}
 use Rattle.hd_morph.proofs.Greatest.{greatest_of, greatest_join, greatest_none, larger_none}
-use Rattle.hd_morph.proofs.PlainLemmas.{entry_within, shown_below, some_or_none, none_past, some_inside, value_read, set_same, set_other, mid_inside, mid_before, mid_after, mid_length, part_at, part_length}
+use Rattle.hd_morph.proofs.PlainNumbers.{entry_within, shown_below, some_or_none, none_past, some_inside, value_read, set_same, set_other, mid_inside, mid_before, mid_after, mid_length, part_at, part_length, within_at}
 use Rattle.hd_morph.proofs.Adjunction.{origin_of, centre_links}
-use Rattle.hd_morph.proofs.Settling.{settled_filtered, within_at}
+use Rattle.hd_morph.proofs.Settling.{settled_filtered}
 
 -- as many values of a stretch as there were steps are raised
 pub record RaisedBefore (heights : List ℤ) (from : ℕ) (number : ℤ) (to step : ℕ) (old now : List ℤ) : Type 0 where

@@ -12,7 +12,7 @@ use Rattle.hd_morph.specs.Plain.{value_at, relief}
 use Rattle.hd_morph.specs.Window.{IsNearby, AreWindowGreatests, IsStridesOff, AreStrideGreatests}
 use Rattle.hd_morph.specs.Round.{IsNear, IsInRow, AreRowGreatests, IsRound, AreRoundGreatests}
 use Rattle.hd_morph.proofs.Greatest.{greatest_of, greatest_nested, IsOneOf}
-use Rattle.hd_morph.proofs.PlainLemmas.{some_inside, mid_inside, mid_before, mid_after, mid_length, part_at, part_length}
+use Rattle.hd_morph.proofs.PlainNumbers.{some_inside, mid_inside, mid_before, mid_after, mid_length, part_at, part_length}
 
 -- the rows before y are done
 pub record RowsDone (s : Size) (reach : ℕ) (old : List ℤ) (y : ℕ) (now : List ℤ) : Type 0 where

@@ -10,9 +10,9 @@ use Rattle.hd_map.proofs.Points.{place_inside, position_at-place, position_at-in
 use Rattle.hd_morph.specs.Element.{ElementTable, IsElement, most_entry}
 use Rattle.hd_morph.specs.Greatest.{IsGreatest}
 use Rattle.hd_morph.specs.Filter.{Relief, Filter, Dilation, Erosion, IsRaised, IsLowered, IsDilation, IsErosion}
-use Rattle.hd_morph.specs.Plain.{missing, floor, shown, plain_at, value_at, relief, ArePlain, IsWithin, most_filtered}
+use Rattle.hd_morph.specs.Plain.{missing, floor, shown, plain_at, value_at, relief, ArePlain, IsBounded, most_filtered}
 use Rattle.hd_morph.specs.Raised.{ArePlainlyFiltered, IsNumberWithin, AreTopped, IsSettled, AreSettled, plus}
-use Rattle.hd_morph.proofs.PlainLemmas.{entry_within, shown_above, shown_below, shown_is, some_or_none, none_past}
+use Rattle.hd_morph.proofs.PlainNumbers.{entry_within, shown_above, shown_below, shown_is, some_or_none, none_past, within_at}
 
 -- a settled number stands for the top, raised, where a height stands
 pub settled_present : (height : Option ℤ) (top number new z : ℤ) → IsSettled height top number new → height ≡ Some z → IsNumberWithin most_filtered (shown top)
@@ -61,7 +61,7 @@ settled_filtered s e heights tops new number some whole topped least greatest se
     }
 
 -- heights that are bounded at each position, with `missing` elsewhere, are plain
-pub plain_of : (filter : Filter) (s : Size) (e : ElementTable) (n : ℕ) (old new : List ℤ) → 1 ≤ s.points → ArePlainlyFiltered filter s e old new → ((p : Pos) → InGrid s p → IsWithin n (relief s new p)) → ArePlain s n new
+pub plain_of : (filter : Filter) (s : Size) (e : ElementTable) (n : ℕ) (old new : List ℤ) → 1 ≤ s.points → ArePlainlyFiltered filter s e old new → ((p : Pos) → InGrid s p → IsBounded n (relief s new p)) → ArePlain s n new
 plain_of filter s e n old new some made within = record {
   whole = made.whole;
   plain = record {
@@ -80,7 +80,7 @@ plain_of filter s e n old new some made within = record {
 }
 
 -- a dilation of bounded heights by bounded numbers is bounded
-pub dilation_within : (s : Size) (e : ElementTable) (m : ℕ) (f g : Relief) → IsElement e → ((p : Pos) → InGrid s p → IsWithin m (f p)) → IsDilation s e f g → (p : Pos) → InGrid s p → IsWithin (m + most_entry) (g p)
+pub dilation_within : (s : Size) (e : ElementTable) (m : ℕ) (f g : Relief) → IsElement e → ((p : Pos) → InGrid s p → IsBounded m (f p)) → IsDilation s e f g → (p : Pos) → InGrid s p → IsBounded (m + most_entry) (g p)
 dilation_within s e m f g is within raised p inside = record {
   least = λ z there.
       let r = found z there in
@@ -102,7 +102,7 @@ dilation_within s e m f g is within raised p inside = record {
   ]
 
 -- an erosion of bounded heights by bounded numbers is bounded
-pub erosion_within : (s : Size) (e : ElementTable) (m : ℕ) (f g : Relief) → IsElement e → ((p : Pos) → InGrid s p → IsWithin m (f p)) → IsErosion s e f g → (p : Pos) → InGrid s p → IsWithin (m + most_entry) (g p)
+pub erosion_within : (s : Size) (e : ElementTable) (m : ℕ) (f g : Relief) → IsElement e → ((p : Pos) → InGrid s p → IsBounded m (f p)) → IsErosion s e f g → (p : Pos) → InGrid s p → IsBounded (m + most_entry) (g p)
 erosion_within s e m f g is within lowered p inside = record {
   least = λ z there.
       let r = found z there in
@@ -122,23 +122,6 @@ erosion_within s e m f g is within lowered p inside = record {
     | inl some ↦ (lowered.present p inside some.0 some.1).attained z there
     | inr none ↦ let e : None ≡ Some z = sym (lowered.absent p inside none) ∙ there in cc
   ]
-
--- a bound is one for each greater number
-pub within_more : (m n : ℕ) (v : Option ℤ) → m ≤ n → IsWithin m v → IsWithin n v
-within_more m n v more within = record {
-  least = λ z is. let h = within.least z is in omega (arith, ints);
-  greatest = λ z is. let h = within.greatest z is in omega (arith, ints);
-}
-
-pub plain_more : (s : Size) (m n : ℕ) (values : List ℤ) → m ≤ n → ArePlain s m values → ArePlain s n values
-plain_more s m n values more are = record {
-  whole = are.whole;
-  plain = record { each = λ k. record { bounded = within_more m n (value_at values k) more (are.plain.each k).bounded; absent = (are.plain.each k).absent } };
-}
-
--- heights by position are bounded as the numbers are
-pub within_at : (s : Size) (n : ℕ) (values : List ℤ) → ArePlain s n values → (p : Pos) → InGrid s p → IsWithin n (relief s values p)
-within_at s n values are p inside = (are.plain.each (place_of s p)).bounded
 
 -- what was dilated is plain, within more
 pub dilated_plain : (s : Size) (e : ElementTable) (m : ℕ) (old new : List ℤ) → 1 ≤ s.points → IsElement e → ArePlain s m old → ArePlainlyFiltered Dilation s e old new → ArePlain s (m + most_entry) new

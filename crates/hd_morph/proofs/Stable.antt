@@ -9,7 +9,7 @@ use Rattle.hd_morph.specs.Compare.{HaveSamePoints, AreSame}
 use Rattle.hd_morph.specs.Answer.{AreCellsWith, AreFilteredCells, IsStable, with_cells}
 use Rattle.hd_morph.proofs.Adjunction.{origin_of, opening_points, closing_points, opening_of_itself, closing_of_itself}
 use Rattle.hd_morph.proofs.Determined.{filtered_of_same}
-use Rattle.hd_morph.proofs.PlainLemmas.{some_or_none}
+use Rattle.hd_morph.proofs.PlainNumbers.{some_or_none}
 
 -- a shown height is not masked
 shown_mask : (c : Cell) (masked : Bool) (z : ℤ) → shown_height c masked ≡ Some z → masked ≡ false

@@ -7,7 +7,7 @@ use Rattle.hd_morph.specs.Greatest.{larger}
 use Rattle.hd_morph.specs.Plain.{shown, value_at}
 use Rattle.hd_morph.specs.Window.{IsNearby, AreWindowGreatests, IsStridesOff, AreStrideGreatests, IsAhead, AreAheadGreatests, IsWidened, IsBehind, IsLookedBackAt, IsLookedBack}
 use Rattle.hd_morph.proofs.Greatest.{greatest_of, greatest_join, larger_none}
-use Rattle.hd_morph.proofs.PlainLemmas.{value_read, none_past, set_same, set_other}
+use Rattle.hd_morph.proofs.PlainNumbers.{value_read, none_past, set_same, set_other}
 
 -- one value ahead is that of the place itself
 pub ahead_one : (values : List ℤ) (stride : ℕ) → AreAheadGreatests values stride 1 values

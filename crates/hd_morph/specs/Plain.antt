@@ -7,7 +7,7 @@ use Rattle.hd_morph.specs.Element.{most_entry}
 use Rattle.hd_morph.specs.Filter.{Relief}
 
 -- the value, if it is a number, is at most n from zero
-pub record IsWithin (n : ℕ) (value : Option ℤ) : Type 0 where
+pub record IsBounded (n : ℕ) (value : Option ℤ) : Type 0 where
   pub least : (z : ℤ) → value ≡ Some z → neg_ℤ (pos n) ≤ℤ z
   pub greatest : (z : ℤ) → value ≡ Some z → z ≤ℤ pos n
 
@@ -49,7 +49,7 @@ relief s values p = value_at values (place_of s p)
 
 -- the number stands for a height at most n from zero, or is `missing`
 pub record IsPlainNumber (n : ℕ) (number : ℤ) : Type 0 where
-  pub bounded : IsWithin n (shown number)
+  pub bounded : IsBounded n (shown number)
   pub absent : shown number ≡ None → number ≡ missing
 
 -- each height is at most n from zero, and each number that stands for none is `missing`

@@ -3,7 +3,7 @@ ghost use Rattle.std.specs.Prelude.{◌≡◌, ◌<◌, ◌≤◌, ◌+◌, ◌/
 ghost use Rattle.hd_map.specs.Map.{IsSize};
 ghost use Rattle.hd_morph.specs.Element.{IsElement, number_at, most_entry};
 ghost use Rattle.hd_morph.specs.Filter.{Dilation};
-ghost use Rattle.hd_morph.specs.Plain.{ArePlain, IsPlain, IsPlainNumber, relief, shown, IsWithin, most_between};
+ghost use Rattle.hd_morph.specs.Plain.{ArePlain, IsPlain, IsPlainNumber, relief, shown, IsBounded, most_between};
 ghost use Rattle.hd_morph.specs.Raised.{ArePlainlyFiltered, AreRaisedTo, AreRaisedAcross, IsRowRaisedOnce, AreBlank, IsBlankRow, IsRowRaised, AreRaised, plus};
 
 use crate::Element;
@@ -161,7 +161,7 @@ fn number_of(element: &Element, offset: Pos) -> Option<i64>
     requires column { offset.x < element.now.width }
     requires row { offset.y < element.now.height }
     ensures number { result ≡ number_at element.now offset }
-    ensures within { IsWithin most_entry result }
+    ensures within { IsBounded most_entry result }
 {
     element.table()[(offset.y * element.width() + offset.x) as usize]
 }

@@ -3,7 +3,7 @@
 ghost use Rattle.std.specs.Prelude.{◌≡◌, ◌≤ℤ◌, ℤ, pos, neg_ℤ, is_some, Some};
 ghost use Rattle.hd_morph.specs.Element.{most_entry};
 ghost use Rattle.hd_morph.specs.Greatest.{larger};
-ghost use Rattle.hd_morph.specs.Plain.{shown, IsPlain, IsWithin, most_filtered};
+ghost use Rattle.hd_morph.specs.Plain.{shown, IsPlain, IsBounded, most_filtered};
 ghost use Rattle.hd_morph.specs.Raised.{IsNumberWithin, IsSettled, AreTopped, AreSettled};
 ghost use Rattle.hd_morph.specs.Turned.{IsNegated, AreNegated};
 
@@ -42,7 +42,7 @@ pub fn negate(values: &mut [i64])
 // The negative of a height; what stands for none stays.
 #[inline]
 fn negated(value: i64) -> i64
-    requires { IsWithin most_filtered (shown value) }
+    requires { IsBounded most_filtered (shown value) }
     ensures { IsNegated value result }
 {
     if is_shown(value) { -value } else { MISSING }

@@ -13,7 +13,7 @@ use Rattle.std.proofs.lemmas.List.{take_more, take_all, length-take-le}
 use Rattle.std.proofs.lemmas.List.Folds.{list_all-append}
 use Rattle.std.proofs.lemmas.Str.Parse.{digits_value_short}
 use Rattle.bstr.specs.Bytes.{is_in}
-use Rattle.hd_num.specs.Decimal.{IsSplit, IsValueOf, IsWithin, decimal_of, digits_of, fraction_digits, has_exponent, has_exponent_form, is_decimal, is_exponent, is_exponent_mark, is_point, is_unsigned_decimal, scale_of, whole_digits}
+use Rattle.hd_num.specs.Decimal.{IsSplit, IsValueOf, IsBounded, decimal_of, digits_of, fraction_digits, has_exponent, has_exponent_form, is_decimal, is_exponent, is_exponent_mark, is_point, is_unsigned_decimal, scale_of, whole_digits}
 use Rattle.hd_num.specs.Whole.{count_of, is_numeral, signed_number}
 use Rattle.hd_num.proofs.Pieces.{AgreeOn}
 use Rattle.hd_num.proofs.ReadsBack.{digits}
@@ -88,7 +88,7 @@ unmarked text at = le-ltb _ _ (rw at (rw (length-take-le (length text) text (ome
 
 -- the exponent after a mark
 pub split_found : (text rest : List ℕ) (place : ℕ) (exponent : ℤ) → position_or_len is_exponent_mark text ≡ place → place < length text → rest ≡ drop (place + 1) text
-    → is_exponent rest ≡ true → exponent ≡ signed_digits_value 10 rest → IsWithin 999 exponent → IsSplit text (take place text) exponent
+    → is_exponent rest ≡ true → exponent ≡ signed_digits_value 10 rest → IsBounded 999 exponent → IsSplit text (take place text) exponent
 split_found text rest place exponent at inside is form value small =
     let has = marked text place at inside in
     let after : after_first is_exponent_mark text ≡ rest = ap (λ n. drop (n + 1) text) at ∙ sym is in
@@ -137,7 +137,7 @@ joined whole fraction first number all more few first_is number_is =
 pub decimal_found : (word unsigned before whole fraction : List ℕ) (number : ℕ) (exponent scale : ℤ) → unsigned ≡ without_leading_sign word → IsSplit unsigned before exponent
     → whole ≡ before_first is_point before → fraction ≡ after_first is_point before → length word ≤ 64 → 1 ≤ length whole + length fraction → length whole + length fraction ≤ 38
     → list_all is_ascii_digit whole ≡ true → list_all is_ascii_digit fraction ≡ true → number ≡ digits_value 10 (whole ++ fraction)
-    → scale ≡ exponent -ℤ pos (length fraction) → IsWithin 1037 scale → IsValueOf word number scale
+    → scale ≡ exponent -ℤ pos (length fraction) → IsBounded 1037 scale → IsValueOf word number scale
 decimal_found word unsigned before whole fraction number exponent scale is split whole_is fraction_is short some few all more value scale_is small =
     let ds : whole ≡ whole_digits unsigned = whole_is ∙ ap (before_first is_point) split.before_is in
     let fs : fraction ≡ fraction_digits unsigned = fraction_is ∙ ap (after_first is_point) split.before_is in
@@ -181,21 +181,21 @@ exponent_right text ds n negative z is few count minus z_is =
     (form, z_is ∙ rw (minus, count.value, is) refl)
 
 -- a small number is kept in 32 bits
-pub small_kept : (z : ℤ) (bound : ℕ) → bound ≤ 1037 → IsWithin bound z → to_z w32 (of_z w32 z) ≡ z
+pub small_kept : (z : ℤ) (bound : ℕ) → bound ≤ 1037 → IsBounded bound z → to_z w32 (of_z w32 z) ≡ z
 small_kept z bound few small =
     let low = small.low in
     let high = small.high in
     to_z-of_z w32 z (omega (arith, ints))
 
 -- an exponent less a few digits is kept in 32 bits
-pub scaled : (exponent : ℤ) (few : ℕ) → few ≤ 38 → IsWithin 999 exponent → to_z w32 (of_z w32 (to_z w32 (of_z w32 exponent) -ℤ to_z w32 few)) ≡ exponent -ℤ pos few
+pub scaled : (exponent : ℤ) (few : ℕ) → few ≤ 38 → IsBounded 999 exponent → to_z w32 (of_z w32 (to_z w32 (of_z w32 exponent) -ℤ to_z w32 few)) ≡ exponent -ℤ pos few
 scaled exponent few short small =
     let low = small.low in
     let high = small.high in
     rw (small_kept exponent 999 (omega arith) small) (omega (arith, ints))
 
 -- and stays small
-pub scale_small : (exponent : ℤ) (few : ℕ) → few ≤ 38 → IsWithin 999 exponent → IsWithin 1037 (exponent -ℤ pos few)
+pub scale_small : (exponent : ℤ) (few : ℕ) → few ≤ 38 → IsBounded 999 exponent → IsBounded 1037 (exponent -ℤ pos few)
 scale_small exponent few short small =
     let low = small.low in
     let high = small.high in

@@ -71,7 +71,7 @@ decimal_of word = if is_decimal word then Some (record {
 }) else None
 
 -- at most this far from 0
-pub record IsWithin (bound : ℕ) (n : ℤ) : Type 0 where
+pub record IsBounded (bound : ℕ) (n : ℤ) : Type 0 where
   pub low : neg_ℤ (pos bound) ≤ℤ n
   pub high : n ≤ℤ pos bound
 
@@ -80,11 +80,11 @@ pub record IsValueOf (word : List ℕ) (digits : ℕ) (exponent : ℤ) : Type 0 
   pub form : is_decimal word ≡ true
   pub digits_are : digits ≡ digits_of (without_leading_sign word)
   pub exponent_is : exponent ≡ scale_of (without_leading_sign word)
-  pub small : IsWithin 1037 exponent
+  pub small : IsBounded 1037 exponent
 
 -- the text is this one before the exponent, which has its form
 pub record IsSplit (text before : List ℕ) (exponent : ℤ) : Type 0 where
   pub form : has_exponent_form text ≡ true
   pub before_is : before ≡ mantissa text
   pub exponent_is : exponent ≡ exponent_of text
-  pub small : IsWithin 999 exponent
+  pub small : IsBounded 999 exponent

@@ -4,7 +4,7 @@ ghost use Rattle.std.specs.Prelude.{◌≡◌, ◌<◌, ◌≤◌, ◌+◌, ◌-
 ghost use Rattle.std.specs.Char.{is_ascii_digit};
 ghost use Rattle.std.specs.List.{after_first, before_first, list_all};
 ghost use Rattle.std.specs.Str.Parse.{digits_value_after, signed_digits_value};
-ghost use Rattle.hd_num.specs.Decimal.{IsSplit, IsValueOf, IsWithin, decimal_of, has_exponent_form, is_decimal, is_exponent, is_point};
+ghost use Rattle.hd_num.specs.Decimal.{IsSplit, IsValueOf, IsBounded, decimal_of, has_exponent_form, is_decimal, is_exponent, is_point};
 
 use crate::whole::{is_negative, read_count, unsigned_part};
 use bstr::ByteSlice;
@@ -79,7 +79,7 @@ fn split_exponent(text: &[u8]) -> Option<(&[u8], i32)>
 // The number that an exponent writes.
 fn exponent_value(text: &[u8]) -> Option<i32>
     ensures form { MatchOption result (is_exponent text.now ≡ false) (λ n. (is_exponent text.now ≡ true) × (n ≡ signed_digits_value 10 text.now)) }
-    ensures small { IfSome result (IsWithin 999) }
+    ensures small { IfSome result (IsBounded 999) }
 {
     let digits = unsigned_part(text);
     if digits.len() > 3 {
@@ -93,7 +93,7 @@ fn exponent_value(text: &[u8]) -> Option<i32>
 fn signed(negative: bool, magnitude: u32) -> i32
     requires { magnitude < 1000 }
     ensures value { result ≡ signed_number negative magnitude }
-    ensures small { IsWithin 999 result }
+    ensures small { IsBounded 999 result }
 {
     if negative {
         -(magnitude as i32)

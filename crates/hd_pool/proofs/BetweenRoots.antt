@@ -7,7 +7,7 @@ use Rattle.hd_map.specs.declared.types.Pass.{Pass}
 use Rattle.hd_map.specs.declared.types.SideName.{SideName}
 use Rattle.hd_map.specs.Map.{Map}
 use Rattle.hd_map.proofs.Items.{Contains-cases, Contains-head, Contains-none}
-use Rattle.hd_pool.specs.BetweenRoots.{AddsBetweenRoots, AreBetweenRoots, IsBetweenRoots, IsWithin}
+use Rattle.hd_pool.specs.BetweenRoots.{AddsBetweenRoots, AreBetweenRoots, IsBetweenRoots, HasOneRoot}
 
 module _ (m : Map) (side : SideName) where
   pub between-none : AreBetweenRoots m side [] []
@@ -35,7 +35,7 @@ module _ (m : Map) (side : SideName) where
     each = λ z at. (let r = are.each z at in (r.0, Contains-append_left passes (p ∷ []) r.0 r.1, r.2));
     all = λ z at. elim (Contains-append_cases passes (p ∷ []) z at) [
       | inl old ↦ are.all z old
-      | inr new ↦ inr (subst (IsWithin m side) (sym (last p z new)) within)
+      | inr new ↦ inr (subst (HasOneRoot m side) (sym (last p z new)) within)
     ];
   })
 

@@ -5,7 +5,7 @@ use Rattle.std.proofs.lemmas.List.Elements.{Contains-get_or}
 use Rattle.std.proofs.lemmas.Simd.{map-map}
 use Rattle.hd_basin.specs.declared.extent.Extent.{Extent}
 use Rattle.hd_basin.specs.Reading.{AreExtents, IsExtent}
-use Rattle.hd_basin.proofs.Together.{count-few}
+use Rattle.hd_basin.proofs.ExtentSums.{count-few}
 use Rattle.hd_map.specs.declared.height_range.HeightRange.{HeightRange}
 use Rattle.hd_map.specs.declared.types.Rank.{Rank}
 use Rattle.hd_map.specs.declared.types.SideName.{SideName}

@@ -5,7 +5,7 @@ use Rattle.hd_map.specs.Map.{Map}
 use Rattle.hd_tiles.specs.Stamps.{ComesFrom}
 use Rattle.hd_basin.specs.InStep.{IsInStep}
 use Rattle.hd_basin.specs.Parts.{Pool}
-use Rattle.hd_pool.specs.Following.{Follows, IsFollowing, Kept, nothing_kept}
+use Rattle.hd_pool.specs.Following.{Follows, IsFollowing, PoolAndLinks, no_pool_nor_links}
 use Rattle.hd_pool.proofs.TileLinks.{step-onward}
 
 -- pools in step with the map before stay in step
@@ -24,7 +24,7 @@ following-onward old new side t u before after pool stays same comes was =
     }
 
 -- so does what is kept of the side
-pub follows-onward : (old new : Map) (side : SideName) (t u : ℕ) (before after : List ℕ) (kept : Kept) → StayInStep old new side before after
+pub follows-onward : (old new : Map) (side : SideName) (t u : ℕ) (before after : List ℕ) (kept : PoolAndLinks) → StayInStep old new side before after
     → length before ≡ length after → ComesFrom old t before new u after → Follows old side t before kept → Follows new side u after kept
 follows-onward old new side t u before after kept stays same comes was = record {
   pool = λ p is. following-onward old new side t u before after p stays same comes (was.pool p is);
@@ -32,5 +32,5 @@ follows-onward old new side t u before after kept stays same comes was = record 
 }
 
 -- where nothing is kept, nothing has to follow
-pub follows-none : (m : Map) (side : SideName) (t : ℕ) (stamps : List ℕ) (kept : Kept) → kept ≡ nothing_kept → Follows m side t stamps kept
+pub follows-none : (m : Map) (side : SideName) (t : ℕ) (stamps : List ℕ) (kept : PoolAndLinks) → kept ≡ no_pool_nor_links → Follows m side t stamps kept
 follows-none m side t stamps kept none = rw none (record { pool = λ p is. absurd (cc is); links = λ l is. absurd (cc is) })

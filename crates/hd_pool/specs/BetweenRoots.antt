@@ -25,16 +25,16 @@ pub record IsBetweenRoots (m : Map) (side : SideName) (p q : Pass) : Type 0 wher
   pub is : q ≡ pass_between side a b p.at
 
 -- the ends of the pass have one root
-pub record IsWithin (m : Map) (side : SideName) (p : Pass) : Type 0 where
+pub record HasOneRoot (m : Map) (side : SideName) (p : Pass) : Type 0 where
   pub root : Rank
   pub from : IsRoot m side p.a root
   pub to : IsRoot m side p.b root
 
 -- one more pass is put at the roots of its ends, or left out where these are one
 abbrev pub AddsBetweenRoots : Map → SideName → Pass → List Pass → List Pass → Type 0
-AddsBetweenRoots m side p old new = ((q : Pass) × IsBetweenRoots m side p q × (new ≡ old ++ q ∷ [])) ⊎ (IsWithin m side p × (new ≡ old))
+AddsBetweenRoots m side p old new = ((q : Pass) × IsBetweenRoots m side p q × (new ≡ old ++ q ∷ [])) ⊎ (HasOneRoot m side p × (new ≡ old))
 
 -- the passes, put at the roots of their ends, without those whose ends have one root
 pub record AreBetweenRoots (m : Map) (side : SideName) (passes between : List Pass) : Type 0 where
   pub each : (q : Pass) → Contains between q → (p : Pass) × Contains passes p × IsBetweenRoots m side p q
-  pub all : (p : Pass) → Contains passes p → ((q : Pass) × Contains between q × IsBetweenRoots m side p q) ⊎ IsWithin m side p
+  pub all : (p : Pass) → Contains passes p → ((q : Pass) × Contains between q × IsBetweenRoots m side p q) ⊎ HasOneRoot m side p

@@ -9,13 +9,13 @@ use Rattle.hd_steep.specs.FirstLinks.{AreFirstLinks}
 use Rattle.hd_pool.specs.TileLinks.{TileLinks, AreLinksInStep}
 
 -- what is kept of a side: its pool, and its first links, each where it is kept
-pub record Kept : Type 0 where
+pub record PoolAndLinks : Type 0 where
   pub pool : Option Pool
   pub links : Option TileLinks
 
 -- nothing is kept
-abbrev pub nothing_kept : Kept
-nothing_kept = record { pool = None; links = None }
+abbrev pub no_pool_nor_links : PoolAndLinks
+no_pool_nor_links = record { pool = None; links = None }
 
 -- the pool is in step with the map and the stamps of its tiles, which have this side
 pub record IsFollowing (m : Map) (side : SideName) (t : ℕ) (stamps : List ℕ) (pool : Pool) : Type 0 where
@@ -23,18 +23,18 @@ pub record IsFollowing (m : Map) (side : SideName) (t : ℕ) (stamps : List ℕ)
   pub in_step : IsInStep m side stamps pool
 
 -- so are the pool and the links, where they are kept
-pub record Follows (m : Map) (side : SideName) (t : ℕ) (stamps : List ℕ) (kept : Kept) : Type 0 where
+pub record Follows (m : Map) (side : SideName) (t : ℕ) (stamps : List ℕ) (kept : PoolAndLinks) : Type 0 where
   pub pool : ForSome kept.pool (IsFollowing m side t stamps)
   pub links : ForSome kept.links (AreLinksInStep m side t stamps)
 
 -- there is a pool, and it is that of the map
-pub record IsReady (m : Map) (side : SideName) (kept : Kept) : Type 0 where
+pub record IsReady (m : Map) (side : SideName) (kept : PoolAndLinks) : Type 0 where
   pub made : Pool
   pub is : kept.pool ≡ Some made
   pub whole : IsPoolOf m side made
 
 -- there are links, and they are those of the map
-pub record HasLinks (m : Map) (side : SideName) (kept : Kept) : Type 0 where
+pub record HasLinks (m : Map) (side : SideName) (kept : PoolAndLinks) : Type 0 where
   pub found : TileLinks
   pub is : kept.links ≡ Some found
   pub whole : AreFirstLinks m side found.links

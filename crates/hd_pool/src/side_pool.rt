@@ -1,7 +1,7 @@
 // The pool and the first links of a side of a grid in tiles.
 ghost use Rattle.std.specs.Prelude.{◌≡◌, IfOk, IsTrue, OnOk};
 ghost use Rattle.hd_basin.specs.InStep.{IsPoolOf};
-ghost use Rattle.hd_pool.specs.Following.{Follows, HasLinks, IsFollowing, IsReady, nothing_kept};
+ghost use Rattle.hd_pool.specs.Following.{Follows, HasLinks, IsFollowing, IsReady, no_pool_nor_links};
 
 use crate::PoolView;
 use crate::choice::{Choice, Question, is_by_pool, spent_at};
@@ -35,9 +35,9 @@ pub struct SidePool<S: Side> {
 }
 
 impl<S: Side> Model for SidePool<S> {
-    ghost use Rattle.hd_pool.specs.Following.{Kept};
+    ghost use Rattle.hd_pool.specs.Following.{PoolAndLinks};
 
-    ghost Value = { Kept };
+    ghost Value = { PoolAndLinks };
 
     ghost view = { λ s. record { pool = s.pool; links = s.links } };
 }
@@ -45,7 +45,7 @@ impl<S: Side> Model for SidePool<S> {
 impl<S: Side> SidePool<S> {
     /// Nothing is kept yet, nothing spent on questions, and no report was asked for.
     pub fn new(choice: Choice) -> SidePool<S>
-        ensures { result ≡ nothing_kept }
+        ensures { result ≡ no_pool_nor_links }
     {
         SidePool {
             choice,

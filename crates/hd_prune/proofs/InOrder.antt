@@ -14,12 +14,12 @@ use Rattle.hd_map.specs.declared.types.Rank.{Rank}
 use Rattle.hd_map.specs.Map.{Map}
 use Rattle.hd_map.specs.Order.{IsStrictOrder}
 use Rattle.hd_map.specs.Rank.{IsPoint}
+use Rattle.hd_map.proofs.Order.{is_same, is_same-decides, is_same-flips}
 use Rattle.hd_graph.proofs.Places.{one_place, pairs_from_places}
 use Rattle.hd_prune.specs.declared.line.PitStop.{PitStop}
 use Rattle.hd_prune.specs.declared.step.Owned.{Owned}
 use Rattle.hd_prune.specs.Line.{pits_of}
 use Rattle.hd_prune.proofs.Links.{one_point}
-use Rattle.hd_prune.proofs.Ordered.{same_test, same_test-decides, same_test-flips}
 use Rattle.hd_prune.specs.Pruned.{AreInOrder, index_less, owned_by}
 
 pub index-order : IsStrictWeakOrder index_less
@@ -56,8 +56,8 @@ at_least a b h ne = elim (nat_lt a b) as (λ v. nat_lt a b ≡ v → a < b) [
 -- different points in position order stand by rising index
 pub in_order-rises : (m : Map) (below : Rank → Rank → Bool) (order : IsStrictOrder below) (raw pits : List Rank) → AllPairs (λ p q. p ≢ q) raw → AreInOrder raw pits → ((p : Rank) → Contains pits p → IsPoint m p) → AllPairs (λ a b. a.index < b.index) pits
 in_order-rises m below order raw pits apart h points =
-    let once = IsDistinct-IsPermutation (same_test below order) (same_test-flips below order) raw pits h.same (IsDistinct-from_AllPairs (same_test-decides below order) raw apart) in
-    let differ = AllPairs-from_IsDistinct (same_test-decides below order) pits once in
+    let once = IsDistinct-IsPermutation (is_same below order) (is_same-flips below order) raw pits h.same (IsDistinct-from_AllPairs (is_same-decides below order) raw apart) in
+    let differ = AllPairs-from_IsDistinct (is_same-decides below order) pits once in
     λ i j d lt len. at_least (get_or pits i d).index (get_or pits j d).index (sorted_far index_less index-order pits h.sorted i j d (omega arith) len)
     (λ e. differ i j d lt len (one_point m (get_or pits i d) (get_or pits j d) (points (get_or pits i d) (Contains-get_or pits i d (omega arith))) (points (get_or pits j d) (Contains-get_or pits j d len)) e))
 

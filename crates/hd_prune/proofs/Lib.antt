@@ -12,7 +12,7 @@ pub mod Stacks
 pub mod LeftBounds
 pub mod Heights
 pub mod Leavings
-pub mod Ordered
+pub mod SortedLeavers
 pub mod Points
 pub mod LowerNeighbours
 pub mod Reachable
@@ -37,7 +37,7 @@ pub mod MapPruning
 pub mod KeptPits
 pub mod TakeOver
 pub mod InOrder
-pub mod TakenOver
+pub mod ElderPruning
 pub mod Nested
 pub mod Merged
 pub mod ElderSteps

@@ -25,7 +25,7 @@ use Rattle.hd_prune.proofs.ElderSteps.{elder_steps}
 use Rattle.hd_prune.proofs.MapPruning.{left-undercut}
 use Rattle.hd_prune.proofs.Points.{JoinedBy}
 use Rattle.hd_prune.proofs.Prunable.{prunable}
-use Rattle.hd_prune.proofs.TakenOver.{pruning_of}
+use Rattle.hd_prune.proofs.ElderPruning.{pruning_of}
 
 -- what goes at a percent goes at each greater one
 higher_goes : (a b : ℕ) (sz : ℤ) (n : ℕ) → a ≤ b → pos 0 ≤ℤ sz → goes a sz n ≡ true → goes b sz n ≡ true

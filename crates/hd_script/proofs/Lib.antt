@@ -1,4 +1,4 @@
 pub mod Counts
 pub mod Entries
-pub mod Five
-pub mod Three
+pub mod LongestRow
+pub mod ElementWords

@@ -25,7 +25,7 @@ use Rattle.hd_sdf_read.specs.Decimals.{IsSmall, data_with, datum_of, decimals_fr
 use Rattle.hd_sdf_read.specs.Reads.{◌>>=◌}
 use Rattle.hd_sdf_read.specs.Scales.{AreUnits, IsNext, Pushes, Scales, TakesDecimal}
 use Rattle.hd_sdf_read.specs.Tokens.{after_token, is_absent, is_star, token_of}
-use Rattle.hd_sdf_read.proofs.Heights.{rest_at, token_at}
+use Rattle.hd_sdf_read.proofs.WholeFronts.{rest_at, token_at}
 use Rattle.hd_sdf_read.proofs.Scaling.{not_small}
 
 -- a decimal that alone is out of range, behind others

@@ -15,7 +15,7 @@ use Rattle.hd_num.specs.Whole.{is_numeral, whole_of, whole_of_value}
 use Rattle.hd_num.specs.declared.decimal.Decimal.{Decimal}
 use Rattle.hd_num.specs.declared.whole.Whole.TheVariants.{Is, Not}
 use Rattle.hd_sdf_read.specs.File.{is_gap, is_header_value}
-use Rattle.hd_sdf_read.proofs.Heights.{digit_no_gap}
+use Rattle.hd_sdf_read.proofs.WholeFronts.{digit_no_gap}
 use Rattle.hd_sdf_read.proofs.Trims.{IsTrimmed, trimmed_same}
 
 -- a test that fails wherever another fails

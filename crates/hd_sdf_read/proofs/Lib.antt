@@ -15,7 +15,7 @@ mod Forms
 pub mod Fronts
 pub mod Gapless
 pub mod GoodEntries
-pub mod Heights
+pub mod WholeFronts
 mod HeaderPieces
 mod HeaderSteps
 pub mod Scaling

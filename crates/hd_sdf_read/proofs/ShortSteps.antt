@@ -18,7 +18,7 @@ use Rattle.hd_sdf_read.specs.Places.{TakesCell, TakesHeight}
 use Rattle.hd_sdf_read.specs.ShortWords.{IsShort, ReadsShort}
 use Rattle.hd_sdf_read.specs.Tokens.{after_token}
 use Rattle.hd_sdf_read.proofs.CutSteps.{HasOn, after_more, datum_stays}
-use Rattle.hd_sdf_read.proofs.Heights.{cell_given}
+use Rattle.hd_sdf_read.proofs.WholeFronts.{cell_given}
 
 -- a number begins with no gap
 no_gap : (byte : ℕ) (bytes rest : List ℕ) (height : ℤ) → TakesHeight (byte ∷ bytes) rest height → is_gap byte ≡ false

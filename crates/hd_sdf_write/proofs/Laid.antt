@@ -31,7 +31,7 @@ use Rattle.hd_sdf_read.specs.Grammar.{cells_from, datum_at, trailer_of}
 use Rattle.hd_sdf_read.specs.Tokens.{after_token, token_of}
 use Rattle.hd_sdf_read.specs.Keys.{has_decimals}
 use Rattle.hd_sdf_read.proofs.Counting.{datum_by_token}
-use Rattle.hd_sdf_read.proofs.Heights.{no_word}
+use Rattle.hd_sdf_read.proofs.WholeFronts.{no_word}
 use Rattle.hd_sdf_read.proofs.Trims.{IsTrimmed, trimmed_is}
 use Rattle.hd_sdf_write.specs.Canonical.{cell_text, end_lines, line, profile, profile_lines, spaced}
 use Rattle.hd_sdf_read.proofs.Fronts.{after_token_front, token_front, trim_around}

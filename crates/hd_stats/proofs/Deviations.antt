@@ -4,7 +4,7 @@ use Rattle.std.specs.Int.{w128}
 use Rattle.std.proofs.lemmas.Int.{ints, to_z-of_z, unsigned_abs-mul, fits_signed_from_abs}
 use Rattle.std.proofs.Math.Nat.{mul-le-mul}
 use Rattle.hd_stats.specs.declared.sums.Sums.{Sums}
-use Rattle.hd_stats.specs.Passes.{deviation_by}
+use Rattle.hd_stats.specs.Gathering.{deviation_by}
 use Rattle.hd_stats.specs.Sums.{AreSmall}
 
 size_of_fit : (h : ℤ) → FitsSigned w64 h → unsigned_abs h ≤ 2 ^ 63

@@ -17,7 +17,7 @@ use Rattle.hd_map.specs.SideLaws.{below_by-order}
 use Rattle.hd_map.proofs.Levels.{here, reach-from_path, same_or_not, top_of}
 use Rattle.hd_map.proofs.Nexts.{root-is_pit, root-of_pit}
 use Rattle.hd_map.proofs.Saddles.{reach-point, saddle-above_pit}
-use Rattle.hd_map.proofs.Sides.{below-not_above, not_above-trans}
+use Rattle.hd_map.proofs.Order.{below-not_above, not_above-trans}
 use Rattle.hd_prune.specs.declared.step.Kept.{Kept}
 use Rattle.hd_prune.specs.Kept.{pits_kept}
 use Rattle.hd_prune.specs.Staying.{AreKeptAlone}

@@ -1,7 +1,7 @@
-pub mod Passing
+pub mod Gathering
 pub mod Binning
 pub mod Filling
-pub mod Adding
+pub mod AddedVolumes
 pub mod Filled
 pub mod Totals
 pub mod Determined

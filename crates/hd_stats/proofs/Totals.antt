@@ -8,7 +8,7 @@ use Rattle.std.proofs.lemmas.List.Sums.{sum-map, sum_by-cons, sum_by_push}
 use Rattle.std.proofs.lemmas.Option.{get_or_from_slice_get}
 use Rattle.hd_feature.specs.Value.{greatest, least}
 use Rattle.hd_stats.specs.Distribution.{AreCounts, bin_of, counted_in}
-use Rattle.hd_stats.proofs.Adding.{range-push}
+use Rattle.hd_stats.proofs.AddedVolumes.{range-push}
 use Rattle.hd_stats.proofs.Binning.{one_at, other_bin, same_bin}
 
 -- the bins below n

@@ -1,7 +1,7 @@
 pub mod Names
 pub mod Heights
 pub mod Sums
-pub mod Passes
+pub mod Gathering
 pub mod Distribution
 pub mod Fill
 pub mod Volumes

@@ -3,7 +3,7 @@ ghost use Rattle.std.specs.Prelude.{◌≡◌, ◌≤◌, ◌<◌, ◌+◌, ◌*
 ghost use Rattle.hd_num.specs.Frac.{IsFraction};
 ghost use Rattle.hd_map.specs.Presence.{present_heights};
 ghost use Rattle.hd_stats.specs.Heights.{IsHeightValue, at_least, deviation, deviations};
-ghost use Rattle.hd_stats.specs.Passes.{at_least_with, deviation_by, deviations_with};
+ghost use Rattle.hd_stats.specs.Gathering.{at_least_with, deviation_by, deviations_with};
 ghost use Rattle.hd_stats.specs.Sums.{AreSmall, AreSums};
 
 use crate::gather::{Gather, gathered};
@@ -103,7 +103,7 @@ struct Deviating {
 
 impl Gather for Deviating {
     ghost use Rattle.std.specs.List.{sum_by};
-    ghost use Rattle.hd_stats.specs.Passes.{deviation_by};
+    ghost use Rattle.hd_stats.specs.Gathering.{deviation_by};
 
     type Sum = u128;
 

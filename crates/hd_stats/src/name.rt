@@ -26,9 +26,9 @@ pub fn height_name(name: &[u8], c: Option<i64>) -> Result<HeightName, NotationEr
     ensures { result ≡ height_name_of name.now c }
 {
     match name {
-        b"Sp" => plain(HeightName::Sp, c),
-        b"Sv" => plain(HeightName::Sv, c),
-        b"Sa" => plain(HeightName::Sa, c),
+        b"Sp" => without_height(HeightName::Sp, c),
+        b"Sv" => without_height(HeightName::Sv, c),
+        b"Sa" => without_height(HeightName::Sa, c),
         b"Smr" => match c {
             Some(c) => Ok(HeightName::Smr(c)),
             None => Err(NotationError::NeedsHeight),
@@ -38,7 +38,7 @@ pub fn height_name(name: &[u8], c: Option<i64>) -> Result<HeightName, NotationEr
 }
 
 // A parameter that takes no height.
-fn plain(name: HeightName, c: Option<i64>) -> Result<HeightName, NotationError>
+fn without_height(name: HeightName, c: Option<i64>) -> Result<HeightName, NotationError>
     ensures { result ≡ given (Plain name) c }
 {
     match c {

@@ -19,7 +19,7 @@ use Rattle.hd_map.proofs.Depth.{point_limits}
 use Rattle.hd_map.proofs.Nexts.{root-next}
 use Rattle.hd_map.proofs.Saddles.{near-sym}
 use Rattle.hd_map.proofs.Settings.{beside-eight}
-use Rattle.hd_map.proofs.Sides.{below-not_above}
+use Rattle.hd_map.proofs.Order.{below-not_above}
 use Rattle.hd_steep.specs.Lowest.{missing, IsChosen, IsLow, IsAtPlace}
 use Rattle.hd_steep.specs.Rows.{rank_in, IsRowOf}
 use Rattle.hd_steep.specs.Ring.{ring_of, are_lower, is_marked, firsts_of, taken_of, marks_of, IsOneAtMost}

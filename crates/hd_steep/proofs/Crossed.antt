@@ -19,7 +19,7 @@ use Rattle.hd_map.proofs.Nexts.{root-is_pit}
 use Rattle.hd_map.proofs.Points.{Near-from, Near-to, same_index}
 use Rattle.hd_map.proofs.Regions.{labelled-root, root-labelled}
 use Rattle.hd_map.proofs.Saddles.{near-sym}
-use Rattle.hd_map.proofs.Sides.{below-not_above}
+use Rattle.hd_map.proofs.Order.{below-not_above}
 use Rattle.hd_steep.specs.Crossed.{AreInOne, IsPassTo, IsCrossing, Extends, IsCrossed, AreCrossedTo, IsServed, Gathers}
 use Rattle.hd_steep.specs.Ring.{is_marked}
 use Rattle.hd_steep.specs.Rows.{rank_in}

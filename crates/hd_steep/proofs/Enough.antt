@@ -17,7 +17,7 @@ use Rattle.hd_map.proofs.Levels.{Reach, here, step, reach-trans, reach-sym}
 use Rattle.hd_map.proofs.Nexts.{root-unique}
 use Rattle.hd_map.proofs.Points.{Near-from, Near-to}
 use Rattle.hd_map.proofs.Saddles.{near-sym}
-use Rattle.hd_map.proofs.Sides.{not_above-refl, not_above-trans, below-not_above}
+use Rattle.hd_map.proofs.Order.{not_above-refl, not_above-trans, below-not_above}
 use Rattle.hd_steep.specs.Crossed.{AreBeside, IsServed, IsCrossed}
 
 -- the root of a point

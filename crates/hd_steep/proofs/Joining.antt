@@ -15,7 +15,7 @@ use Rattle.std.proofs.lemmas.List.Sorted.{IsPermutation-sym, Contains-permutatio
 use Rattle.hd_map.specs.declared.types.SideName.{SideName}
 use Rattle.hd_map.specs.Rank.{below_by}
 use Rattle.hd_map.specs.SideLaws.{below_by-order}
-use Rattle.hd_map.proofs.Sides.{not_above-refl, not_above-trans, below-not_above}
+use Rattle.hd_map.proofs.Order.{not_above-refl, not_above-trans, below-not_above}
 use Rattle.hd_steep.specs.declared.meetings.Meeting.{Meeting}
 use Rattle.hd_steep.specs.Meetings.{Covers, Keeps, ComesBefore, ComesLast, EndsWith, AreSorted}
 

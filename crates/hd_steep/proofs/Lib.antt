@@ -13,7 +13,7 @@ pub mod PitNumbers
 pub mod Labels
 pub mod Numbered
 pub mod Joining
-pub mod Adding
+pub mod AddedMeetings
 pub mod Passing
 pub mod Labelled
 pub mod Ring

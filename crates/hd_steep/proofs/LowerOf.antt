@@ -10,7 +10,7 @@ use Rattle.hd_map.specs.declared.types.SideName.TheVariants.{Dales, Hills}
 use Rattle.hd_map.specs.Order.{IsNotAbove}
 use Rattle.hd_map.specs.Rank.{below_by, comes_before}
 use Rattle.hd_map.specs.SideLaws.{below_by-order}
-use Rattle.hd_map.proofs.Sides.{not_above-refl}
+use Rattle.hd_map.proofs.Order.{not_above-refl}
 use Rattle.hd_steep.specs.Lowest.{later_below, lower_of}
 
 -- what is known of the lower of two ranks

@@ -13,7 +13,7 @@ use Rattle.hd_map.specs.Order.{IsNotAbove}
 use Rattle.hd_map.specs.Rank.{rank, below_by}
 use Rattle.hd_map.specs.SideLaws.{below_by-order}
 use Rattle.hd_map.proofs.Gather.{same_pos}
-use Rattle.hd_map.proofs.Sides.{not_above-refl, not_above-trans}
+use Rattle.hd_map.proofs.Order.{not_above-refl, not_above-trans}
 use Rattle.hd_map.proofs.Points.{point_at}
 use Rattle.hd_map.proofs.Depth.{InLimits, point_limits}
 use Rattle.hd_steep.specs.Lowest.{missing, lower_of, IsLow, IsAtPlace}

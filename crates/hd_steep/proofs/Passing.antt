@@ -17,7 +17,7 @@ use Rattle.hd_map.specs.Region.{IsRoot}
 use Rattle.hd_map.specs.SideLaws.{below_by-order}
 use Rattle.hd_map.proofs.Nexts.{root-is_pit}
 use Rattle.hd_map.proofs.Points.{neighbour-sym, same_place, same_index, point_at, position_at-of, position_at-place, Near-at, point_inside}
-use Rattle.hd_map.proofs.Sides.{below-not_above, below-apart}
+use Rattle.hd_map.proofs.Order.{below-not_above, below-apart}
 use Rattle.hd_steep.specs.declared.meetings.Meeting.{Meeting}
 use Rattle.hd_steep.specs.Borders.{ComesFirst}
 use Rattle.hd_steep.specs.Meetings.{LiesIn, IsOfTwo, IsMeetingOf, IsPassOf, ComesBefore, AreMeetings}

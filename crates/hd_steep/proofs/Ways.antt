@@ -8,7 +8,7 @@ use Rattle.hd_map.specs.Map.{Map, IsMap, Present, position_at}
 use Rattle.hd_map.specs.Rank.{rank, below_by, IsPoint}
 use Rattle.hd_map.specs.Region.{IsNext, IsPit, IsRoot}
 use Rattle.hd_map.specs.SideLaws.{below_by-order}
-use Rattle.hd_map.proofs.Sides.{below-apart}
+use Rattle.hd_map.proofs.Order.{below-apart}
 use Rattle.hd_map.proofs.Points.{Near-to, same_index, position_at-of}
 use Rattle.hd_map.proofs.Depth.{depth_by, depth_falls}
 use Rattle.hd_map.proofs.Nexts.{root-pit, root-step, root-next, root-is_pit, root-unique, root-of_pit, root-below}

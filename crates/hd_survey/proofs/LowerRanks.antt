@@ -25,7 +25,7 @@ use Rattle.hd_map.specs.Region.{AreRegions, IsRoot, LowerNeighbour}
 use Rattle.hd_map.specs.SideLaws.{below_by-order}
 use Rattle.hd_map.proofs.Nexts.{root-is_pit, root-unique}
 use Rattle.hd_map.proofs.Points.{Near-at, Near-to, position_at-of, same_point}
-use Rattle.hd_map.proofs.Sides.{below-not_above, not_above-trans}
+use Rattle.hd_map.proofs.Order.{below-not_above, not_above-trans}
 use Rattle.hd_prune.specs.Around.{AreLowerNeighbours, IsLowerNeighbourAt}
 use Rattle.hd_survey.specs.declared.falls.Lower.{Lower}
 use Rattle.hd_survey.specs.Falls.{ranks_below, ranks_of}

@@ -4,8 +4,8 @@ use Rattle.hd_num.specs.declared.frac.Frac.{Frac}
 use Rattle.hd_survey.specs.Sums.{IsSmall}
 
 -- of a numerator and a denominator
-pub num_by_den : (f g : Frac) → IsSmall f → IsSmall g → unsigned_abs f.num * g.den < 2 ^ 126
-num_by_den f g small small' = let product = mul-le-mul small.num small'.den in omega (arith, product)
+pub numerator_by_denominator : (f g : Frac) → IsSmall f → IsSmall g → unsigned_abs f.num * g.den < 2 ^ 126
+numerator_by_denominator f g small small' = let product = mul-le-mul small.num small'.den in omega (arith, product)
 
 -- of the denominators
 pub den_by_den : (f g : Frac) → IsSmall f → IsSmall g → f.den * g.den < 2 ^ 127

@@ -9,7 +9,7 @@ pub mod Heights
 pub mod Features
 pub mod Sums
 pub mod Values
-pub mod Saddles
+pub mod PitPlaces
 pub mod Lines
 pub mod Findings
 pub mod Survey

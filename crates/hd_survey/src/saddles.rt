@@ -4,7 +4,7 @@ ghost use Rattle.hd_graph.specs.Graph.{IsLow};
 ghost use Rattle.hd_map.specs.Region.{IsPit};
 ghost use Rattle.hd_map.specs.Saddle.{SaddleIs};
 ghost use Rattle.hd_survey.specs.Findings.{AreFindings};
-ghost use Rattle.hd_survey.specs.Saddles.{IsPlaceOf};
+ghost use Rattle.hd_survey.specs.PitPlaces.{IsPlaceOf};
 
 use crate::findings::Findings;
 use crate::merges::PitMerges;

@@ -1,2 +1,2 @@
 -- Lemmas of the proofs.
-mod Literals
+mod WrittenGraphs

@@ -1,2 +1,2 @@
 -- Definitions that the contracts cite.
-pub mod Literal
+pub mod WrittenGraphs

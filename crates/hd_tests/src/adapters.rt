@@ -1,7 +1,7 @@
 // Files and the standard output: those of the system, and those in memory that pass a part of each piece.
 use crate::base::{expect_read, expect_refused, write_anew};
-use crate::narrow::{Narrow, Shelf};
 use crate::noted::Noted;
+use crate::piece_files::{PieceFile, Shelf};
 use hd_base::{FileSink, FileSource, ReadError, Sink, StdoutSink, write_all};
 use std::cell::RefCell;
 use std::process::Abort;
@@ -57,7 +57,7 @@ fn a_writer_gets_all_bytes_in_parts_or_some_first_ones(rt: HostRuntime) {
 // small.
 fn expect_printed(rt: &(impl Abort + AllocGlobal), text: &[u8], most: usize, room: usize) {
     let got = RefCell::new(Vec::new(rt.alloc()));
-    let writer = Narrow::new(&[], &got, most, room);
+    let writer = PieceFile::new(&[], &got, most, room);
     let mut sink = StdoutSink::new(rt.alloc(), writer).expect(rt, "memory");
     let has_room = text.len() <= room;
     assert!(rt; write_all(&mut sink, text).is_ok() == has_room);
@@ -76,7 +76,7 @@ fn a_file_is_written_in_parts_or_some_first_bytes_of_it(rt: HostRuntime) {
 // Writes a text to a file with this room, which fails where the room is too small.
 fn expect_saved(rt: &(impl Abort + AllocGlobal), text: &[u8], room: usize) {
     let got = RefCell::new(Vec::new(rt.alloc()));
-    let shelf = Shelf(Narrow::new(&[], &got, 1_000, room));
+    let shelf = Shelf(PieceFile::new(&[], &got, 1_000, room));
     let mut sink = FileSink::new(rt.alloc(), &shelf);
     sink.open("name").expect(rt, "a file");
     let has_room = text.len() <= room;
@@ -91,7 +91,7 @@ fn expect_saved(rt: &(impl Abort + AllocGlobal), text: &[u8], room: usize) {
 fn a_file_is_read_in_parts_or_not_at_all(rt: HostRuntime) {
     let text = long_text(&rt);
     let got = RefCell::new(Vec::new(rt.alloc()));
-    let whole = Shelf(Narrow::new(&text, &got, 1_000, 200_000));
+    let whole = Shelf(PieceFile::new(&text, &got, 1_000, 200_000));
     expect_read(
         &rt,
         &mut FileSource::new(rt.alloc(), &whole),
@@ -99,7 +99,7 @@ fn a_file_is_read_in_parts_or_not_at_all(rt: HostRuntime) {
         200_000,
         &text,
     );
-    let part = Shelf(Narrow::new(&text, &got, 1_000, 100_000));
+    let part = Shelf(PieceFile::new(&text, &got, 1_000, 100_000));
     let fault = ReadError::ReadFault;
     expect_refused(
         &rt,

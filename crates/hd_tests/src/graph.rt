@@ -2,7 +2,7 @@
 // passes between their stops, and their merges.
 ghost use Rattle.std.specs.Prelude.{◌<◌, IsTrue};
 ghost use Rattle.hd_map.specs.Rank.{below_by};
-ghost use Rattle.hd_tests.specs.Literal.{are_linked, is_graph};
+ghost use Rattle.hd_tests.specs.WrittenGraphs.{are_linked, is_graph};
 
 use crate::shared::list;
 use hd_graph::{FloodLine, Graph, Low, Merge, flood, merges_by_links, merges_of, tree};
@@ -90,7 +90,7 @@ fn rise_between<S: Side>(rt: &impl Abort, line: &FloodLine<S>, i: u32, j: u32) -
 
 /// Heights `0 9 1 / 4 9 5 / 6 2 6` as 3x3: the way through the third dale is lower than the border.
 #[test]
-fn two_saddles_of_three_dales(rt: HostRuntime) {
+fn two_saddles_join_three_dales_of_a_graph(rt: HostRuntime) {
     let lows = [pit!(0, 0), pit!(1, 2), pit!(2, 7)];
     let passes = [
         pass!(rank!(0, 0), rank!(1, 2), rank!(9, 1)),
@@ -107,7 +107,7 @@ fn two_saddles_of_three_dales(rt: HostRuntime) {
 /// Two parts that no pass joins, each of two pits and with the same saddle: it joins four classes. A low
 /// that is no pit stands between two pits.
 #[test]
-fn parts_of_a_graph(rt: HostRuntime) {
+fn one_saddle_joins_four_classes_of_two_parts(rt: HostRuntime) {
     let low = Low {
         rank: rank!(6, 6),
         pit: false,
@@ -163,7 +163,7 @@ fn expect_linked<S: Side>(
 
 /// Links name the lows by their places and come in any order. One of them joins lows that have run together.
 #[test]
-fn merges_of_linked_lows(rt: HostRuntime) {
+fn merges_are_made_of_linked_lows(rt: HostRuntime) {
     let lows = [pit!(0, 0), pit!(1, 2), pit!(2, 7)];
     let links = [
         link!(0, 1, rank!(9, 1)),
@@ -176,7 +176,7 @@ fn merges_of_linked_lows(rt: HostRuntime) {
 /// Five lows. Of two passes of one height that of the lesser index comes first; a higher pass between lows
 /// that lower ones have joined makes no merge; and what has run together is known by its lowest low.
 #[test]
-fn merges_of_five_lows(rt: HostRuntime) {
+fn five_lows_merge_in_the_order_of_their_passes(rt: HostRuntime) {
     let lows = [
         pit!(3, 0),
         pit!(1, 5),

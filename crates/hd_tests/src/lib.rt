@@ -46,11 +46,11 @@ mod merges;
 #[cfg(test)]
 mod morph;
 #[cfg(test)]
-mod narrow;
-#[cfg(test)]
 mod noted;
 #[cfg(test)]
 mod num;
+#[cfg(test)]
+mod piece_files;
 #[cfg(test)]
 mod pools;
 #[cfg(test)]

@@ -51,7 +51,7 @@ fn saddle_of<S: Side>(
 /// Three dales of which each meets each: the way of the first to the second through the third is lower than the
 /// border that they have.
 #[test]
-fn two_saddles_of_the_three_dales_of_a_surface(rt: HostRuntime) {
+fn three_dales_of_a_surface_have_two_saddles(rt: HostRuntime) {
     let surface = surface(&rt, DataType::I32, "0 9 1\n4 9 5\n6 2 6");
     let mut findings = Findings::<Down>::new();
     findings

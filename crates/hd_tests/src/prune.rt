@@ -1,6 +1,6 @@
 // Pits kept by merges that are written down.
 ghost use Rattle.std.specs.Prelude.{length, IsTrue};
-ghost use Rattle.hd_tests.specs.Literal.{are_within};
+ghost use Rattle.hd_tests.specs.WrittenGraphs.{are_within};
 
 use hd_graph::{Low, Merge};
 use hd_map::{Down, Rank, Side, Up};

@@ -1,7 +1,8 @@
 // How often the sources and the sinks are called: none is after the call that decides.
 ghost use Rattle.std.specs.Prelude.{◌≡◌};
 
-use crate::tests::trials::{profile, sink_of, source_of, words_of};
+use crate::tests::surface_files::profile;
+use crate::tests::trials::{sink_of, source_of, words_of};
 use crate::{Status, top};
 use hd_base::{Failed, Sink, Source};
 use std::alloc::Global;

@@ -1,6 +1,7 @@
 // Which certificates the program accepts.
 use crate::Status;
-use crate::tests::trials::{Feed, expect, file, run, whole};
+use crate::tests::surface_files::file;
+use crate::tests::trials::{Feed, expect, run, whole};
 use std::alloc::Global;
 use std::test::Fail;
 

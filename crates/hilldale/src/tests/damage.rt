@@ -1,6 +1,7 @@
 // What damaged inputs come to.
 use crate::Status;
-use crate::tests::trials::{Feed, PROFILE_DALES, expect, profile, run, whole};
+use crate::tests::surface_files::profile;
+use crate::tests::trials::{Feed, PROFILE_DALES, expect, run, whole};
 use std::alloc::Global;
 use std::test::Fail;
 

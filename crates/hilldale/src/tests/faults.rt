@@ -1,7 +1,8 @@
 // What is written where a call of a source or of a sink fails.
 use crate::Status;
 use crate::tests::saves::{MEASURED, MEASURED_DALES, SAVED};
-use crate::tests::trials::{Feed, PROFILE_DALES, expect, profile, run, run_saving, sink_of, whole};
+use crate::tests::surface_files::profile;
+use crate::tests::trials::{Feed, PROFILE_DALES, expect, run, run_saving, sink_of, whole};
 use hd_base::{MemSink, write_all};
 use std::alloc::Global;
 use std::process::Abort;

@@ -1,7 +1,7 @@
 // Reports under four, six and eight neighbours.
 use crate::Status;
-use crate::tests::reports::{Case, expect_all};
-use crate::tests::trials::{expect, file, whole};
+use crate::tests::surface_files::file;
+use crate::tests::trials::{Case, expect, expect_all, whole};
 use std::test::Fail;
 
 #[test]

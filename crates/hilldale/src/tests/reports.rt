@@ -1,28 +1,82 @@
-// What the reports of scripts print of small surfaces.
+// What each kind of report prints of a small surface.
 use crate::Status;
-use crate::tests::trials::{expect, file, whole};
-use std::process::Abort;
+use crate::tests::surface_files::file;
+use crate::tests::trials::{Case, PROFILE_DALES, expect, expect_all, whole};
 use std::test::Fail;
 
-// A surface of data, a script, and what its run prints.
-#[derive(Drop)]
-pub(crate) struct Case {
-    pub(crate) points: u32,
-    pub(crate) profiles: u32,
-    pub(crate) data: &'static str,
-    pub(crate) script: &'static str,
-    pub(crate) status: Status,
-    pub(crate) printed: &'static str,
-}
-
-// Each run ends and prints as its case says.
-pub(crate) fn expect_all(rt: &(impl Abort + AllocGlobal), cases: &[Case]) -> Result<(), Fail> {
-    for case in cases {
-        let surface = file(rt.alloc(), case.points, case.profiles, 5, case.data)?;
-        let feed = whole(surface.as_str(), case.script);
-        expect(rt, &["run", "A", "B"], &feed, case.status, case.printed)?;
+#[test]
+fn the_dales_of_small_surfaces_are_listed(rt: HostRuntime) -> Result<(), Fail> {
+    let cases = [
+        (3, 1, "0 5 1", PROFILE_DALES),
+        (1, 1, "4", "dales 1\ndale 0 0 4 1\n"),
+        (3, 3, "7 7 7\n7 7 7\n7 7 7", "dales 1\ndale 0 0 7 9\n"),
+        (
+            5,
+            2,
+            "7 BAD 7 BAD 7\n7 7 7 7 7",
+            "dales 3\ndale 0 0 7 3\ndale 2 0 7 3\ndale 4 0 7 2\n",
+        ),
+        (2, 1, "BAD BAD", "dales 0\n"),
+        (
+            4,
+            2,
+            "12 13\nBAD 15 16 17 18\n19",
+            "dales 2\ndale 0 0 12 5\ndale 3 0 15 2\n",
+        ),
+    ];
+    for (points, profiles, data, dales) in cases {
+        let surface = file(rt.alloc(), points, profiles, 5, data)?;
+        let feed = whole(surface.as_str(), "");
+        expect(&rt, &["dales", "A"], &feed, Status::Done, dales)?;
     }
     Ok(())
+}
+
+#[test]
+fn lists_trees_and_prunings_go_by_height_and_position(rt: HostRuntime) -> Result<(), Fail> {
+    let cases = [
+        Case {
+            points: 1,
+            profiles: 1,
+            data: "4",
+            script: "dales\nhills\nparam S10z\nparam Spd\n",
+            status: Status::Done,
+            printed: "dales 1\ndale 0 0 4 1\nhills 1\nhill 0 0 4 1\nparam S10z 0/1\nparam Spd 1/1\n",
+        },
+        Case {
+            points: 3,
+            profiles: 3,
+            data: "7 7 7\n7 7 7\n7 7 7",
+            script: "dales\nhills\n",
+            status: Status::Done,
+            printed: "dales 1\ndale 0 0 7 9\nhills 1\nhill 2 2 7 9\n",
+        },
+        Case {
+            points: 5,
+            profiles: 2,
+            data: "7 BAD 7 BAD 7\n7 7 7 7 7",
+            script: "dales\ntree D\nprune D 5%\n",
+            status: Status::Done,
+            printed: "dales 3\ndale 0 0 7 3\ndale 2 0 7 3\ndale 4 0 7 2\ntree D 2\nsaddle 1 1 7 2 0 0 2 0\nsaddle 3 1 7 2 0 0 4 0\nprune D 5% 0 3\ndale 0 0 7 3\ndale 2 0 7 3\ndale 4 0 7 2\n",
+        },
+        Case {
+            points: 2,
+            profiles: 1,
+            data: "BAD BAD",
+            script: "dales\nparam Spd\ninfo\n",
+            status: Status::Done,
+            printed: "dales 0\nparam Spd none\ninfo\nsize 2 1\ntype 5\npresent 0\nrange none\nscales 1e-6 1e-6 1e-9\n",
+        },
+        Case {
+            points: 3,
+            profiles: 3,
+            data: "0 9 1\n9 5 9\n2 9 9",
+            script: "tree D\nprune D 40%\nprune D 50%\n",
+            status: Status::Done,
+            printed: "tree D 1\nsaddle 1 1 5 3 0 0 2 0 0 2\nprune D 40% 1 2\nstep 0 2 local 3 saddle 1 1 into 0 0\ndale 0 0 0 7\ndale 2 0 1 2\nprune D 50% 2 1\nstep 0 2 local 3 saddle 1 1 into 0 0\nstep 2 0 local 4 saddle 1 1 into 0 0\ndale 0 0 0 9\n",
+        },
+    ];
+    expect_all(&rt, &cases)
 }
 
 #[test]

@@ -1,6 +1,7 @@
 // Which surfaces the program refuses.
 use crate::Status;
-use crate::tests::trials::{HEADER, expect, file, whole};
+use crate::tests::surface_files::{HEADER, file};
+use crate::tests::trials::{expect, whole};
 use std::process::Abort;
 use std::test::Fail;
 

@@ -1,4 +1,5 @@
 // Runs of the program over sources and sinks in memory.
+use crate::tests::surface_files::file;
 use crate::{Status, top};
 use hd_base::{MemSink, MemSource};
 use hd_list::List;
@@ -6,38 +7,7 @@ use std::alloc::Global;
 use std::process::Abort;
 use std::test::Fail;
 
-pub(crate) const HEADER: &str = "aBCR-1.0
-ManufacID = demo
-CreateDate = 010120260000
-ModDate = 010120260000
-";
-
-const SCALES: &str = "Xscale = 1e-6
-Yscale = 1e-6
-Zscale = 1e-9
-Zresolution = -1
-Compression = 0
-";
-
 pub(crate) const PROFILE_DALES: &str = "dales 2\ndale 0 0 0 2\ndale 2 0 1 1\n";
-
-// A file of this type with these data.
-pub(crate) fn file(
-    alloc: Global,
-    points: u32,
-    profiles: u32,
-    code: u32,
-    data: &str,
-) -> Result<String, Fail> {
-    Ok(format!(in alloc;
-        "{HEADER}NumPoints = {points}\nNumProfiles = {profiles}\n{SCALES}DataType = {code}\nCheckType = 0\n*\n{data}\n*\n"
-    )?)
-}
-
-// The three-point profile 0 5 1.
-pub(crate) fn profile(alloc: Global, code: u32) -> Result<String, Fail> {
-    file(alloc, 3, 1, code, "0 5 1")
-}
 
 // How a run is fed: the name of the surface and its text, the bytes of the second input `B`, the bytes
 // of a piece, and the calls of each source and of the sink that fail.
@@ -137,5 +107,26 @@ pub(crate) fn expect(
     let (status, text) = run(rt.alloc(), words, feed)?;
     assert_eq!(rt; status, wanted);
     assert_eq!(rt; text.as_str(), output);
+    Ok(())
+}
+
+// A surface of data, a script, and what its run prints.
+#[derive(Drop)]
+pub(crate) struct Case {
+    pub(crate) points: u32,
+    pub(crate) profiles: u32,
+    pub(crate) data: &'static str,
+    pub(crate) script: &'static str,
+    pub(crate) status: Status,
+    pub(crate) printed: &'static str,
+}
+
+// Each run ends and prints as its case says.
+pub(crate) fn expect_all(rt: &(impl Abort + AllocGlobal), cases: &[Case]) -> Result<(), Fail> {
+    for case in cases {
+        let surface = file(rt.alloc(), case.points, case.profiles, 5, case.data)?;
+        let feed = whole(surface.as_str(), case.script);
+        expect(rt, &["run", "A", "B"], &feed, case.status, case.printed)?;
+    }
     Ok(())
 }

@@ -1,6 +1,7 @@
 // Which words the program takes.
 use crate::Status;
-use crate::tests::trials::{Feed, PROFILE_DALES, expect, profile, whole};
+use crate::tests::surface_files::profile;
+use crate::tests::trials::{Feed, PROFILE_DALES, expect, whole};
 use std::test::Fail;
 
 const USAGE: &str = "usage: hilldale dales SURFACE

@@ -8,7 +8,7 @@ use Rattle.hd_map.specs.Region.{IsPit}
 use Rattle.hd_audit.specs.declared.types.AuditLine.{AuditLine}
 use Rattle.hd_audit.specs.Lines.{line_at, rank_at}
 use Rattle.hd_audit.specs.Rules.{IsWithin}
-use Rattle.hd_audit.proofs.Chaining.{chains_more, chains_none, not_within, right_where, top_fits, top_point}
+use Rattle.hd_audit.proofs.ChainTops.{chains_more, chains_none, not_within, right_where, top_fits, top_point}
 use Rattle.hd_audit.proofs.Heights.{height_kept}
 use Rattle.hd_audit.proofs.Tests.{fails, holds}
 use Rattle.hd_audit.proofs.chains.first_far.Goals as goal

@@ -1,4 +1,4 @@
-use Rattle.hd_audit.proofs.Chaining.{AreChainsTo}
+use Rattle.hd_audit.proofs.ChainTops.{AreChainsTo}
 use Rattle.hd_audit.proofs.chains.first_far.Given as goal
 
 abbrev pub invariant-loop-k : goal.invariant-loop-k

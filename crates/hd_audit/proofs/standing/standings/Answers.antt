@@ -4,7 +4,7 @@ use Rattle.hd_map.specs.declared.types.Pos.{Pos}
 use Rattle.hd_map.specs.declared.types.Size.{Size}
 use Rattle.hd_map.specs.Map.{Present, cell_count, position_at}
 use Rattle.hd_audit.specs.declared.standing.Standing.TheVariants.{Absent}
-use Rattle.hd_map.proofs.Walks.{at-first, at-inside, at-next, at-position}
+use Rattle.hd_map.proofs.PositionOrder.{at-first, at-inside, at-next, at-position}
 use Rattle.hd_audit.specs.Standings.{AreStandingTo}
 use Rattle.hd_audit.proofs.Standings.{standing-absent, standing-none, standing-present}
 use Rattle.hd_audit.proofs.standing.standings.Goals.{then-is_present, else-is_present}

@@ -1,4 +1,4 @@
-use Rattle.hd_map.proofs.Walks.{IsAt}
+use Rattle.hd_map.proofs.PositionOrder.{IsAt}
 use Rattle.hd_audit.specs.Standings.{AreStandingTo}
 use Rattle.hd_audit.proofs.standing.standings.Given as goal
 

@@ -5,7 +5,7 @@ use Rattle.hd_map.specs.declared.types.SideName.{SideName}
 use Rattle.hd_tiles.specs.Stamps.{ComesFrom}
 use Rattle.hd_basin.specs.InStep.{IsInStep}
 use Rattle.hd_basin.specs.Parts.{Pool, HasNode, IsLinked, IsFresh, label_of}
-use Rattle.hd_basin.proofs.Keeps.{Keeps}
+use Rattle.hd_basin.proofs.Views.{Keeps}
 use Rattle.hd_basin.proofs.InStep.{right-kept, fresh-before}
 use Rattle.hd_basin.proofs.laws.pool_stays_in_step.Goals as goal
 

@@ -1,5 +1,5 @@
 use Rattle.hd_cert.specs.Listed.{AreListed}
-use Rattle.hd_map.proofs.Walks.{IsAt}
+use Rattle.hd_map.proofs.PositionOrder.{IsAt}
 use Rattle.hd_cert.proofs.listed_points.listed.Given as goal
 
 abbrev pub invariant-loop-index : goal.invariant-loop-index

@@ -1,7 +1,7 @@
 use Rattle.std.proofs.Common.{◌≡◌}
 use Rattle.hd_edit.specs.Filtered.{becomes_other}
 use Rattle.hd_edit.specs.Stroke.{count_below}
-use Rattle.hd_map.proofs.Walks.{IsAt}
+use Rattle.hd_map.proofs.PositionOrder.{IsAt}
 use Rattle.hd_edit.proofs.filter.count_changed.Given as goal
 
 abbrev pub invariant-loop-index : goal.invariant-loop-index

@@ -4,7 +4,7 @@ use Rattle.hd_map.specs.Map.{cell_count}
 use Rattle.hd_edit.specs.NewNotes.{NewNotesState}
 use Rattle.hd_edit.specs.Filtered.{becomes_other}
 use Rattle.hd_edit.proofs.Strokes.{count-few}
-use Rattle.hd_map.proofs.Walks.{at-first, at-next, at-inside}
+use Rattle.hd_map.proofs.PositionOrder.{at-first, at-next, at-inside}
 use Rattle.hd_edit.proofs.CellLists.{noted_first, noted_inside, noted_whole, noted_fits, noted_room, noted_notes, noted_next, noted_last, noted_few}
 use Rattle.hd_edit.proofs.filter.put_heights.Goals as goal
 

@@ -1,4 +1,4 @@
-use Rattle.hd_edit.proofs.Unique.{one_outcome}
+use Rattle.hd_edit.proofs.Determined.{one_outcome}
 use Rattle.hd_edit.proofs.laws.edit_is_determined.Goals as goal
 
 pub returns : goal.returns

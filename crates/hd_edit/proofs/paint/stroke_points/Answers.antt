@@ -3,7 +3,7 @@ use Rattle.hd_map.specs.Map.{place_of}
 use Rattle.hd_edit.specs.NewNotes.{NewNotesState}
 use Rattle.hd_edit.specs.Stroke.{next_in}
 use Rattle.hd_edit.proofs.Rectangles.{stands_first, stands_next, next_later, stands_low}
-use Rattle.hd_edit.proofs.Draws.{drawn_first, drawn_next, drawn_fits, drawn_room, drawn_last, drawn_few}
+use Rattle.hd_edit.proofs.NotedStrokes.{drawn_first, drawn_next, drawn_fits, drawn_room, drawn_last, drawn_few}
 use Rattle.hd_edit.proofs.paint.stroke_points.Goals as goal
 
 pub loop-at-init : goal.loop-at-init

@@ -1,7 +1,7 @@
 use Rattle.std.proofs.Common.{◌≡◌, ◌≤◌, ◌-◌, ◌+◌, length}
 use Rattle.hd_map.specs.Map.{place_of}
 use Rattle.hd_edit.proofs.Rectangles.{StandsAt}
-use Rattle.hd_edit.proofs.Draws.{Drawn}
+use Rattle.hd_edit.proofs.NotedStrokes.{Drawn}
 use Rattle.hd_edit.proofs.paint.stroke_points.Given as goal
 
 abbrev pub invariant-loop-at : goal.invariant-loop-at

@@ -1,4 +1,4 @@
-use Rattle.hd_engine.proofs.Kept.{answer-keeps}
+use Rattle.hd_engine.proofs.LeavesMaps.{answer-keeps}
 use Rattle.hd_engine.proofs.laws.answer_keeps_a_state.Goals as goal
 
 pub returns-clause-kept : goal.returns-clause-kept

@@ -7,7 +7,7 @@ use Rattle.hd_feature.specs.declared.notation.NotationError.{NotationError}
 use Rattle.hd_feature.specs.declared.notation.Significance.{Significance}
 use Rattle.hd_feature.specs.declared.notation.Statistic.{Statistic}
 use Rattle.hd_feature.specs.Notation.{attribute_of, kind_of, paired, pruning_of, significance_of, statistic_of}
-use Rattle.hd_feature.specs.Parts.{and_then, left, no_part, part}
+use Rattle.hd_feature.specs.Parts.{and_then, parts_left, no_part, part}
 use Rattle.hd_feature.proofs.WordParts.{one_too_many}
 use Rattle.hd_feature.proofs.reading.read_notation.Goals as goal
 
@@ -31,11 +31,11 @@ abbrev after_one : List (List ℕ) → Result Notation NotationError
 after_one parts = part 2 kind_of parts after_two
 
 pub returns-then-is_some : goal.returns-then-is_some
-returns-then-is_some c = sym (c.read_part.ensures (λ _. after_one) ∙ ap (λ r. and_then r (λ q. after_one (left q.1))) c.in_ok-_scope.was
-    ∙ c.read_part-2.ensures after_two ∙ ap (λ r. and_then r (λ q. after_two q.0 (left q.1))) c.in_ok-kind.was
-    ∙ c.read_part-3.ensures (after_three c.in_ok-kind.kind) ∙ ap (λ r. and_then r (λ q. after_three c.in_ok-kind.kind q.0 (left q.1))) c.in_ok-percent.was
-    ∙ c.read_part-4.ensures (after_four c.in_ok-kind.kind c.in_ok-percent.percent) ∙ ap (λ r. and_then r (λ q. after_four c.in_ok-kind.kind c.in_ok-percent.percent q.0 (left q.1))) c.in_ok-significance.was
-    ∙ c.read_part-5.ensures (after_five c.in_ok-kind.kind c.in_ok-percent.percent c.in_ok-significance.significance) ∙ ap (λ r. and_then r (λ q. after_five c.in_ok-kind.kind c.in_ok-percent.percent c.in_ok-significance.significance q.0 (left q.1))) c.in_ok-attribute.was
+returns-then-is_some c = sym (c.read_part.ensures (λ _. after_one) ∙ ap (λ r. and_then r (λ q. after_one (parts_left q.1))) c.in_ok-_scope.was
+    ∙ c.read_part-2.ensures after_two ∙ ap (λ r. and_then r (λ q. after_two q.0 (parts_left q.1))) c.in_ok-kind.was
+    ∙ c.read_part-3.ensures (after_three c.in_ok-kind.kind) ∙ ap (λ r. and_then r (λ q. after_three c.in_ok-kind.kind q.0 (parts_left q.1))) c.in_ok-percent.was
+    ∙ c.read_part-4.ensures (after_four c.in_ok-kind.kind c.in_ok-percent.percent) ∙ ap (λ r. and_then r (λ q. after_four c.in_ok-kind.kind c.in_ok-percent.percent q.0 (parts_left q.1))) c.in_ok-significance.was
+    ∙ c.read_part-5.ensures (after_five c.in_ok-kind.kind c.in_ok-percent.percent c.in_ok-significance.significance) ∙ ap (λ r. and_then r (λ q. after_five c.in_ok-kind.kind c.in_ok-percent.percent c.in_ok-significance.significance q.0 (parts_left q.1))) c.in_ok-attribute.was
     ∙ c.read_part-6.ensures (after_six c.in_ok-kind.kind c.in_ok-percent.percent c.in_ok-significance.significance c.in_ok-attribute.attribute)
-    ∙ ap (λ r. and_then r (λ q. after_six c.in_ok-kind.kind c.in_ok-percent.percent c.in_ok-significance.significance c.in_ok-attribute.attribute q.0 (left q.1))) c.in_ok-statistic.was
+    ∙ ap (λ r. and_then r (λ q. after_six c.in_ok-kind.kind c.in_ok-percent.percent c.in_ok-significance.significance c.in_ok-attribute.attribute q.0 (parts_left q.1))) c.in_ok-statistic.was
     ∙ one_too_many 7 c.in_ok-statistic.rest _ c.if-is_some.ensures)

@@ -6,7 +6,7 @@ use Rattle.hd_map.specs.declared.types.Rank.{Rank}
 use Rattle.hd_graph.specs.declared.line.Stop.{Stop}
 use Rattle.hd_graph.specs.Parts.{first_rise, turned_round}
 use Rattle.hd_graph.proofs.LeftParts.{LowsSoFar, lows-more, lows-all}
-use Rattle.hd_graph.proofs.Round.{first_rise-drop, length-round, round-at}
+use Rattle.hd_graph.proofs.TurnedLine.{first_rise-drop, length-round, round-at}
 use Rattle.std.proofs.lemmas.Grind.{common_steps}
 use Rattle.hd_graph.proofs.parts.right_lows.Goals as goal
 

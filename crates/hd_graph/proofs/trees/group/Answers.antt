@@ -3,7 +3,7 @@ use Rattle.std.specs.Prelude.{pos}
 use Rattle.std.proofs.lemmas.List.{take_all}
 use Rattle.hd_map.specs.Rank.{below_by}
 use Rattle.hd_graph.specs.declared.parts.Rise.{Rise}
-use Rattle.hd_graph.specs.Parts.{AreGrouped, sides_of}
+use Rattle.hd_graph.specs.Parts.{AreGrouped, rise_parts}
 use Rattle.hd_graph.specs.Tells.{joins_of}
 use Rattle.hd_graph.proofs.Grouped.{grouped-none, grouped-more}
 use Rattle.hd_graph.proofs.trees.group.Goals as goal
@@ -17,7 +17,7 @@ loop-rise-preserved g c =
     let n : ℕ = c.loop-rise.rise-index in
     let inside : n < length c.args.rises.now = omega arith in
     let more = grouped-more (below_by g.S.Side.NAME) g.met.S.Side.order c.args.rises.now c.requires n d inside (joins_of c.loop-rise.joins.items) c.loop-rise.invariant in
-    subst (λ js. AreGrouped (below_by g.S.Side.NAME) (sides_of (take (n + 1) c.args.rises.now)) js) (sym c.in_ok-add_sides.ensures) more
+    subst (λ js. AreGrouped (below_by g.S.Side.NAME) (rise_parts (take (n + 1) c.args.rises.now)) js) (sym c.in_ok-add_rise_parts.ensures) more
 
 pub returns : goal.returns
-returns g c = subst (λ xs. AreGrouped (below_by g.S.Side.NAME) (sides_of xs) (joins_of c.loop-rise.joins.items)) (take_all c.loop-rise.rise-index c.args.rises.now (omega arith)) c.loop-rise.invariant
+returns g c = subst (λ xs. AreGrouped (below_by g.S.Side.NAME) (rise_parts xs) (joins_of c.loop-rise.joins.items)) (take_all c.loop-rise.rise-index c.args.rises.now (omega arith)) c.loop-rise.invariant

@@ -3,7 +3,7 @@ use Rattle.std.specs.Prelude.{pos}
 use Rattle.std.proofs.lemmas.List.{length-map, take_all}
 use Rattle.hd_map.specs.Rank.{below_by}
 use Rattle.hd_graph.specs.declared.merges.Merge.{Merge}
-use Rattle.hd_graph.specs.Parts.{AreGrouped, left_of, right_of, rise_of, rises_of, sides_of, with_part}
+use Rattle.hd_graph.specs.Parts.{AreGrouped, left_of, right_of, rise_of, rises_of, rise_parts, with_part}
 use Rattle.hd_graph.specs.Tells.{joins_of}
 use Rattle.hd_graph.proofs.Grouped.{grouped-none}
 use Rattle.hd_graph.proofs.MergedTrees.{merges-more}
@@ -20,12 +20,12 @@ loop-merge-preserved g c =
     let d : Merge = record { low = 0; into = 0; at = record { height = pos 0; index = 0 } } in
     let n : ℕ = c.loop-merge.merge-index in
     let inside : n < length merges = omega arith in
-    subst (λ js. AreGrouped below (sides_of (take (n + 1) (rises_of lows merges))) js)
-    (sym (c.in_ok-add_sides.ensures ∙ ap (λ x. with_part below (right_of x) (with_part below (left_of x) (joins_of c.loop-merge.joins.items))) c.rise_of.ensures))
+    subst (λ js. AreGrouped below (rise_parts (take (n + 1) (rises_of lows merges))) js)
+    (sym (c.in_ok-add_rise_parts.ensures ∙ ap (λ x. with_part below (right_of x) (with_part below (left_of x) (joins_of c.loop-merge.joins.items))) c.rise_of.ensures))
     (merges-more c.requires.0 g.S.Side.NAME lows merges c.requires.1 n d inside (joins_of c.loop-merge.joins.items) c.loop-merge.invariant)
 
 pub returns : goal.returns
 returns g c =
     let rises = rises_of c.args.lows.now c.args.merges.now in
     let long = length-map c.args.merges.now (rise_of c.args.lows.now) in
-    subst (λ xs. AreGrouped (below_by g.S.Side.NAME) (sides_of xs) (joins_of c.loop-merge.joins.items)) (take_all c.loop-merge.merge-index rises (omega (arith, long))) c.loop-merge.invariant
+    subst (λ xs. AreGrouped (below_by g.S.Side.NAME) (rise_parts xs) (joins_of c.loop-merge.joins.items)) (take_all c.loop-merge.merge-index rises (omega (arith, long))) c.loop-merge.invariant

@@ -8,7 +8,7 @@ use Rattle.hd_map.specs.Rank.{below_by}
 use Rattle.hd_graph.specs.declared.line.Stop.{Stop}
 use Rattle.hd_graph.specs.declared.parts.Part.{Part}
 use Rattle.hd_graph.specs.declared.parts.Rise.{Rise}
-use Rattle.hd_graph.specs.Parts.{AreGrouped, comes_before, only_pits, sides_of, IsSidePart}
+use Rattle.hd_graph.specs.Parts.{AreGrouped, comes_before, only_pits, rise_parts, IsRisePart}
 use Rattle.hd_graph.specs.Tells.{IsPitOn, IsSaddleOn, joins_of}
 use Rattle.hd_graph.proofs.Grouped.{before-weak}
 use Rattle.hd_graph.proofs.Highest.{OnePlace, line-tells}
@@ -34,10 +34,10 @@ returns g c =
     let short_once : OnePlace pits = once-short below order line once in
     let raw : List Rise = c.in_ok-rises.rises.items in
     let rises : List Rise = c.sort_unstable_by.new.self.items in
-    let exactly : (e : Part) → Contains (sides_of raw) e ↔ IsSidePart below pits e = rw is_pits at c.in_ok-rises.ensures in
+    let exactly : (e : Part) → Contains (rise_parts raw) e ↔ IsRisePart below pits e = rw is_pits at c.in_ok-rises.ensures in
     let joins : List Joining = joins_of c.in_ok-joins.joins.items in
-    let grouped : AreGrouped below (sides_of rises) joins = rw c.deref-2.ensures.value at c.in_ok-joins.ensures in
-    let short : IsTree below (IsSaddleOn below pits) (IsLowOn pits) joins = tree-of_parts below order (IsSaddleOn below pits) pits (line-tells below order pits short_once) short_once (sides_of rises) joins
+    let grouped : AreGrouped below (rise_parts rises) joins = rw c.deref-2.ensures.value at c.in_ok-joins.ensures in
+    let short : IsTree below (IsSaddleOn below pits) (IsLowOn pits) joins = tree-of_parts below order (IsSaddleOn below pits) pits (line-tells below order pits short_once) short_once (rise_parts rises) joins
     (λ e. (
       λ h. (exactly e).0 (sides-moved rises raw (λ x at. Contains-permutation rises raw x (IsPermutation-sym raw rises c.sort_unstable_by.ensures.permutation) at) e h),
       λ h. sides-moved raw rises (λ x at. Contains-permutation raw rises x c.sort_unstable_by.ensures.permutation at) e ((exactly e).1 h),

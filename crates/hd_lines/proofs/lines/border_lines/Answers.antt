@@ -10,7 +10,7 @@ use Rattle.hd_lines.specs.Borders.{AreBorders}
 use Rattle.hd_lines.specs.FirstJoins.{AreFirstJoins}
 use Rattle.hd_lines.specs.Listed.{AreListed}
 use Rattle.hd_lines.specs.Places.{AreOwnerPlaces, IsNumbered}
-use Rattle.hd_lines.proofs.Lining.{borders-within, lines-are}
+use Rattle.hd_lines.proofs.BorderLines.{borders-within, lines-are}
 use Rattle.hd_lines.proofs.Placing.{kept-few, kept-numbered, kept-numbers, owners-numbered, owners-whole}
 use Rattle.hd_lines.proofs.lines.border_lines.Given.{Over}
 use Rattle.hd_lines.proofs.lines.border_lines.Goals as goal

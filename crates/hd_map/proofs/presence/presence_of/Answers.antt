@@ -1,7 +1,7 @@
 use Rattle.std.proofs.Common.{◌≡◌, ◌∙◌, ap, refl, arith}
 use Rattle.hd_map.specs.Map.{InGrid, height_at, position_at}
 use Rattle.hd_map.proofs.Presences.{presence_few, presence_more}
-use Rattle.hd_map.proofs.Walks.{at-first, at-next, at-inside, at-position}
+use Rattle.hd_map.proofs.PositionOrder.{at-first, at-next, at-inside, at-position}
 use Rattle.hd_map.proofs.presence.presence_of.Goals as goal
 
 pub points-init : goal.points-init

@@ -1,6 +1,6 @@
 use Rattle.std.proofs.Common.{◌≤◌}
 use Rattle.hd_map.specs.Presence.{IsPresence, heights_below}
-use Rattle.hd_map.proofs.Walks.{IsAt}
+use Rattle.hd_map.proofs.PositionOrder.{IsAt}
 use Rattle.hd_map.proofs.presence.presence_of.Given as goal
 
 -- the points seen so far

@@ -1,6 +1,7 @@
 use Rattle.std.proofs.Common.{arith}
 use Rattle.hd_morph.specs.Plain.{most_height, most_between}
-use Rattle.hd_morph.proofs.Settling.{plain_more, dilated_plain}
+use Rattle.hd_morph.proofs.PlainNumbers.{plain_more}
+use Rattle.hd_morph.proofs.Settling.{dilated_plain}
 use Rattle.hd_morph.proofs.filter.closed.Goals as goal
 
 pub dilated-requires-clause-heights : goal.dilated-requires-clause-heights

@@ -4,7 +4,8 @@ use Rattle.hd_morph.specs.Filter.{Dilation}
 use Rattle.hd_morph.specs.Plain.{ArePlain, most_between, most_filtered}
 use Rattle.hd_morph.specs.Raised.{ArePlainlyFiltered}
 use Rattle.hd_morph.specs.Turned.{turned_table}
-use Rattle.hd_morph.proofs.Settling.{plain_more, dilated_plain}
+use Rattle.hd_morph.proofs.PlainNumbers.{plain_more}
+use Rattle.hd_morph.proofs.Settling.{dilated_plain}
 use Rattle.hd_morph.proofs.Turning.{turned_element, negated_plain, eroded_of}
 use Rattle.hd_morph.proofs.filter.eroded.Goals as goal
 

@@ -1,6 +1,7 @@
 use Rattle.std.proofs.Common.{arith}
 use Rattle.hd_morph.specs.Plain.{most_height, most_between}
-use Rattle.hd_morph.proofs.Settling.{plain_more, eroded_plain}
+use Rattle.hd_morph.proofs.PlainNumbers.{plain_more}
+use Rattle.hd_morph.proofs.Settling.{eroded_plain}
 use Rattle.hd_morph.proofs.filter.opened.Goals as goal
 
 pub eroded-requires-clause-heights : goal.eroded-requires-clause-heights

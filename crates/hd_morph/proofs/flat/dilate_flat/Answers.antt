@@ -1,6 +1,6 @@
 use Rattle.std.proofs.Common.{◌≡◌, length, arith, w64}
 use Rattle.std.proofs.lemmas.Int.{to_z-of_z}
-use Rattle.hd_morph.proofs.PlainLemmas.{all_written}
+use Rattle.hd_morph.proofs.PlainNumbers.{all_written}
 use Rattle.hd_morph.proofs.flat.dilate_flat.Goals as goal
 
 pub returns : goal.returns

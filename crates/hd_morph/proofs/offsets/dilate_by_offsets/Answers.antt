@@ -1,6 +1,6 @@
 use Rattle.std.proofs.Common.{◌≡◌, length, replicate, rules, arith, ◌∙◌}
 use Rattle.hd_morph.specs.Plain.{missing}
-use Rattle.hd_morph.proofs.PlainLemmas.{all_written}
+use Rattle.hd_morph.proofs.PlainNumbers.{all_written}
 use Rattle.hd_morph.proofs.Raising.{blank_of}
 use Rattle.hd_morph.proofs.offsets.dilate_by_offsets.Goals as goal
 

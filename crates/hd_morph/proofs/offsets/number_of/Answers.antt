@@ -1,5 +1,5 @@
 use Rattle.std.proofs.Common.{◌+◌, ◌*◌}
-use Rattle.hd_morph.proofs.PlainLemmas.{entry_within}
+use Rattle.hd_morph.proofs.PlainNumbers.{entry_within}
 use Rattle.hd_morph.proofs.offsets.number_of.Goals as goal
 
 pub returns-clause-within : goal.returns-clause-within

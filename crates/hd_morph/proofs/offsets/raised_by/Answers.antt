@@ -1,6 +1,6 @@
 use Rattle.std.proofs.Common.{arith, ◌+ℤ◌, to_z, of_z, w64}
 use Rattle.std.proofs.lemmas.Int.{ints}
-use Rattle.hd_morph.proofs.PlainLemmas.{plain_bounds, raised_number}
+use Rattle.hd_morph.proofs.PlainNumbers.{plain_bounds, raised_number}
 use Rattle.hd_morph.proofs.offsets.raised_by.Goals as goal
 
 pub overflow_add-result : goal.overflow_add-result

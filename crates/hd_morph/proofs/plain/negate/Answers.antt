@@ -2,7 +2,7 @@ use Rattle.std.proofs.Common.{pos, get_or, refl, arith, rules, SFits, w64}
 use Rattle.std.proofs.lemmas.Int.{to_z-of_z}
 use Rattle.std.proofs.lemmas.List.{get_or_default}
 use Rattle.hd_morph.specs.Plain.{missing}
-use Rattle.hd_morph.proofs.PlainLemmas.{negated_more, negated_all}
+use Rattle.hd_morph.proofs.PlainNumbers.{negated_more, negated_all}
 use Rattle.hd_morph.proofs.plain.negate.Goals as goal
 
 pub loop-place-init : goal.loop-place-init

@@ -1,4 +1,4 @@
-use Rattle.hd_morph.proofs.PlainLemmas.{NegatedBefore}
+use Rattle.hd_morph.proofs.PlainNumbers.{NegatedBefore}
 use Rattle.hd_morph.proofs.plain.negate.Given as goal
 
 abbrev pub invariant-loop-place : goal.invariant-loop-place

@@ -1,6 +1,6 @@
 use Rattle.std.proofs.Common.{arith}
 use Rattle.std.proofs.lemmas.Int.{ints}
-use Rattle.hd_morph.proofs.PlainLemmas.{tested, tested_none, shown_above, negated_height, negated_none}
+use Rattle.hd_morph.proofs.PlainNumbers.{tested, tested_none, shown_above, negated_height, negated_none}
 use Rattle.hd_morph.proofs.plain.negated.Goals as goal
 
 pub returns-then-is_shown : goal.returns-then-is_shown

@@ -1,7 +1,7 @@
 use Rattle.std.proofs.Common.{pos, get_or, refl, arith, rules, SFits, w64}
 use Rattle.std.proofs.lemmas.Int.{to_z-of_z}
 use Rattle.hd_morph.specs.Plain.{most_filtered}
-use Rattle.hd_morph.proofs.PlainLemmas.{settled_more, topped_read}
+use Rattle.hd_morph.proofs.PlainNumbers.{settled_more, topped_read}
 use Rattle.hd_morph.proofs.plain.settle.Goals as goal
 
 pub loop-place-init : goal.loop-place-init

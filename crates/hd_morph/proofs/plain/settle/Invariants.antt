@@ -1,4 +1,4 @@
-use Rattle.hd_morph.proofs.PlainLemmas.{SettledBefore}
+use Rattle.hd_morph.proofs.PlainNumbers.{SettledBefore}
 use Rattle.hd_morph.proofs.plain.settle.Given as goal
 
 abbrev pub invariant-loop-place : goal.invariant-loop-place

@@ -1,6 +1,6 @@
 use Rattle.std.proofs.Common.{◌≡◌, Some, None, sym, ◌∙◌, arith}
 use Rattle.std.proofs.lemmas.Int.{ints}
-use Rattle.hd_morph.proofs.PlainLemmas.{tested, shown_above, shown_is}
+use Rattle.hd_morph.proofs.PlainNumbers.{tested, shown_above, shown_is}
 use Rattle.hd_morph.proofs.plain.settled.Goals as goal
 
 pub overflow_add-result : goal.overflow_add-result

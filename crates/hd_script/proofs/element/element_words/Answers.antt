@@ -3,7 +3,7 @@ use Rattle.std.proofs.lemmas.List.{take_rest}
 use Rattle.std.proofs.lemmas.List.Elements.{All-drop}
 use Rattle.hd_num.specs.Span.{IsPart, text_at}
 use Rattle.hd_script.specs.Rows.{element_words}
-use Rattle.hd_script.proofs.Three.{three_words, fewer_words}
+use Rattle.hd_script.proofs.ElementWords.{three_words, fewer_words}
 use Rattle.hd_script.proofs.element.element_words.Goals as goal
 
 pub text-name-requires : goal.text-name-requires

@@ -1,6 +1,6 @@
 use Rattle.std.proofs.Common.{◌∙◌, ap, sym}
 use Rattle.hd_script.specs.Rows.{add_words}
-use Rattle.hd_script.proofs.Five.{five_words}
+use Rattle.hd_script.proofs.LongestRow.{five_words}
 use Rattle.hd_script.proofs.rows.add_words.Goals as goal
 
 pub returns-clause-value : goal.returns-clause-value

@@ -1,5 +1,5 @@
 use Rattle.std.proofs.Common.{arith, refl}
-use Rattle.hd_sdf_read.proofs.Heights.{height_kept, height_read}
+use Rattle.hd_sdf_read.proofs.WholeFronts.{height_kept, height_read}
 use Rattle.hd_sdf_read.proofs.datum.leading_height.Goals as goal
 
 pub returns : goal.returns

@@ -1,7 +1,7 @@
 use Rattle.std.proofs.Common.{◌≡◌, ◌*◌, ◌<◌, length, arith, ap, subst, sym, ◌∙◌}
 use Rattle.hd_map.specs.declared.types.Size.{Size}
 use Rattle.hd_map.specs.Map.{cell_count, place_of, places_of}
-use Rattle.hd_map.proofs.Walks.{at-next}
+use Rattle.hd_map.proofs.PositionOrder.{at-next}
 use Rattle.hd_sdf_write.specs.Data.{gap_after}
 use Rattle.hd_sdf_write.proofs.Data.{added, more_added, none_added, some_added}
 use Rattle.hd_sdf_write.proofs.cells.push_points.Goals as goal

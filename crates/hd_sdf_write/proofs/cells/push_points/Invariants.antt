@@ -1,4 +1,4 @@
-use Rattle.hd_map.proofs.Walks.{IsAt}
+use Rattle.hd_map.proofs.PositionOrder.{IsAt}
 use Rattle.hd_sdf_write.proofs.Data.{HasAdded}
 use Rattle.hd_sdf_write.proofs.cells.push_points.Given as goal
 

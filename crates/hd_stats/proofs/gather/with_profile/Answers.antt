@@ -4,7 +4,7 @@ use Rattle.hd_map.specs.declared.types.Size.{Size}
 use Rattle.hd_map.specs.Map.{InGrid, place_of}
 use Rattle.hd_map.specs.Presence.{heights_below}
 use Rattle.hd_map.proofs.Points.{place_inside}
-use Rattle.hd_stats.proofs.Passing.{heights-few, heights-read}
+use Rattle.hd_stats.proofs.Gathering.{heights-few, heights-read}
 use Rattle.hd_stats.proofs.gather.with_profile.Goals as goal
 
 pub with-sum-requires : goal.with-sum-requires

@@ -1,7 +1,7 @@
 use Rattle.std.proofs.Common.{to_z, of_z}
 use Rattle.std.specs.Int.{w128}
 use Rattle.std.proofs.lemmas.Int.{to_z-of_z}
-use Rattle.hd_stats.specs.Passes.{deviation_by}
+use Rattle.hd_stats.specs.Gathering.{deviation_by}
 use Rattle.hd_stats.proofs.Deviations.{height-read, count-read, total-read, product-fits, deviation-fits, deviation-small}
 use Rattle.hd_stats.proofs.heights.deviation.Goals as goal
 

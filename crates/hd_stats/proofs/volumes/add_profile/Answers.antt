@@ -3,7 +3,7 @@ use Rattle.hd_map.specs.declared.types.Pos.{Pos}
 use Rattle.hd_map.specs.declared.types.Size.{Size}
 use Rattle.hd_map.specs.Map.{InGrid, height_at, place_of}
 use Rattle.hd_map.proofs.Points.{position_at-of}
-use Rattle.hd_stats.proofs.Adding.{volumes-more}
+use Rattle.hd_stats.proofs.AddedVolumes.{volumes-more}
 use Rattle.hd_stats.proofs.volumes.add_profile.Goals as goal
 
 pub points-preserved : goal.points-preserved

@@ -3,7 +3,7 @@ use Rattle.std.proofs.lemmas.Bool.{cases_lt}
 use Rattle.hd_map.specs.declared.types.Pos.{Pos}
 use Rattle.hd_map.specs.declared.types.Size.{Size}
 use Rattle.hd_map.proofs.Gather.{same_pos}
-use Rattle.hd_steep.proofs.Adding.{adds_empty, adds_join, adds_less}
+use Rattle.hd_steep.proofs.AddedMeetings.{adds_empty, adds_join, adds_less}
 use Rattle.hd_steep.proofs.borders.gather_below.Goals as goal
 
 pub returns-then-y-size : goal.returns-then-y-size

@@ -2,7 +2,7 @@ use Rattle.std.proofs.Common.{◌≡◌, ◌≤◌, ◌+◌, subst, arith}
 use Rattle.hd_map.specs.declared.types.Pos.{Pos}
 use Rattle.hd_map.specs.declared.types.Size.{Size}
 use Rattle.hd_map.proofs.Gather.{same_pos}
-use Rattle.hd_steep.proofs.Adding.{adds_empty, adds_less}
+use Rattle.hd_steep.proofs.AddedMeetings.{adds_empty, adds_less}
 use Rattle.hd_steep.proofs.borders.gather_beside.Goals as goal
 
 pub returns-in_ok-gather_pair : goal.returns-in_ok-gather_pair

@@ -1,4 +1,4 @@
-use Rattle.hd_steep.proofs.Adding.{adds_one, adds_skip}
+use Rattle.hd_steep.proofs.AddedMeetings.{adds_one, adds_skip}
 use Rattle.hd_steep.proofs.borders.gather_pair.Goals as goal
 
 pub returns-in_ok-add_meeting : goal.returns-in_ok-add_meeting

@@ -1,7 +1,7 @@
 use Rattle.std.proofs.Common.{◌≡◌, ◌+◌, ◌⊎◌, ◌∙◌, ap, inl, inr}
 use Rattle.hd_map.specs.declared.types.Pos.{Pos}
 use Rattle.hd_steep.specs.Meetings.{InOrder}
-use Rattle.hd_steep.proofs.Adding.{adds_join, adds_less, after_cases}
+use Rattle.hd_steep.proofs.AddedMeetings.{adds_join, adds_less, after_cases}
 use Rattle.hd_steep.proofs.borders.gather_point.Goals as goal
 
 pub returns : goal.returns

@@ -4,7 +4,7 @@ use Rattle.hd_map.specs.declared.types.Pos.{Pos}
 use Rattle.hd_map.specs.declared.types.Size.{Size}
 use Rattle.hd_map.proofs.Gather.{same_pos}
 use Rattle.hd_steep.specs.Meetings.{InOrder}
-use Rattle.hd_steep.proofs.Adding.{adds_empty, adds_join, adds_less}
+use Rattle.hd_steep.proofs.AddedMeetings.{adds_empty, adds_join, adds_less}
 use Rattle.hd_steep.proofs.borders.gather_profile.Goals as goal
 
 pub loop-x-init : goal.loop-x-init

@@ -1,6 +1,6 @@
 use Rattle.std.proofs.Common.{◌≡◌, ◌∙◌, true, false, sym, inl, inr, refl, arith}
 use Rattle.hd_map.specs.Rank.{rank, below_by}
-use Rattle.hd_steep.proofs.Adding.{apart-of, beside-of, lies_once}
+use Rattle.hd_steep.proofs.AddedMeetings.{apart-of, beside-of, lies_once}
 use Rattle.hd_steep.proofs.borders.meeting_at.Goals as goal
 use Rattle.hd_steep.proofs.borders.meeting_at.Goals.{then-below, else-below}
 

@@ -2,7 +2,7 @@ use Rattle.std.proofs.Common.{◌≡◌, ◌<◌, ◌+◌, [], ◌⊎◌, ap, in
 use Rattle.std.proofs.lemmas.Bool.{cases_lt}
 use Rattle.hd_map.specs.declared.types.Size.{Size}
 use Rattle.hd_steep.specs.Meetings.{Adds, InOrder}
-use Rattle.hd_steep.proofs.Adding.{adds_empty, adds_join, adds_less, adds_keeps}
+use Rattle.hd_steep.proofs.AddedMeetings.{adds_empty, adds_join, adds_less, adds_keeps}
 use Rattle.hd_steep.proofs.borders.meetings_of.Goals as goal
 use Rattle.hd_steep.proofs.borders.meetings_of.Goals.{then-len-limit+in_ok-meetings, else-len-limit}
 

@@ -5,7 +5,7 @@ use Rattle.hd_survey.specs.Edges.{edge_height}
 use Rattle.hd_survey.specs.Tallies.{AddsPoint, AreTallies}
 use Rattle.hd_survey.proofs.Numbers.{number-none, number-some}
 use Rattle.hd_survey.proofs.Tallying.{tallies_add, tallies_few, tallies_pass}
-use Rattle.hd_map.proofs.Walks.{IsAt, at-inside, at-next, at-position}
+use Rattle.hd_map.proofs.PositionOrder.{IsAt, at-inside, at-next, at-position}
 use Rattle.std.proofs.lemmas.Grind.{common_steps}
 use Rattle.hd_survey.proofs.tallies.tally_points.Goals as goal
 use Rattle.hd_survey.proofs.tallies.tally_points.Goals.{in-Some, in_default}

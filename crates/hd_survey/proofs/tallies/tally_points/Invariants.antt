@@ -1,5 +1,5 @@
 use Rattle.hd_survey.specs.Tallies.{AreTallies}
-use Rattle.hd_map.proofs.Walks.{IsAt}
+use Rattle.hd_map.proofs.PositionOrder.{IsAt}
 use Rattle.hd_survey.proofs.tallies.tally_points.Given as goal
 
 -- the tallies of the points so far

@@ -2,7 +2,7 @@ use Rattle.std.proofs.Common.{◌∙◌, List, length, sym, subst}
 use Rattle.std.specs.Prelude.{All}
 use Rattle.hd_map.specs.declared.types.Link.{Link}
 use Rattle.hd_graph.specs.Links.{HasEnds}
-use Rattle.hd_tests.proofs.Literals.{different-linked, ends-linked}
+use Rattle.hd_tests.proofs.WrittenGraphs.{different-linked, ends-linked}
 use Rattle.hd_tests.proofs.graph.expect_linked.Goals as goal
 
 pub merges_by_links-requires-clause-different : goal.merges_by_links-requires-clause-different

@@ -1,5 +1,5 @@
 use Rattle.hd_map.specs.Rank.{below_by}
-use Rattle.hd_tests.proofs.Literals.{graph-from}
+use Rattle.hd_tests.proofs.WrittenGraphs.{graph-from}
 use Rattle.hd_tests.proofs.graph.graph_of.Goals as goal
 
 pub new-requires : goal.new-requires

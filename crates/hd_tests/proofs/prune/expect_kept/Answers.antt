@@ -1,5 +1,5 @@
 use Rattle.std.proofs.Common.{length}
-use Rattle.hd_tests.proofs.Literals.{within-from}
+use Rattle.hd_tests.proofs.WrittenGraphs.{within-from}
 use Rattle.hd_tests.proofs.prune.expect_kept.Goals as goal
 
 pub keep-requires : goal.keep-requires

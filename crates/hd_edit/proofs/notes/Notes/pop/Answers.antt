@@ -2,7 +2,7 @@ use Rattle.std.proofs.Common.{◌++◌, ◌∷◌, [], ◌∙◌, List, ap, sym,
 use Rattle.hd_edit.specs.declared.change.Change.{Change}
 use Rattle.hd_edit.specs.declared.change.Was.TheVariants as was
 use Rattle.hd_edit.specs.declared.notes.HeightNote.{HeightNote}
-use Rattle.hd_edit.specs.declared.over.OverLeast.{OverLeast}
+use Rattle.hd_edit.specs.declared.height_bytes.OverLeast.{OverLeast}
 use Rattle.hd_edit.specs.Notes.{changes_after, last_after}
 use Rattle.hd_edit.proofs.HeightNotes.{last-push, no-items, notes-popped}
 use Rattle.hd_edit.proofs.notes.Notes.pop.Goals as goal

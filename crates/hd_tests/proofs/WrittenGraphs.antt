@@ -14,7 +14,7 @@ use Rattle.hd_map.specs.declared.types.Link.{Link}
 use Rattle.hd_graph.specs.declared.merges.Merge.{Merge}
 use Rattle.hd_graph.specs.Graph.{IsGraph, IsPassOf, IsLow}
 use Rattle.hd_graph.specs.Links.{HasEnds}
-use Rattle.hd_tests.specs.Literal.{same_rank, has_low, lacks_index, are_different, is_pass, are_passes, is_graph, are_within, have_ends, are_linked}
+use Rattle.hd_tests.specs.WrittenGraphs.{same_rank, has_low, lacks_index, are_different, is_pass, are_passes, is_graph, are_within, have_ends, are_linked}
 
 -- the parts of a test of two
 first : (a b : Bool) → (a && b) ≡ true → a ≡ true

@@ -3,7 +3,7 @@ ghost use Rattle.std.specs.Prelude.{◌≡◌};
 ghost use Rattle.std.specs.Option.{is_some};
 ghost use Rattle.hd_pool.specs.Following.{Follows};
 ghost use Rattle.hd_survey.specs.Findings.{AreFindings};
-ghost use Rattle.hd_engine.specs.declared.by_kept.Need.TheVariants.{Merges, Regions};
+ghost use Rattle.hd_engine.specs.declared.by_pool_or_links.Need.TheVariants.{Merges, Regions};
 
 use hd_list::Memory;
 use hd_map::{Grid, Side};
@@ -23,7 +23,7 @@ pub(crate) enum Need {
 
 /// Finds what a report on a side asks for, unless it is found: by the pool of the side where it serves, else by its links
 /// where they are kept. `Memory` comes where the pool, the links or what is asked for are refused their memory.
-pub(crate) fn find_by_kept<S: Side, G: Grid>(
+pub(crate) fn find_by_pool_or_links<S: Side, G: Grid>(
     alloc: Global,
     tiles: &Tiles<G>,
     pool: &mut SidePool<S>,

@@ -1,4 +1,4 @@
--- What a pass over the heights adds up, height by height.
+-- What is gathered of the heights, height by height.
 use Rattle.std.specs.Prelude.{◌+◌, ◌*ℤ◌, ◌-ℤ◌, ℕ, ℤ, pos, int_le, unsigned_abs, Option, Some, None, if◌then◌else◌}
 use Rattle.hd_stats.specs.declared.sums.Sums.{Sums}
 

@@ -15,7 +15,7 @@ use Rattle.hd_map.specs.Rank.{rank, below_by}
 use Rattle.hd_map.specs.SideLaws.{below_by-order}
 use Rattle.hd_map.proofs.Gather.{same_pos}
 use Rattle.hd_map.proofs.Nexts.{root-unique}
-use Rattle.hd_map.proofs.Sides.{not_above-trans}
+use Rattle.hd_map.proofs.Order.{not_above-trans}
 use Rattle.hd_steep.specs.declared.meetings.Meeting.{Meeting}
 use Rattle.hd_steep.specs.Meetings.{LiesIn, IsOfTwo, IsMeetingOf, DoNotMeet, Covers, Keeps, Adds, InOrder}
 use Rattle.hd_steep.proofs.Lows.{place_above, place_before}

@@ -1,4 +1,4 @@
--- The heights of the present points, as a pass reads them point by point.
+-- The heights of the present points, as they are gathered point by point.
 use Rattle.std.proofs.Common.{◌≡◌, ◌≤◌, ◌+◌, ◌++◌, ◌∙◌, ℕ, zero, suc, ℤ, List, [], length, Option, Some, None, ap, sym, arith, append-nil}
 use Rattle.std.specs.List.{cons_option}
 use Rattle.std.proofs.lemmas.List.{length_push}

@@ -1,18 +1,18 @@
 -- The highest points of the chains of parents of the first lines.
-use Rattle.std.proofs.Common.{◌≡◌, ◌<◌, ◌+◌, ℕ, ℤ, Bool, true, false, List, [], ◌∷◌, length, map, Option, Some, None, inl, inr, refl, sym, ap, ap₂, ◌∙◌, subst, arith, get_or, set, if◌then◌else◌}
+use Rattle.std.proofs.Common.{◌≡◌, ◌<◌, ◌+◌, ℕ, ℤ, Bool, true, false, List, [], ◌∷◌, length, map, Some, None, inl, inr, refl, sym, ap, ap₂, ◌∙◌, subst, arith, get_or, set, if◌then◌else◌}
 use Rattle.std.specs.List.{Contains}
 use Rattle.std.proofs.lemmas.List.Elements.{All-nil, All-cons}
 use Rattle.std.proofs.lemmas.Bool.{cases_lt, false≢true}
-use Rattle.std.specs.Prelude.{MatchOption, pos}
+use Rattle.std.specs.Prelude.{pos}
 use Rattle.std.proofs.Math.ListN.{length-set}
 use Rattle.std.proofs.lemmas.Bool.Decides.{nat_tests}
 use Rattle.std.proofs.lemmas.Int.{ints}
-use Rattle.std.proofs.lemmas.List.{get_or-set_other, get_or-set_same, get_or_default}
+use Rattle.std.proofs.lemmas.List.{get_or-set_other, get_or-set_same}
 use Rattle.std.proofs.lemmas.Option.{none-some, same_Some}
 use Rattle.hd_map.specs.declared.types.Rank.{Rank}
 use Rattle.hd_map.specs.declared.types.SideName.{SideName}
 use Rattle.hd_map.specs.declared.types.SideName.TheVariants.{Dales, Hills}
-use Rattle.hd_map.specs.Map.{IsMap, Map, Present, cell_count, position_at}
+use Rattle.hd_map.specs.Map.{IsMap, Map, cell_count, position_at}
 use Rattle.hd_map.specs.Order.{IsNotAbove}
 use Rattle.hd_map.specs.Passes.{higher_by}
 use Rattle.hd_map.specs.Path.{IsTop}
@@ -21,14 +21,15 @@ use Rattle.hd_map.specs.Region.{IsPit}
 use Rattle.hd_map.specs.SideLaws.{below_by-order}
 use Rattle.hd_map.proofs.Levels.{Contains-cases, Contains-head, Contains-none, Contains-tail, none_above-higher, top-not_above}
 use Rattle.hd_map.proofs.Points.{point_at}
-use Rattle.hd_map.proofs.Sides.{below-not_above, not_above-refl}
+use Rattle.hd_map.proofs.Order.{below-not_above, not_above-refl}
 use Rattle.hd_num.specs.Percent.{is_percent_less}
 use Rattle.hd_prune.specs.Span.{IsHeight}
 use Rattle.hd_prune.proofs.Spans.{point_height}
 use Rattle.hd_audit.specs.declared.types.AuditLine.{AuditLine}
 use Rattle.hd_audit.specs.Chains.{AreTopHeights, IsChainTop, IsTopHeight, higher_height}
 use Rattle.hd_audit.specs.Lines.{line_at, rank_at, AreParents, IsLineOf, SaysKept}
-use Rattle.hd_audit.specs.Rules.{IsChainWithin, IsEarlierNeighbour, IsNewPoint, IsWithin, ParentsEarlier, rise_over}
+use Rattle.hd_audit.specs.Rules.{IsChainWithin, IsNewPoint, IsWithin, rise_over}
+use Rattle.hd_audit.proofs.Lines.{line_present, one_line}
 
 -- the height of the higher of two points is that of their heights
 height_of-higher : (side : SideName) (a b : Rank) → (higher_by side a b).height ≡ higher_height side a.height b.height
@@ -125,64 +126,32 @@ module _ (m : Map) (side : SideName) (lines : List AuditLine) where
     height_is = height_of-higher side (rank_at m i) up.top ∙ ap (higher_height side (rank_at m i).height) up.height_is;
   }
 
-  -- a parent stands on an earlier line
-  pub earlier_parent : (k p : ℕ) → k < length lines → (line_at lines k).parent ≡ Some p → ParentsEarlier m lines None → IsEarlierNeighbour m lines k p
-  earlier_parent k p inside is parents = subst (λ (o : Option ℕ). MatchOption o (Unit {0}) (IsEarlierNeighbour m lines k)) is (parents k inside)
-
   module _ (new : (k : ℕ) → k < length lines → IsNewPoint m lines k) where
-    -- the point of a line is present
-    pub line_present : (i : ℕ) (x : AuditLine) → IsLineOf lines i x → Present m (position_at m.size i)
-    line_present i x is =
-        let at = is.listed in
-        let same : line_at lines at.0 ≡ x = get_or_default lines at.0 (record { index = 0; parent = None; cut = None }) x at.1 ∙ at.2 in
-        subst (λ (j : ℕ). Present m (position_at m.size j)) (ap (λ (y : AuditLine). y.index) same ∙ is.index) (new at.0 at.1).present
-
-    -- a point has one line
-    pub one_line : (i : ℕ) (x y : AuditLine) → IsLineOf lines i x → IsLineOf lines i y → x ≡ y
-    one_line i x y is is' =
-        let at = is.listed in
-        let at' = is'.listed in
-        let d : AuditLine = record { index = 0; parent = None; cut = None } in
-        let same : line_at lines at.0 ≡ x = get_or_default lines at.0 d x at.1 ∙ at.2 in
-        let same' : line_at lines at'.0 ≡ y = get_or_default lines at'.0 d y at'.1 ∙ at'.2 in
-        let index : (line_at lines at.0).index ≡ (line_at lines at'.0).index = ap (λ (z : AuditLine). z.index) same ∙ is.index ∙ sym is'.index ∙ sym (ap (λ (z : AuditLine). z.index) same') in
-        elim (cases_lt at.0 at'.0) [
-          | inl less ↦ absurd ((new at'.0 at'.1).new at.0 less index)
-          | inr le ↦ elim (cases_lt at'.0 at.0) [
-            | inl less ↦ absurd ((new at.0 at.1).new at'.0 less (sym index))
-            | inr ge ↦ (let e : at.0 ≡ at'.0 = omega (arith, le, ge) in sym same ∙ ap (line_at lines) e ∙ same')
-          ]
-        ]
-
     -- each point of a chain is present
     pub chain_points : (i : ℕ) (chain : List ℕ) → AreParents lines i chain → (r : Rank) → Contains (map (rank_at m) (i ∷ chain)) r → IsPoint m r
     chain_points i [] kept r at = elim (Contains-cases (rank_at m i) r [] at) [
-      | inl same ↦ subst (IsPoint m) (sym same) (point_at m (position_at m.size i) (line_present i kept.0 kept.1))
+      | inl same ↦ subst (IsPoint m) (sym same) (point_at m (position_at m.size i) (line_present m lines new i kept.0 kept.1))
       | inr later ↦ absurd (Contains-none r later)
     ]
     chain_points i (p ∷ ps) up r at = elim (Contains-cases (rank_at m i) r (map (rank_at m) (p ∷ ps)) at) [
-      | inl same ↦ subst (IsPoint m) (sym same) (point_at m (position_at m.size i) (line_present i up.0 up.1))
+      | inl same ↦ subst (IsPoint m) (sym same) (point_at m (position_at m.size i) (line_present m lines new i up.0 up.1))
       | inr later ↦ chain_points p ps up.3 r later
     ]
 
     pub top_point : (i : ℕ) (top : Rank) → IsChainTop m side lines i top → IsPoint m top
     top_point i top is = chain_points i is.chain is.are_parents top is.is_top.one_of
 
-    -- the point of a line has a height of the map
-    pub line_fits : IsMap m → (k : ℕ) → k < length lines → IsHeight (rank_at m (line_at lines k).index).height
-    line_fits whole k inside = point_height m (rank_at m (line_at lines k).index) whole (point_at m (position_at m.size (line_at lines k).index) (new k inside).present)
-
-    -- and so has the highest point of a chain
+    -- the highest point of a chain has a height of the map
     pub top_fits : IsMap m → (i : ℕ) (height : ℤ) → IsTopHeight m side lines i height → IsHeight height
     top_fits whole i height up = subst IsHeight up.height_is (point_height m up.top whole (top_point i up.top up.is_top))
 
     -- a point has one chain
     one_chain : (i : ℕ) (ps qs : List ℕ) → AreParents lines i ps → AreParents lines i qs → ps ≡ qs
     one_chain i [] [] a b = refl
-    one_chain i [] (q ∷ qs) a b = absurd (none-some q (sym a.2 ∙ ap (λ (z : AuditLine). z.parent) (one_line i a.0 b.0 a.1 b.1) ∙ b.2))
-    one_chain i (p ∷ ps) [] a b = absurd (none-some p (sym b.2 ∙ ap (λ (z : AuditLine). z.parent) (one_line i b.0 a.0 b.1 a.1) ∙ a.2))
+    one_chain i [] (q ∷ qs) a b = absurd (none-some q (sym a.2 ∙ ap (λ (z : AuditLine). z.parent) (one_line m lines new i a.0 b.0 a.1 b.1) ∙ b.2))
+    one_chain i (p ∷ ps) [] a b = absurd (none-some p (sym b.2 ∙ ap (λ (z : AuditLine). z.parent) (one_line m lines new i b.0 a.0 b.1 a.1) ∙ a.2))
     one_chain i (p ∷ ps) (q ∷ qs) a b =
-        let same : p ≡ q = same_Some p q (sym a.2 ∙ ap (λ (z : AuditLine). z.parent) (one_line i a.0 b.0 a.1 b.1) ∙ b.2) in
+        let same : p ≡ q = same_Some p q (sym a.2 ∙ ap (λ (z : AuditLine). z.parent) (one_line m lines new i a.0 b.0 a.1 b.1) ∙ b.2) in
         ap₂ (λ (x : ℕ) (xs : List ℕ). x ∷ xs) same (one_chain q ps qs (subst (λ (j : ℕ). AreParents lines j ps) same a.3) b.3)
 
     one_top : (t u : Rank) (xs : List Rank) → IsTop (below_by side) t xs → IsTop (below_by side) u xs → t ≡ u

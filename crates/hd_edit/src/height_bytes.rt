@@ -11,7 +11,7 @@ pub struct OverLeast {
 
 impl OverLeast {
     ghost use Rattle.std.specs.Prelude.{MatchOption};
-    ghost use Rattle.hd_edit.specs.Over.{number_of, widened};
+    ghost use Rattle.hd_edit.specs.SevenBytes.{number_of, widened};
 
     /// The bytes of a number.
     #[inline]

@@ -11,16 +11,16 @@ use std::rt::Files;
 /// Gives the bytes that are left and keeps those that it gets, at most `most` at a time and `room`
 /// in all.
 #[derive(Clone, Copy)]
-pub struct Narrow<'a> {
+pub struct PieceFile<'a> {
     left: &'a [u8],
     got: &'a RefCell<Vec<u8>>,
     most: usize,
     room: usize,
 }
 
-impl<'a> Narrow<'a> {
+impl<'a> PieceFile<'a> {
     pub fn new(left: &'a [u8], got: &'a RefCell<Vec<u8>>, most: usize, room: usize) -> Self {
-        Narrow {
+        PieceFile {
             left,
             got,
             most,
@@ -41,7 +41,7 @@ impl<'a> Narrow<'a> {
     }
 }
 
-impl Read for Narrow<'_> {
+impl Read for PieceFile<'_> {
     fn read(&mut self, into: &mut [u8]) -> io::Result<usize> {
         let left = self.left;
         let count = self.pass(left.len().min(into.len()))?;
@@ -51,7 +51,7 @@ impl Read for Narrow<'_> {
     }
 }
 
-impl Write for Narrow<'_> {
+impl Write for PieceFile<'_> {
     fn write(&mut self, piece: &[u8]) -> io::Result<usize> {
         let count = self.pass(piece.len())?;
         match self.got.try_borrow_mut() {
@@ -66,13 +66,13 @@ impl Write for Narrow<'_> {
     }
 }
 
-impl Seek for Narrow<'_> {
+impl Seek for PieceFile<'_> {
     fn seek(&mut self, _to: SeekFrom) -> io::Result<u64> {
         Err(unsupported())
     }
 }
 
-impl OpenFile for Narrow<'_> {
+impl OpenFile for PieceFile<'_> {
     fn metadata(&self) -> io::Result<Metadata> {
         Err(unsupported())
     }
@@ -92,14 +92,14 @@ impl OpenFile for Narrow<'_> {
 
 /// One such file, under each name, though none is found there before it is opened.
 #[derive(Drop)]
-pub struct Shelf<'a>(pub Narrow<'a>);
+pub struct Shelf<'a>(pub PieceFile<'a>);
 
 impl<'a> Files for Shelf<'a> {
-    type File = Narrow<'a>;
+    type File = PieceFile<'a>;
 
     type Dir = Empty;
 
-    fn open_file(&self, _how: &OpenOptions, _path: &str) -> io::Result<Narrow<'a>> {
+    fn open_file(&self, _how: &OpenOptions, _path: &str) -> io::Result<PieceFile<'a>> {
         Ok(self.0)
     }
 

@@ -3,7 +3,7 @@ use Rattle.std.proofs.Common.{◌≡◌, ℕ, zero, suc, ◌+◌, ◌-◌, ◌<�
 use Rattle.std.specs.Prelude.{Contains, reverse}
 use Rattle.std.proofs.lemmas.Option.{slice_get_within, same_Some}
 use Rattle.hd_map.specs.Order.{IsNotAbove, IsStrictOrder}
-use Rattle.hd_map.proofs.Sides.{below-not_above, not_above-trans, not_above-along}
+use Rattle.hd_map.proofs.Order.{below-not_above, not_above-trans, not_above-along}
 use Rattle.hd_map.specs.declared.types.Rank.{Rank}
 use Rattle.hd_graph.specs.declared.line.Stop.{Stop}
 use Rattle.hd_graph.proofs.Places.{less_same_more}
@@ -13,7 +13,7 @@ use Rattle.hd_map.specs.ChangeTree.{AreTogether, IsPart}
 use Rattle.hd_graph.proofs.Highest.{OnePlace, TellsHighest}
 use Rattle.hd_graph.proofs.Rises.{RiseWithin, IsHighestBetween}
 use Rattle.hd_graph.specs.Parts.{rise_below, lowest_to, IsLeftPart}
-use Rattle.hd_graph.proofs.Round.{stop_at}
+use Rattle.hd_graph.proofs.TurnedLine.{stop_at}
 use Rattle.hd_graph.proofs.Lowest.{Reaches, reaches-next, reaches-more, IsLowest, LowestIs, lowest-is}
 
 module _ (below : Rank → Rank → Bool) (order : IsStrictOrder below) where

@@ -7,10 +7,13 @@ use Rattle.std.proofs.lemmas.List.{places, get_or_past, get_or_default}
 use Rattle.std.proofs.lemmas.List.Elements.{All-get_or}
 use Rattle.std.proofs.Math.Seq.{take-append_seam}
 use borrow.Rule.Slice.PartMut.{put_mid}
+use Rattle.hd_map.specs.declared.types.Pos.{Pos}
+use Rattle.hd_map.specs.declared.types.Size.{Size}
+use Rattle.hd_map.specs.Map.{InGrid, place_of}
 use Rattle.hd_morph.specs.Element.{IsEntry, most_entry}
 use Rattle.hd_morph.specs.Raised.{IsNumberWithin, IsSettled, AreTopped, plus}
 use Rattle.hd_morph.specs.Turned.{IsNegated, AreNegated}
-use Rattle.hd_morph.specs.Plain.{missing, floor, shown, plain_at, value_at, IsPlainNumber, IsWithin, most_between, most_filtered}
+use Rattle.hd_morph.specs.Plain.{missing, floor, shown, plain_at, value_at, relief, ArePlain, IsPlainNumber, IsBounded, most_between, most_filtered}
 
 -- a number above the floor is a height
 pub shown_above : (z : ℤ) → floor <ℤ z → shown z ≡ Some z
@@ -98,7 +101,7 @@ tested_none z found fits is missed =
     by_lt_z floor z (λ above. let some : is_some (shown z) ≡ true = rw (shown_above z above) in absurd (true≢false (sym some ∙ none))) (λ below. shown_below z below)
 
 -- the negative of a height
-pub negated_height : (z new : ℤ) → floor <ℤ z → IsWithin most_filtered (shown z) → new ≡ neg_ℤ z → IsNegated z new
+pub negated_height : (z new : ℤ) → floor <ℤ z → IsBounded most_filtered (shown z) → new ≡ neg_ℤ z → IsNegated z new
 negated_height z new above within is =
     let some : shown z ≡ Some z = shown_above z above in
     let most = within.greatest z some in
@@ -195,15 +198,32 @@ pub all_written : (n : ℕ) (ys zs : List ℤ) → n ≡ length ys → take n (y
 all_written n ys zs e = rw e (take-append_seam ys zs)
 
 -- an entry of a table is within the limits
-entry_of : (v : Option ℤ) → IsEntry v → IsWithin most_entry v
+entry_of : (v : Option ℤ) → IsEntry v → IsBounded most_entry v
 entry_of None entry = record { least = λ z is. let e : None ≡ Some z = is in cc; greatest = λ z is. let e : None ≡ Some z = is in cc }
 entry_of (Some y) entry = record {
   least = λ z is. let same : y ≡ z = cc in let low = entry.0 in omega (arith, ints);
   greatest = λ z is. let same : y ≡ z = cc in let high = entry.1 in omega (arith, ints);
 }
 
-pub entry_within : (table : List (Option ℤ)) → All IsEntry table → (k : ℕ) → IsWithin most_entry (slice_index_or table k None)
+pub entry_within : (table : List (Option ℤ)) → All IsEntry table → (k : ℕ) → IsBounded most_entry (slice_index_or table k None)
 entry_within table entries k = elim (cases_lt k (length table)) [
   | inl inside ↦ entry_of (slice_index_or table k None) (All-get_or IsEntry table k None inside entries)
   | inr past ↦ rw (get_or_past table k None past) (entry_of None tt)
 ]
+
+-- a bound is one for each greater number
+pub within_more : (m n : ℕ) (v : Option ℤ) → m ≤ n → IsBounded m v → IsBounded n v
+within_more m n v more within = record {
+  least = λ z is. let h = within.least z is in omega (arith, ints);
+  greatest = λ z is. let h = within.greatest z is in omega (arith, ints);
+}
+
+pub plain_more : (s : Size) (m n : ℕ) (values : List ℤ) → m ≤ n → ArePlain s m values → ArePlain s n values
+plain_more s m n values more are = record {
+  whole = are.whole;
+  plain = record { each = λ k. record { bounded = within_more m n (value_at values k) more (are.plain.each k).bounded; absent = (are.plain.each k).absent } };
+}
+
+-- heights by position are bounded as the numbers are
+pub within_at : (s : Size) (n : ℕ) (values : List ℤ) → ArePlain s n values → (p : Pos) → InGrid s p → IsBounded n (relief s values p)
+within_at s n values are p inside = (are.plain.each (place_of s p)).bounded
