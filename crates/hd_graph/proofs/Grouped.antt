@@ -16,7 +16,7 @@ use Rattle.hd_map.specs.declared.types.Rank.{Rank}
 use Rattle.hd_map.proofs.Items.{Contains-head, Contains-cases, Contains-none, Contains-tail, AllPairs-first, AllPairs-tail}
 use Rattle.hd_graph.specs.declared.parts.Part.{Part}
 use Rattle.hd_graph.specs.declared.parts.Rise.{Rise}
-use Rattle.hd_graph.proofs.LeftParts.{from-sides}
+use Rattle.hd_graph.proofs.LeftParts.{from-rise_parts}
 use Rattle.hd_map.specs.ChangeTree.{Joining}
 use Rattle.hd_graph.specs.Parts.{AreGrouped, IsListed, comes_before, join_of, grown, left_of, right_of, rise_parts, with_low, with_part}
 use Rattle.hd_graph.proofs.Adding.{with_part-grows, with_part-adds}
@@ -266,7 +266,7 @@ module _ (below : Rank → Rank → Bool) (order : IsStrictOrder below) where
           subst (λ (z : Rise). below x.saddle z.saddle ≡ false) r.3 (sorted_far (comes_before below) before-weak rises sorted r.0 n d (let lt = r.1 in omega arith) inside)
 
       after : (f : Part) → Contains before f → below x.saddle f.saddle ≡ false
-      after f at = (let r = from-sides (take n rises) f at in elim r.2 [
+      after f at = (let r = from-rise_parts (take n rises) f at in elim r.2 [
         | inl is ↦ subst (λ (g : Part). below x.saddle g.saddle ≡ false) is (not_above r.0 r.1)
         | inr is ↦ subst (λ (g : Part). below x.saddle g.saddle ≡ false) is (not_above r.0 r.1)
       ])

@@ -114,19 +114,19 @@ to-right (y ∷ ys) x h = elim (Contains-cases y x ys h) [
 ]
 
 -- and each of those is one of some rise
-pub from-sides : (xs : List Rise) (e : Part) → Contains (rise_parts xs) e → (x : Rise) × Contains xs x × ((left_of x ≡ e) ⊎ (right_of x ≡ e))
-from-sides [] e h = absurd (Contains-none e h)
-from-sides (y ∷ ys) e h = elim (Contains-cases (left_of y) e (right_of y ∷ rise_parts ys) h) [
+pub from-rise_parts : (xs : List Rise) (e : Part) → Contains (rise_parts xs) e → (x : Rise) × Contains xs x × ((left_of x ≡ e) ⊎ (right_of x ≡ e))
+from-rise_parts [] e h = absurd (Contains-none e h)
+from-rise_parts (y ∷ ys) e h = elim (Contains-cases (left_of y) e (right_of y ∷ rise_parts ys) h) [
   | inl is ↦ (y, Contains-head y ys, inl (sym is))
   | inr more ↦ elim (Contains-cases (right_of y) e (rise_parts ys) more) [
     | inl is ↦ (y, Contains-head y ys, inr (sym is))
-    | inr later ↦ (let r = from-sides ys e later in (r.0, Contains-tail y r.0 ys r.1, r.2))
+    | inr later ↦ (let r = from-rise_parts ys e later in (r.0, Contains-tail y r.0 ys r.1, r.2))
   ]
 ]
 
 -- so the rises may stand in another order
-pub sides-moved : (xs ys : List Rise) → ((x : Rise) → Contains xs x → Contains ys x) → (e : Part) → Contains (rise_parts xs) e → Contains (rise_parts ys) e
-sides-moved xs ys moved e h = (let r = from-sides xs e h in elim r.2 [
+pub rise_parts-moved : (xs ys : List Rise) → ((x : Rise) → Contains xs x → Contains ys x) → (e : Part) → Contains (rise_parts xs) e → Contains (rise_parts ys) e
+rise_parts-moved xs ys moved e h = (let r = from-rise_parts xs e h in elim r.2 [
   | inl is ↦ subst (λ (p : Part). Contains (rise_parts ys) p) is (to-left ys r.0 (moved r.0 r.1))
   | inr is ↦ subst (λ (p : Part). Contains (rise_parts ys) p) is (to-right ys r.0 (moved r.0 r.1))
 ])
@@ -178,9 +178,9 @@ module _ (below : Rank → Rank → Bool) where
           inr (left-is (turned_round line) rights right (length line - h.place) w.0 x.saddle x.right (omega arith) w.1 (sym rise ∙ h.rise_is) h.right_is),
         )
 
-    pub sides-are : (e : Part) → Contains (rise_parts rises) e ↔ IsRisePart below line e
-    sides-are e = (
-      λ h. (let r = from-sides rises e h in let both = from_rise r.0 r.1 in elim r.2 [
+    pub rise_parts-are : (e : Part) → Contains (rise_parts rises) e ↔ IsRisePart below line e
+    rise_parts-are e = (
+      λ h. (let r = from-rise_parts rises e h in let both = from_rise r.0 r.1 in elim r.2 [
         | inl is ↦ subst (λ (p : Part). IsRisePart below line p) is both.0
         | inr is ↦ subst (λ (p : Part). IsRisePart below line p) is both.1
       ]),

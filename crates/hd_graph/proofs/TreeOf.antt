@@ -72,14 +72,14 @@ module _ (below : Rank → Rank → Bool) (order : IsStrictOrder below) (IsSaddl
   same_lows = record { pits = lows_of-round line; saddles = λ p q s hp hq ne. (λ h. h, λ h. h) }
 
   -- a part beside a rise is one of the tree
-  side-is_part : (e : Part) → IsRisePart below line e → IsPart below IsSaddle (IsLowOn line) e.saddle e.low
-  side-is_part e (inl h) = left-is_part below order IsSaddle line tells once e h
-  side-is_part e (inr h) = part-agrees below order IsSaddle IsSaddle (IsLowOn (turned_round line)) (IsLowOn line) same_lows e.saddle e.low
+  rise_part-is_part : (e : Part) → IsRisePart below line e → IsPart below IsSaddle (IsLowOn line) e.saddle e.low
+  rise_part-is_part e (inl h) = left-is_part below order IsSaddle line tells once e h
+  rise_part-is_part e (inr h) = part-agrees below order IsSaddle IsSaddle (IsLowOn (turned_round line)) (IsLowOn line) same_lows e.saddle e.low
       (left-is_part below order IsSaddle (turned_round line) (tells-round below IsSaddle line tells) (once-round line once) e h)
 
   -- and the other way round
-  part-is_side : (s r : Rank) → IsPart below IsSaddle (IsLowOn line) s r → IsRisePart below line (record { saddle = s; low = r })
-  part-is_side s r h =
+  part-is_rise_part : (s r : Rank) → IsPart below IsSaddle (IsLowOn line) s r → IsRisePart below line (record { saddle = s; low = r })
+  part-is_rise_part s r h =
       let j = h.joined in
       let p : Rank = j.0 in
       let q : Rank = j.1 in
@@ -128,4 +128,4 @@ module _ (below : Rank → Rank → Bool) (order : IsStrictOrder below) (IsSaddl
 
   -- the parts, grouped, are the tree
   pub tree-of_parts : (es : List Part) (joins : List Joining) → ((e : Part) → Contains es e ↔ IsRisePart below line e) → AreGrouped below es joins → IsTree below IsSaddle (IsLowOn line) joins
-  tree-of_parts es joins exactly grouped = tree-of_classes below order IsSaddle (IsLowOn line) (IsRisePart below line) (record { are = side-is_part; all = part-is_side; some = some_part }) es joins exactly grouped
+  tree-of_parts es joins exactly grouped = tree-of_classes below order IsSaddle (IsLowOn line) (IsRisePart below line) (record { are = rise_part-is_part; all = part-is_rise_part; some = some_part }) es joins exactly grouped

@@ -43,9 +43,7 @@ pub fn is_by_pool(
     match choice {
         Choice::Map => false,
         Choice::Pool => true,
-        Choice::Free => {
-            (are_pits_few || question == Question::Label) && WORTH * points <= spent
-        }
+        Choice::Free => { (are_pits_few || question == Question::Label) && WORTH * points <= spent }
     }
 }
 

@@ -18,12 +18,11 @@ use Rattle.hd_map.proofs.Levels.{Reach, here, step, Contains-head, Contains-tail
 use Rattle.hd_map.proofs.Nexts.{next-falls, root-pit, root-step, root-unique}
 use Rattle.hd_map.proofs.Points.{Near-from, Near-to, present_or_not, rank_position, ranks_of, point-listed}
 use Rattle.hd_map.proofs.Saddles.{saddle-exists}
-use Rattle.hd_map.proofs.Order.{not_above-trans}
+use Rattle.hd_map.proofs.Order.{not_above-total, not_above-trans}
 use Rattle.hd_prune.proofs.Levels.{SaddleIs as LevelIs}
 use Rattle.hd_prune.specs.Taken.{HasBeyond}
 use Rattle.hd_prune.proofs.Firsts.{first_of}
 use Rattle.hd_prune.proofs.LowerNeighbours.{lower_neighbours}
-use Rattle.hd_prune.proofs.Nearest.{not_above-total}
 use Rattle.hd_prune.proofs.Points.{JoinedBy, by_levels}
 use Rattle.hd_prune.proofs.Reachable.{reach_or_not}
 

@@ -2,9 +2,9 @@
 use Rattle.std.proofs.Common.{◌≡◌, ℕ, Bool, true, List}
 use Rattle.std.specs.Prelude.{Contains}
 use Rattle.hd_map.specs.Order.{IsNotAbove}
+use Rattle.hd_map.proofs.Order.{not_above-along}
 use Rattle.hd_prune.proofs.Levels.{IsPrunable}
 use Rattle.hd_prune.proofs.Elder.{IsElderSaddle}
-use Rattle.hd_prune.proofs.Nearest.{not_above-along}
 
 module _ {V : Type 0} (below : V → V → Bool) (Joined : V → V → V → Type 0) (pits : List V) where
   -- k is an heir of r: a kept pit, not above r, and as near to r as any kept pit

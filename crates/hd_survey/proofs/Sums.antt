@@ -8,5 +8,5 @@ pub numerator_by_denominator : (f g : Frac) → IsSmall f → IsSmall g → unsi
 numerator_by_denominator f g small small' = let product = mul-le-mul small.num small'.den in omega (arith, product)
 
 -- of the denominators
-pub den_by_den : (f g : Frac) → IsSmall f → IsSmall g → f.den * g.den < 2 ^ 127
-den_by_den f g small small' = let product = mul-le-mul small.den small'.den in omega (arith, product)
+pub denominator_by_denominator : (f g : Frac) → IsSmall f → IsSmall g → f.den * g.den < 2 ^ 127
+denominator_by_denominator f g small small' = let product = mul-le-mul small.den small'.den in omega (arith, product)

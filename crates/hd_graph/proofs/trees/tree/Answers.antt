@@ -13,7 +13,7 @@ use Rattle.hd_graph.specs.Tells.{IsPitOn, IsSaddleOn, joins_of}
 use Rattle.hd_graph.proofs.Grouped.{before-weak}
 use Rattle.hd_graph.proofs.Highest.{OnePlace, line-tells}
 use Rattle.hd_graph.proofs.Lows.{IsLowOn}
-use Rattle.hd_graph.proofs.LeftParts.{sides-moved}
+use Rattle.hd_graph.proofs.LeftParts.{rise_parts-moved}
 use Rattle.hd_graph.proofs.MapTrees.{tree-of_map}
 use Rattle.hd_graph.proofs.PitLines.{once-short, tree-of_pits}
 use Rattle.hd_graph.proofs.Places.{one_place}
@@ -39,8 +39,8 @@ returns g c =
     let grouped : AreGrouped below (rise_parts rises) joins = rw c.deref-2.ensures.value at c.in_ok-joins.ensures in
     let short : IsTree below (IsSaddleOn below pits) (IsLowOn pits) joins = tree-of_parts below order (IsSaddleOn below pits) pits (line-tells below order pits short_once) short_once (rise_parts rises) joins
     (λ e. (
-      λ h. (exactly e).0 (sides-moved rises raw (λ x at. Contains-permutation rises raw x (IsPermutation-sym raw rises c.sort_unstable_by.ensures.permutation) at) e h),
-      λ h. sides-moved raw rises (λ x at. Contains-permutation raw rises x c.sort_unstable_by.ensures.permutation at) e ((exactly e).1 h),
+      λ h. (exactly e).0 (rise_parts-moved rises raw (λ x at. Contains-permutation rises raw x (IsPermutation-sym raw rises c.sort_unstable_by.ensures.permutation) at) e h),
+      λ h. rise_parts-moved raw rises (λ x at. Contains-permutation raw rises x c.sort_unstable_by.ensures.permutation at) e ((exactly e).1 h),
     )) grouped in
     let whole : IsTree below (IsSaddleOn below line) (IsPitOn line) joins = tree-of_pits below order line once joins short in
     rw c.from_vec.ensures (record {
