@@ -1,26 +1,20 @@
 -- Points that lie inside a region: those with the number of all that are round them.
-use Rattle.std.proofs.Common.{◌≡◌, ◌<◌, ◌+◌, ◌*◌, ℕ, List, [], slice_index, inl, inr, ap, ◌∙◌, sym, subst, refl, arith}
+use Rattle.std.proofs.Common.{◌≡◌, ◌+◌, ◌*◌, ℕ, List, [], slice_index, inl, inr, ap, ◌∙◌, sym, subst, refl, arith}
 use Rattle.std.proofs.lemmas.Bool.{cases_eq}
 use Rattle.hd_map.specs.declared.types.Pass.{Pass}
 use Rattle.hd_map.specs.declared.types.Pos.{Pos}
 use Rattle.hd_map.specs.declared.types.Rank.{Rank}
 use Rattle.hd_map.specs.declared.types.SideName.{SideName}
 use Rattle.hd_map.specs.declared.types.Size.{Size}
-use Rattle.hd_map.specs.Map.{Map, Present, place_of, cell_count}
+use Rattle.hd_map.specs.Map.{Map, Present, place_of}
 use Rattle.hd_map.specs.Neighbour.{Neighbour, IsNear}
 use Rattle.hd_map.specs.Rank.{rank}
 use Rattle.hd_map.specs.Region.{LowerNeighbour}
-use Rattle.hd_map.proofs.Points.{place_inside, same_point, point_at, Near-to}
+use Rattle.hd_map.proofs.Points.{same_point, point_at, Near-to}
 use Rattle.hd_steep.specs.Crossed.{AreInOne, Gathers}
 use Rattle.hd_steep.specs.Numbering.{Numbering, AreNumbered, AreOneAround}
 use Rattle.hd_steep.proofs.Crossed.{crossed_in_one, extends_none}
 use Rattle.hd_steep.proofs.NumberedCrossings.{number-of_point, in_one-numbers}
-
--- the last of the indexes round a position is in the map
-pub last_around : (s : Size) (p : Pos) (index cells : ℕ) → index ≡ place_of s p → cells ≡ cell_count s → p.x + 1 < s.points → p.y + 1 < s.profiles → index + s.points + 1 < cells
-last_around s p index cells at whole column profile =
-    let inside = place_inside s (record { x = p.x + 1; y = p.y + 1 }) (record { column = column; profile = profile }) in
-    omega (arith, inside, at, whole)
 
 -- a position beside one has its number
 same_number : (s : Size) (numbers : List ℕ) (p q : Pos) → AreOneAround numbers s.points (place_of s p) → IsNear p.x q.x → IsNear p.y q.y → slice_index numbers (place_of s p) ≡ slice_index numbers (place_of s q)
@@ -53,8 +47,8 @@ module _ (m : Map) (side : SideName) (regions : Numbering) (are : AreNumbered m 
       (number-of_point m side regions are (rank m at) (point_at m at here)).0 (number-of_point m side regions are z (Near-to m (rank m at) z near)).0 same
 
   -- nothing is to be gathered at it
-  pub gathers_inside : (at : Pos) (passes : List Pass) → Present m at → AreOneAround regions.numbers m.size.points (place_of m.size at) → Gathers m side (λ u. u ≡ at) passes passes
-  gathers_inside at passes here one = record {
+  pub gathers_inside : (at : Pos) (passes : List Pass) → AreOneAround regions.numbers m.size.points (place_of m.size at) → Gathers m side (λ u. u ≡ at) passes passes
+  gathers_inside at passes one = record {
     extends = extends_none m side passes;
     served = λ u same there z low.
         let round = subst (λ (p : Pos). AreOneAround regions.numbers m.size.points (place_of m.size p)) (sym same) one in

@@ -9,7 +9,7 @@ use Rattle.hd_map.specs.declared.types.Pass.{Pass}
 use Rattle.hd_map.specs.declared.types.Pos.{Pos}
 use Rattle.hd_map.specs.declared.types.Rank.{Rank}
 use Rattle.hd_map.specs.declared.types.SideName.{SideName}
-use Rattle.hd_map.specs.Map.{Map, IsMap, InGrid, Present, place_of}
+use Rattle.hd_map.specs.Map.{Map, IsMap, InGrid, Present}
 use Rattle.hd_map.specs.Rank.{rank, IsPoint}
 use Rattle.hd_map.specs.Region.{LowerNeighbour, IsNext, IsRoot, AreRegions}
 use Rattle.hd_map.proofs.Gather.{same_pos}
@@ -80,10 +80,6 @@ module _ (m : Map) (side : SideName) (whole : IsMap m) (rows : Rows) (at : Pos) 
             let same : one.at ≡ at = same_pos one.at at (let a = there.place in omega (arith, a)) (let a = there.profile in omega (arith, a)) in
             subst (λ (p : Pos). Present m p) same one.present
       ]
-
-  -- and the index is that of the position
-  pub index_in_middle : (own : Rank) → own ≡ middle → Present m at → own.index ≡ place_of m.size at
-  index_in_middle own is here = ap (λ (r : Rank). r.index) (is ∙ own_is m side whole above level below at.x at.y inside.column round.above round.level round.below at here refl refl)
 
   -- the first ones of what is read
   pub firsts_at : (own : Rank) (lower first : List Bool) → Present m at → own ≡ middle → lower ≡ are_lower_heights side own around → first ≡ marks_of m.adjacency lower → first ≡ marks_of m.adjacency (are_lower side middle around)

@@ -1,5 +1,5 @@
 -- The regions of a map by the numbers of their pits.
-use Rattle.std.specs.Prelude.{◌≡◌, ◌<◌, ◌≤◌, ◌+◌, ℕ, List, length, map, Option, Some, None, slice_get, slice_index, slice_index_or, nat_lt, MatchOption, if◌then◌else◌}
+use Rattle.std.specs.Prelude.{◌≡◌, ◌<◌, ◌≤◌, ◌+◌, ℕ, Bool, true, false, List, length, map, Option, Some, None, slice_get, slice_index, slice_index_or, nat_lt, MatchOption, if◌then◌else◌}
 use Rattle.std.specs.Option.{option_map}
 use Rattle.hd_map.specs.declared.types.Rank.{Rank}
 use Rattle.hd_map.specs.declared.types.SideName.{SideName}
@@ -71,3 +71,7 @@ pub record AreOneAround (numbers : List ℕ) (width index : ℕ) : Type 0 where
   pub above : (middle : ℕ) → middle + width ≡ index → AreThree numbers middle (slice_index numbers index)
   pub level : AreThree numbers index (slice_index numbers index)
   pub below : AreThree numbers (index + width) (slice_index numbers index)
+
+-- a marked one of a row of indexes, from a first one on, has one number with the eight round it
+abbrev pub AreInner : List ℕ → ℕ → ℕ → List Bool → Type 0
+AreInner numbers width first marks = (k : ℕ) → k < length marks → slice_index_or marks k false ≡ true → AreOneAround numbers width (first + k)

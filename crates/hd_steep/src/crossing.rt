@@ -1,12 +1,12 @@
 // The passes at points whose lower neighbours fall into several groups.
-ghost use Rattle.std.specs.Prelude.{◌≡◌, ◌<◌, ◌≤◌, ◌+◌, ℕ, [], true, length, All, IfOk, OnOk};
+ghost use Rattle.std.specs.Prelude.{◌≡◌, ◌<◌, ◌≤◌, ◌+◌, ◌*◌, ℕ, [], true, length, All, IfOk, OnOk};
 ghost use Rattle.std.specs.Bool.{OnTrue};
 ghost use Rattle.hd_map.specs.Map.{InGrid, cell_count, place_of};
 ghost use Rattle.hd_map.specs.Crossings.{AreCrossingsUnder};
 ghost use Rattle.hd_map.specs.Rank.{IsPoint};
 ghost use Rattle.hd_map.specs.Region.{LowerNeighbour};
 ghost use Rattle.hd_steep.specs.Crossings.{HasPits, IsNumberOf, pass_of, passes_of};
-ghost use Rattle.hd_steep.specs.Numbering.{AreNumbered, AreOneAround, roots_of};
+ghost use Rattle.hd_steep.specs.Numbering.{AreInner, AreNumbered, AreOneAround, roots_of};
 ghost use Rattle.hd_steep.specs.Rows.{rank_in};
 ghost use Rattle.hd_steep.specs.Ring.{is_marked};
 ghost use Rattle.hd_steep.specs.Crossed.{AreRowsRound, AreWide, ring_round, Extends, IsCrossed, AreCrossedTo, Gathers};
@@ -19,8 +19,7 @@ use hd_list::{List, Memory};
 use hd_map::{Heights, Link, Pass, Pos, Rank, Side};
 use std::alloc::Global;
 
-// Where pits have more points than this, it saves time to look first whether a point lies inside a
-// region.
+// Pits are few where each has more points than this.
 const POINTS_A_PIT: usize = 64;
 
 /// Passes between these regions that are enough to tell at which heights regions are joined: where
@@ -29,7 +28,7 @@ const POINTS_A_PIT: usize = 64;
 /// The regions are those that `find_regions` gives for this grid and side. There may be several
 /// passes for two regions, or none; `passes` gives one for each two that meet. Measured, it takes
 /// time in proportion to the points, and memory for the passes, at first for one of three points,
-/// and 48 bytes a column. `Memory` comes where memory is refused.
+/// and 49 bytes a column. `Memory` comes where memory is refused.
 pub fn crossings<S: Side, G: Heights>(
     alloc: Global,
     grid: &G,
@@ -88,59 +87,84 @@ fn gather<S: Side, G: Heights>(
     ensures pits { IfOk result (λ xs. All (HasPits regions.now.pits) xs.items) }
 {
     let mut rows = Rows::new::<S, G>(alloc, grid)?;
+    let mut inner = vec![in alloc; false; grid.size().points as usize]?;
     // heights without any order have about one pass for three points
     let mut crossings = Vec::with_capacity(alloc, regions.len() / 3)?;
     'profiles: for y in 0..grid.size().profiles {
         rows.advance::<S, G>(grid, y);
-        gather_profile::<S, G>(grid, regions, &rows, y, &mut crossings)?;
+        mark_profile::<G>(grid, regions, y, &mut inner);
+        gather_profile::<S, G>(grid, regions, &rows, &inner, y, &mut crossings)?;
     }
     Ok(crossings)
 }
 
-// Adds the crossings at the points of a profile.
+// Marks by column the points of a profile that lie inside a region, where pits are few: where they are many, hardly any
+// point does.
+fn mark_profile<G: Heights>(grid: &G, regions: &Regions, y: u32, inner: &mut [bool])
+    requires profile { y < (G.map grid.now).size.profiles }
+    requires columns { length inner.old ≡ (G.map grid.now).size.points }
+    requires numbers { length regions.now.numbers ≡ cell_count (G.map grid.now).size }
+    ensures { AreInner regions.now.numbers (G.map grid.now).size.points (y * (G.map grid.now).size.points) inner.new }
+{
+    let size = grid.size();
+    let are_pits_few = regions.pits().len() < regions.len() / POINTS_A_PIT;
+    // The two profiles at each border are left: of the indexes round theirs some are not in the grid.
+    if are_pits_few && 1 < y && y + 2 < size.profiles {
+        let width = size.points as usize;
+        regions.mark_inner(y as usize * width, width, inner);
+    } else {
+        inner.fill(false);
+    }
+}
+
+// Adds the crossings at the points of a profile, of which the marked ones lie inside a region.
 fn gather_profile<S: Side, G: Heights>(
     grid: &G,
     regions: &Regions,
     rows: &Rows,
+    inner: &[bool],
     y: u32,
     crossings: &mut Vec<Link>,
 ) -> Result<(), Memory>
     requires regions { AreNumbered (G.map grid.now) S.NAME regions.now }
     requires profile { y < (G.map grid.now).size.profiles }
     requires rows { AreRowsRound (G.map grid.now) S.NAME y rows.now }
+    requires columns { length inner.now ≡ (G.map grid.now).size.points }
+    requires inner { AreInner regions.now.numbers (G.map grid.now).size.points (y * (G.map grid.now).size.points) inner.now }
     ensures gathers { OnOk result (Gathers (G.map grid.now) S.NAME (λ u. u.y ≡ y) (passes_of S.NAME regions.now.pits crossings.old.items) (passes_of S.NAME regions.now.pits crossings.new.items)) }
     ensures pits { OnOk result (All (HasPits regions.now.pits) crossings.old.items → All (HasPits regions.now.pits) crossings.new.items) }
 {
-    let are_pits_few = regions.pits().len() < regions.len() / POINTS_A_PIT;
     for x in 0..grid.size().points {
-        gather_point::<S, G>(grid, regions, rows, Pos { x, y }, are_pits_few, crossings)?;
+        let is_inner = inner[x as usize];
+        gather_point::<S, G>(grid, regions, rows, Pos { x, y }, is_inner, crossings)?;
     }
     Ok(())
 }
 
-// Adds the crossings at a point, if it is present. Where its lower neighbours are one group, they are
-// joined below it; and where it lies inside a region, they all lie in that one.
+// Adds the crossings at a point, if it is present. Where it lies inside a region, its lower neighbours all lie in that
+// one; and where they are one group, they are joined below it.
 #[inline]
 fn gather_point<S: Side, G: Heights>(
     grid: &G,
     regions: &Regions,
     rows: &Rows,
     at: Pos,
-    are_pits_few: bool,
+    is_inner: bool,
     crossings: &mut Vec<Link>,
 ) -> Result<(), Memory>
     requires regions { AreNumbered (G.map grid.now) S.NAME regions.now }
     requires inside { InGrid (G.map grid.now).size at }
     requires rows { AreRowsRound (G.map grid.now) S.NAME at.y rows.now }
+    requires inner { OnTrue is_inner (AreOneAround regions.now.numbers (G.map grid.now).size.points (place_of (G.map grid.now).size at)) }
     ensures gathers { OnOk result (Gathers (G.map grid.now) S.NAME (λ u. u ≡ at) (passes_of S.NAME regions.now.pits crossings.old.items) (passes_of S.NAME regions.now.pits crossings.new.items)) }
     ensures pits { OnOk result (All (HasPits regions.now.pits) crossings.old.items → All (HasPits regions.now.pits) crossings.new.items) }
 {
+    if is_inner {
+        return Ok(());
+    }
     let x = at.x as usize;
     let own = rows.level[x + 1];
     if is_missing::<S>(own) {
-        return Ok(());
-    }
-    if are_pits_few && lies_inside(grid, regions, at, own.index as usize) {
         return Ok(());
     }
     let lower = lower_at::<S>(&rows.above, &rows.level, &rows.below, x, own);
@@ -149,19 +173,6 @@ fn gather_point<S: Side, G: Heights>(
         cross::<S, G>(grid, regions, own, rows, x, &marks, crossings)?;
     }
     Ok(())
-}
-
-// Whether the eight positions round one are all in the grid and have the number of its index.
-#[inline]
-fn lies_inside<G: Heights>(grid: &G, regions: &Regions, at: Pos, index: usize) -> bool
-    requires inside { InGrid (G.map grid.now).size at }
-    requires index { index ≡ place_of (G.map grid.now).size at }
-    requires numbers { length regions.now.numbers ≡ cell_count (G.map grid.now).size }
-    ensures { OnTrue result (AreOneAround regions.now.numbers (G.map grid.now).size.points index) }
-{
-    let size = grid.size();
-    let is_inner = (0 < at.x) & (at.x + 1 < size.points) & (0 < at.y) & (at.y + 1 < size.profiles);
-    is_inner && regions.are_one_around(index, size.points as usize)
 }
 
 // Adds the crossings at a point to the marked ones of its lower neighbours.

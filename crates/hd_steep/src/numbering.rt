@@ -2,7 +2,7 @@
 ghost use Rattle.std.specs.Prelude.{◌≡◌, ◌<◌, ◌≤◌, ◌+◌, IfOk, length, slice_get, slice_index};
 ghost use Rattle.std.specs.Bool.{OnTrue};
 ghost use Rattle.hd_steep.specs.FirstLinks.{AreFirstLinks};
-ghost use Rattle.hd_steep.specs.Numbering.{AreNumbered, AreThree, AreOneAround, number_of, root_of, roots_of};
+ghost use Rattle.hd_steep.specs.Numbering.{AreInner, AreNumbered, AreOneAround, AreThree, number_of, root_of, roots_of};
 
 use crate::leading::{lead_on, lead_to_roots};
 use crate::links::first_links;
@@ -69,18 +69,17 @@ impl Regions {
         self.pits.get(self.numbers[index] as usize).copied()
     }
 
-    /// Whether an index and the eight round it have one number. All nine are in the grid, which has this
-    /// width.
-    #[inline]
-    pub(crate) fn are_one_around(&self, index: usize, width: usize) -> bool
-        requires before { width < index }
-        requires after { index + width + 1 < length self.now.numbers }
-        ensures { OnTrue result (AreOneAround self.now.numbers width index) }
+    /// Marks in a row of indexes, from a first one on, those that have one number with the eight round them. All of
+    /// these are in the grid, which has this width.
+    pub(crate) fn mark_inner(&self, first: usize, width: usize, marks: &mut [bool])
+        requires before { width < first }
+        requires after { first + length marks.old + width < length self.now.numbers }
+        ensures { AreInner self.now.numbers width first marks.new }
     {
-        let number = self.numbers[index];
-        are_three(&self.numbers, index - width, number)
-            & are_three(&self.numbers, index, number)
-            & are_three(&self.numbers, index + width, number)
+        let numbers = self.numbers.as_slice();
+        for k in 0..marks.len() {
+            marks[k] = are_one_around(numbers, first + k, width);
+        }
     }
 
     /// The pits in position order. The numbers of the points are given up.
@@ -91,8 +90,22 @@ impl Regions {
     }
 }
 
-// Whether an index and the two beside it have this number. It is told without a branch.
-#[inline]
+// Whether an index and the eight round it have one number. All nine are in the grid, which has this width. It is told
+// without a branch, so that many are told at once.
+#[inline(always)]
+fn are_one_around(numbers: &[u32], index: usize, width: usize) -> bool
+    requires before { width < index }
+    requires after { index + width + 1 < length numbers.now }
+    ensures { OnTrue result (AreOneAround numbers.now width index) }
+{
+    let number = numbers[index];
+    are_three(numbers, index - width, number)
+        & are_three(numbers, index, number)
+        & are_three(numbers, index + width, number)
+}
+
+// Whether an index and the two beside it have this number.
+#[inline(always)]
 fn are_three(numbers: &[u32], middle: usize, number: u32) -> bool
     requires before { 1 ≤ middle }
     requires after { middle + 1 < length numbers.now }

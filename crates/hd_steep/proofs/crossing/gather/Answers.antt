@@ -1,10 +1,19 @@
-use Rattle.std.proofs.Common.{◌≡◌, ◌<◌, ◌+◌, ◌⊎◌, [], ap, subst, inl, inr, arith}
+use Rattle.std.proofs.Common.{◌≡◌, ◌<◌, ◌+◌, ◌*◌, ◌⊎◌, ◌∙◌, [], length, ap, subst, sym, inl, inr, arith}
 use Rattle.std.proofs.lemmas.Bool.{cases_lt}
+use Rattle.std.proofs.lemmas.List.{take_at}
 use Rattle.hd_map.specs.declared.types.Size.{Size}
 use Rattle.hd_steep.specs.Crossings.{passes_of}
+use Rattle.hd_steep.specs.Numbering.{AreInner}
 use Rattle.hd_steep.specs.Rows.{IsRowOf}
 use Rattle.hd_steep.proofs.Crossed.{gathers_less, gathers_join}
 use Rattle.hd_steep.proofs.crossing.gather.Goals as goal
+
+pub gather_profile-requires-clause-inner : goal.gather_profile-requires-clause-inner
+gather_profile-requires-clause-inner g c =
+    let m = g.G.Heights.map c.args.grid.now in
+    let marks = c.mark_profile.new.inner in
+    let sized : length marks ≡ c.profiles.inner.len = omega arith in
+    subst (AreInner c.args.regions.now.numbers m.size.points (c.profiles.y * m.size.points)) (sym (c.deref.ensures.value ∙ take_at marks _ c.profiles.inner.len sized)) c.mark_profile.ensures
 
 pub profiles-preserved : goal.profiles-preserved
 profiles-preserved g c =
@@ -14,12 +23,17 @@ profiles-preserved g c =
     let round = c.advance.ensures in
     let pits = c.args.regions.now.pits in
     let new = passes_of side pits c.gather_profile.new.crossings.items in
+    let marks = c.mark_profile.new.inner in
+    let sized : length marks ≡ c.profiles.inner.len = omega arith in
+    let long : length marks ≡ m.size.points = (let before = c.profiles.invariant.marks_sized in omega (arith, before)) in
+    let written = take_at marks _ c.profiles.inner.len sized in
     record {
       rows = record {
         spare = round.above.framed;
         level = round.level;
         below = (let e : y + 2 ≡ y + 1 + 1 = omega arith in subst (λ i. IsRowOf m side i c.advance.new.self.below.items) e round.below);
       };
+      marks_sized = ap length written ∙ long;
       gathers = gathers_less m side (λ u. (u.y < y) ⊎ (u.y ≡ y)) (λ u. u.y < y + 1) [] new
           (λ u here less. elim (cases_lt u.y y) [
             | inl before ↦ inl before

@@ -1,12 +1,11 @@
-use Rattle.std.proofs.Common.{◌≡◌, ◌∙◌, List, Bool, sym, subst, refl, arith}
+use Rattle.std.proofs.Common.{◌≡◌, ◌∙◌, List, Bool, sym, refl, arith}
 use Rattle.std.proofs.lemmas.Bool.{OnTrue_at, OnFalse_at}
-use Rattle.hd_map.specs.Map.{Present, place_of}
 use Rattle.hd_steep.specs.Crossed.{ring_round}
 use Rattle.hd_steep.specs.Crossings.{passes_of}
-use Rattle.hd_steep.specs.Numbering.{AreOneAround, roots_of}
+use Rattle.hd_steep.specs.Numbering.{roots_of}
 use Rattle.hd_steep.specs.Ring.{marks_of}
 use Rattle.hd_steep.proofs.Inside.{gathers_inside}
-use Rattle.hd_steep.proofs.Served.{IsLooked, read_middle, gathers_absent, present_in_middle, index_in_middle, looked_lower, point_in_middle, gathers_crossed, gathers_alone, firsts_at}
+use Rattle.hd_steep.proofs.Served.{IsLooked, read_middle, gathers_absent, present_in_middle, looked_lower, point_in_middle, gathers_crossed, gathers_alone, firsts_at}
 use Rattle.hd_steep.proofs.crossing.gather_point.Given.{Over}
 use Rattle.hd_steep.proofs.crossing.gather_point.Goals as goal
 use Rattle.hd_steep.proofs.crossing.gather_point.Goals.{After-lower_at-lower}
@@ -36,28 +35,11 @@ returns-then-is_missing-clause-gathers g c =
     (read_middle (g.G.Heights.map c.args.grid.now) g.S.Side.NAME (g.met.G.Heights.whole c.args.grid.now) c.args.rows.now c.args.at c.requires.inside c.requires.rows c.index-own.result.now c.index-own.ensures)
     (sym c.is_missing.ensures ∙ c.if-is_missing.true)
 
-pub lies_inside-requires-clause-index : goal.lies_inside-requires-clause-index
-lies_inside-requires-clause-index g c =
-    let m = g.G.Heights.map c.args.grid.now in
+pub returns-then-is_inner-clause-gathers : goal.returns-then-is_inner-clause-gathers
+returns-then-is_inner-clause-gathers g c =
     let side = g.S.Side.NAME in
-    let whole = g.met.G.Heights.whole c.args.grid.now in
-    let own = c.index-own.result.now in
-    let own_is = read_middle m side whole c.args.rows.now c.args.at c.requires.inside c.requires.rows own c.index-own.ensures in
-    index_in_middle m side whole c.args.rows.now c.args.at c.requires.inside c.requires.rows own own_is
-    (present_in_middle m side whole c.args.rows.now c.args.at c.requires.inside c.requires.rows own own_is (sym c.is_missing.ensures ∙ c.if-is_missing.false))
-
-pub returns-then-lies_inside-clause-gathers : goal.returns-then-lies_inside-clause-gathers
-returns-then-lies_inside-clause-gathers g c =
-    let m = g.G.Heights.map c.args.grid.now in
-    let side = g.S.Side.NAME in
-    let whole = g.met.G.Heights.whole c.args.grid.now in
     let regions = c.args.regions.now in
-    let own = c.index-own.result.now in
-    let own_is = read_middle m side whole c.args.rows.now c.args.at c.requires.inside c.requires.rows own c.index-own.ensures in
-    let here : Present m c.args.at = present_in_middle m side whole c.args.rows.now c.args.at c.requires.inside c.requires.rows own own_is (sym c.is_missing.ensures ∙ c.if-is_missing.false) in
-    let index : own.index ≡ place_of m.size c.args.at = index_in_middle m side whole c.args.rows.now c.args.at c.requires.inside c.requires.rows own own_is here in
-    gathers_inside m side regions c.requires.regions c.args.at (passes_of side regions.pits c.args.crossings.now.items) here
-    (subst (AreOneAround regions.numbers m.size.points) index (OnTrue_at c.if-lies_inside.true c.lies_inside.ensures))
+    gathers_inside (g.G.Heights.map c.args.grid.now) side regions c.requires.regions c.args.at (passes_of side regions.pits c.args.crossings.now.items) (OnTrue_at c.if-is_inner.true c.requires.inner)
 
 pub cross-requires-clause-point : goal.cross-requires-clause-point
 cross-requires-clause-point g c =
