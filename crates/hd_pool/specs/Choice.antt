@@ -13,14 +13,13 @@ touched_after changes stamps = count_by (λ stamp. nat_lt changes stamp) stamps
 abbrev pub are_many_touched : ℕ → List ℕ → Bool
 are_many_touched changes stamps = nat_lt (length stamps) (touched_after changes stamps * 4)
 
--- what was spent counts no more where they touched that many
+-- what was spent on labels counts no more where they touched that many
 abbrev pub spent_at : ℕ → ℕ → List ℕ → ℕ
 spent_at spent changes stamps = if are_many_touched changes stamps then 0 else spent
 
--- where the choice is free, a question is answered by the pool once all points were gone over sixteen times, a report
--- only where pits are few besides
-abbrev pub is_by_pool : Choice → Question → Bool → ℕ → ℕ → Bool
-is_by_pool Map question few spent points = false
-is_by_pool Pool question few spent points = true
-is_by_pool Free Report few spent points = if few then nat_le (16 * points) spent else false
-is_by_pool Free Label few spent points = nat_le (16 * points) spent
+-- where the choice is free, a label is answered by the pool once labels went over all points sixteen times
+abbrev pub is_by_pool : Choice → Question → ℕ → ℕ → Bool
+is_by_pool Map question spent points = false
+is_by_pool Pool question spent points = true
+is_by_pool Free Report spent points = false
+is_by_pool Free Label spent points = nat_le (16 * points) spent

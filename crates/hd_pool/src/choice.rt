@@ -8,7 +8,7 @@ use hd_tiles::{Looked, Tiles};
 /// By what questions about the sides of a grid are answered. It has no effect on what the answers say.
 #[derive(Clone, Copy, Debug, PartialEq, Eq)]
 pub enum Choice {
-    /// By the pool once that is worth to be made, and reports so only where pits are few; else by the whole map.
+    /// Reports by the whole map, and labels by the pool once that is worth to be made.
     Free,
     /// All by the whole map.
     Map,
@@ -28,26 +28,19 @@ pub enum Question {
 /// How many times all points of a grid are gone over in the time in which its pool is made: measured.
 const WORTH: u64 = 16;
 
-/// Whether a question about a grid of so many points is answered by the pool, where pits are few or not, and where
-/// earlier questions went over so many points.
-pub fn is_by_pool(
-    choice: Choice,
-    question: Question,
-    are_pits_few: bool,
-    spent: u64,
-    points: u64,
-) -> bool
+/// Whether a question about a grid of so many points is answered by the pool, where labels went over so many points.
+pub fn is_by_pool(choice: Choice, question: Question, spent: u64, points: u64) -> bool
     requires { points < 2 ^ 32 }
-    ensures { result ≡ is_by_pool choice question are_pits_few spent points }
+    ensures { result ≡ is_by_pool choice question spent points }
 {
     match choice {
         Choice::Map => false,
         Choice::Pool => true,
-        Choice::Free => { (are_pits_few || question == Question::Label) && WORTH * points <= spent }
+        Choice::Free => question == Question::Label && WORTH * points <= spent,
     }
 }
 
-/// What counts as spent on questions, where so much was before the changes after these. It is nothing again where many
+/// What counts as spent on labels, where so much was before the changes after these. It is nothing again where many
 /// tiles were touched, since the pool is as good as new to them.
 pub fn spent_at<G: Grid>(spent: u64, changes: u64, tiles: &Tiles<G>) -> u64
     ensures { result ≡ spent_at spent changes tiles.now.stamps.items }

@@ -15,12 +15,6 @@ use std::alloc::Global;
 use std::marker::{Brand, Model};
 use std::sync::ledger::{Blank, Ledger};
 
-// Pits are few where each has more points than this: then most of what a report takes goes into the points.
-const POINTS_A_PIT: usize = 64;
-
-// How many times the points are gone over for a report, in the time that going over them for labels takes: measured.
-const TIMES_A_REPORT: u64 = 4;
-
 /// The pool and the first links of a side of a grid in tiles, each of which is made and brought up to the grid where
 /// questions are answered by it. Contracts see it as the pool and the links, where they are kept.
 #[derive(Drop)]
@@ -28,7 +22,6 @@ pub struct SidePool<S: Side> {
     choice: Choice,
     pool: Option<Basins<S>>,
     links: Option<SideLinks>,
-    are_pits_few: bool,
     spent: u64,
     changes: u64,
     reported: Option<u64>,
@@ -43,7 +36,7 @@ impl<S: Side> Model for SidePool<S> {
 }
 
 impl<S: Side> SidePool<S> {
-    /// Nothing is kept yet, nothing spent on questions, and no report was asked for.
+    /// Nothing is kept yet, nothing spent on labels, and no report was asked for.
     pub fn new(choice: Choice) -> SidePool<S>
         ensures { result ≡ no_pool_nor_links }
     {
@@ -51,7 +44,6 @@ impl<S: Side> SidePool<S> {
             choice,
             pool: None,
             links: None,
-            are_pits_few: false,
             spent: 0,
             changes: 0,
             reported: None,
@@ -84,15 +76,15 @@ impl<S: Side> SidePool<S> {
     {
         let size = tiles.tiling().size();
         let points = u64::from(size.points) * u64::from(size.profiles);
-        if !is_by_pool(self.choice, question, self.are_pits_few, self.spent, points) {
+        if !is_by_pool(self.choice, question, self.spent, points) {
             return false;
         }
         self.spent = spent_at(self.spent, self.changes, tiles);
         self.changes = tiles.changes();
-        is_by_pool(self.choice, question, self.are_pits_few, self.spent, points)
+        is_by_pool(self.choice, question, self.spent, points)
     }
 
-    /// Counts the points that were gone over for a question.
+    /// Counts what points were gone over for a label.
     pub fn spend(&mut self, points: u64)
         ensures { self.new ≡ self.old }
     {
@@ -140,33 +132,21 @@ impl<S: Side> SidePool<S> {
         first < changes
     }
 
-    /// The side, by regions that are found by its links, for a report. The links are those of the grid. `Memory` comes
-    /// where the regions are refused their memory.
+    /// The side, by regions that are found by its links. The links are those of the grid. `Memory` comes where the
+    /// regions are refused their memory.
     pub fn view_by_links<'a, G: Heights>(
-        &mut self,
+        &self,
         alloc: Global,
         grid: &'a G,
     ) -> Result<GridView<'a, S, G>, Memory>
-        requires { HasLinks (G.map grid.now) S.NAME self.old }
-        ensures view { IfOk result (λ view. view ≡ grid.now) }
-        ensures kept { self.new ≡ self.old }
+        requires { HasLinks (G.map grid.now) S.NAME self.now }
+        ensures { IfOk result (λ view. view ≡ grid.now) }
     {
         let regions = match &self.links {
             Some(links) => links.regions::<S, G>(alloc, grid)?,
             None => unreachable!(),
         };
-        self.count_report(regions.pits().len(), regions.len());
         Ok(GridView::from_regions(alloc, grid, regions))
-    }
-
-    // Counts a report on so many pits and points. A pool saves the more of the next one the fewer pits there are.
-    fn count_report(&mut self, pits: usize, points: usize)
-        ensures { self.new ≡ self.old }
-    {
-        self.are_pits_few = pits < points / POINTS_A_PIT;
-        if self.are_pits_few {
-            self.spend((points as u64).saturating_mul(TIMES_A_REPORT));
-        }
     }
 
     /// The side, by its pool. The pool is that of the grid.
