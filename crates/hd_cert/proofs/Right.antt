@@ -19,7 +19,7 @@ use Rattle.hd_check.proofs.Searching.{place_found}
 use Rattle.hd_cert.specs.Within.{within}
 use Rattle.hd_cert.specs.Routes.{IsRouteOver, IsLowStep, IsRouteCut}
 use Rattle.hd_cert.specs.Shown.{AreTwoPits, IsPathAt, IsCutAt, IsShownCertificate}
-use Rattle.hd_cert.proofs.Determined.{same_places}
+use Rattle.hd_cert.proofs.Determined.{same_positions}
 use Rattle.hd_cert.proofs.Ranks.{route_of, all_present, over_route, rank_place, all_below, low_route}
 use Rattle.hd_cert.proofs.Shown.{leads_present, pit_within}
 use Rattle.hd_cert.proofs.Sound.{leads_ranks, right_of, route_present}
@@ -31,7 +31,7 @@ path_over m side a b s path here there at =
     let whole : List Pos = a ∷ route.0 in
     let all = all_present m whole (route_present m side a b s whole here route.1) in
     let ranks : map (rank m) whole ≡ map (rank m) path = ap (λ (xs : List Rank). rank m a ∷ xs) route.2 ∙ at.stand.1 in
-    subst (IsRouteOver m side a b s) (same_places m whole path all at.stand.0 ranks) route.1
+    subst (IsRouteOver m side a b s) (same_positions m whole path all at.stand.0 ranks) route.1
 
 path_or_none : (m : Map) (side : SideName) (a b : Pos) (saddle : Option Rank) (path : List Pos) → Present m a → Present m b → MatchOption saddle (path ≡ []) (λ s. IsPathAt m side a b s path)
     → MatchOption saddle (path ≡ []) (λ s. IsRouteOver m side a b s path)

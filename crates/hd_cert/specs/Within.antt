@@ -1,9 +1,9 @@
 -- Points that lie within a level.
-use Rattle.std.specs.Prelude.{◌≡◌, ◌↔◌, Bool, true, false, not, List, length, slice_index_or, Option, Some, None}
+use Rattle.std.specs.Prelude.{◌≡◌, Bool, true, false, not, Option, Some, None}
 use Rattle.hd_map.specs.declared.types.Pos.{Pos}
 use Rattle.hd_map.specs.declared.types.Rank.{Rank}
 use Rattle.hd_map.specs.declared.types.SideName.{SideName}
-use Rattle.hd_map.specs.Map.{Map, InGrid, Present, cell_count, place_of}
+use Rattle.hd_map.specs.Map.{Map, Present}
 use Rattle.hd_map.specs.Rank.{rank, below_by}
 
 -- whether a rank is below the level, if strict, and else whether it is not above it; all are where there is no level
@@ -16,8 +16,3 @@ within side (Some s) false r = not (below_by side s r)
 pub record LiesWithin (m : Map) (side : SideName) (level : Option Rank) (strict : Bool) (p : Pos) : Type 0 where
   pub present : Present m p
   pub low : within side level strict (rank m p) ≡ true
-
--- by index whether such a point is there
-pub record AreMarked (m : Map) (side : SideName) (level : Option Rank) (strict : Bool) (marks : List Bool) : Type 0 where
-  pub whole : length marks ≡ cell_count m.size
-  pub each : (p : Pos) → InGrid m.size p → (slice_index_or marks (place_of m.size p) false ≡ true) ↔ LiesWithin m side level strict p

@@ -3,9 +3,9 @@ ghost use Rattle.std.specs.Prelude.{◌≡◌, ◌≤◌, IfOk, OnOk, length};
 ghost use Rattle.hd_map.specs.Map.{InGrid, cell_count};
 ghost use Rattle.hd_cert.specs.Flood.{FloodsRound};
 ghost use Rattle.hd_cert.specs.Residues.{AreResidues, Reaches, ReachesAt};
-ghost use Rattle.hd_cert.specs.Within.{AreMarked, LiesWithin};
+ghost use Rattle.hd_cert.specs.Within.{LiesWithin};
 
-use crate::bound::{Bound, marks_within};
+use crate::bound::{Bound, lies_within};
 use crate::residue::Residue;
 use hd_list::Memory;
 use hd_map::{Heights, Pos, Side, beside_at, index_of, position_of};
@@ -13,7 +13,7 @@ use std::alloc::Global;
 
 /// By index the residues of the fewest steps in which points within a bound are reached from the start by way
 /// of such points. It ends at the goal, if there is one: points that are further may be left unreached. It
-/// takes six bytes a point, and time in proportion to the points.
+/// takes five bytes a point, and time in proportion to the points.
 pub fn residues_from<S: Side, G: Heights>(
     alloc: Global,
     grid: &G,
@@ -26,7 +26,6 @@ pub fn residues_from<S: Side, G: Heights>(
 {
     let size = grid.size();
     let count = size.profiles * size.points;
-    let within = marks_within::<S, G>(alloc, grid, bound)?;
     let mut residues = vec![in alloc; Residue::Unreached; count as usize]?;
     let mut queue = Vec::with_capacity(alloc, count as usize)?;
     let first = index_of(size, start);
@@ -40,7 +39,7 @@ pub fn residues_from<S: Side, G: Heights>(
         if goal == Some(here) {
             return Ok(residues);
         }
-        reach_round::<S, G>(grid, bound, &within, here, &mut residues, &mut queue)?;
+        reach_round::<S, G>(grid, bound, here, &mut residues, &mut queue)?;
     }
     Ok(residues)
 }
@@ -49,25 +48,23 @@ pub fn residues_from<S: Side, G: Heights>(
 fn reach_round<S: Side, G: Heights>(
     grid: &G,
     bound: Bound,
-    within: &[bool],
     here: Pos,
     residues: &mut Vec<Residue>,
     queue: &mut Vec<u32>,
 ) -> Result<(), Memory>
-    requires within { AreMarked (G.map grid.now) S.NAME bound.level bound.strict within.now }
     requires here { InGrid (G.map grid.now).size here }
     requires whole { length residues.old.items ≡ cell_count (G.map grid.now).size }
     ensures { OnOk result (FloodsRound (G.map grid.now) (LiesWithin (G.map grid.now) S.NAME bound.level bound.strict) here residues.old.items queue.old.items residues.new.items queue.new.items) }
 {
     let residue = residues[index_of(grid.size(), here) as usize].after();
-    reach_at::<S, G>(grid, bound, within, here, 0, 0, residue, residues, queue)?;
-    reach_at::<S, G>(grid, bound, within, here, 1, 0, residue, residues, queue)?;
-    reach_at::<S, G>(grid, bound, within, here, 2, 0, residue, residues, queue)?;
-    reach_at::<S, G>(grid, bound, within, here, 0, 1, residue, residues, queue)?;
-    reach_at::<S, G>(grid, bound, within, here, 2, 1, residue, residues, queue)?;
-    reach_at::<S, G>(grid, bound, within, here, 0, 2, residue, residues, queue)?;
-    reach_at::<S, G>(grid, bound, within, here, 1, 2, residue, residues, queue)?;
-    reach_at::<S, G>(grid, bound, within, here, 2, 2, residue, residues, queue)?;
+    reach_at::<S, G>(grid, bound, here, 0, 0, residue, residues, queue)?;
+    reach_at::<S, G>(grid, bound, here, 1, 0, residue, residues, queue)?;
+    reach_at::<S, G>(grid, bound, here, 2, 0, residue, residues, queue)?;
+    reach_at::<S, G>(grid, bound, here, 0, 1, residue, residues, queue)?;
+    reach_at::<S, G>(grid, bound, here, 2, 1, residue, residues, queue)?;
+    reach_at::<S, G>(grid, bound, here, 0, 2, residue, residues, queue)?;
+    reach_at::<S, G>(grid, bound, here, 1, 2, residue, residues, queue)?;
+    reach_at::<S, G>(grid, bound, here, 2, 2, residue, residues, queue)?;
     Ok(())
 }
 
@@ -76,7 +73,6 @@ fn reach_round<S: Side, G: Heights>(
 fn reach_at<S: Side, G: Heights>(
     grid: &G,
     bound: Bound,
-    within: &[bool],
     here: Pos,
     x: u32,
     y: u32,
@@ -84,7 +80,6 @@ fn reach_at<S: Side, G: Heights>(
     residues: &mut Vec<Residue>,
     queue: &mut Vec<u32>,
 ) -> Result<(), Memory>
-    requires within { AreMarked (G.map grid.now) S.NAME bound.level bound.strict within.now }
     requires here { InGrid (G.map grid.now).size here }
     requires x { x ≤ 2 }
     requires y { y ≤ 2 }
@@ -93,7 +88,7 @@ fn reach_at<S: Side, G: Heights>(
     ensures whole { OnOk result (length residues.new.items ≡ cell_count (G.map grid.now).size) }
 {
     match beside_at(grid, here, x, y) {
-        Some(at) => reach::<S, G>(grid, bound, within, at, residue, residues, queue),
+        Some(at) => reach::<S, G>(grid, bound, at, residue, residues, queue),
         None => Ok(()),
     }
 }
@@ -102,21 +97,19 @@ fn reach_at<S: Side, G: Heights>(
 #[inline(always)]
 fn reach<S: Side, G: Heights>(
     grid: &G,
-    _bound: Bound,
-    within: &[bool],
+    bound: Bound,
     at: Pos,
     residue: Residue,
     residues: &mut Vec<Residue>,
     queue: &mut Vec<u32>,
 ) -> Result<(), Memory>
-    requires within { AreMarked (G.map grid.now) S.NAME _bound.level _bound.strict within.now }
     requires at { InGrid (G.map grid.now).size at }
     requires whole { length residues.old.items ≡ cell_count (G.map grid.now).size }
-    ensures reaches { OnOk result (Reaches (G.map grid.now).size (LiesWithin (G.map grid.now) S.NAME _bound.level _bound.strict) at residue residues.old.items queue.old.items residues.new.items queue.new.items) }
+    ensures reaches { OnOk result (Reaches (G.map grid.now).size (LiesWithin (G.map grid.now) S.NAME bound.level bound.strict) at residue residues.old.items queue.old.items residues.new.items queue.new.items) }
     ensures whole { OnOk result (length residues.new.items ≡ cell_count (G.map grid.now).size) }
 {
     let index = index_of(grid.size(), at);
-    if !within[index as usize] || residues[index as usize] != Residue::Unreached {
+    if residues[index as usize] != Residue::Unreached || !lies_within::<S, G>(grid, bound, at) {
         return Ok(());
     }
     queue.push(index)?;

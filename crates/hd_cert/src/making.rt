@@ -22,7 +22,7 @@ use std::alloc::Global;
 /// Of the paths from the first to the second with that top, its path is one with the fewest points,
 /// and of those with the fewest the first by the list of indexes. Its cut is the points that are
 /// reached from the first by paths wholly below the saddle, or by any path where there is no saddle.
-/// The certificate is right. It takes 10 bytes a point, or 14 where there is a saddle, beside the path,
+/// The certificate is right. It takes 9 bytes a point, or 13 where there is a saddle, beside the path,
 /// and time in proportion to the points. `Memory` comes where memory is refused.
 pub fn certify<S: Side, G: Heights>(
     alloc: Global,

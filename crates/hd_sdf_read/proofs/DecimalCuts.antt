@@ -23,7 +23,7 @@ use Rattle.hd_sdf_read.specs.File.{is_gap}
 use Rattle.hd_sdf_read.specs.Grammar.{decimal_map, map_with, mapped}
 use Rattle.hd_sdf_read.specs.Keys.{has_decimals, with_places}
 use Rattle.hd_sdf_read.specs.Reads.{◌>>=◌}
-use Rattle.hd_sdf_read.specs.Scales.{IsNext, Pushes, Scales}
+use Rattle.hd_sdf_read.specs.Scales.{IsNextDatum, Pushes, Scales}
 use Rattle.hd_sdf_read.specs.Tokens.{after_token, is_absent, is_star, token_of}
 use Rattle.hd_sdf_read.specs.Words.{Ends}
 use Rattle.hd_sdf_read.proofs.Alike.{alike_in, kept_again, kept_alike}
@@ -32,7 +32,7 @@ use Rattle.hd_sdf_read.proofs.Cuts.{after_here, after_stays, token_here, token_s
 use Rattle.hd_sdf_read.proofs.DecimalTokens.{decimals_done, decimals_more, decimals_out, decimals_stop, with_token}
 
 module _ (size : Size) (t : DataType) (ds : List Datum) where
-  pub decimal_step : (text rest : List ℕ) (d : Datum) → length ds < cell_count size → IsNext (length ds) text d → rest ≡ after_token text → ranged (ds ++ d ∷ []) ≡ Ok (ds ++ d ∷ [])
+  pub decimal_step : (text rest : List ℕ) (d : Datum) → length ds < cell_count size → IsNextDatum (length ds) text d → rest ≡ after_token text → ranged (ds ++ d ∷ []) ≡ Ok (ds ++ d ∷ [])
       → decimal_in size t ds text ≡ decimal_in size t (ds ++ d ∷ []) rest
   unfolding decimal_in
   decimal_step text rest d more next is fits =
@@ -40,7 +40,7 @@ module _ (size : Size) (t : DataType) (ds : List Datum) where
       let count : length ds + 1 ≡ length (ds ++ d ∷ []) = sym (length-append ds (d ∷ [])) in
       ap (λ r. (r >>= decimal_map size t) >>= trailed size) (step ∙ ap (λ n. decimals_from (ds ++ d ∷ []) (cell_count size - n) rest) count)
 
-  pub decimal_wrong : (text : List ℕ) (d : Datum) (e : SdfError) → length ds < cell_count size → IsNext (length ds) text d → ranged (ds ++ d ∷ []) ≡ Err e → decimal_in size t ds text ≡ Err e
+  pub decimal_wrong : (text : List ℕ) (d : Datum) (e : SdfError) → length ds < cell_count size → IsNextDatum (length ds) text d → ranged (ds ++ d ∷ []) ≡ Err e → decimal_in size t ds text ≡ Err e
   unfolding decimal_in
   decimal_wrong text d e more next wrong = ap (λ r. (r >>= decimal_map size t) >>= trailed size) (decimals_out ds (length ds) (cell_count size) text text refl more d e next wrong)
 
@@ -88,11 +88,11 @@ push_count old new t number d kept pushes =
     sym (count_kept new) ∙ sym (kept_alike new t (data_of old ++ d ∷ []) both).count ∙ length-append (data_of old) (d ∷ []) ∙ ap (λ n. n + 1) (count_kept old)
 
 pub push_same : (size : Size) (old new : Scaled) (t : DataType) (number : ℕ) (d : Datum) (text rest : List ℕ) → Scales old t (data_of old) → Pushes old new number d (Ok tt) → length (wide_cells_in old.cells) < cell_count size
-    → IsNext (length (wide_cells_in old.cells)) text d → rest ≡ after_token text → decimal_in size t (data_of old) text ≡ decimal_in size t (data_of new) rest
+    → IsNextDatum (length (wide_cells_in old.cells)) text d → rest ≡ after_token text → decimal_in size t (data_of old) text ≡ decimal_in size t (data_of new) rest
 push_same size old new t number d text rest kept pushes more next is =
     let both = pushes t (data_of old) kept in
     let count = count_kept old in
-    decimal_step size t (data_of old) text rest d (omega (arith, count, more)) (subst (λ n. IsNext n text d) (sym count) next) is both.0
+    decimal_step size t (data_of old) text rest d (omega (arith, count, more)) (subst (λ n. IsNextDatum n text d) (sym count) next) is both.0
     ∙ alike_in size t rest (data_of old ++ d ∷ []) (data_of new) (kept_alike new t (data_of old ++ d ∷ []) both.1)
 
 -- the next datum, whatever follows the text
@@ -100,7 +100,7 @@ module _ (read : ℕ) (text after : List ℕ) (after_is : after ≡ after_token 
   left : 0 < length (after_token text)
   left = subst (λ (t : List ℕ). 0 < length t) after_is cut
 
-  pub cut_next : (d : Datum) → IsNext read text d → IsNext read (text ++ more) d × (after ++ more ≡ after_token (text ++ more))
+  pub cut_next : (d : Datum) → IsNextDatum read text d → IsNextDatum read (text ++ more) d × (after ++ more ≡ after_token (text ++ more))
   cut_next d next =
       let token = token_stays text more left in (
         record { some = ap is_absent token ∙ next.some; other = ap is_star token ∙ next.other; datum = ap (datum_of (read + 1)) token ∙ next.datum; small = next.small },
@@ -120,13 +120,13 @@ pub on_some : (size : Size) (t : DataType) (old : Scaled) (text : List ℕ) (rea
 on_some size t old text read kept count = record { same = λ more. refl; kept = kept; count = count }
 
 module _ (size : Size) (t : DataType) (old : Scaled) (text : List ℕ) (new : Scaled) (rest : List ℕ) (read : ℕ) (has : HasDecimalsOn size t old text new rest read) where
-  module _ (inside : read < cell_count size) (next : Scaled) (d : Datum) (after : List ℕ) (given : (more : List ℕ) → IsNext read (rest ++ more) d × (after ++ more ≡ after_token (rest ++ more))) where
+  module _ (inside : read < cell_count size) (next : Scaled) (d : Datum) (after : List ℕ) (given : (more : List ℕ) → IsNextDatum read (rest ++ more) d × (after ++ more ≡ after_token (rest ++ more))) where
     pub on_another : Pushes new next (read + 1) d (Ok tt) → HasDecimalsOn size t old text next after (read + 1)
     on_another pushes =
         let count = has.count in
         record {
           same = λ more.
-              has.same more ∙ push_same size new next t (read + 1) d (rest ++ more) (after ++ more) has.kept pushes (omega (arith, count, inside)) (subst (λ n. IsNext n (rest ++ more) d) (sym count) (given more).0) (given more).1;
+              has.same more ∙ push_same size new next t (read + 1) d (rest ++ more) (after ++ more) has.kept pushes (omega (arith, count, inside)) (subst (λ n. IsNextDatum n (rest ++ more) d) (sym count) (given more).0) (given more).1;
           kept = push_kept new next t (read + 1) d has.kept pushes;
           count = push_count new next t (read + 1) d has.kept pushes ∙ ap (λ n. n + 1) count;
         }
@@ -136,7 +136,7 @@ module _ (size : Size) (t : DataType) (old : Scaled) (text : List ℕ) (new : Sc
         let count = has.count in
         let size_is = count_kept new in
         let place : length (data_of new) ≡ read = size_is ∙ count in
-        has.same more ∙ decimal_wrong size t (data_of new) (rest ++ more) d e (omega (arith, place, inside)) (subst (λ n. IsNext n (rest ++ more) d) (sym place) (given more).0)
+        has.same more ∙ decimal_wrong size t (data_of new) (rest ++ more) d e (omega (arith, place, inside)) (subst (λ n. IsNextDatum n (rest ++ more) d) (sym place) (given more).0)
         (pushes t (data_of new) has.kept (ap (λ n. n + 1) (sym place)) refused)
 
   pub on_stop : read < cell_count size → (e : SdfError) → ((before : List Datum) → length before ≡ read → (more : List ℕ) → data_with before (token_of (rest ++ more)) ≡ Err e)
@@ -167,7 +167,7 @@ module _ (size : Size) (t : DataType) (old : Scaled) (word : List ℕ) (kept : S
       decimal_stop size t (data_of old) (word ++ rest) (TooFewData (length (wide_cells_in old.cells))) (omega (arith, place, missing)) (rw (token, filled_word, star, place) refl)
 
   module _ (other : is_star word ≡ false) where
-    word_next : (d : Datum) (rest : List ℕ) → Ends rest → datum_of (length (wide_cells_in old.cells) + 1) word ≡ Ok d → Rattle.hd_sdf_read.specs.Decimals.IsSmall d → IsNext (length (wide_cells_in old.cells)) (word ++ rest) d
+    word_next : (d : Datum) (rest : List ℕ) → Ends rest → datum_of (length (wide_cells_in old.cells) + 1) word ≡ Ok d → Rattle.hd_sdf_read.specs.Decimals.IsSmall d → IsNextDatum (length (wide_cells_in old.cells)) (word ++ rest) d
     word_next d rest ends is small =
         let token = token_here word rest some gapless ends in
         record { some = ap is_absent token ∙ filled_word; other = ap is_star token ∙ other; datum = ap (datum_of (length (wide_cells_in old.cells) + 1)) token ∙ is; small = small }
@@ -183,7 +183,7 @@ module _ (size : Size) (t : DataType) (old : Scaled) (word : List ℕ) (kept : S
     pub datum_wrong : (new : Scaled) (number : ℕ) (d : Datum) (e : SdfError) → number ≡ length (wide_cells_in old.cells) + 1 → datum_of (length (wide_cells_in old.cells) + 1) word ≡ Ok d → Rattle.hd_sdf_read.specs.Decimals.IsSmall d
         → Pushes old new number d (Err e) → (e ≡ Memory → ⊥) → (rest : List ℕ) → Ends rest → decimal_in size t (data_of old) (word ++ rest) ≡ Err e
     datum_wrong new number d e number_is is small pushes refused rest ends =
-        decimal_wrong size t (data_of old) (word ++ rest) d e (omega (arith, place, missing)) (subst (λ n. IsNext n (word ++ rest) d) (sym place) (word_next d rest ends is small))
+        decimal_wrong size t (data_of old) (word ++ rest) d e (omega (arith, place, missing)) (subst (λ n. IsNextDatum n (word ++ rest) d) (sym place) (word_next d rest ends is small))
         (pushes t (data_of old) kept (number_is ∙ ap (λ n. n + 1) (sym place)) refused)
 
     pub datum_stop : (number : ℕ) (e : SdfError) → number ≡ length (wide_cells_in old.cells) + 1

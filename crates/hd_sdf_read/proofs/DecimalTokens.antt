@@ -23,7 +23,7 @@ use Rattle.hd_sdf_read.specs.declared.scaled.Scaled.{Scaled}
 use Rattle.hd_map.specs.declared.types.DataType.{DataType}
 use Rattle.hd_sdf_read.specs.Decimals.{IsSmall, data_with, datum_of, decimals_from, measured, ranged}
 use Rattle.hd_sdf_read.specs.Reads.{◌>>=◌}
-use Rattle.hd_sdf_read.specs.Scales.{AreUnits, IsNext, Pushes, Scales, TakesDecimal}
+use Rattle.hd_sdf_read.specs.Scales.{AreUnits, IsNextDatum, Pushes, Scales, TakesDecimal}
 use Rattle.hd_sdf_read.specs.Tokens.{after_token, is_absent, is_star, token_of}
 use Rattle.hd_sdf_read.proofs.WholeFronts.{rest_at, token_at}
 use Rattle.hd_sdf_read.proofs.Scaling.{not_small}
@@ -41,7 +41,7 @@ with_token before token some other = rw (some, other) refl
 
 -- the next datum is read
 module _ (before : List Datum) (read count : ℕ) (text rest : List ℕ) (read_is : length before ≡ read) (more : read < count) where
-  pub decimals_more : (d : Datum) → IsNext read text d → rest ≡ after_token text → ranged (before ++ d ∷ []) ≡ Ok (before ++ d ∷ [])
+  pub decimals_more : (d : Datum) → IsNextDatum read text d → rest ≡ after_token text → ranged (before ++ d ∷ []) ≡ Ok (before ++ d ∷ [])
       → decimals_from before (count - read) text ≡ decimals_from (before ++ d ∷ []) (count - (read + 1)) rest
   unfolding decimals_from
   decimals_more d next is fits =
@@ -51,7 +51,7 @@ module _ (before : List Datum) (read count : ℕ) (text rest : List ℕ) (read_i
       rw (step, with, is) refl
 
   -- it is out of range
-  pub decimals_out : (d : Datum) (e : SdfError) → IsNext read text d → ranged (before ++ d ∷ []) ≡ Err e → decimals_from before (count - read) text ≡ Err e
+  pub decimals_out : (d : Datum) (e : SdfError) → IsNextDatum read text d → ranged (before ++ d ∷ []) ≡ Err e → decimals_from before (count - read) text ≡ Err e
   unfolding decimals_from
   decimals_out d e next wrong =
       let step : count - read ≡ suc (count - (read + 1)) = omega arith in
@@ -106,7 +106,7 @@ unfolding decimal_of
 bad_none = refl
 
 -- the token at the front of a text is a decimal
-pub decimal_given : (read : ℕ) (text front rest : List ℕ) (d : Datum) → front ≡ without_start is_gap text → TakesDecimal front rest d → IsNext read text d × (rest ≡ after_token text)
+pub decimal_given : (read : ℕ) (text front rest : List ℕ) (d : Datum) → front ≡ without_start is_gap text → TakesDecimal front rest d → IsNextDatum read text d × (rest ≡ after_token text)
 decimal_given read text front rest d is taken =
     let token = token_at text front taken.token is taken.place in
     let bad : bytes_eq taken.token (codes "BAD") ≡ false = no_decimal_word (codes "BAD") taken.token taken.decimal bad_none taken.is_decimal in (
@@ -169,7 +169,7 @@ pub record HasRead (s : Scaled) (t : DataType) (read count : ℕ) (rest text : L
   pub left : decimals_from items (count - read) rest ≡ decimals_from [] count text
 
 -- one more is read
-pub has_more : (old new : Scaled) (t : DataType) (read count : ℕ) (rest after text : List ℕ) (d : Datum) → HasRead old t read count rest text → read < count → IsNext read rest d → after ≡ after_token rest
+pub has_more : (old new : Scaled) (t : DataType) (read count : ℕ) (rest after text : List ℕ) (d : Datum) → HasRead old t read count rest text → read < count → IsNextDatum read rest d → after ≡ after_token rest
     → Pushes old new (read + 1) d (Ok tt) → HasRead new t (read + 1) count after text
 has_more old new t read count rest after text d has more next is pushes =
     let both = pushes t has.items has.kept in

@@ -11,7 +11,7 @@ use Rattle.hd_sdf_read.specs.declared.scaled.Datum.{Datum}
 use Rattle.hd_sdf_read.specs.declared.scaled.Scaled.{Scaled}
 use Rattle.hd_sdf_read.specs.Bodies.{data_for, decimal_in}
 use Rattle.hd_sdf_read.specs.Decimals.{data_with}
-use Rattle.hd_sdf_read.specs.Scales.{IsNext, Scales}
+use Rattle.hd_sdf_read.specs.Scales.{IsNextDatum, Scales}
 use Rattle.hd_sdf_read.specs.Tokens.{after_token, token_of}
 use Rattle.hd_sdf_read.specs.Words.{Ends}
 
@@ -22,7 +22,7 @@ data_of s = data_for s.places (wide_cells_in s.cells)
 -- the next datum, whatever follows the text, and the text after it; or none, where its end has not come; or why there
 -- is none whatever follows
 abbrev pub CutDecimal : ℕ → List ℕ → Result (Option (Datum × Bor (List ℕ))) SdfError → Type 0
-CutDecimal read text (Ok (Some (d, after))) = (more : List ℕ) → IsNext read (text ++ more) d × (after.now ++ more ≡ after_token (text ++ more))
+CutDecimal read text (Ok (Some (d, after))) = (more : List ℕ) → IsNextDatum read (text ++ more) d × (after.now ++ more ≡ after_token (text ++ more))
 CutDecimal read text (Ok None) = after_token text ≡ []
 CutDecimal read text (Err e) = (e ≡ Memory → ⊥) → (before : List Datum) → length before ≡ read → (more : List ℕ) → data_with before (token_of (text ++ more)) ≡ Err e
 

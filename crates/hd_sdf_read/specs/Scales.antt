@@ -6,7 +6,6 @@ use Rattle.std.specs.Str.Parse.{digits_value}
 use denote.Bor.{Bor}
 use Rattle.hd_num.specs.Decimal.{decimal_of}
 use Rattle.hd_num.specs.declared.decimal.Decimal.{Decimal}
-use Rattle.hd_map.specs.declared.wide_cells.WideCells.{WideCells}
 use Rattle.hd_map.specs.declared.types.DataType.{DataType}
 use Rattle.hd_map.specs.Cells.{wide_cells_in}
 use Rattle.hd_map.specs.Packing.{multiplied}
@@ -14,7 +13,7 @@ use Rattle.hd_sdf_read.specs.declared.error.SdfError.{SdfError}
 use Rattle.hd_sdf_read.specs.declared.error.SdfError.TheVariants.{Memory}
 use Rattle.hd_sdf_read.specs.declared.scaled.Datum.{Datum}
 use Rattle.hd_sdf_read.specs.declared.scaled.Scaled.{Scaled}
-use Rattle.hd_sdf_read.specs.Decimals.{IsSmall, cells_at, data_with, datum_of, decimals_from, greatest_in, measured, most_places_in, most_steps, ranged}
+use Rattle.hd_sdf_read.specs.Decimals.{IsSmall, cells_at, data_with, datum_of, greatest_in, measured, most_places_in, most_steps, ranged}
 use Rattle.hd_sdf_read.specs.File.{is_gap}
 use Rattle.hd_sdf_read.specs.Keys.{with_places}
 use Rattle.hd_sdf_read.specs.Reads.{◌>>=◌}
@@ -62,7 +61,7 @@ TokenGiven number token (Err e) = (e ≡ Memory → ⊥) → (before : List Datu
     → (datum_of number token >>= (λ datum. ranged (before ++ datum ∷ []))) ≡ Err e
 
 -- the next token is this datum, after so many
-pub record IsNext (read : ℕ) (text : List ℕ) (d : Datum) : Type 0 where
+pub record IsNextDatum (read : ℕ) (text : List ℕ) (d : Datum) : Type 0 where
   pub some : is_absent (token_of text) ≡ false
   pub other : is_star (token_of text) ≡ false
   pub datum : datum_of (read + 1) (token_of text) ≡ Ok d
@@ -70,7 +69,7 @@ pub record IsNext (read : ℕ) (text : List ℕ) (d : Datum) : Type 0 where
 
 -- the next datum, after so many, and the text after it, or why there is none
 abbrev pub DecimalGiven : ℕ → List ℕ → Result (Datum × Bor (List ℕ)) SdfError → Type 0
-DecimalGiven read text (Ok (d, rest)) = IsNext read text d × (rest.now ≡ after_token text)
+DecimalGiven read text (Ok (d, rest)) = IsNextDatum read text d × (rest.now ≡ after_token text)
 DecimalGiven read text (Err e) = (e ≡ Memory → ⊥) → (before : List Datum) → length before ≡ read → data_with before (token_of text) ≡ Err e
 
 -- a point and these digits, or nothing
@@ -102,16 +101,3 @@ pub record TakesDecimal (text rest : List ℕ) (d : Datum) : Type 0 where
   pub is_decimal : decimal_of token ≡ Some decimal
   pub is_measured : measured decimal ≡ d
   pub small : IsSmall d
-
--- data of decimals that were read at the front of a text, as cells at the most places among them
-pub record AreDecimals (t : DataType) (count : ℕ) (text : List ℕ) (cells : WideCells) (rest : List ℕ) : Type 0 where
-  pub items : List Datum
-  pub read : decimals_from [] count text ≡ Ok (record { items = items; rest = rest })
-  pub whole : length items ≡ count
-  pub cells_are : wide_cells_in cells ≡ cells_at (most_places_in items) items
-  pub data_type : cells.data_type ≡ with_places t (most_places_in items)
-
--- the cells of so many data at the front of a text, and the text after them, or why there are none
-abbrev pub DecimalsGiven : DataType → ℕ → List ℕ → Result (WideCells × Bor (List ℕ)) SdfError → Type 0
-DecimalsGiven t count text (Ok (cells, rest)) = AreDecimals t count text cells rest.now
-DecimalsGiven t count text (Err e) = (e ≡ Memory → ⊥) → decimals_from [] count text ≡ Err e

@@ -17,7 +17,7 @@ use Rattle.hd_stats.specs.declared.name.HeightName.{HeightName}
 use Rattle.hd_stats.specs.declared.name.HeightName.TheVariants.{Sa, Smr, Sp, Sv}
 use Rattle.hd_stats.specs.Distribution.{AreCounts, IsShare, greater}
 use Rattle.hd_stats.specs.Fill.{AreFills, AreSameFills, IsFill, IsVolume}
-use Rattle.hd_stats.specs.Heights.{IsOfHeights, over, under}
+use Rattle.hd_stats.specs.Heights.{IsHeightParameter, over, under}
 use Rattle.hd_stats.proofs.Totals.{counts-listed}
 
 empty : (values : List ℤ) → values ≡ [] → 0 < length values → ⊥
@@ -44,7 +44,7 @@ module _ (fractions : FractionsAreDetermined) where
   under-some Sa heights some = square (length heights) some
   under-some (Smr c) heights some = some
 
-  pub height-one : (name : HeightName) (heights : List ℤ) (a b : Option Frac) → MatchOption a (heights ≡ []) (IsOfHeights name heights) → MatchOption b (heights ≡ []) (IsOfHeights name heights) → AreSameValues a b
+  pub height-one : (name : HeightName) (heights : List ℤ) (a b : Option Frac) → MatchOption a (heights ≡ []) (IsHeightParameter name heights) → MatchOption b (heights ≡ []) (IsHeightParameter name heights) → AreSameValues a b
   height-one name heights (Some f) (Some g) x y = fractions (over name heights) (under name heights) f.num f.den g.num g.den (under-some name heights x.some) x.fraction y.fraction
   height-one name heights (Some f) None x y = empty heights y x.some
   height-one name heights None (Some g) x y = empty heights x y.some

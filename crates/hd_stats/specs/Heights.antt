@@ -36,10 +36,10 @@ under Sa heights = length heights * length heights
 under (Smr c) heights = length heights
 
 -- the fraction is the height parameter of some heights
-pub record IsOfHeights (name : HeightName) (heights : List ℤ) (f : Frac) : Type 0 where
+pub record IsHeightParameter (name : HeightName) (heights : List ℤ) (f : Frac) : Type 0 where
   pub some : 0 < length heights
   pub fraction : IsFraction (over name heights) (under name heights) f.num f.den
 
 -- the value of a height parameter over the heights of the present points: none exactly where no point is present
 abbrev pub IsHeightValue : Map → HeightName → Option Frac → Type 0
-IsHeightValue m name value = MatchOption value (present_heights m ≡ []) (IsOfHeights name (present_heights m))
+IsHeightValue m name value = MatchOption value (present_heights m ≡ []) (IsHeightParameter name (present_heights m))
