@@ -11,6 +11,7 @@ import math
 import os
 import pathlib
 import platform
+import re
 import resource
 import subprocess
 import sys
@@ -29,11 +30,14 @@ The surfaces are independent heights (noise), where nearly each ninth point is a
 
 - `read`: a script without lines, so the surface is read and nothing is answered;
 - `dales`, `tree`, `prune`, `param`: the lines `dales`, `tree D`, `prune D 5%` and `param S10z`;
+- `four` and `six`: a line `neighbours 4` or `6`, and `dales`; `decimal`: `dales` of the same heights with six places;
+- `lines`: the line `lines D 5%`; `values`: lines `height` for Sp, Sv, Sa and Smr, and `hist`, `perc` and `fill`;
 - `open, flat` and `open, ball`: an opening by an element of 15 by 15 points, of zeros and of a ball of radius 12;
 - `save`: reading, and saving the file;
 - `certificate`: the saddle of the two deepest dales, printed with its certificate; `check`: that certificate, checked;
+- `audit`: the line `audit D 5%`, which prints a certificate of a pruning; `check audit`: that certificate, checked;
 - `demo`: a demonstration of as many points, which are noise too, with 200 edits;
-- `sets`: 200,000 lines `set` and a line `dales`.
+- `sets`: 200,000 lines `set` and a line `dales`; `edits`: 300 pairs of `set` and `label`, and `dales` after every tenth, in tiles of 16.
 """
 
 
@@ -58,6 +62,16 @@ def element_line(name, height):
     return f'element {name} 15 15 {" ".join(numbers)}\n'
 
 
+def decimals_of(folder, surface):
+    """The same surface with each height as a decimal of six places."""
+    path = f'{folder}/decimal.sdf'
+    with open(surface) as given, open(path, 'w') as out:
+        header, data, _ = given.read().split('*\n')
+        out.write(re.sub(r'(DataType\s*=\s*)6', r'\g<1>7', header) + '*\n')
+        out.write(re.sub(r'-?\d+', lambda height: f'{int(height[0]) / 1000:.6f}', data) + '*\n')
+    return path
+
+
 def script_of(folder, name, text):
     path = f'{folder}/{name}.txt'
     pathlib.Path(path).write_text(text)
@@ -69,6 +83,19 @@ def sets(n):
     return ''.join(f'set {next(d) % n} {next(d) % n} {next(d)}\n' for _ in range(200000)) + 'dales\n'
 
 
+def edits(n):
+    d = draws(13)
+    lines = []
+    for number in range(1, 301):
+        x, y = next(d) % n, next(d) % n
+        lines.append(f'set {x} {y} {next(d)}\nlabel D {x} {y}\n' + ('dales\n' if number % 10 == 0 else ''))
+    return ''.join(lines)
+
+
+LPVH = 'FC;D;Wolfprune:5%;All;lpvh'
+VALUES = f'height Sp\nheight Sv\nheight Sa\nheight Smr 2048\nhist 16 {LPVH}\nperc 2048 {LPVH}\nfill D 5%\n'
+
+
 def deepest_of(binary, surface):
     """The positions of the two lowest pits."""
     lines = subprocess.run([binary, 'dales', surface], stdout=subprocess.PIPE).stdout.decode().splitlines()[1:]
@@ -78,23 +105,25 @@ def deepest_of(binary, surface):
 
 def jobs(binary, folder, surface, kind, n):
     """The name and the words of each job on a surface, reading first; a demonstration only beside noise, which it is."""
-    certificate = f'{folder}/certificate'
     flat, ball = element_line('e', lambda x, y: 0), element_line('e', lambda x, y: round(1000 * (math.sqrt(144 - x * x - y * y) - 12)))
     lines = {
-        'read': '', 'dales': 'dales\n', 'tree': 'tree D\n', 'prune': 'prune D 5%\n', 'param': 'param S10z\n',
+        'read': '', 'dales': 'dales\n', 'four': 'neighbours 4\ndales\n', 'six': 'neighbours 6\ndales\n',
+        'tree': 'tree D\n', 'prune': 'prune D 5%\n', 'param': 'param S10z\n', 'lines': 'lines D 5%\n', 'values': VALUES,
         'open, flat': flat + 'open e\n', 'open, ball': ball + 'open e\n', 'save': '',
-        'certificate': f'saddle D {deepest_of(binary, surface)}\n',
+        'certificate': f'saddle D {deepest_of(binary, surface)}\n', 'audit': 'audit D 5%\n',
     }
     for name, text in lines.items():
         words = [binary, 'run', surface, script_of(folder, name, text)]
         yield name, words + (['--save', f'{folder}/saved'] if name == 'save' else [])
-        if name == 'certificate':
-            with open(certificate, 'wb') as out:
+        if name in ('certificate', 'audit'):
+            with open(f'{folder}/certificate', 'wb') as out:
                 subprocess.run(words, stdout=out)
-    yield 'check', [binary, 'check', surface, certificate]
+            yield 'check' if name == 'certificate' else 'check audit', [binary, 'check', surface, f'{folder}/certificate']
+    yield 'decimal', [binary, 'dales', decimals_of(folder, surface)]
     if kind == 'noise':
         yield 'demo', [binary, 'demo', str(n), str(n), '7', '200']
     yield 'sets', [binary, 'run', surface, script_of(folder, 'sets', sets(n))]
+    yield 'edits', [binary, 'run', surface, script_of(folder, 'edits', edits(n)), '--tile', '16']
 
 
 def processor_seconds():
