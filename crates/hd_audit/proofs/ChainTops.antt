@@ -32,9 +32,9 @@ use Rattle.hd_audit.specs.Rules.{IsChainWithin, IsNewPoint, IsWithin, rise_over}
 use Rattle.hd_audit.proofs.Lines.{line_present, one_line}
 
 -- the height of the higher of two points is that of their heights
-height_of-higher : (side : SideName) (a b : Rank) → (higher_by side a b).height ≡ higher_height side a.height b.height
-height_of-higher Dales a b = grind (arith, ints, nat_tests)
-height_of-higher Hills a b = grind (arith, ints, nat_tests)
+top_height-higher : (side : SideName) (a b : Rank) → (higher_by side a b).height ≡ higher_height side a.height b.height
+top_height-higher Dales a b = grind (arith, ints, nat_tests)
+top_height-higher Hills a b = grind (arith, ints, nat_tests)
 
 module _ (m : Map) (side : SideName) (thousandths : ℕ) (sz : ℤ) (lines : List AuditLine) where
   -- the chain of the line is within its point, where this is a pit with a parent
@@ -123,7 +123,7 @@ module _ (m : Map) (side : SideName) (lines : List AuditLine) where
   height_higher i p x height is parent up = record {
     top = higher_by side (rank_at m i) up.top;
     is_top = top_higher i p x up.top is parent up.is_top;
-    height_is = height_of-higher side (rank_at m i) up.top ∙ ap (higher_height side (rank_at m i).height) up.height_is;
+    height_is = top_height-higher side (rank_at m i) up.top ∙ ap (higher_height side (rank_at m i).height) up.height_is;
   }
 
   module _ (new : (k : ℕ) → k < length lines → IsNewPoint m lines k) where

@@ -22,8 +22,8 @@ use Rattle.hd_audit.specs.declared.types.AuditLine.{AuditLine}
 use Rattle.hd_audit.specs.declared.waiting.Waiting.{Waiting}
 use Rattle.hd_audit.specs.Flooding.{Adds, IsFront, IsOver, IsSpreading, Offers, OffersAt, ahead_at, is_under, rank_of_waiting, seen_at}
 use Rattle.hd_audit.specs.Lines.{point_at}
-use Rattle.hd_audit.proofs.Flooded.{flood-add, flood-on}
-use Rattle.hd_audit.proofs.Marks.{seen-here, seen-kept}
+use Rattle.hd_audit.proofs.Flooding.{flood-add, flood-on}
+use Rattle.hd_audit.proofs.SeenAt.{seen-here, seen-kept}
 
 none_or_some : (o : Option ℕ) → (o ≡ None) ⊎ ((p : ℕ) × (o ≡ Some p))
 none_or_some None = inl refl

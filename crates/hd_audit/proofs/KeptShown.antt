@@ -24,7 +24,7 @@ use Rattle.hd_audit.specs.Lines.{line_at, point_at, rank_at, IsLineOf, IsListed,
 use Rattle.hd_audit.specs.Rules.{rules_of, IsWithin, IsEarlierNeighbour, IsKeptPit, IsCutOf, IsChainWithin}
 use Rattle.hd_audit.proofs.Within.{within-lower, ReachesWithin, reach-back, reach-higher, reach-point}
 use Rattle.hd_audit.proofs.Firm.{AreFirm, undercuts-from_reach}
-use Rattle.hd_audit.proofs.Listed.{rank_of_index}
+use Rattle.hd_audit.proofs.ShownLines.{rank_of_index}
 use Rattle.hd_audit.proofs.PointAt.{point-indexed}
 use Rattle.hd_audit.proofs.ShownChains.{undercut-within}
 

@@ -1,8 +1,8 @@
 -- The lines of a pruning certificate: each point has one, which stands after that of its parent.
-use Rattle.std.proofs.Common.{◌≡◌, ◌<◌, ℕ, List, length, Option, Some, None, inl, inr, sym, ap, ◌∙◌, subst, arith}
+use Rattle.std.proofs.Common.{◌≡◌, ◌<◌, ℕ, List, length, Option, Some, None, inl, inr, sym, ap, ◌∙◌, subst, arith, ◌+◌, [], ◌∷◌, ◌++◌}
 use Rattle.std.specs.Prelude.{MatchOption}
 use Rattle.std.proofs.lemmas.Bool.{cases_lt}
-use Rattle.std.proofs.lemmas.List.{get_or_default}
+use Rattle.std.proofs.lemmas.List.{get_or_default, get_or_append_left, get_or_push}
 use Rattle.hd_map.specs.Map.{IsMap, Map, Present, position_at}
 use Rattle.hd_map.proofs.Points.{point_at}
 use Rattle.hd_prune.specs.Span.{IsHeight}
@@ -44,3 +44,10 @@ module _ (m : Map) (lines : List AuditLine) where
     -- the point of a line has a height of the map
     pub line_fits : IsMap m → (k : ℕ) → k < length lines → IsHeight (rank_at m (line_at lines k).index).height
     line_fits whole k inside = point_height m (rank_at m (line_at lines k).index) whole (point_at m (position_at m.size (line_at lines k).index) (new k inside).present)
+
+module _ (lines : List AuditLine) (x : AuditLine) where
+  pub line_at-push_old : (k : ℕ) → k < length lines → line_at (lines ++ x ∷ []) k ≡ line_at lines k
+  line_at-push_old k inside = get_or_append_left lines (x ∷ []) (record { index = 0; parent = None; cut = None }) k inside
+
+  pub line_at-push_new : (k : ℕ) → length lines ≡ k → line_at (lines ++ x ∷ []) k ≡ x
+  line_at-push_new k last = get_or_push lines x (record { index = 0; parent = None; cut = None }) k last

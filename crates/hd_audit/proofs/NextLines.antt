@@ -26,10 +26,10 @@ use Rattle.hd_audit.specs.LowestFirst.{lowest_first}
 use Rattle.hd_audit.specs.Rules.{IsWithin, rise_over}
 use Rattle.hd_audit.specs.Shown.{AreShownLines, CutIs, IsNextTo, IsReachedLine}
 use Rattle.hd_audit.proofs.Firm.{AreFirm}
-use Rattle.hd_audit.proofs.Flooded.{popped-in}
-use Rattle.hd_audit.proofs.Listed.{kept-moved, next_to-moved, rank_of_index, reached-moved}
-use Rattle.hd_audit.proofs.Marks.{line-old, line-new}
-use Rattle.hd_audit.proofs.NextCuts.{cut-same, cut-left, cut-none}
+use Rattle.hd_audit.proofs.Flooding.{popped-in}
+use Rattle.hd_audit.proofs.ShownLines.{kept-moved, next_to-moved, rank_of_index, reached-moved}
+use Rattle.hd_audit.proofs.Lines.{line_at-push_old, line_at-push_new}
+use Rattle.hd_audit.proofs.CutIs.{cut-same, cut-left, cut-none}
 use Rattle.hd_audit.proofs.PointAt.{point-indexed}
 
 not_lower : (a b : Bool) → is_lt (cond a Less (cond b Greater Equal)) ≡ false → a ≡ false
@@ -83,13 +83,13 @@ module _ {S : Type 0} (m : Map) (whole : IsMap m) (side : SideName) (thousandths
     top-point = let t = top-waits in record { at = t.point; present = t.neighbour.from; rank_is = t.rank_is }
 
     same : (i : ℕ) → i < length lines → line_at (lines ++ line ∷ []) i ≡ line_at lines i
-    same i less = line-old lines line i less
+    same i less = line_at-push_old lines line i less
 
     back : (i : ℕ) → i < length lines → line_at lines i ≡ line_at (lines ++ line ∷ []) i
     back i less = sym (same i less)
 
     here : line_at (lines ++ line ∷ []) (length lines) ≡ line
-    here = line-new lines line (length lines) refl
+    here = line_at-push_new lines line (length lines) refl
 
     -- the top of the heap is the lowest unlisted point with a listed neighbour
     lowest : (t : IsWaiting m lines w) → (q : Pos) → IsNextTo m side thousandths sz kept lines (length lines) q → IsNotAbove (below_by side) (rank m t.point) (rank m q)

@@ -6,7 +6,7 @@ use Rattle.hd_audit.specs.declared.types.AuditLine.{AuditLine}
 use Rattle.hd_audit.specs.Lines.{line_at, IsLineOf, HasCut, SaysKept}
 use Rattle.hd_audit.specs.Places.{AreAllPlaces, place_at}
 use Rattle.hd_audit.specs.Rules.{IsNewPoint}
-use Rattle.hd_audit.proofs.Placing.{line_of_place, place_of_line}
+use Rattle.hd_audit.proofs.PlaceAt.{line_of_place, place_of_line}
 
 module _ (m : Map) (lines : List AuditLine) (places : List (Option ℕ)) (are : AreAllPlaces m lines places) where
   -- the noted line is the only one of its point

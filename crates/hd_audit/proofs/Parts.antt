@@ -7,7 +7,7 @@ use Rattle.hd_map.specs.declared.types.SideName.{SideName}
 use Rattle.hd_map.specs.declared.types.SideName.TheVariants.{Dales, Hills}
 use Rattle.hd_num.specs.Percent.{percent_text}
 use Rattle.hd_check.specs.Text.{adjacency_word, line_text, side_word}
-use Rattle.hd_check.proofs.Adding.{counted_text}
+use Rattle.hd_check.proofs.AppendedTexts.{counted_text}
 use Rattle.hd_audit.specs.declared.types.Audit.{Audit}
 use Rattle.hd_audit.specs.declared.types.AuditLine.{AuditLine}
 use Rattle.hd_audit.specs.Text.{audit_text, point_line, point_words}

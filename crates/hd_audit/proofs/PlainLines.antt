@@ -15,7 +15,7 @@ use Rattle.hd_num.proofs.Decimals.{count_parts}
 use Rattle.hd_check.specs.declared.lines.Place.{Place}
 use Rattle.hd_check.specs.Places.{IsPlace}
 use Rattle.hd_check.specs.Text.{line_text}
-use Rattle.hd_check.proofs.ReadsBack.{IsWord, clear_digits, filled, first_line}
+use Rattle.hd_check.proofs.ReadsBack.{IsWord, clear_digits, word-filled, first_line}
 use Rattle.hd_audit.specs.Plain.{BeginsWith, BeginsWithLine}
 use Rattle.hd_audit.specs.Reading.{count_or_none, given, line_of_parts}
 
@@ -48,7 +48,7 @@ digits_before text rest d n some within digits value small is_rest = record {
 }
   where
     numeral : is_numeral (take d text) ≡ true
-    numeral = and_from _ _ (filled (take d text) (let long = length-take d text in omega (arith, long, some, within))) digits
+    numeral = and_from _ _ (word-filled (take d text) (let long = length-take d text in omega (arith, long, some, within))) digits
 
 -- a count is read as a count or none
 pub count_given : (w : List ℕ) (n : ℕ) → count_of w ≡ Some n → count_or_none w ≡ Some (Some n)
@@ -64,24 +64,24 @@ module _ (text rest a b c d e : List ℕ) (index : ℕ) (parent cut : Option ℕ
   abbrev words : List (List ℕ)
   words = first.word ∷ second.word ∷ third.word ∷ []
 
-  last_word : d ≡ (third.word ++ 10 ∷ []) ++ rest
-  last_word = third.whole ∙ ap (λ (t : List ℕ). third.word ++ t) ends ∙ sym (append_assoc third.word (10 ∷ []) rest)
+  plain_line-last_word : d ≡ (third.word ++ 10 ∷ []) ++ rest
+  plain_line-last_word = third.whole ∙ ap (λ (t : List ℕ). third.word ++ t) ends ∙ sym (append_assoc third.word (10 ∷ []) rest)
 
-  last_words : b ≡ (second.word ++ 32 ∷ (third.word ++ 10 ∷ [])) ++ rest
-  last_words = second.whole ∙ ap (λ (t : List ℕ). second.word ++ t) (space' ∙ ap (λ (t : List ℕ). 32 ∷ t) last_word) ∙ sym (append_assoc second.word (32 ∷ (third.word ++ 10 ∷ [])) rest)
+  plain_line-last_words : b ≡ (second.word ++ 32 ∷ (third.word ++ 10 ∷ [])) ++ rest
+  plain_line-last_words = second.whole ∙ ap (λ (t : List ℕ). second.word ++ t) (space' ∙ ap (λ (t : List ℕ). 32 ∷ t) plain_line-last_word) ∙ sym (append_assoc second.word (32 ∷ (third.word ++ 10 ∷ [])) rest)
 
-  line_first : text ≡ line_text words ++ rest
-  line_first = first.whole ∙ ap (λ (t : List ℕ). first.word ++ t) (space ∙ ap (λ (t : List ℕ). 32 ∷ t) last_words) ∙ sym (append_assoc first.word (32 ∷ (second.word ++ 32 ∷ (third.word ++ 10 ∷ []))) rest)
+  plain_line-first : text ≡ line_text words ++ rest
+  plain_line-first = first.whole ∙ ap (λ (t : List ℕ). first.word ++ t) (space ∙ ap (λ (t : List ℕ). 32 ∷ t) plain_line-last_words) ∙ sym (append_assoc first.word (32 ∷ (second.word ++ 32 ∷ (third.word ++ 10 ∷ []))) rest)
 
   pub plain_first : BeginsWithLine text (record { index = index; parent = parent; cut = cut }) rest
   plain_first = record {
     words = words;
-    lines = ap (λ (t : List ℕ). map words_of (lines_of t)) line_first
+    lines = ap (λ (t : List ℕ). map words_of (lines_of t)) plain_line-first
         ∙ first_line first.word (second.word ∷ third.word ∷ []) rest (count_is_word first.word index first.reads, (count_or_none_is_word second.word parent second.reads, (count_or_none_is_word third.word cut third.reads, tt)));
     form = ap (λ (i : Option ℕ). line_of_parts i (count_or_none second.word) (count_or_none third.word)) first.reads
         ∙ ap₂ (λ (p q : Option (Option ℕ)). line_of_parts (Some index) p q) second.reads third.reads;
     front = line_text words;
-    whole = line_first;
+    whole = plain_line-first;
     some = omega (arith, length-append first.word (32 ∷ (second.word ++ 32 ∷ (third.word ++ 10 ∷ []))));
   }
 

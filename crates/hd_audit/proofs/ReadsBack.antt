@@ -17,7 +17,7 @@ use Rattle.hd_num.proofs.PercentReads.{percent_back}
 use Rattle.hd_num.proofs.ReadsBack.{count_of-decimal, first-decimal}
 use Rattle.hd_check.specs.Reading.{Read, adjacency_of, and_then, line_as, line_gives, side_of, value_of}
 use Rattle.hd_check.specs.Text.{adjacency_word, side_word}
-use Rattle.hd_check.proofs.ReadsBack.{AreLines, IsWord, adjacency_clear, counted_back, decimal_word, filled, from_line, is_clear, items_clear, lines_back, number_clear, side_clear, word_end}
+use Rattle.hd_check.proofs.ReadsBack.{AreLines, IsWord, adjacency_clear, counted_back, decimal_word, word-filled, from_line, is_clear, items_clear, lines_back, number_clear, side_clear, word_end}
 use Rattle.hd_audit.specs.declared.types.Audit.{Audit}
 use Rattle.hd_audit.specs.declared.types.AuditLine.{AuditLine}
 use Rattle.hd_audit.specs.declared.words.Head.{Head}
@@ -67,7 +67,7 @@ percent_clear t most =
     let rest = fraction_clear f (omega arith) in
     let some : 0 < length (percent_text t) = omega (arith, decimal_nonempty w (omega arith), length-append {A = ℕ} (decimal w) (fraction_text f ++ 37 ∷ [])) in
     record {
-      some = filled (percent_text t) some;
+      some = word-filled (percent_text t) some;
       clear = list_all-append is_clear (decimal w) (fraction_text f ++ 37 ∷ []) ∙ and_from _ _ wholes.clear (list_all-append is_clear (fraction_text f) (37 ∷ []) ∙ and_from _ _ rest refl);
     }
   where

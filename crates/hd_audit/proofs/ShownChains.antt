@@ -21,8 +21,8 @@ use Rattle.hd_audit.specs.Rules.{IsWithin, IsChainWithin}
 use Rattle.hd_audit.specs.Shown.{AreShownLines}
 use Rattle.hd_audit.proofs.Within.{within-lower, within-higher, goes-within, within-not_above, within_or_not, StepsWithin, ReachesWithin, reach-from_points, reach-back}
 use Rattle.hd_audit.proofs.Firm.{AreFirm, pit-below, no_pit}
-use Rattle.hd_audit.proofs.Listed.{IsAmong, line-rank, kept-line_rank, kept-among, reached-line_at, front}
-use Rattle.hd_audit.proofs.NextCuts.{no_rank, kept-pit}
+use Rattle.hd_audit.proofs.ShownLines.{IsAmong, line-rank, kept-line_rank, kept-among, reached-line_at, front-within}
+use Rattle.hd_audit.proofs.CutIs.{no_rank, kept-pit}
 use Rattle.hd_audit.proofs.ShownRules.{line-listed, line-is_at, new_point}
 
 module _ (m : Map) (whole : IsMap m) (side : SideName) (thousandths : ℕ) (sz : ℤ) (kept : List Rank) (firm : AreFirm m side thousandths sz kept) where
@@ -79,7 +79,7 @@ module _ (m : Map) (whole : IsMap m) (side : SideName) (thousandths : ℕ) (sz :
       reached-within : (j : ℕ) → length kept ≤ j → j < k → IsWithin side thousandths sz start (rank_at m (line_at lines j).index)
       reached-within j more before = elim (within_or_not side thousandths sz start (rank_at m (line_at lines j).index)) [
         | inl w ↦ w
-        | inr not ↦ absurd (reaches_kept start pit not_kept (λ r at reach w. not (front m side thousandths sz kept lines start r start j (shown.others j more (omega arith))
+        | inr not ↦ absurd (reaches_kept start pit not_kept (λ r at reach w. not (front-within m side thousandths sz kept lines start r start j (shown.others j more (omega arith))
             (reach-back m side thousandths sz start w reach) (kept-among m side thousandths sz kept lines j more shown.pits r at) (not_before j (omega arith)))))
       ]
 

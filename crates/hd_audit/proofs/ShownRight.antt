@@ -25,8 +25,8 @@ use Rattle.hd_audit.specs.Lines.{line_at, point_at, rank_at}
 use Rattle.hd_audit.specs.Rules.{IsTried, IsRight}
 use Rattle.hd_audit.specs.Shown.{AreShownLines, CutIs, IsShown}
 use Rattle.hd_audit.proofs.Firm.{AreFirm}
-use Rattle.hd_audit.proofs.Listed.{next_to-moved}
-use Rattle.hd_audit.proofs.NextCuts.{no_rank, cut-unique}
+use Rattle.hd_audit.proofs.ShownLines.{next_to-moved}
+use Rattle.hd_audit.proofs.CutIs.{no_rank, cut-unique}
 use Rattle.hd_audit.proofs.ShownRules.{new_point, index-listed, parent-earlier, kept-is_pit, cut-of_kept, no_leak}
 use Rattle.hd_audit.proofs.ShownChains.{chains-within}
 

@@ -21,8 +21,8 @@ use Rattle.hd_audit.specs.Rules.{IsWithin, IsNewPoint, IsEarlierNeighbour, IsKep
 use Rattle.hd_audit.specs.Shown.{AreShownLines, CutIs, IsReachedWithin}
 use Rattle.hd_audit.proofs.Within.{reach-from_reached, reached-from_reach, reach-more}
 use Rattle.hd_audit.proofs.Firm.{AreFirm, no_point, no_pit, reached-not_below}
-use Rattle.hd_audit.proofs.Listed.{IsAmong, IsLineAt, among_or_not, rank_of_index, line-position, kept-line_rank, kept-among, reached-line_at}
-use Rattle.hd_audit.proofs.NextCuts.{no_rank, kept-pit, kept-rank, cut-unique, listed-at}
+use Rattle.hd_audit.proofs.ShownLines.{IsAmong, IsLineAt, among_or_not, rank_of_index, line-position, kept-line_rank, kept-among, reached-line_at}
+use Rattle.hd_audit.proofs.CutIs.{no_rank, kept-pit, kept-rank, cut-unique, listed-at}
 
 pub no_line : AuditLine
 no_line = record { index = 0; parent = None; cut = None }

@@ -36,22 +36,22 @@ rise-from_lower Hills c d x h = let e = height_order c d h in omega (arith, ints
 less-along : (a b t : ℤ) → a ≤ℤ b → int_lt (b *ℤ pos 100000) t ≡ true → int_lt (a *ℤ pos 100000) t ≡ true
 less-along a b t le h = grind (arith, ints, nat_tests)
 
-gap-is : (a b : ℤ) → a ≤ℤ b → pos (unsigned_abs (b -ℤ a)) ≡ b -ℤ a
-gap-is (pos a) (pos b) h = omega (arith, ints)
-gap-is (pos a) (negsuc b) h = omega (arith, ints)
-gap-is (negsuc a) (pos b) h = omega (arith, ints)
-gap-is (negsuc a) (negsuc b) h = omega (arith, ints)
+distance-is : (a b : ℤ) → a ≤ℤ b → pos (unsigned_abs (b -ℤ a)) ≡ b -ℤ a
+distance-is (pos a) (pos b) h = omega (arith, ints)
+distance-is (pos a) (negsuc b) h = omega (arith, ints)
+distance-is (negsuc a) (pos b) h = omega (arith, ints)
+distance-is (negsuc a) (negsuc b) h = omega (arith, ints)
 
-gap-turned : (a b : ℤ) → b ≤ℤ a → pos (unsigned_abs (b -ℤ a)) ≡ a -ℤ b
-gap-turned (pos a) (pos b) h = omega (arith, ints)
-gap-turned (pos a) (negsuc b) h = omega (arith, ints)
-gap-turned (negsuc a) (pos b) h = omega (arith, ints)
-gap-turned (negsuc a) (negsuc b) h = omega (arith, ints)
+distance-turned : (a b : ℤ) → b ≤ℤ a → pos (unsigned_abs (b -ℤ a)) ≡ a -ℤ b
+distance-turned (pos a) (pos b) h = omega (arith, ints)
+distance-turned (pos a) (negsuc b) h = omega (arith, ints)
+distance-turned (negsuc a) (pos b) h = omega (arith, ints)
+distance-turned (negsuc a) (negsuc b) h = omega (arith, ints)
 
 -- where the pit is not above the saddle, its local height there is the rise of the saddle over it
 local-rise : (side : SideName) (p s : Rank) → IsNotAbove (below_by side) p s → pos (local_height p s) ≡ rise_over side p s
-local-rise Dales p s h = gap-is p.height s.height (height_order s p h)
-local-rise Hills p s h = gap-turned p.height s.height (height_order p s h)
+local-rise Dales p s h = distance-is p.height s.height (height_order s p h)
+local-rise Hills p s h = distance-turned p.height s.height (height_order p s h)
 
 no-rise : (side : SideName) (p : Rank) (n : ℕ) → rise_over side p p ≤ℤ pos n
 no-rise Dales p n = omega (arith, ints)
@@ -94,10 +94,10 @@ first_step here = inl refl
 first_step (step {a} {b} {c} s r) = inr (b, s)
 
 -- on a way from what has to what has not there is a step from what has to what has not
-pub crosses : {V : Type 0} {R : V → V → Type 0} (D : V → Type 0) → ((x : V) → D x ⊎ (D x → ⊥)) → {a b : V} → Reach R a b → D a → (D b → ⊥) → (x : V) × (y : V) × D x × (D y → ⊥) × R x y
-crosses D decided here has not = absurd (not has)
-crosses D decided (step {a} {b} {c} s r) has not = elim (decided b) [
-  | inl so ↦ crosses D decided r so not
+pub Reach-crosses : {V : Type 0} {R : V → V → Type 0} (D : V → Type 0) → ((x : V) → D x ⊎ (D x → ⊥)) → {a b : V} → Reach R a b → D a → (D b → ⊥) → (x : V) × (y : V) × D x × (D y → ⊥) × R x y
+Reach-crosses D decided here has not = absurd (not has)
+Reach-crosses D decided (step {a} {b} {c} s r) has not = elim (decided b) [
+  | inl so ↦ Reach-crosses D decided r so not
   | inr lacks ↦ (a, b, has, lacks, s)
 ]
 

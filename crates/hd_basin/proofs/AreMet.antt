@@ -29,12 +29,12 @@ use Rattle.hd_basin.specs.Meetings.{AreChained, AreKept}
 use Rattle.hd_basin.specs.Parts.{IsBetween, low_or_none, pass_named}
 use Rattle.hd_basin.specs.Sinks.{IsArea, at_place}
 use Rattle.hd_basin.proofs.Areas.{area-in, area-tile, area-fits, tile-of_point}
-use Rattle.hd_basin.proofs.Chains.{kept-notes}
+use Rattle.hd_basin.proofs.ChainedMeetings.{kept-notes}
 use Rattle.hd_basin.proofs.Frames.{frame_step, frame-in_grid}
 use Rattle.hd_basin.proofs.BuiltSeams.{same-pass}
-use Rattle.hd_basin.proofs.Rooting.{read-contains}
+use Rattle.hd_basin.proofs.PointRoots.{read-contains}
 use Rattle.hd_basin.proofs.AreLinks.{low-own}
-use Rattle.hd_basin.proofs.Listed.{contains-at}
+use Rattle.hd_basin.proofs.FlatLists.{Contains-at}
 use Rattle.hd_basin.proofs.SinkLaws.{sink-unique, sink-tile}
 use Rattle.hd_basin.proofs.InStep.{meeting-sym}
 
@@ -415,7 +415,7 @@ module _ (m : Map) (side : SideName) (t tile : ℕ) (f : Frame) (some : 1 ≤ t)
     pass-right p has =
         let j = Contains-map (pass_named nodes) (map join_of list) p has in
         let x = Contains-map join_of list j.0 j.1 in
-        let i = contains-at list x.0 x.1 in
+        let i = Contains-at list x.0 x.1 in
         subst (λ (z : Pass). IsRightPass m side t z × (tile_at m.size t z.a ≡ tile) × (tile_at m.size t z.b ≡ tile)) (ap (pass_named nodes) x.2 ∙ j.2) (right-pass i.0 x.0 i.1)
 
     -- the pass of two nodes is one of them

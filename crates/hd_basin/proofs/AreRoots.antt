@@ -24,10 +24,10 @@ use Rattle.hd_basin.specs.InStep.{IsPoolOf, HasMap}
 use Rattle.hd_basin.specs.Parts.{Pool, HasNode, node_of}
 use Rattle.hd_basin.specs.Reading.{RootIs}
 use Rattle.hd_basin.specs.Roots.{AreKnownRoots, AreRoots, AreSettled, IsRootOfNode, KeepsKnown, unknown}
-use Rattle.hd_basin.proofs.GatheredExtents.{only}
+use Rattle.hd_basin.proofs.GatheredExtents.{Contains-only}
 use Rattle.hd_basin.proofs.Flowing.{flows-root_step}
 use Rattle.hd_basin.proofs.PoolGraph.{node-point}
-use Rattle.hd_basin.proofs.Rooting.{node-had, node-right, none-right, read-contains, way-into, way-own}
+use Rattle.hd_basin.proofs.PointRoots.{node-had, node-right, none-right, read-contains, way-into, way-own}
 use Rattle.hd_basin.proofs.SinkLaws.{FlowsInto, pit-sink, sink-own, sink-root, sink-unique}
 
 -- the sink of a node is in the grid
@@ -146,7 +146,7 @@ pub record ArePartsSettled (side : SideName) (pool : Pool) (parts : List Part) (
 pub take-cases : {X : Type 0} → (xs : List X) (k : ℕ) (d x : X) → k < length xs → Contains (take (k + 1) xs) x → Contains (take k xs) x ⊎ (x ≡ get_or xs k d)
 take-cases xs k d x inside at = elim (Contains-append_cases (take k xs) (get_or xs k d ∷ []) x (subst (λ ys. Contains ys x) (take_more xs k d inside) at)) [
   | inl early ↦ inl early
-  | inr last ↦ inr (only (get_or xs k d) x last)
+  | inr last ↦ inr (Contains-only (get_or xs k d) x last)
 ]
 
 -- the root of one more node is known

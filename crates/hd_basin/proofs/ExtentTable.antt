@@ -11,7 +11,7 @@ use Rattle.std.proofs.lemmas.Option.{same_Some, slice_get_cases, slice_get_past}
 use Rattle.hd_map.proofs.Items.{Contains-head}
 use Rattle.hd_basin.specs.declared.extent.Extent.{Extent}
 use Rattle.hd_basin.specs.ExtentTable.{AreFiled, AreListedTo, Files, Table, found, no_extent}
-use Rattle.hd_basin.proofs.GatheredExtents.{only}
+use Rattle.hd_basin.proofs.GatheredExtents.{Contains-only}
 use Rattle.hd_basin.proofs.Lists.{get-push_last, get-push_left}
 
 -- the number at an index
@@ -104,7 +104,7 @@ module _ (g : Table) (filed : AreFiled g) where
         each = λ x at. elim (Contains-append_cases list (e ∷ []) x at) [
           | inl early ↦ (let b = before.each x early in let less = b.1 in (b.0, omega (arith, less)))
           | inr last ↦ (
-              let same = only e x last in
+              let same = Contains-only e x last in
               let here : x.pit.index ≡ k = ap (λ (y : Extent). y.pit.index) same ∙ own in
               (ap (found g) here ∙ is ∙ ap (λ (y : Extent). Some y) (sym same), omega (arith, here)))
         ];

@@ -23,15 +23,15 @@ use Rattle.hd_basin.specs.InStep.{IsPoolOf}
 use Rattle.hd_basin.specs.Parts.{Pool, HasNode}
 use Rattle.hd_basin.specs.Reading.{AreExtents, IsExtent}
 use Rattle.hd_basin.specs.Sums.{AreSums}
-use Rattle.hd_basin.proofs.Listed.{Contains-flat, flat-Contains, pairs-flat}
+use Rattle.hd_basin.proofs.FlatLists.{Contains-flat, flat-Contains, AllPairs-flat}
 use Rattle.hd_basin.proofs.Sums.{Either}
 use Rattle.hd_basin.proofs.PoolGraph.{has_sink, node-tile, sink_of-point}
 use Rattle.hd_basin.proofs.SinkLaws.{sink-is_sink, sink-root, sink-unique}
 use Rattle.hd_basin.proofs.ExtentSums.{count-few, sums-both, sums-by}
 
 -- what a list of one item has
-pub only : {X : Type 0} → (x y : X) → Contains (x ∷ []) y → y ≡ x
-only x y h = elim (Contains-cases x y [] h) [ inl same ↦ same | inr none ↦ absurd (Contains-none y none) ]
+pub Contains-only : {X : Type 0} → (x y : X) → Contains (x ∷ []) y → y ≡ x
+Contains-only x y h = elim (Contains-cases x y [] h) [ inl same ↦ same | inr none ↦ absurd (Contains-none y none) ]
 
 -- a point that has a root is one
 nexts-point : (m : Map) (side : SideName) (p r : Rank) (xs : List Rank) → AreNexts m side p xs r → IsPoint m p
@@ -60,7 +60,7 @@ module _ (m : Map) (side : SideName) (t : ℕ) where
     ],
     λ h. elim (Contains-append_cases nodes (n ∷ []) h.node h.among) [
       | inl old ↦ inl (record { node = h.node; among = old; root = h.root; sink = h.sink })
-      | inr new ↦ inr (subst (λ (u : Node). IsSinkOf m side t p u.low) (only n h.node new) h.sink)
+      | inr new ↦ inr (subst (λ (u : Node). IsSinkOf m side t p u.low) (Contains-only n h.node new) h.sink)
     ],
   )
 
@@ -70,7 +70,7 @@ module _ (m : Map) (side : SideName) (t : ℕ) where
     λ old. record { node = old.node; among = Contains-append_left nodes (n ∷ []) old.node old.among; root = old.root; sink = old.sink },
     λ h. elim (Contains-append_cases nodes (n ∷ []) h.node h.among) [
       | inl old ↦ record { node = h.node; among = old; root = h.root; sink = h.sink }
-      | inr new ↦ absurd (other (subst (λ (u : Node). IsRoot m side u.low pit) (only n h.node new) h.root))
+      | inr new ↦ absurd (other (subst (λ (u : Node). IsRoot m side u.low pit) (Contains-only n h.node new) h.root))
     ],
   )
 
@@ -102,7 +102,7 @@ module _ (m : Map) (side : SideName) (t : ℕ) where
     other-gathered : (i : ℕ) (o : Option Extent) → (i ≡ pit.index → ⊥) → IsGathered m side t nodes i o → IsGathered m side t (nodes ++ n ∷ []) i o
     other-gathered i None other none = λ u r at ur. elim (Contains-append_cases nodes (n ∷ []) u at) [
       | inl old ↦ none u r old ur
-      | inr new ↦ λ e. other (sym e ∙ ap (λ (x : Rank). x.index) (root-unique m side n.low r pit (subst (λ (v : Node). IsRoot m side v.low r) (only n u new) ur) root))
+      | inr new ↦ λ e. other (sym e ∙ ap (λ (x : Rank). x.index) (root-unique m side n.low r pit (subst (λ (v : Node). IsRoot m side v.low r) (Contains-only n u new) ur) root))
     ]
     other-gathered i (Some e) other old = (
       old.0,
@@ -145,7 +145,7 @@ module _ (side : SideName) (pool : Pool) (nodes : List Node) (are : nodes ≡ fl
 
     nodes-different : AllPairs (λ (n u : Node). n.low ≢ u.low) nodes
     nodes-different = subst (AllPairs (λ (n u : Node). n.low ≢ u.low)) (sym are)
-        (pairs-flat (λ (n u : Node). n.low ≢ u.low) nodes_in pool.parts (λ k part at. of.has.once k part tt at)
+        (AllPairs-flat (λ (n u : Node). n.low ≢ u.low) nodes_in pool.parts (λ k part at. of.has.once k part tt at)
         (λ j k part other less at at' n u hn hu same. (
         let tile : j ≡ k = sym (node-tile m side pool of j n (record { part = part; at = at; has = hn })) ∙ ap (tile_at m.size pool.side) same ∙ node-tile m side pool of k u (record { part = other; at = at'; has = hu }) in
         omega (arith, tile, less))))

@@ -34,10 +34,10 @@ use Rattle.hd_basin.specs.InStep.{IsPoolOf, HasMap}
 use Rattle.hd_basin.specs.Graph.{as_low, lows_in, in_order, was_seen_with, pass_of, passes_in}
 use Rattle.hd_basin.specs.Parts.{inner_passes, Pool, HasNode, IsLinked, IsBetween, is_seen_with, label_of}
 use Rattle.hd_basin.specs.Reading.{IsGraphOf}
-use Rattle.hd_basin.proofs.Listed.{Contains-flat, flat-Contains, contains-at, pairs-flat, pairs-map}
-use Rattle.hd_basin.proofs.Rooting.{read-contains}
+use Rattle.hd_basin.proofs.FlatLists.{Contains-flat, flat-Contains, Contains-at, AllPairs-flat, AllPairs-map}
+use Rattle.hd_basin.proofs.PointRoots.{read-contains}
 use Rattle.hd_basin.proofs.SinkLaws.{sink-unique, sink-own, sink-is_sink, sink-settles}
-use Rattle.hd_basin.proofs.Staleness.{seen_with}
+use Rattle.hd_basin.proofs.StaleCount.{seen_with}
 
 -- the node of a pit says that it is one, and no other does
 pit-flagged : (m : Map) (side : SideName) (s : Rank) (o : Option Pos) → MatchOption o (IsPit m side s) (FlowsTo m side s) → (is_none o ≡ true) ↔ IsPit m side s
@@ -95,7 +95,7 @@ listed-linked side parts a b w low (inl i) =
 listed-linked side parts a b w low (inr x) =
     flat-Contains (passes_in side parts) parts x.tile x.part _ x.at
     (Contains-append_right (map (in_order side) (inner_passes x.part)) (flat_map (pass_of side parts) x.part.seams) _
-    (let k = contains-at x.part.seams x.seam x.has in
+    (let k = Contains-at x.part.seams x.seam x.has in
     flat-Contains (pass_of side parts) x.part.seams k.0 x.seam _ k.1
     (subst (Contains (pass_of side parts x.seam)) (order-of side x.seam.pass a b w low x.between) (pass-live side parts x.seam x.other x.with_at x.since))))
 
@@ -172,8 +172,8 @@ module _ (m : Map) (side : SideName) (pool : Pool) (of : IsPoolOf m side pool) w
   node-point tile n h = (of.has.right.nodes tile n tt h).0.sink.point
 
   pub lows-different : AllPairs (λ (x y : Low). x.rank.index ≢ y.rank.index) (flat_map lows_in pool.parts)
-  lows-different = pairs-flat (λ (x y : Low). x.rank.index ≢ y.rank.index) lows_in pool.parts
-      (λ k part at. pairs-map as_low (λ (n u : Node). n.low ≢ u.low) (λ (x y : Low). x.rank.index ≢ y.rank.index) part.nodes
+  lows-different = AllPairs-flat (λ (x y : Low). x.rank.index ≢ y.rank.index) lows_in pool.parts
+      (λ k part at. AllPairs-map as_low (λ (n u : Node). n.low ≢ u.low) (λ (x y : Low). x.rank.index ≢ y.rank.index) part.nodes
       (λ n u at_n at_u apart same. apart (same_index m n.low u.low (node-point k n (record { part = part; at = at; has = at_n })) (node-point k u (record { part = part; at = at; has = at_u })) same))
       (of.has.once k part tt at))
       (λ j k part other less at at' x y hx hy same.

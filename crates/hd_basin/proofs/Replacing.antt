@@ -26,11 +26,11 @@ abbrev pub pool_of : Map → ℕ → List Part → Pool
 pool_of m t parts = record { size = m.size; side = t; parts = parts }
 
 -- a pool in step has the size of the map
-pub sized : (m : Map) (side : SideName) (stamps : List ℕ) (s : Size) (t : ℕ) (parts : List Part) → IsInStep m side stamps (record { size = s; side = t; parts = parts }) → IsInStep m side stamps (pool_of m t parts)
-sized m side stamps s t parts step = subst (λ (z : Size). IsInStep m side stamps (record { size = z; side = t; parts = parts })) step.size step
+pub in_step-sized : (m : Map) (side : SideName) (stamps : List ℕ) (s : Size) (t : ℕ) (parts : List Part) → IsInStep m side stamps (record { size = s; side = t; parts = parts }) → IsInStep m side stamps (pool_of m t parts)
+in_step-sized m side stamps s t parts step = subst (λ (z : Size). IsInStep m side stamps (record { size = z; side = t; parts = parts })) step.size step
 
-pub sized-back : (m : Map) (side : SideName) (stamps : List ℕ) (s : Size) (t : ℕ) (parts : List Part) → s ≡ m.size → IsInStep m side stamps (pool_of m t parts) → IsInStep m side stamps (record { size = s; side = t; parts = parts })
-sized-back m side stamps s t parts size step = subst (λ (z : Size). IsInStep m side stamps (record { size = z; side = t; parts = parts })) (sym size) step
+pub in_step-sized_back : (m : Map) (side : SideName) (stamps : List ℕ) (s : Size) (t : ℕ) (parts : List Part) → s ≡ m.size → IsInStep m side stamps (pool_of m t parts) → IsInStep m side stamps (record { size = s; side = t; parts = parts })
+in_step-sized_back m side stamps s t parts size step = subst (λ (z : Size). IsInStep m side stamps (record { size = z; side = t; parts = parts })) (sym size) step
 
 -- a pass with these ends is between them both ways
 between-sym : (p : Pass) (a b w : Rank) → IsBetween p a b w → IsBetween p b a w

@@ -178,27 +178,27 @@ module _ (Member Edge : Rank → Type 0) (r : Rank) (fresh : Member r → ⊥) w
   least-alone : Edge r → ((x : Rank) → EdgeMember Member Edge x → ⊥) → IsLeast (EdgeMember More Edge) r.height
   least-alone edge none = least-by (λ x. x ≡ r) (EdgeMember More Edge) (λ x. (λ same. (inr same, subst Edge (sym same) edge), λ e. elim (one-edge x e) [ inl old ↦ absurd (none x old) | inr new ↦ new.0 ])) r.height (least-one r)
 
-  edge_high-more : (edge : Bool) → (edge ≡ true → Edge r) → (edge ≡ false → Edge r → ⊥) → (o o' : Option ℤ) → GoesOn IsGreater edge o r.height o' →
+  sums-edge_high : (edge : Bool) → (edge ≡ true → Edge r) → (edge ≡ false → Edge r → ⊥) → (o o' : Option ℤ) → GoesOn IsGreater edge o r.height o' →
       MatchOption o ((x : Rank) → EdgeMember Member Edge x → ⊥) (IsGreatest (EdgeMember Member Edge)) → MatchOption o' ((x : Rank) → EdgeMember More Edge x → ⊥) (IsGreatest (EdgeMember More Edge))
-  edge_high-more false on off o o' e h = subst (λ (p : Option ℤ). MatchOption p ((x : Rank) → EdgeMember More Edge x → ⊥) (IsGreatest (EdgeMember More Edge))) (sym e) (kept o h)
+  sums-edge_high false on off o o' e h = subst (λ (p : Option ℤ). MatchOption p ((x : Rank) → EdgeMember More Edge x → ⊥) (IsGreatest (EdgeMember More Edge))) (sym e) (kept o h)
     where
       kept : (o : Option ℤ) → MatchOption o ((x : Rank) → EdgeMember Member Edge x → ⊥) (IsGreatest (EdgeMember Member Edge)) → MatchOption o ((x : Rank) → EdgeMember More Edge x → ⊥) (IsGreatest (EdgeMember More Edge))
       kept None none = λ x e. none x ((same-edges (off refl) x).1 e)
       kept (Some g) greatest = greatest-by (EdgeMember Member Edge) (EdgeMember More Edge) (same-edges (off refl)) g greatest
-  edge_high-more true on off None o' e none = subst (λ (p : Option ℤ). MatchOption p ((x : Rank) → EdgeMember More Edge x → ⊥) (IsGreatest (EdgeMember More Edge))) (sym e) (greatest-alone (on refl) none)
-  edge_high-more true on off (Some g) None e h = absurd e
-  edge_high-more true on off (Some g) (Some c) e h = greatest-by (Either (EdgeMember Member Edge) (λ y. y ≡ r)) (EdgeMember More Edge) (more-edges (on refl)) c (greatest-more (EdgeMember Member Edge) g c h e)
+  sums-edge_high true on off None o' e none = subst (λ (p : Option ℤ). MatchOption p ((x : Rank) → EdgeMember More Edge x → ⊥) (IsGreatest (EdgeMember More Edge))) (sym e) (greatest-alone (on refl) none)
+  sums-edge_high true on off (Some g) None e h = absurd e
+  sums-edge_high true on off (Some g) (Some c) e h = greatest-by (Either (EdgeMember Member Edge) (λ y. y ≡ r)) (EdgeMember More Edge) (more-edges (on refl)) c (greatest-more (EdgeMember Member Edge) g c h e)
 
-  edge_low-more : (edge : Bool) → (edge ≡ true → Edge r) → (edge ≡ false → Edge r → ⊥) → (o o' : Option ℤ) → GoesOn IsLesser edge o r.height o' →
+  sums-edge_low : (edge : Bool) → (edge ≡ true → Edge r) → (edge ≡ false → Edge r → ⊥) → (o o' : Option ℤ) → GoesOn IsLesser edge o r.height o' →
       MatchOption o ((x : Rank) → EdgeMember Member Edge x → ⊥) (IsLeast (EdgeMember Member Edge)) → MatchOption o' ((x : Rank) → EdgeMember More Edge x → ⊥) (IsLeast (EdgeMember More Edge))
-  edge_low-more false on off o o' e h = subst (λ (p : Option ℤ). MatchOption p ((x : Rank) → EdgeMember More Edge x → ⊥) (IsLeast (EdgeMember More Edge))) (sym e) (kept o h)
+  sums-edge_low false on off o o' e h = subst (λ (p : Option ℤ). MatchOption p ((x : Rank) → EdgeMember More Edge x → ⊥) (IsLeast (EdgeMember More Edge))) (sym e) (kept o h)
     where
       kept : (o : Option ℤ) → MatchOption o ((x : Rank) → EdgeMember Member Edge x → ⊥) (IsLeast (EdgeMember Member Edge)) → MatchOption o ((x : Rank) → EdgeMember More Edge x → ⊥) (IsLeast (EdgeMember More Edge))
       kept None none = λ x e. none x ((same-edges (off refl) x).1 e)
       kept (Some g) least = least-by (EdgeMember Member Edge) (EdgeMember More Edge) (same-edges (off refl)) g least
-  edge_low-more true on off None o' e none = subst (λ (p : Option ℤ). MatchOption p ((x : Rank) → EdgeMember More Edge x → ⊥) (IsLeast (EdgeMember More Edge))) (sym e) (least-alone (on refl) none)
-  edge_low-more true on off (Some g) None e h = absurd e
-  edge_low-more true on off (Some g) (Some c) e h = least-by (Either (EdgeMember Member Edge) (λ y. y ≡ r)) (EdgeMember More Edge) (more-edges (on refl)) c (least-more (EdgeMember Member Edge) g c h e)
+  sums-edge_low true on off None o' e none = subst (λ (p : Option ℤ). MatchOption p ((x : Rank) → EdgeMember More Edge x → ⊥) (IsLeast (EdgeMember More Edge))) (sym e) (least-alone (on refl) none)
+  sums-edge_low true on off (Some g) None e h = absurd e
+  sums-edge_low true on off (Some g) (Some c) e h = least-by (Either (EdgeMember Member Edge) (λ y. y ≡ r)) (EdgeMember More Edge) (more-edges (on refl)) c (least-more (EdgeMember Member Edge) g c h e)
 
   -- a node that counts one more point has the sums with it
   pub sums-more : (edge : Bool) → (edge ≡ true → Edge r) → (edge ≡ false → Edge r → ⊥) → (old new : Node) → AddsPoint r.height edge old new →
@@ -207,6 +207,6 @@ module _ (Member Edge : Rank → Type 0) (r : Rank) (fresh : Member r → ⊥) w
     counted = subst (IsCount More) (sym adds.points) (count-merge Member (λ x. x ≡ r) (λ x member same. fresh (subst Member same member)) old.points 1 sums.counted (count-one r));
     highest = greatest-more Member old.high new.high sums.highest adds.high;
     lowest = least-more Member old.least new.least sums.lowest adds.least;
-    lowest_edge = edge_low-more edge on off old.edge_low new.edge_low adds.edge_low sums.lowest_edge;
-    highest_edge = edge_high-more edge on off old.edge_high new.edge_high adds.edge_high sums.highest_edge;
+    lowest_edge = sums-edge_low edge on off old.edge_low new.edge_low adds.edge_low sums.lowest_edge;
+    highest_edge = sums-edge_high edge on off old.edge_high new.edge_high adds.edge_high sums.highest_edge;
   }

@@ -10,7 +10,7 @@ use Rattle.hd_basin.specs.declared.part.Join.{Join}
 use Rattle.hd_basin.specs.declared.part.Part.{Part}
 use Rattle.hd_basin.specs.InStep.{IsInStep}
 use Rattle.hd_basin.specs.Parts.{pass_named, Pool, IsFresh}
-use Rattle.hd_basin.proofs.Rooting.{read-contains}
+use Rattle.hd_basin.proofs.PointRoots.{read-contains}
 
 -- a tile that was not seen has no passes
 pub record IsUnseen (part : Part) : Type 0 where

@@ -14,7 +14,7 @@ use Rattle.hd_map.specs.Rank.{IsPoint, Near, rank}
 use Rattle.hd_tiles.specs.Tile.{tile_of, IsRound, Agree}
 use Rattle.hd_basin.specs.Basin.{tile_at, IsSink, AreNextsInside, IsSinkOf, FlowsTo, IsNode, IsBasinMeeting, IsBasinPass, IsLabel}
 use Rattle.hd_basin.specs.Views.{ShowSame}
-use Rattle.hd_basin.specs.Edge.{IsEdge, OnBorder, HasGap}
+use Rattle.hd_basin.specs.Edge.{IsEdge, OnBorder, HasAbsentBeside}
 use Rattle.hd_map.specs.declared.types.SideName.{SideName}
 use Rattle.hd_map.specs.Region.{LowerNeighbour, IsNext, IsPit}
 use Rattle.hd_basin.specs.declared.node.Node.{Node}
@@ -111,16 +111,16 @@ module _ (m n : Map) (t tile : ℕ) where
         to_rank = near.to_rank ∙ rank_kept a near.to h.to there;
       }
 
--- a gap beside a position of the tile stays
-gap_kept : (m n : Map) (t tile : ℕ) → ShowSame m n t tile → (p : Pos) → InGrid m.size p → tile_of m.size t p ≡ tile → HasGap m p → HasGap n p
-gap_kept m n t tile a p inside e gap =
-    let round : IsRound m.size t tile gap.at = record { from = p; in_grid = inside; in_tile = e; columns = gap.columns; rows = gap.rows } in
+-- a position without a present point beside a position of the tile stays
+absent_beside_kept : (m n : Map) (t tile : ℕ) → ShowSame m n t tile → (p : Pos) → InGrid m.size p → tile_of m.size t p ≡ tile → HasAbsentBeside m p → HasAbsentBeside n p
+absent_beside_kept m n t tile a p inside e missing =
+    let round : IsRound m.size t tile missing.at = record { from = p; in_grid = inside; in_tile = e; columns = missing.columns; rows = missing.rows } in
     record {
-      at = gap.at;
-      in_grid = subst (λ (s : Size). InGrid s gap.at) a.size gap.in_grid;
-      columns = gap.columns;
-      rows = gap.rows;
-      absent = λ here. gap.absent (present_kept n m t tile (show-sym m n t tile a) gap.at (subst (λ (s : Size). IsRound s t tile gap.at) a.size round) here);
+      at = missing.at;
+      in_grid = subst (λ (s : Size). InGrid s missing.at) a.size missing.in_grid;
+      columns = missing.columns;
+      rows = missing.rows;
+      absent = λ here. missing.absent (present_kept n m t tile (show-sym m n t tile a) missing.at (subst (λ (s : Size). IsRound s t tile missing.at) a.size round) here);
     }
 
 edge_kept : (m n : Map) (t tile : ℕ) → ShowSame m n t tile → (r : Rank) → tile_at m.size t r ≡ tile → IsEdge m r → IsEdge n r
@@ -134,7 +134,7 @@ edge_kept m n t tile a r e edge =
       rank_is = edge.rank_is ∙ rank_kept m n t tile a edge.at edge.present round;
       open_side = elim edge.open_side [
         | inl border ↦ inl (subst (λ (s : Size). OnBorder s edge.at) a.size border)
-        | inr gap ↦ inr (gap_kept m n t tile a edge.at inside in_tile gap)
+        | inr missing ↦ inr (absent_beside_kept m n t tile a edge.at inside in_tile missing)
       ];
     }
 

@@ -2,7 +2,7 @@
 ghost use Rattle.std.specs.Prelude.{◌≡◌, ◌<◌, ◌≤◌, ◌+◌, ◌*◌, true, false};
 ghost use Rattle.hd_map.specs.Map.{Present};
 ghost use Rattle.hd_map.specs.Rank.{rank};
-ghost use Rattle.hd_basin.specs.Edge.{IsEdge, HasGap};
+ghost use Rattle.hd_basin.specs.Edge.{IsEdge, HasAbsentBeside};
 ghost use Rattle.hd_basin.specs.Frames.{InFrame};
 ghost use Rattle.hd_basin.specs.Round.{AreRanks};
 
@@ -27,12 +27,12 @@ pub fn is_edge<S: Side, G: Heights>(grid: &G, area: Frame, ranks: &[Rank], at: P
     if at.x == 0 || at.y == 0 || at.x + 1 == size.points || at.y + 1 == size.profiles {
         return true;
     }
-    has_gap::<S, G>(grid, area, ranks, at)
+    has_absent_beside::<S, G>(grid, area, ranks, at)
 }
 
 // Whether one of the nine positions round a point that is not on the border has no present point.
 #[inline]
-fn has_gap<S: Side, G: Heights>(grid: &G, area: Frame, ranks: &[Rank], at: Pos) -> bool
+fn has_absent_beside<S: Side, G: Heights>(grid: &G, area: Frame, ranks: &[Rank], at: Pos) -> bool
     requires ranks { AreRanks (G.map grid.now) S.NAME area ((area.rows + 2) * (area.columns + 2)) ranks.now }
     requires columns { area.columns ≤ 256 }
     requires rows { area.rows ≤ 256 }
@@ -41,8 +41,8 @@ fn has_gap<S: Side, G: Heights>(grid: &G, area: Frame, ranks: &[Rank], at: Pos) 
     requires top { 0 < at.y }
     requires right { at.x + 1 < (G.map grid.now).size.points }
     requires bottom { at.y + 1 < (G.map grid.now).size.profiles }
-    ensures gap { result ≡ true → HasGap (G.map grid.now) at }
-    ensures none { result ≡ false → HasGap (G.map grid.now) at → ⊥ }
+    ensures absent { result ≡ true → HasAbsentBeside (G.map grid.now) at }
+    ensures none { result ≡ false → HasAbsentBeside (G.map grid.now) at → ⊥ }
 {
     for step in 0..9u32 {
         let rank = rank_beside::<S, G>(grid, area, ranks, at, step % 3, step / 3);

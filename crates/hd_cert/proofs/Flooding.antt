@@ -19,8 +19,8 @@ use Rattle.hd_cert.proofs.Residues.{none_noted, none_reached, one_more, residue_
 use Rattle.hd_cert.specs.Flood.{Reached, no_entry, entry_of, is_free, HasStepsWithin, IsEntry, IsFlood, IsFlooding, IsAtHead}
 
 -- a step from a neighbour
-pub turned : (m : Map) (IsOpen : Pos → Type 0) (p q : Pos) → OpenStep m IsOpen p q → OpenStep m IsOpen q p
-turned m IsOpen p q s = record { neighbour = neighbour-sym m p q s.neighbour; from = s.to; to = s.from }
+pub OpenStep-turned : (m : Map) (IsOpen : Pos → Type 0) (p q : Pos) → OpenStep m IsOpen p q → OpenStep m IsOpen q p
+OpenStep-turned m IsOpen p q s = record { neighbour = neighbour-sym m p q s.neighbour; from = s.to; to = s.from }
 
 module _ (m : Map) (IsOpen : Pos → Type 0) (start : Pos) where
   -- a point is noted
@@ -58,7 +58,7 @@ module _ (m : Map) (IsOpen : Pos → Type 0) (start : Pos) where
       let first = f.entries head begun in
       let more : (p : Pos) (k : ℕ) → InGrid m.size p → steps_at m.size steps p ≡ Some k → steps_at m.size steps' p ≡ Some k = λ p k there noted.
       noted_more steps at p n k f.whole near.to.in_grid there free noted in
-      let step : OpenStep m IsOpen at (entry_of queue head).at = turned m IsOpen (entry_of queue head).at at (record { neighbour = near; from = first.is_open; to = is_open }) in
+      let step : OpenStep m IsOpen at (entry_of queue head).at = OpenStep-turned m IsOpen (entry_of queue head).at at (record { neighbour = near; from = first.is_open; to = is_open }) in
       record {
         whole = length-set steps (place_of m.size at) (Some n) ∙ f.whole;
         start_inside = f.start_inside;
@@ -435,7 +435,7 @@ module _ (m : Map) (IsOpen : Pos → Type 0) (start : Pos) where
           let low = r.1 in
           let h = f.queued x l.0.neighbour.to.in_grid r.0 r.2 in
           let is = h.steps_is in
-          let back : OpenStep m IsOpen (entry_of queue h.place).at p = subst (λ (q : Pos). OpenStep m IsOpen q p) (sym h.at_is) (turned m IsOpen p x l.0) in
+          let back : OpenStep m IsOpen (entry_of queue h.place).at p = subst (λ (q : Pos). OpenStep m IsOpen q p) (sym h.at_is) (OpenStep-turned m IsOpen p x l.0) in
           let w = f.closed h.place (before h.place h.inside (omega (arith, is, low, le))) h.inside p back in
           let near = w.1 in
           (w.0, omega (arith, near, is, low), w.2)

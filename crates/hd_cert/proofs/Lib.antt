@@ -1,10 +1,10 @@
-mod Walks
+mod Paths
 mod Residues
 mod Flooding
-mod Nearest
-mod Listing
+mod FirstNearer
+mod Listed
 mod Shown
 mod Sound
-mod Ranks
+mod RoutesAsPaths
 mod Determined
 mod Right

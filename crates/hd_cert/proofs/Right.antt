@@ -20,7 +20,7 @@ use Rattle.hd_cert.specs.Within.{within}
 use Rattle.hd_cert.specs.Routes.{IsRouteOver, IsLowStep, IsRouteCut}
 use Rattle.hd_cert.specs.Shown.{AreTwoPits, IsPathAt, IsCutAt, IsShownCertificate}
 use Rattle.hd_cert.proofs.Determined.{same_positions}
-use Rattle.hd_cert.proofs.Ranks.{route_of, all_present, over_route, rank_place, all_below, low_route}
+use Rattle.hd_cert.proofs.RoutesAsPaths.{route_of, all_present, over_route, rank_place, all_below, low_route}
 use Rattle.hd_cert.proofs.Shown.{leads_present, pit_within}
 use Rattle.hd_cert.proofs.Sound.{leads_ranks, right_of, route_present}
 

@@ -26,13 +26,13 @@ use Rattle.hd_cert.specs.declared.residue.Residue.TheVariants.{Unreached}
 use Rattle.hd_cert.specs.Residues.{residue_at, residue_of, AreResidues}
 use Rattle.hd_cert.specs.Steps.{IsWanted, OpenStep, steps_at, AreSteps}
 use Rattle.hd_cert.specs.Within.{within, LiesWithin}
-use Rattle.hd_cert.specs.Nearer.{IsNearer, IsFirst, GoesNearer, LeadsDown}
+use Rattle.hd_cert.specs.FirstNearer.{IsNearer, IsFirst, GoesNearer, LeadsDown}
 use Rattle.hd_cert.specs.Listed.{AreListed}
 use Rattle.hd_cert.specs.Routes.{IsRouteOver, IsShownRoute, IsLowStep, IsRouteCut}
 use Rattle.hd_map.specs.Shown.{IsNotAfter}
 use Rattle.hd_cert.proofs.Residues.{reached_in, residue_read, steps_noted}
-use Rattle.hd_cert.proofs.Flooding.{turned}
-use Rattle.hd_cert.proofs.Walks.{leads_turn, leads_of}
+use Rattle.hd_cert.proofs.Flooding.{OpenStep-turned}
+use Rattle.hd_cert.proofs.Paths.{leads_turn, leads_of}
 
 -- a number is noted, or none
 noted_or_free : (o : Option ℕ) → ((n : ℕ) × (o ≡ Some n)) ⊎ (o ≡ None)
@@ -326,11 +326,11 @@ cut_shown m side saddle a residues cut known listed here low = record {
         let reached : residue_at m.size residues p ≡ Unreached → ⊥ = subst (λ (q : Pos). residue_at m.size residues q ≡ Unreached → ⊥) f.2 (listed.reached f.0 f.1) in
         let n = steps_noted (steps_at m.size steps p) (λ none. reached (read p inside ∙ none)) in
         let w = known.are.reached p inside n.0 n.1 in
-        leads_turn (OpenStep m IsLow) (IsLowStep m side saddle) (λ x y s. (let t = turned m IsLow x y s in record { neighbour = t.neighbour; from = t.from.low; to = t.to.low })) p w.0 a w.1),
+        leads_turn (OpenStep m IsLow) (IsLowStep m side saddle) (λ x y s. (let t = OpenStep-turned m IsLow x y s in record { neighbour = t.neighbour; from = t.from.low; to = t.to.low })) p w.0 a w.1),
     λ w.
         (let there = leads_present m side saddle a w.0 p here w.1 in
         let back = leads_turn (IsLowStep m side saddle) (OpenStep m IsLow)
-        (λ x y s. turned m IsLow x y (record { neighbour = s.neighbour; from = record { present = s.neighbour.from; low = s.from }; to = record { present = s.neighbour.to; low = s.to } })) a w.0 p w.1 in
+        (λ x y s. OpenStep-turned m IsLow x y (record { neighbour = s.neighbour; from = record { present = s.neighbour.from; low = s.from }; to = record { present = s.neighbour.to; low = s.to } })) a w.0 p w.1 in
         let r = known.are.least p back.0 back.1 tt in
         let is : residue_at m.size residues p ≡ residue_of (Some r.0) = read p there.in_grid ∙ ap residue_of r.2 in
         listed.all p there.in_grid (place_inside m.size p there.in_grid) (λ none. reached_in r.0 (sym is ∙ none))),

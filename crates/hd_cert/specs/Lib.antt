@@ -3,6 +3,6 @@ pub mod Steps
 pub mod Residues
 pub mod Within
 pub mod Flood
-pub mod Nearer
+pub mod FirstNearer
 pub mod Listed
 pub mod Routes

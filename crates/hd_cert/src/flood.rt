@@ -56,7 +56,7 @@ fn reach_round<S: Side, G: Heights>(
     requires whole { length residues.old.items ≡ cell_count (G.map grid.now).size }
     ensures { OnOk result (FloodsRound (G.map grid.now) (LiesWithin (G.map grid.now) S.NAME bound.level bound.strict) here residues.old.items queue.old.items residues.new.items queue.new.items) }
 {
-    let residue = residues[index_of(grid.size(), here) as usize].after();
+    let residue = residues[index_of(grid.size(), here) as usize].residue_after();
     reach_at::<S, G>(grid, bound, here, 0, 0, residue, residues, queue)?;
     reach_at::<S, G>(grid, bound, here, 1, 0, residue, residues, queue)?;
     reach_at::<S, G>(grid, bound, here, 2, 0, residue, residues, queue)?;

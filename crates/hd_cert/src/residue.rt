@@ -20,7 +20,7 @@ const _: () = prove!(size_of::<Residue>() == 1);
 impl Residue {
     /// The residue of one step more.
     #[inline]
-    pub fn after(self) -> Residue
+    pub fn residue_after(self) -> Residue
         ensures { result ≡ residue_after self }
     {
         match self {
@@ -33,7 +33,7 @@ impl Residue {
 
     /// The residue of one step less.
     #[inline]
-    pub fn before(self) -> Residue
+    pub fn residue_before(self) -> Residue
         ensures { residue_after result ≡ self }
     {
         match self {

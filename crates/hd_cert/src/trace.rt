@@ -2,7 +2,7 @@
 ghost use Rattle.std.specs.Prelude.{◌≡◌, IfOk, ℕ, List as Items, Option, length};
 ghost use Rattle.hd_map.specs.declared.types.Pos.{Pos};
 ghost use Rattle.hd_map.specs.Map.{Present, cell_count};
-ghost use Rattle.hd_cert.specs.Nearer.{GoesNearer, IsBesideWith, IsFirst, LeadsDown};
+ghost use Rattle.hd_cert.specs.FirstNearer.{GoesNearer, IsBesideWith, IsFirst, LeadsDown};
 
 use crate::residue::Residue;
 use hd_list::{List, Memory};
@@ -29,7 +29,7 @@ pub fn path_down<G: Heights>(
         if here == to {
             return Ok(List::from_vec(path));
         }
-        let residue = residues[index_of(size, here) as usize].before();
+        let residue = residues[index_of(size, here) as usize].residue_before();
         here = first_beside(alloc, grid, residues, here, residue);
         path.push(here)?;
     }

@@ -2,13 +2,13 @@
 pub mod Searching
 pub mod Paths
 pub mod Pits
-pub mod Adding
+pub mod AppendedTexts
 pub mod Determined
 pub mod ReadingSteps
 pub mod ReadsBack
 mod Pairs
 mod Leaks
 mod Verdicts
-mod Across
+mod ClosedCuts
 mod Right
 mod Parts

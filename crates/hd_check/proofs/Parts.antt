@@ -7,7 +7,7 @@ use Rattle.std.proofs.lemmas.List.Concat.{flat_map-append}
 use Rattle.hd_map.specs.declared.types.Pos.{Pos}
 use Rattle.hd_check.specs.declared.types.Certificate.{Certificate}
 use Rattle.hd_check.specs.Text.{adjacency_word, certificate_text, line_text, point_line, point_words, saddle_lines, side_word}
-use Rattle.hd_check.proofs.Adding.{counted_text}
+use Rattle.hd_check.proofs.AppendedTexts.{counted_text}
 
 abbrev cut_lines : List Pos → List (List (List ℕ))
 cut_lines points = (codes "cut" ∷ decimal (length points) ∷ []) ∷ map point_words points

@@ -3,7 +3,7 @@ use Rattle.std.proofs.Common.{◌≡◌, ◌≤◌, ◌<◌, ◌+◌, ◌-◌, �
 use Rattle.hd_check.specs.declared.lines.Place.{Place}
 use Rattle.hd_check.specs.declared.types.CertificateError.{CertificateError}
 use Rattle.hd_check.specs.declared.types.CertificateError.TheVariants.{BadLine}
-use Rattle.hd_check.specs.Reading.{Lines, Read, and_then, items_in, line_as, blank_among}
+use Rattle.hd_check.specs.Reading.{Lines, Read, and_then, items_in, line_as, blank_lines_in}
 use Rattle.hd_check.specs.Places.{IsPlace, lines_at}
 
 module _ {A : Type 0} (form : List (List ℕ) → Option A) where
@@ -50,17 +50,17 @@ module _ {A : Type 0} (form : List (List ℕ) → Option A) where
 -- the lines before a place have no words
 pub record AreBlankBefore (bytes : List ℕ) (start place : Place) : Type 0 where
   pub at : IsPlace bytes place
-  pub whole : blank_among start.number (lines_at bytes start).lines ≡ blank_among place.number (lines_at bytes place).lines
+  pub whole : blank_lines_in start.number (lines_at bytes start).lines ≡ blank_lines_in place.number (lines_at bytes place).lines
 
-bad_words : (number : ℕ) (more : List (List (List ℕ))) (words : List (List ℕ)) → (words ≡ [] → ⊥) → blank_among number (words ∷ more) ≡ Err (BadLine number)
+bad_words : (number : ℕ) (more : List (List (List ℕ))) (words : List (List ℕ)) → (words ≡ [] → ⊥) → blank_lines_in number (words ∷ more) ≡ Err (BadLine number)
 bad_words number more [] some = absurd (some refl)
 bad_words number more (w ∷ ws) some = refl
 
 module _ {A B : Type 0} (r : Read A) (next : A → Lines → Read B) where
   -- after what was read comes the next
-  pub goes_on : (x : A) (rest : Lines) → r ≡ Ok (x, rest) → and_then r next ≡ next x rest
-  goes_on x rest e = ap (λ (s : Read A). and_then s next) e
+  pub and_then-goes_on : (x : A) (rest : Lines) → r ≡ Ok (x, rest) → and_then r next ≡ next x rest
+  and_then-goes_on x rest e = ap (λ (s : Read A). and_then s next) e
 
   -- after what was not read comes nothing
-  pub stops : (e : CertificateError) → r ≡ Err e → and_then r next ≡ Err e
-  stops e f = ap (λ (s : Read A). and_then s next) f
+  pub and_then-stops : (e : CertificateError) → r ≡ Err e → and_then r next ≡ Err e
+  and_then-stops e f = ap (λ (s : Read A). and_then s next) f

@@ -18,10 +18,11 @@ use Rattle.hd_map.specs.declared.types.Pos.{Pos}
 use Rattle.hd_map.specs.declared.types.SideName.{SideName}
 use Rattle.hd_map.specs.declared.types.SideName.TheVariants.{Dales, Hills}
 use Rattle.hd_num.specs.Lines.{is_blank, is_filled, is_line_feed, lines_of, without_empty_last, words_of}
+use Rattle.hd_num.specs.Whole.{i64_of}
 use Rattle.hd_num.proofs.ReadsBack.{count_of-decimal, digits, whole_of-signed_decimal}
 use Rattle.hd_check.specs.declared.types.Certificate.{Certificate}
 use Rattle.hd_check.specs.declared.words.Head.{Head}
-use Rattle.hd_check.specs.Reading.{Lines, Read, after_cut, after_from, after_path, after_head, after_saddle, after_to, and_then, certificate_of, count_form, fitting, head_form, items_in, line_as, line_gives, point_form, point_of_counts, saddle_form, saddle_of_parts, value_of}
+use Rattle.hd_check.specs.Reading.{Lines, Read, after_cut, after_from, after_path, after_head, after_saddle, after_to, and_then, certificate_of, count_form, head_form, items_in, line_as, line_gives, point_form, point_of_counts, saddle_form, saddle_of_parts, value_of}
 use Rattle.hd_check.specs.Text.{adjacency_word, certificate_lines, certificate_text, line_text, point_words, saddle_lines, side_word}
 use Rattle.hd_check.specs.Writable.{IsWritable, IsWritablePoint, IsWritableSaddle, AreWritable}
 
@@ -144,18 +145,18 @@ pub clear_digits : (w : List ℕ) → list_all is_ascii_digit w ≡ true → lis
 clear_digits [] h = refl
 clear_digits (b ∷ w) h = and_from _ _ (clear_digit b (and_parts _ _ h).0) (clear_digits w (and_parts _ _ h).1)
 
-pub filled : (w : List ℕ) → 0 < length w → is_filled w ≡ true
-filled w some = ap not (ne_eqb (length w) 0 (λ none. omega (arith, none, some)))
+pub word-filled : (w : List ℕ) → 0 < length w → is_filled w ≡ true
+word-filled w some = ap not (ne_eqb (length w) 0 (λ none. omega (arith, none, some)))
 
 pub decimal_word : (n : ℕ) → n < 2 ^ 64 → IsWord (decimal n)
-decimal_word n small = record { some = filled (decimal n) (decimal_nonempty n small); clear = clear_digits (decimal n) (digits_decimal digits n small) }
+decimal_word n small = record { some = word-filled (decimal n) (decimal_nonempty n small); clear = clear_digits (decimal n) (digits_decimal digits n small) }
 
 signed_word : (z : ℤ) → FitsSigned w64 z → IsWord (signed_decimal z)
 signed_word (pos n) fits = let small : n < 2 ^ 63 = fits.sfits in decimal_word n (omega arith)
 signed_word (negsuc n) fits =
     let small : n < 2 ^ 63 = fits.sfits in
     let w = decimal_word (suc n) (omega arith) in
-    record { some = filled (45 ∷ decimal (suc n)) (omega arith); clear = w.clear }
+    record { some = word-filled (45 ∷ decimal (suc n)) (omega arith); clear = w.clear }
 
 -- a point has words
 point_clear : (p : Pos) → IsWritablePoint p → AreWords (point_words p)
@@ -261,7 +262,7 @@ module _ {A : Type 0} (words : A → List (List ℕ)) (form : List (List ℕ) �
 
 -- a saddle
 saddle_back : (s : Pos × ℤ) → IsWritablePoint s.0 → FitsSigned w64 s.1 → saddle_form (codes "saddle" ∷ decimal s.0.x ∷ decimal s.0.y ∷ signed_decimal s.1 ∷ []) ≡ Some (Some s)
-saddle_back s point fits = ap₂ (λ (p : Option Pos) (h : Option ℤ). saddle_of_parts p h) (point_back s.0 point) (ap fitting (whole_of-signed_decimal s.1 fits))
+saddle_back s point fits = ap₂ (λ (p : Option Pos) (h : Option ℤ). saddle_of_parts p h) (point_back s.0 point) (ap i64_of (whole_of-signed_decimal s.1 fits))
 
 -- the lines of a saddle and a path, and what follows them
 path_back : (head : Head) (from to : Pos) (saddle : Option (Pos × ℤ)) (path : List Pos) (number : ℕ) (rest : List (List (List ℕ))) → IsWritableSaddle saddle path → AreWritable path

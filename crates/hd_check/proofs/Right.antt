@@ -21,7 +21,7 @@ use Rattle.hd_check.specs.Judged.{TriedFrom}
 use Rattle.hd_check.specs.Rules.{point_of, IsBelowLevel, IsCutClosed, IsRight, all_rules}
 use Rattle.hd_map.specs.Saddle.{IsSaddle, SaddleIs}
 use Rattle.hd_check.specs.Certified.{saddle_of, written_rank}
-use Rattle.hd_check.proofs.Across.{stays_in, no_lower}
+use Rattle.hd_check.proofs.ClosedCuts.{stays_in, no_lower}
 use Rattle.hd_check.proofs.Paths.{path_leads, none_above-listed}
 use Rattle.hd_check.proofs.Searching.{place_found}
 

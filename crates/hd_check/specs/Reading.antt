@@ -6,10 +6,8 @@ use Rattle.hd_map.specs.declared.types.Adjacency.TheVariants.{Four, Six, Eight}
 use Rattle.hd_map.specs.declared.types.Pos.{Pos}
 use Rattle.hd_map.specs.declared.types.SideName.{SideName}
 use Rattle.hd_map.specs.declared.types.SideName.TheVariants.{Dales, Hills}
-use Rattle.hd_num.specs.declared.whole.Whole.{Whole}
-use Rattle.hd_num.specs.declared.whole.Whole.TheVariants as whole
 use Rattle.hd_num.specs.Lines.{lines_of, words_of}
-use Rattle.hd_num.specs.Whole.{count_of, whole_of}
+use Rattle.hd_num.specs.Whole.{count_of, whole_of, i64_of}
 use Rattle.hd_check.specs.declared.types.Certificate.{Certificate}
 use Rattle.hd_check.specs.declared.words.Head.{Head}
 use Rattle.hd_check.specs.declared.types.CertificateError.{CertificateError}
@@ -86,12 +84,6 @@ abbrev pub end_point_form : List ℕ → List (List ℕ) → Option Pos
 end_point_form key [] = None
 end_point_form key (name ∷ words) = if bytes_eq name key then point_form words else None
 
--- a whole number that fits i64
-abbrev pub fitting : Whole → Option ℤ
-fitting (whole.Is z) = Some z
-fitting whole.Not = None
-fitting whole.Outside = None
-
 -- a saddle, where its point and its height have their form
 abbrev pub saddle_of_parts : Option Pos → Option ℤ → Option (Option (Pos × ℤ))
 saddle_of_parts (Some p) (Some h) = Some (Some (p, h))
@@ -104,7 +96,7 @@ none_of word = if bytes_eq word (codes "none") then Some None else None
 
 -- `X Y HEIGHT`
 abbrev pub saddle_of_words : List ℕ → List ℕ → List ℕ → Option (Option (Pos × ℤ))
-saddle_of_words x y height = saddle_of_parts (point_of_counts (count_of x) (count_of y)) (fitting (whole_of height))
+saddle_of_words x y height = saddle_of_parts (point_of_counts (count_of x) (count_of y)) (i64_of (whole_of height))
 
 -- one word, `none`
 abbrev pub none_form : List (List ℕ) → Option (Option (Pos × ℤ))
@@ -157,14 +149,14 @@ path_in (Some s) rest = counted_in (codes "path") rest
 path_in None rest = Ok ([], rest)
 
 -- only lines without words
-abbrev pub blank_among : ℕ → List (List (List ℕ)) → Read (Unit {0})
-blank_among number [] = Ok (tt, record { number = number; lines = [] })
-blank_among number ([] ∷ more) = blank_among (number + 1) more
-blank_among number ((word ∷ words) ∷ more) = Err (BadLine number)
+abbrev pub blank_lines_in : ℕ → List (List (List ℕ)) → Read (Unit {0})
+blank_lines_in number [] = Ok (tt, record { number = number; lines = [] })
+blank_lines_in number ([] ∷ more) = blank_lines_in (number + 1) more
+blank_lines_in number ((word ∷ words) ∷ more) = Err (BadLine number)
 
 -- `end`, and then only lines without words
 abbrev pub end_in : Lines → Read (Unit {0})
-end_in rest = and_then (line_as end_form rest) (λ _ rest. blank_among rest.number rest.lines)
+end_in rest = and_then (line_as end_form rest) (λ _ rest. blank_lines_in rest.number rest.lines)
 
 -- the last lines of a certificate, after the others
 abbrev pub after_cut : Head → Pos → Pos → Option (Pos × ℤ) → List Pos → List Pos → Lines → Read Certificate

@@ -1,7 +1,7 @@
 // Reading a certificate, line by line.
 ghost use Rattle.std.specs.Prelude.{◌≡◌, ◌⊎◌, Err};
 ghost use Rattle.hd_check.specs.Places.{Gives, IsPlace, lines_at};
-ghost use Rattle.hd_check.specs.Reading.{blank_among, certificate_of, count_form, counted_in, end_in, end_point_form, head_form, line_as, path_in, point_form, points_in, saddle_form};
+ghost use Rattle.hd_check.specs.Reading.{blank_lines_in, certificate_of, count_form, counted_in, end_in, end_point_form, head_form, line_as, path_in, point_form, points_in, saddle_form};
 
 use crate::lines::{Place, line_at, part, take_line};
 use crate::points::point_in;
@@ -184,7 +184,7 @@ pub fn last_lines(
 // Reads lines without words up to the end of the text.
 fn blank_lines(alloc: Global, bytes: &[u8], start: Place) -> Result<((), Place), CertificateError>
     requires { IsPlace bytes.now start }
-    ensures { Gives bytes.now result (blank_among start.number (lines_at bytes.now start).lines) }
+    ensures { Gives bytes.now result (blank_lines_in start.number (lines_at bytes.now start).lines) }
 {
     let mut place = start;
     'lines: while place.from < bytes.len() {

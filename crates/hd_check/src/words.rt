@@ -1,8 +1,8 @@
 // What the words of a line give, where they have their form.
 ghost use Rattle.std.specs.Prelude.{◌≡◌, All, map};
 ghost use Rattle.hd_num.specs.Span.{IsPart, text_at};
-ghost use Rattle.hd_check.specs.Reading.{adjacency_of, count_form, end_form, end_point_form, fitting, head_form, head_of, none_form, none_of, point_form, saddle_form, saddle_of_words, saddle_words, side_of};
-ghost use Rattle.hd_num.specs.Whole.{whole_of};
+ghost use Rattle.hd_check.specs.Reading.{adjacency_of, count_form, end_form, end_point_form, head_form, head_of, none_form, none_of, point_form, saddle_form, saddle_of_words, saddle_words, side_of};
+ghost use Rattle.hd_num.specs.Whole.{i64_of, whole_of};
 
 use crate::lines::part;
 use hd_map::{Adjacency, Pos, SideName};
@@ -149,7 +149,7 @@ fn saddle_of(x: &[u8], y: &[u8], height: &[u8]) -> Option<Option<(Pos, i64)>>
 
 // The whole number that a word writes, where it fits i64.
 fn whole_word(word: &[u8]) -> Option<i64>
-    ensures { result ≡ fitting (whole_of word.now) }
+    ensures { result ≡ i64_of (whole_of word.now) }
 {
     match read_whole(word) {
         Whole::Is(z) => Some(z),

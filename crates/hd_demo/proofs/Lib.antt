@@ -1,2 +1,2 @@
 mod Drawings
-mod Summaries
+mod DemoTexts

@@ -12,11 +12,11 @@ use Rattle.hd_edit.specs.SevenBytes.{widened}
 -- one more is told from the last
 pub changes-push : (i : ℕ) (notes : List HeightNote) (note : HeightNote) → changes_after i (notes ++ note ∷ []) ≡ changes_after i notes ++ note_at (last_after i notes) note ∷ []
 changes-push i [] note = refl
-changes-push i (n ∷ notes) note = ap (λ (cs : List Change). note_at i n ∷ cs) (changes-push (i + n.gap) notes note)
+changes-push i (n ∷ notes) note = ap (λ (cs : List Change). note_at i n ∷ cs) (changes-push (i + n.distance) notes note)
 
-pub last-push : (i : ℕ) (notes : List HeightNote) (note : HeightNote) → last_after i (notes ++ note ∷ []) ≡ last_after i notes + note.gap
+pub last-push : (i : ℕ) (notes : List HeightNote) (note : HeightNote) → last_after i (notes ++ note ∷ []) ≡ last_after i notes + note.distance
 last-push i [] note = refl
-last-push i (n ∷ notes) note = last-push (i + n.gap) notes note
+last-push i (n ∷ notes) note = last-push (i + n.distance) notes note
 
 -- what holds of a list and one more item holds of the list
 pub all-before : {X : Type 0} (P : X → Type 0) (xs : List X) (x : X) → All P (xs ++ x ∷ []) → All P xs
@@ -60,13 +60,13 @@ height-noted old now new note change begun is told none =
 -- as many changes are told as are noted
 pub length-changes : (i : ℕ) (notes : List HeightNote) → length (changes_after i notes) ≡ length notes
 length-changes i [] = refl
-length-changes i (n ∷ notes) = ap suc (length-changes (i + n.gap) notes)
+length-changes i (n ∷ notes) = ap suc (length-changes (i + n.distance) notes)
 
 -- the last note tells the last change
 pub notes-popped : (first last : ℕ) (old new : List HeightNote) (others left : List Change) (note : HeightNote) → last ≡ last_after first old → old ≡ new ++ note ∷ [] → others ≡ [] → left ≡ []
     → changes_after first old ++ others ≡ (changes_after first new ++ left) ++ record { index = last; was = was.Height (widened note.over) } ∷ []
 notes-popped first last old new others left note at is none none' =
-    let same : last ≡ last_after first new + note.gap = at ∙ ap (last_after first) is ∙ last-push first new note in
+    let same : last ≡ last_after first new + note.distance = at ∙ ap (last_after first) is ∙ last-push first new note in
     ap (λ (cs : List Change). changes_after first old ++ cs) none ∙ append-nil (changes_after first old)
     ∙ ap (changes_after first) is ∙ changes-push first new note
     ∙ ap (λ (i : ℕ). changes_after first new ++ record { index = i; was = was.Height (widened note.over) } ∷ []) (sym same)

@@ -4,11 +4,11 @@ pub mod Rectangles
 pub mod Strokes
 pub mod Changes
 pub mod HeightNotes
-pub mod Touches
-pub mod Walks
+pub mod StrokeChanges
+pub mod CountedChanges
 pub mod NotedStrokes
 pub mod Logs
 pub mod Outcomes
 pub mod Determined
-pub mod CellLists
-pub mod Named
+pub mod FilteredCells
+pub mod NamedElements

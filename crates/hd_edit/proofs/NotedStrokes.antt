@@ -9,10 +9,10 @@ use Rattle.hd_map.proofs.Points.{place_inside}
 use Rattle.hd_edit.specs.declared.stroke.Stroke.{Stroke}
 use Rattle.hd_edit.specs.declared.change.Change.{Change}
 use Rattle.hd_edit.specs.Change.{IsChange, before_changes}
-use Rattle.hd_edit.specs.Stroke.{IsRectangle, IsStrokeOf, cell_after, stroked, touched, changes, changes_at, count_below, next_in}
+use Rattle.hd_edit.specs.Stroke.{IsRectangle, IsStrokeOf, cell_after, stroked, stroked_at, changes, changes_at, count_below, next_in}
 use Rattle.hd_edit.proofs.Rectangles.{StandsAt, stands_in, stands_inside, next_later, none_between, none_before, none_past}
-use Rattle.hd_edit.proofs.Strokes.{partly, partly-none, partly-skip, partly-all, partly-cell, partly-mask, partly-touched, new_cell-in, count-more, count-skip, count-grows, count-few}
-use Rattle.hd_edit.proofs.Walks.{changes_here, none_changes, count_all}
+use Rattle.hd_edit.proofs.Strokes.{partly, partly-none, partly-skip, partly-all, partly-cell, partly-mask, partly-stroked_at, new_cell-in, count-more, count-skip, count-grows, count-few}
+use Rattle.hd_edit.proofs.CountedChanges.{changes_here, none_changes, count_all}
 
 module _ (m : Map) (from to : Pos) (s : Stroke) where
   -- the points before an index are stroked, and each change is noted
@@ -60,14 +60,14 @@ module _ (m : Map) (from to : Pos) (s : Stroke) where
           rw drawn_len (count-grows (changes_at m from to s) (place_of m.size at + 1) (cell_count m.size) (omega (arith, inside)))
 
       -- one point further
-      pub drawn_next : (now' : Map) (notes' : List Change) → now' ≡ touched s at now → before_changes notes' now' ≡ before_changes notes now → All (IsChange now) notes'
+      pub drawn_next : (now' : Map) (notes' : List Change) → now' ≡ stroked_at s at now → before_changes notes' now' ≡ before_changes notes now → All (IsChange now) notes'
           → length notes' ≡ length notes + (if changes s (cell_at now at) (mask_at now at) then 1 else 0) → Drawn (place_of m.size (next_in from to at)) now' notes'
-      drawn_next now' notes' touches same are more =
+      drawn_next now' notes' map_is same are more =
           let n = place_of m.size at in
           let later = next_later m.size from to at is stands here in
           let none = none_between m.size from to at is stands here in
           record {
-            map = touches ∙ ap (touched s at) so.map ∙ partly-touched m from to s at (stands_inside m.size from to at is stands here) (stands_in m.size from to at is stands here) ∙ partly-skip m from to s (n + 1) (place_of m.size (next_in from to at)) later none;
+            map = map_is ∙ ap (stroked_at s at) so.map ∙ partly-stroked_at m from to s at (stands_inside m.size from to at is stands here) (stands_in m.size from to at is stands here) ∙ partly-skip m from to s (n + 1) (place_of m.size (next_in from to at)) later none;
             before = same ∙ so.before;
             notes_are = subst (λ (n : Map). All (IsChange n) notes') so.map are;
             len_is = more ∙ drawn_len ∙ count-skip (changes_at m from to s) (n + 1) (place_of m.size (next_in from to at)) later (λ k after before. none_changes m from to s k (none k after before));

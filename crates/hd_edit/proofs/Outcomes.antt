@@ -35,7 +35,7 @@ use Rattle.hd_edit.specs.Stroke.{IsRectangle, IsStrokeOf, new_cell, new_mask, st
 use Rattle.hd_edit.proofs.IfLess.{if-not_less}
 use Rattle.hd_edit.proofs.Rectangles.{IsIn, in_rectangle-true, stands_first}
 use Rattle.hd_edit.proofs.Strokes.{same_map, new_cell-in}
-use Rattle.hd_edit.proofs.Walks.{cell_in_range-is, cell_in_range-of, counted_first, refused_here}
+use Rattle.hd_edit.proofs.CountedChanges.{cell_in_range-is, cell_in_range-of, counted_first, refused_here}
 
 -- new cells are refused only where one is not of the type
 pub height_refusal-none : (m : Map) (cells : List Cell) → AreCellsOf m.data_type cells → height_refusal m cells ≡ None
@@ -88,14 +88,14 @@ accepted None (Some error) made new e = cc
 accepted (Some error) h made new e = cc
 
 -- what is an outcome of the one is one of the other
-pub carried : (IsOne IsOther : Result Map EditError → Type 0) → ((out : Result Map EditError) → IsOne out → IsOther out) → {X : Type 0} (r : Result X EditError) (new : Map)
+pub outcome-carried : (IsOne IsOther : Result Map EditError → Type 0) → ((out : Result Map EditError) → IsOne out → IsOther out) → {X : Type 0} (r : Result X EditError) (new : Map)
     → MatchResult r (λ _. IsOne (Ok new)) (IsRefusalBy IsOne) → MatchResult r (λ _. IsOther (Ok new)) (IsRefusalBy IsOther)
-carried IsOne IsOther on (Ok x) new is = on (Ok new) is
-carried IsOne IsOther on (Err Memory) new is = tt
-carried IsOne IsOther on (Err (Outside p)) new is = on (Err (Outside p)) is
-carried IsOne IsOther on (Err (HeightRange p)) new is = on (Err (HeightRange p)) is
-carried IsOne IsOther on (Err EmptyRect) new is = on (Err EmptyRect) is
-carried IsOne IsOther on (Err NoElement) new is = on (Err NoElement) is
+outcome-carried IsOne IsOther on (Ok x) new is = on (Ok new) is
+outcome-carried IsOne IsOther on (Err Memory) new is = tt
+outcome-carried IsOne IsOther on (Err (Outside p)) new is = on (Err (Outside p)) is
+outcome-carried IsOne IsOther on (Err (HeightRange p)) new is = on (Err (HeightRange p)) is
+outcome-carried IsOne IsOther on (Err EmptyRect) new is = on (Err EmptyRect) is
+outcome-carried IsOne IsOther on (Err NoElement) new is = on (Err NoElement) is
 
 module _ (m : Map) (whole : IsMap m) where
   -- the cell and the mask of an index

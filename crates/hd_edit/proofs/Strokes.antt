@@ -13,7 +13,7 @@ use Rattle.hd_map.specs.Map.{Map, IsMap, InGrid, cell_at, mask_at, cell_count, p
 use Rattle.hd_map.proofs.Points.{position_at-place, position_at-of, place_inside}
 use Rattle.hd_edit.specs.declared.stroke.Stroke.{Stroke}
 use Rattle.hd_edit.specs.Edit.{in_rectangle}
-use Rattle.hd_edit.specs.Stroke.{cell_after, mask_after, new_cell, new_mask, stroked, touched, count_below}
+use Rattle.hd_edit.specs.Stroke.{cell_after, mask_after, new_cell, new_mask, stroked, stroked_at, count_below}
 use Rattle.hd_edit.proofs.IfLess.{if-less, if-not_less}
 use Rattle.hd_edit.proofs.Rectangles.{IsIn, in_rectangle-is}
 
@@ -134,8 +134,8 @@ module _ (m : Map) (from to : Pos) (s : Stroke) where
         get_or-map-range_with_len (mix n new_masks old_masks) 0 (cell_count m.size) n n false (place_inside m.size at inside) (omega arith) ∙ mix-from n new_masks old_masks n (omega arith) ∙ ap (mask_at m) (position_at-of m.size at inside)
 
     -- once the point at the index is stroked, the index is one more
-    pub partly-touched : IsIn from to at → touched s at (partly (place_of m.size at)) ≡ partly (place_of m.size at + 1)
-    partly-touched is =
+    pub partly-stroked_at : IsIn from to at → stroked_at s at (partly (place_of m.size at)) ≡ partly (place_of m.size at + 1)
+    partly-stroked_at is =
         let n = place_of m.size at in
         let new_cell-here : cell_after s (cell_at m at) (mask_at m at) ≡ new_cells n = sym (ap (new_cell m from to s) (position_at-of m.size at inside) ∙ new_cell-in at is) in
         let new_mask-here : mask_after s (mask_at m at) ≡ new_masks n = sym (ap (new_mask m from to s) (position_at-of m.size at inside) ∙ new_mask-in at is) in

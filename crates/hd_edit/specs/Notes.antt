@@ -7,14 +7,14 @@ use Rattle.hd_edit.specs.SevenBytes.{widened}
 
 -- the change that a note tells after one at an index
 abbrev pub note_at : ℕ → HeightNote → Change
-note_at before note = record { index = before + note.gap; was = was.Height (widened note.over) }
+note_at before note = record { index = before + note.distance; was = was.Height (widened note.over) }
 
 -- those that notes tell, one after the other
 abbrev pub changes_after : ℕ → List HeightNote → List Change
 changes_after before [] = []
-changes_after before (note ∷ notes) = note_at before note ∷ changes_after (before + note.gap) notes
+changes_after before (note ∷ notes) = note_at before note ∷ changes_after (before + note.distance) notes
 
 -- the index of the last of them
 abbrev pub last_after : ℕ → List HeightNote → ℕ
 last_after before [] = before
-last_after before (note ∷ notes) = last_after (before + note.gap) notes
+last_after before (note ∷ notes) = last_after (before + note.distance) notes

@@ -9,8 +9,8 @@ use Rattle.hd_map.specs.declared.types.DataType.{DataType}
 use Rattle.hd_map.specs.Map.{Map, InGrid, IsCellOf, cell_at, mask_at, place_of, position_at, cell_count}
 use Rattle.hd_edit.specs.declared.stroke.Stroke.{Stroke}
 use Rattle.hd_edit.specs.declared.stroke.Stroke.TheVariants as stroke
-use Rattle.hd_edit.specs.declared.stroke.Touch.{Touch}
-use Rattle.hd_edit.specs.declared.stroke.Touch.TheVariants as touch
+use Rattle.hd_edit.specs.declared.stroke.Effect.{Effect}
+use Rattle.hd_edit.specs.declared.stroke.Effect.TheVariants as effect
 use Rattle.hd_edit.specs.declared.edit.Edit.{Edit}
 use Rattle.hd_edit.specs.declared.edit.Edit.TheVariants as edit
 use Rattle.hd_edit.specs.declared.edit.EditError.{EditError}
@@ -46,18 +46,18 @@ changes s cell masked =
     not (same_cell (cell_after s cell masked) cell && same_mask (mask_after s masked) masked)
 
 -- what sets a cell to another one of the data type
-abbrev pub SetsTo : DataType → Cell → Cell → Touch → Type 0
-SetsTo type cell new touch.Nothing = new ≡ cell
-SetsTo type cell new (touch.Cell other) = (other ≡ new) × IsCellOf type new × (new ≢ cell)
-SetsTo type cell new (touch.Mask masked) = ⊥
+abbrev pub SetsTo : DataType → Cell → Cell → Effect → Type 0
+SetsTo type cell new effect.Nothing = new ≡ cell
+SetsTo type cell new (effect.Cell other) = (other ≡ new) × IsCellOf type new × (new ≢ cell)
+SetsTo type cell new (effect.Mask masked) = ⊥
 
 -- what a stroke does to a point: nothing, or it sets the cell or the mask
-abbrev pub Touches : DataType → Stroke → Cell → Bool → Touch → Type 0
-Touches type s cell masked touch.Nothing =
+abbrev pub HasEffect : DataType → Stroke → Cell → Bool → Effect → Type 0
+HasEffect type s cell masked effect.Nothing =
     (cell_after s cell masked ≡ cell) × (mask_after s masked ≡ masked)
-Touches type s cell masked (touch.Cell new) =
+HasEffect type s cell masked (effect.Cell new) =
     (new ≡ cell_after s cell masked) × IsCellOf type new × (new ≢ cell) × (mask_after s masked ≡ masked)
-Touches type s cell masked (touch.Mask new) =
+HasEffect type s cell masked (effect.Mask new) =
     (new ≡ mask_after s masked) × (new ≢ masked) × (cell_after s cell masked ≡ cell)
 
 -- two corners of a rectangle in the grid
@@ -89,8 +89,8 @@ stroked m from to s = record m {
 }
 
 -- the map once a point is stroked
-abbrev pub touched : Stroke → Pos → Map → Map
-touched s at m = record m {
+abbrev pub stroked_at : Stroke → Pos → Map → Map
+stroked_at s at m = record m {
   cells = slice_set m.cells (place_of m.size at) (cell_after s (cell_at m at) (mask_at m at));
   masks = slice_set m.masks (place_of m.size at) (mask_after s (mask_at m at));
 }

@@ -59,7 +59,7 @@ pub fn filtered<G: Grid>(
 
 // Whether a cell stays.
 #[inline]
-#[tactic(auto, using(crate::proofs::Touches::same_cell_is))]
+#[tactic(auto, using(crate::proofs::StrokeChanges::same_cell_is))]
 fn is_same(old: Cell, new: Cell) -> bool
     ensures { result ≡ same_cell old new }
 {

@@ -13,7 +13,7 @@ use std::marker::Model;
 #[derive(Clone, Copy)]
 pub struct HeightNote {
     // How many indexes the point is after the one before it.
-    gap: u16,
+    distance: u16,
     // How far the height is over the least one of the data type, in four bytes, the lowest first.
     over: [u8; 4],
 }
@@ -55,7 +55,7 @@ impl Notes {
         }
         let note = self.heights.pop()?;
         let index = self.last;
-        self.last -= u32::from(note.gap);
+        self.last -= u32::from(note.distance);
         Some(Change {
             index,
             was: Was::Height(OverLeast::of_low(note.over)),
@@ -156,6 +156,6 @@ fn height_note(last: u32, change: Change) -> Option<HeightNote>
         return None;
     };
     let over = height.low()?;
-    let gap = u16::try_from(change.index.checked_sub(last)?).ok()?;
-    Some(HeightNote { gap, over })
+    let distance = u16::try_from(change.index.checked_sub(last)?).ok()?;
+    Some(HeightNote { distance, over })
 }

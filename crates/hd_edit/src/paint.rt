@@ -5,11 +5,11 @@ ghost use Rattle.hd_edit.specs.Edit.{height_refusal};
 ghost use Rattle.hd_edit.specs.declared.edit.EditError.TheVariants.{HeightRange};
 ghost use Rattle.hd_edit.specs.Board.{RisesUpTo};
 ghost use Rattle.hd_edit.specs.Change.{IsChange, AreChanges, before_changes};
-ghost use Rattle.hd_edit.specs.Stroke.{next_in, IsRectangle, IsStrokeOf, stroked, touched, cell_after, changes, one_if_changed, changed_points};
+ghost use Rattle.hd_edit.specs.Stroke.{next_in, IsRectangle, IsStrokeOf, stroked, stroked_at, cell_after, changes, one_if_changed, changed_points};
 
 use crate::change::{change_cell, change_mask};
 use crate::notes::{NewNotes, Notes};
-use crate::stroke::{Stroke, Touch, touch_of};
+use crate::stroke::{Effect, Stroke, effect_of};
 use hd_list::Memory;
 use hd_map::{Grid, Heights, Pos};
 use std::alloc::Global;
@@ -41,10 +41,10 @@ fn changes_point<G: Grid>(grid: &G, at: Pos, stroke: Stroke) -> Option<bool>
         (IsCellOf m.data_type new → ⊥)
         (λ b. (b ≡ changes stroke (cell_at m at) (mask_at m at)) × IsCellOf m.data_type new) }
 {
-    match touch_of(stroke, grid.data_type(), grid.cell(at), grid.masked(at)) {
-        Some(Touch::Nothing) => Some(false),
-        Some(Touch::Cell(_)) => Some(true),
-        Some(Touch::Mask(_)) => Some(true),
+    match effect_of(stroke, grid.data_type(), grid.cell(at), grid.masked(at)) {
+        Some(Effect::Nothing) => Some(false),
+        Some(Effect::Cell(_)) => Some(true),
+        Some(Effect::Mask(_)) => Some(true),
         None => None,
     }
 }
@@ -72,14 +72,14 @@ pub fn count_changes<G: Grid>(grid: &G, from: Pos, to: Pos, stroke: Stroke) -> R
 }
 
 // Strokes a point, and notes what it was where that changes it.
-fn touch_point<G: Grid>(grid: &mut G, at: Pos, stroke: Stroke, notes: &mut NewNotes)
+fn stroke_point<G: Grid>(grid: &mut G, at: Pos, stroke: Stroke, notes: &mut NewNotes)
     requires in_grid { InGrid (G.map grid.old).size at }
     requires in_range { let m = G.map grid.old in
         IsCellOf m.data_type (cell_after stroke (cell_at m at) (mask_at m at)) }
     requires count { G.changes grid.old < 2 ^ 63 }
     requires room { length notes.old.changes + one_if_changed stroke (G.map grid.old) at ≤ notes.old.room }
     requires notes { All (IsChange (G.map grid.old)) notes.old.changes }
-    ensures map { G.map grid.new ≡ touched stroke at (G.map grid.old) }
+    ensures map { G.map grid.new ≡ stroked_at stroke at (G.map grid.old) }
     ensures before { let back = before_changes notes.old.changes (G.map grid.old) in
         before_changes notes.new.changes (G.map grid.new) ≡ back }
     ensures notes { All (IsChange (G.map grid.old)) notes.new.changes }
@@ -89,9 +89,9 @@ fn touch_point<G: Grid>(grid: &mut G, at: Pos, stroke: Stroke, notes: &mut NewNo
     ensures rises { G.changes grid.old ≤ G.changes grid.new }
     ensures count { G.changes grid.new + length notes.old.changes ≤ G.changes grid.old + length notes.new.changes }
 {
-    match touch_of(stroke, grid.data_type(), grid.cell(at), grid.masked(at)) {
-        Some(Touch::Cell(new)) => change_cell(grid, at, new, notes),
-        Some(Touch::Mask(new)) => change_mask(grid, at, new, notes),
+    match effect_of(stroke, grid.data_type(), grid.cell(at), grid.masked(at)) {
+        Some(Effect::Cell(new)) => change_cell(grid, at, new, notes),
+        Some(Effect::Mask(new)) => change_mask(grid, at, new, notes),
         _ => {}
     }
 }
@@ -120,7 +120,7 @@ pub fn stroke_points<G: Grid>(
     let mut notes = NewNotes::with_room(alloc, count)?;
     let mut at = from;
     while at.y <= to.y {
-        touch_point(grid, at, stroke, &mut notes);
+        stroke_point(grid, at, stroke, &mut notes);
         at = step(from, to, at);
     }
     Ok(notes.into_notes())

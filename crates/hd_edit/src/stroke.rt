@@ -1,7 +1,7 @@
 // What an edit makes of one point.
 ghost use Rattle.std.specs.Prelude.{MatchOption};
 ghost use Rattle.hd_map.specs.Map.{IsCellOf};
-ghost use Rattle.hd_edit.specs.Stroke.{Touches, SetsTo, cell_after};
+ghost use Rattle.hd_edit.specs.Stroke.{HasEffect, SetsTo, cell_after};
 
 use hd_map::{Cell, DataType, is_cell_of};
 
@@ -18,7 +18,7 @@ pub enum Stroke {
 
 /// What is to be done at a point.
 #[derive(Clone, Copy)]
-pub enum Touch {
+pub enum Effect {
     /// The point stays.
     Nothing,
     /// The cell becomes this other one.
@@ -29,36 +29,36 @@ pub enum Touch {
 
 /// What a stroke does to a point, and none where the new height is not of the data type.
 #[inline]
-pub fn touch_of(stroke: Stroke, data_type: DataType, cell: Cell, masked: bool) -> Option<Touch>
+pub fn effect_of(stroke: Stroke, data_type: DataType, cell: Cell, masked: bool) -> Option<Effect>
     requires { IsCellOf data_type cell }
     ensures { let new = cell_after stroke cell masked in
-        MatchOption result (IsCellOf data_type new → ⊥) (Touches data_type stroke cell masked) }
+        MatchOption result (IsCellOf data_type new → ⊥) (HasEffect data_type stroke cell masked) }
 {
     match stroke {
-        Stroke::Put(new) => touch_cell(data_type, cell, new),
+        Stroke::Put(new) => cell_effect(data_type, cell, new),
         Stroke::Raise(delta) => match cell {
             Cell::Height(height) if !masked => match height.checked_add(delta) {
-                Some(sum) => touch_cell(data_type, cell, Cell::Height(sum)),
+                Some(sum) => cell_effect(data_type, cell, Cell::Height(sum)),
                 None => None,
             },
-            _ => Some(Touch::Nothing),
+            _ => Some(Effect::Nothing),
         },
-        Stroke::Mask(new) if new != masked => Some(Touch::Mask(new)),
-        Stroke::Mask(_) => Some(Touch::Nothing),
+        Stroke::Mask(new) if new != masked => Some(Effect::Mask(new)),
+        Stroke::Mask(_) => Some(Effect::Nothing),
     }
 }
 
 // What makes a cell another, and none where that one is not of the data type.
 #[inline]
-fn touch_cell(data_type: DataType, cell: Cell, new: Cell) -> Option<Touch>
+fn cell_effect(data_type: DataType, cell: Cell, new: Cell) -> Option<Effect>
     requires { IsCellOf data_type cell }
     ensures { MatchOption result (IsCellOf data_type new → ⊥) (SetsTo data_type cell new) }
 {
     if !is_cell_of(data_type, new) {
         None
     } else if new == cell {
-        Some(Touch::Nothing)
+        Some(Effect::Nothing)
     } else {
-        Some(Touch::Cell(new))
+        Some(Effect::Cell(new))
     }
 }

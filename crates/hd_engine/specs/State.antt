@@ -1,7 +1,7 @@
 -- The state that a session works on.
 use Rattle.std.specs.Prelude.{ℕ, List, [], All}
 use Rattle.hd_map.specs.Map.{Map, IsMap}
-use Rattle.hd_map.specs.Sets.{unmasked}
+use Rattle.hd_map.specs.Unmasked.{unmasked}
 use Rattle.hd_morph.specs.Element.{ElementTable}
 use Rattle.hd_num.specs.declared.decimal.Decimal.{Decimal}
 use Rattle.hd_sdf_read.specs.declared.file.Extra.{Extra}

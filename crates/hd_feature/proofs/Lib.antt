@@ -1,6 +1,6 @@
-pub mod Bounds
+pub mod ValueBounds
 pub mod Cuts
 pub mod HeightsAlone
 pub mod Values
 pub mod WordParts
-pub mod Appended
+pub mod PartsWithSum

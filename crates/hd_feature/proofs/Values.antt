@@ -4,7 +4,7 @@ use Rattle.std.specs.Prelude.{◌⊎◌}
 use Rattle.std.proofs.lemmas.List.{map-append}
 use Rattle.std.proofs.lemmas.List.Elements.{filter_more}
 use Rattle.hd_num.specs.declared.frac.Frac.{Frac}
-use Rattle.hd_num.proofs.Fractions.{determined}
+use Rattle.hd_num.proofs.Fractions.{IsFraction-determined}
 use Rattle.hd_feature.specs.declared.notation.Notation.{Notation}
 use Rattle.hd_feature.specs.declared.notation.Statistic.{Statistic}
 use Rattle.hd_feature.specs.declared.notation.Statistic.TheVariants as statistic
@@ -12,9 +12,9 @@ use Rattle.hd_feature.specs.declared.region.Region.{Region}
 use Rattle.hd_feature.specs.Value.{AreSameValues, IsValue, attributes, over, under}
 
 -- a list without elements
-pub nothing : {X : Type 0} (xs : List X) → length xs ≡ 0 → xs ≡ []
-nothing [] e = refl
-nothing (x ∷ xs) e = absurd (omega (arith, e))
+pub values-nothing : {X : Type 0} (xs : List X) → length xs ≡ 0 → xs ≡ []
+values-nothing [] e = refl
+values-nothing (x ∷ xs) e = absurd (omega (arith, e))
 
 map_one : (f : Region → ℤ) (b : Bool) (x : Region) → map f (cond b (x ∷ []) []) ≡ cond b (f x ∷ []) []
 map_one f true x = refl
@@ -43,7 +43,7 @@ no_value values area some known (inr none) = omega arith
 pub value-one : (n : Notation) (features : List Region) (area : ℕ) (a b : Option Frac) → IsValue n features area a → IsValue n features area b → AreSameValues a b
 value-one n features area (Some f) (Some g) x y =
     let values = attributes n features in
-    determined (over n.statistic values) (under n.statistic values area) f.num f.den g.num g.den (under-some n.statistic values area x.values_some x.area_some) x.fraction y.fraction
+    IsFraction-determined (over n.statistic values) (under n.statistic values area) f.num f.den g.num g.den (under-some n.statistic values area x.values_some x.area_some) x.fraction y.fraction
 value-one n features area (Some f) None x y = no_value (attributes n features) area x.values_some x.area_some y
 value-one n features area None (Some g) x y = no_value (attributes n features) area y.values_some y.area_some x
 value-one n features area None None x y = tt

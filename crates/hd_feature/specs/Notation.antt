@@ -2,10 +2,8 @@
 use Rattle.std.specs.Prelude.{◌==◌, ℕ, ℤ, Bool, true, false, nat_le, List, length, take, drop, codes, Option, Some, None, Result, Ok, Err, option_map, if◌then◌else◌}
 use Rattle.std.specs.Str.{bytes_eq}
 use Rattle.hd_num.specs.declared.percent.Percent.{Percent}
-use Rattle.hd_num.specs.declared.whole.Whole.{Whole}
-use Rattle.hd_num.specs.declared.whole.Whole.TheVariants as whole
 use Rattle.hd_num.specs.Percent.{percent_of}
-use Rattle.hd_num.specs.Whole.{count_of, whole_of}
+use Rattle.hd_num.specs.Whole.{count_of, whole_of, i64_of}
 use Rattle.hd_feature.specs.declared.notation.Attribute.{Attribute}
 use Rattle.hd_feature.specs.declared.notation.Attribute.TheVariants.{Lpvh, Count, AreaE}
 use Rattle.hd_feature.specs.declared.notation.Kind.{Kind}
@@ -58,14 +56,8 @@ at_least_one (Some n) = if n == 0 then None else Some n
 abbrev pub number_of : List ℕ → Option ℕ
 number_of text = if nat_le (length text) 7 then at_least_one (count_of text) else None
 
--- a whole number that fits i64
-abbrev pub fitting : Whole → Option ℤ
-fitting (whole.Is z) = Some z
-fitting whole.Not = None
-fitting whole.Outside = None
-
 abbrev pub height_of : List ℕ → Option ℤ
-height_of text = fitting (whole_of text)
+height_of text = i64_of (whole_of text)
 
 -- part 4, where it speaks of the heights of edge points
 abbrev pub edge_bound : List ℕ → Option Significance

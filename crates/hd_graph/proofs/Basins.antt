@@ -30,7 +30,7 @@ use Rattle.hd_graph.specs.Tells.{IsPitOn, TellsSaddles}
 use Rattle.hd_map.specs.Walks.{HasPass, Stride, passes_of}
 use Rattle.hd_graph.specs.Walks.{IsLeastHighest, LeastHighestIs}
 use Rattle.hd_graph.proofs.Places.{at_place, one_place}
-use Rattle.hd_graph.proofs.Floods.{PassStep, reach-from_walk, walk-from_reach, walk_top, least-from_level, level-from_least}
+use Rattle.hd_graph.proofs.PrimOrder.{PassStep, reach-from_walk, walk-from_reach, walk_top, least-from_level, level-from_least}
 
 module _ (side : SideName) where
   abbrev order : IsStrictOrder (below_by side)
@@ -119,14 +119,14 @@ module _ (m : Map) (side : SideName) (In : Rank → Rank → Type 0) (basins : A
   low-point x a h = (basins.settles x a h).1.point
 
   -- a point reaches its low at each level that it is not above
-  pub settled : (t x a : Rank) → IsNotAbove (below_by side) x t → In x a → Reach (PointStep (Near m) (below_by side) t) x a
-  settled t x a low h =
+  pub basin-settled : (t x a : Rank) → IsNotAbove (below_by side) x t → In x a → Reach (PointStep (Near m) (below_by side) t) x a
+  basin-settled t x a low h =
       let s = basins.settles x a h in
       reach-higher (Near m) (below_by side) (below_by-order side) x t low (reach-from_path (Near m) (below_by side) (below_by-order side) x x a s.0 s.1.leads
       (All-cons (λ y. IsNotAbove (below_by side) y x) x s.0 (not_above-refl (below_by side) (below_by-order side) x) s.2))
 
   low-not_above : (x a : Rank) → In x a → IsNotAbove (below_by side) a x
-  low-not_above x a h = reach-not_above (not_above-refl (below_by side) (below_by-order side) x) (settled x x a (not_above-refl (below_by side) (below_by-order side) x) h)
+  low-not_above x a h = reach-not_above (not_above-refl (below_by side) (below_by-order side) x) (basin-settled x x a (not_above-refl (below_by side) (below_by-order side) x) h)
     where
       reach-not_above : {b c : Rank} → IsNotAbove (below_by side) b x → Reach (PointStep (Near m) (below_by side) x) b c → IsNotAbove (below_by side) c x
       reach-not_above low here = low
@@ -136,7 +136,7 @@ module _ (m : Map) (side : SideName) (In : Rank → Rank → Type 0) (basins : A
   pub pit-own : (p : Rank) → IsPit m side p → In p p
   pit-own p pit =
       let b = basins.some p pit.point in
-      subst (λ a. In p a) (stays (settled p p b.0 (not_above-refl (below_by side) (below_by-order side) p) b.1)) b.1
+      subst (λ a. In p a) (stays (basin-settled p p b.0 (not_above-refl (below_by side) (below_by-order side) p) b.1)) b.1
     where
       stays : {a : Rank} → Reach (PointStep (Near m) (below_by side) p) p a → a ≡ p
       stays here = refl
@@ -176,8 +176,8 @@ module _ (m : Map) (side : SideName) (In : Rank → Rank → Type 0) (basins : A
         let bounds = higher-bounds side x y in
         let hx : IsNotAbove (below_by side) x t = not_above-trans (below_by side) (below_by-order side) x (higher_by side x y) t bounds.0 low in
         let hy : IsNotAbove (below_by side) y t = not_above-trans (below_by side) (below_by-order side) y (higher_by side x y) t bounds.1 low in
-        reach-trans (PointStep (Near m) (below_by side) t) (reach-sym (PointStep (Near m) (below_by side) t) (points-both (Near m) (below_by side) (below_by-order side) (near-sym m) t) (settled t x a hx meet.from_in))
-        (step (meet.near, hx, hy) (settled t y b hy meet.to_in))
+        reach-trans (PointStep (Near m) (below_by side) t) (reach-sym (PointStep (Near m) (below_by side) t) (points-both (Near m) (below_by side) (below_by-order side) (near-sym m) t) (basin-settled t x a hx meet.from_in))
+        (step (meet.near, hx, hy) (basin-settled t y b hy meet.to_in))
 
     passes_made : (t : Rank) {a b : Rank} → Reach (PassStep (below_by side) passes t) a b → Reach (PointStep (Near m) (below_by side) t) a b
     passes_made t here = here

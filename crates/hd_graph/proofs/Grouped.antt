@@ -19,7 +19,7 @@ use Rattle.hd_graph.specs.declared.parts.Rise.{Rise}
 use Rattle.hd_graph.proofs.LeftParts.{from-rise_parts}
 use Rattle.hd_map.specs.ChangeTree.{Joining}
 use Rattle.hd_graph.specs.Parts.{AreGrouped, IsListed, comes_before, join_of, grown, left_of, right_of, rise_parts, with_low, with_part}
-use Rattle.hd_graph.proofs.Adding.{with_part-grows, with_part-adds}
+use Rattle.hd_graph.proofs.WithPart.{with_part-grows, with_part-adds}
 
 module _ (below : Rank → Rank → Bool) (order : IsStrictOrder below) where
   same_part : (a b : Part) → a.saddle ≡ b.saddle → a.low ≡ b.low → a ≡ b

@@ -132,14 +132,14 @@ rise_parts-moved xs ys moved e h = (let r = from-rise_parts xs e h in elim r.2 [
 ])
 
 module _ (below : Rank → Rank → Bool) where
-  some-lower : (x : Rank) (b : Option Rank) → (r : Rank) × (lower below (Some x) b ≡ Some r)
-  some-lower x None = (x, refl)
-  some-lower x (Some y) = elim (below y x) as (λ v. (r : Rank) × (cond v (Some y) (Some x) ≡ Some r)) [ true ↦ (y, refl) | false ↦ (x, refl) ]
+  left_part-some_lower : (x : Rank) (b : Option Rank) → (r : Rank) × (lower below (Some x) b ≡ Some r)
+  left_part-some_lower x None = (x, refl)
+  left_part-some_lower x (Some y) = elim (below y x) as (λ v. (r : Rank) × (cond v (Some y) (Some x) ≡ Some r)) [ true ↦ (y, refl) | false ↦ (x, refl) ]
 
   -- where a stop stands before, there is a lowest low
   some-behind : (s : Rank) (x : Stop) (xs : List Stop) → (r : Rank) × (lowest_to below s (x ∷ xs) ≡ Some r)
   some-behind s x xs = elim (rise_below below x.rise s) as (λ v. (r : Rank) × (cond v (lower below (Some x.low) (lowest_to below s xs)) (Some x.low) ≡ Some r)) [
-    | true ↦ some-lower x.low (lowest_to below s xs)
+    | true ↦ left_part-some_lower x.low (lowest_to below s xs)
     | false ↦ (x.low, refl)
   ]
 

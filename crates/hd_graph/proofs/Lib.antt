@@ -1,12 +1,12 @@
 -- hd_prune cites Places, Lows, Rises and GoesFrom
 pub mod Places
 pub mod Reach
-pub mod Unions
-pub mod Numbers
+pub mod AreOneClass
+pub mod NumberedLinks
 pub mod MergeNumbers
 pub mod Rises
-pub mod Floods
-pub mod InOrder
+pub mod PrimOrder
+pub mod LinkOrder
 pub mod Reached
 pub mod Linked
 pub mod Grows
@@ -17,7 +17,7 @@ pub mod Meeting
 pub mod Lows
 pub mod Highest
 pub mod Stacks
-pub mod Adding
+pub mod WithPart
 pub mod TurnedLine
 pub mod Lowest
 pub mod LeftParts
@@ -32,6 +32,6 @@ pub mod PitMerges
 pub mod MergeWays
 pub mod MergedTrees
 pub mod Basins
-pub mod Regional
-pub mod Merged
-pub mod Stops
+pub mod RegionBasins
+pub mod AgreeingMerges
+pub mod LineSoFar

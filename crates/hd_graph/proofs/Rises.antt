@@ -75,12 +75,12 @@ module _ (below : Rank → Rank → Bool) (order : IsStrictOrder below) where
   all-within_some t [] k z at h = absurd (cc at)
   all-within_some t (x ∷ xs) k z at h = all-within t x xs h
 
-  within-all : (t : Rank) (xs : List Stop) → RiseWithin below t (highest_rise below xs) → (k : ℕ) (z : Stop) → slice_get xs k ≡ Some z → RiseWithin below t z.rise
-  within-all t [] h k z at = absurd (cc at)
-  within-all t (x ∷ []) h zero z at = subst (λ (w : Stop). RiseWithin below t w.rise) (same_Some x z at) h
-  within-all t (x ∷ []) h (suc k) z at = absurd (cc at)
-  within-all t (x ∷ y ∷ ys) h zero z at = subst (λ (w : Stop). RiseWithin below t w.rise) (same_Some x z at) (within-higher t x.rise (highest_rise below (y ∷ ys)) h).0
-  within-all t (x ∷ y ∷ ys) h (suc k) z at = within-all t (y ∷ ys) (within-higher t x.rise (highest_rise below (y ∷ ys)) h).1 k z at
+  RiseWithin-all : (t : Rank) (xs : List Stop) → RiseWithin below t (highest_rise below xs) → (k : ℕ) (z : Stop) → slice_get xs k ≡ Some z → RiseWithin below t z.rise
+  RiseWithin-all t [] h k z at = absurd (cc at)
+  RiseWithin-all t (x ∷ []) h zero z at = subst (λ (w : Stop). RiseWithin below t w.rise) (same_Some x z at) h
+  RiseWithin-all t (x ∷ []) h (suc k) z at = absurd (cc at)
+  RiseWithin-all t (x ∷ y ∷ ys) h zero z at = subst (λ (w : Stop). RiseWithin below t w.rise) (same_Some x z at) (within-higher t x.rise (highest_rise below (y ∷ ys)) h).0
+  RiseWithin-all t (x ∷ y ∷ ys) h (suc k) z at = RiseWithin-all t (y ∷ ys) (within-higher t x.rise (highest_rise below (y ∷ ys)) h).1 k z at
 
   -- the highest rise is one of them
   higher-one : (a b : Option Rank) (s : Rank) → higher_rise below a b ≡ Some s → (a ≡ Some s) ⊎ (b ≡ Some s)
@@ -105,7 +105,7 @@ module _ (below : Rank → Rank → Bool) (order : IsStrictOrder below) where
         (λ l w c. (let f = between-from line i j l w c in let hi = f.0 in h ((i + 1) + l) w (omega arith) hi f.1))
 
     pub within-between : (t : Rank) (i j : ℕ) → RiseWithin below t (rise_between below line i j) → (k : ℕ) (z : Stop) → i < k → k ≤ j → slice_get line k ≡ Some z → RiseWithin below t z.rise
-    within-between t i j h k z lo hi at = within-all t (drop (i + 1) (take (j + 1) line)) h (k - (i + 1)) z (between-to line i j k z lo hi at)
+    within-between t i j h k z lo hi at = RiseWithin-all t (drop (i + 1) (take (j + 1) line)) h (k - (i + 1)) z (between-to line i j k z lo hi at)
 
     -- a rise between two places is the highest exactly where it is the highest in words
     pub highest-from : (i j : ℕ) (s : Rank) → rise_between below line i j ≡ Some s → IsHighestBetween below line i j s

@@ -23,7 +23,7 @@ use Rattle.hd_lines.specs.Listed.{AreListed, line_of}
 use Rattle.hd_lines.specs.Found.{HasPlace}
 use Rattle.hd_lines.specs.Places.{AreOwnerPlaces}
 use Rattle.hd_lines.proofs.Counted.{counted-as}
-use Rattle.hd_lines.proofs.Placing.{kept-last, last-kept, own-place, owned-place, pit_at-is, place-owned, place-owner, place-rises, placed, places-joined, pit_at, rises-at}
+use Rattle.hd_lines.proofs.HasPlace.{kept-last, last-kept, own-place, owned-place, pit_at-is, place-owned, place-owner, place-rises, HasPlace-found, places-joined, pit_at, rises-at}
 use Rattle.hd_lines.proofs.FirstJoins.{first-saddle}
 
 module _ (m : Map) (whole : IsMap m) (side : SideName) (thousandths : ℕ) (steps : List Step) (kept : List Kept) (owners : List Owned) (pruned : IsPruned m side thousandths steps kept owners)
@@ -97,7 +97,7 @@ module _ (m : Map) (whole : IsMap m) (side : SideName) (thousandths : ℕ) (step
         subst (λ (z : Rank). HasPlace m places z l.a) (sym (pit_at-is kept l.a a at_a)) (own-place m whole side thousandths steps kept owners pruned regions numbered places are l.a a at_a) in
         let own' : HasPlace m places (pit_at kept l.b) l.b =
         subst (λ (z : Rank). HasPlace m places z l.b) (sym (pit_at-is kept l.b b at_b)) (own-place m whole side thousandths steps kept owners pruned regions numbered places are l.b b at_b) in
-        let saddle = first-saddle m side places borders right (pit_at kept) (placed m whole side thousandths steps kept owners pruned regions numbered places are)
+        let saddle = first-saddle m side places borders right (pit_at kept) (HasPlace-found m whole side thousandths steps kept owners pruned regions numbered places are)
         (places-joined m whole side thousandths steps kept owners pruned regions numbered places are) l in_borders own own' first (joins.each n l first at at_first) in
         record {
           first = kept-last m whole side thousandths steps kept owners pruned a (at_place kept l.a a at_a);

@@ -10,7 +10,7 @@ use Rattle.hd_graph.proofs.Places.{get-set_other, get-set_same, item_at}
 use Rattle.hd_lines.specs.declared.border.Border.{Border}
 use Rattle.hd_lines.specs.Chains.{AreFirstsFrom, AreNextsFrom, IsFirstFrom}
 use Rattle.hd_lines.specs.Found.{AreFoundOf}
-use Rattle.hd_lines.proofs.Finding.{found-as}
+use Rattle.hd_lines.proofs.AreFoundOf.{found-as}
 
 module _ (places : List ℕ) where
   -- one index more, before the others

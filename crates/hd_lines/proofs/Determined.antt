@@ -41,8 +41,8 @@ module _ (m : Map) (side : SideName) (kept : List Rank) where
   saddle-along a b s c d t e f g h = subst (λ (z : Rank). IsSaddle m side z d t) e (subst (λ (z : Rank). IsSaddle m side a z t) f (subst (λ (z : Rank). IsSaddle m side a b z) g h))
 
   -- two kept pits have one border line
-  line-unique : (owner : Rank → Rank) (x y : BorderLine) → IsBorderLine m side kept owner x → IsBorderLine m side kept owner y → x.a ≡ y.a → x.b ≡ y.b → x ≡ y
-  line-unique owner x y h k a b =
+  border_line-determined : (owner : Rank → Rank) (x y : BorderLine) → IsBorderLine m side kept owner x → IsBorderLine m side kept owner y → x.a ≡ y.a → x.b ≡ y.b → x ≡ y
+  border_line-determined owner x y h k a b =
       let counted : AreCounted side (IsAcross m (IsOwnedBy m side owner) x.a x.b) y.pairs y.pass =
       subst (λ (z : Rank). AreCounted side (IsAcross m (IsOwnedBy m side owner) z x.b) y.pairs y.pass) (sym a) (subst (λ (z : Rank). AreCounted side (IsAcross m (IsOwnedBy m side owner) y.a z) y.pairs y.pass) (sym b) k.pairs) in
       let same = counted-unique side (IsAcross m (IsOwnedBy m side owner) x.a x.b) x.pairs y.pairs x.pass y.pass h.pairs counted in
@@ -69,7 +69,7 @@ module _ (m : Map) (side : SideName) (kept : List Rank) where
         let is = line-as x (hx.each x at) in
         let pair = is.pairs.reached in
         let there = hy.all x.a x.b pair.0 is.first is.second is.lesser pair.1 in
-        subst (λ (z : BorderLine). Contains ys z) (line-unique yours there.0 x (hy.each there.0 there.1) is there.2 there.3) there.1
+        subst (λ (z : BorderLine). Contains ys z) (border_line-determined yours there.0 x (hy.each there.0 there.1) is there.2 there.3) there.1
 
   -- there is one list of border lines at most
   pub lines-unique : (mine yours : Rank → Rank) (xs ys : List BorderLine) → ((r : Rank) → IsPit m side r → mine r ≡ yours r) → AreBorderLines m side kept mine xs → AreBorderLines m side kept yours ys → xs ≡ ys

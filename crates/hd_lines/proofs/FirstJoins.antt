@@ -14,7 +14,7 @@ use Rattle.hd_map.proofs.Points.{Near-to}
 use Rattle.hd_map.proofs.Saddles.{level-from_saddle, near-sym, saddle-from_level}
 use Rattle.hd_map.proofs.Order.{not_above-along}
 use Rattle.hd_graph.proofs.Basins.{higher-bounds}
-use Rattle.hd_prune.proofs.Points.{JoinedBy, joined_along, joined_both, joined_higher, not_above_level}
+use Rattle.hd_prune.proofs.JoinedByPaths.{JoinedBy, joined_along, joined_both, joined_higher, not_above_level}
 use Rattle.hd_lines.specs.declared.border.Border.{Border}
 use Rattle.hd_lines.specs.Borders.{AreBorders}
 use Rattle.hd_lines.specs.FirstJoins.{IsFirstJoin, LowerStep}

@@ -15,10 +15,10 @@ use Rattle.hd_map.proofs.Order.{below-along, below-not_above, not_above-trans}
 use Rattle.hd_graph.specs.Classes.{AreJoined, AreOneClass, IsLeast, Joins}
 use Rattle.hd_graph.proofs.Places.{at_place, get-set_other, get-set_same, item_at, place_of}
 use Rattle.hd_graph.proofs.Reach.{reach-by}
-use Rattle.hd_graph.proofs.Unions.{class-sym, class-trans, least-same}
+use Rattle.hd_graph.proofs.AreOneClass.{class-sym, class-trans, least-same}
 use Rattle.hd_lines.specs.declared.border.Border.{Border}
 use Rattle.hd_lines.specs.declared.saddles.NumberedBorder.{NumberedBorder}
-use Rattle.hd_lines.specs.NumberedBorders.{AreNumberedBorders, AreJoinedTo, AreLower, AreMarked, FirstStep, HasEnds, IsFirstOf, LowerNumberedStep, SplitsAt, numbered_border, is_lower}
+use Rattle.hd_lines.specs.NumberedBorders.{AreNumberedBorders, AreJoinedTo, AreLower, AreMarked, FirstStep, HasEnds, IsFirstOf, LowerNumberedStep, BordersSplitAt, numbered_border, is_lower}
 use Rattle.hd_lines.specs.FirstJoins.{AreEnds, AreFirstJoins, LowerStep}
 
 -- one border more
@@ -123,17 +123,17 @@ module _ (below : Rank → Rank → Bool) (order : IsStrictOrder below) where
     ]
 
     -- where the next is not below the level, none after it is
-    pub splits-here : (n : ℕ) (c : NumberedBorder) (level : Rank) → slice_get numbered n ≡ Some c → below c.at level ≡ false → AreLower below numbered n level → SplitsAt below numbered n level
-    splits-here n c level at high before = record { lower = before; not_lower = λ k x le atx. not_above-trans below order level c.at x.at high (in_places n k c x le at atx) }
+    pub borders_split-here : (n : ℕ) (c : NumberedBorder) (level : Rank) → slice_get numbered n ≡ Some c → below c.at level ≡ false → AreLower below numbered n level → BordersSplitAt below numbered n level
+    borders_split-here n c level at high before = record { lower = before; not_lower = λ k x le atx. not_above-trans below order level c.at x.at high (in_places n k c x le at atx) }
 
-    pub splits-end : (n : ℕ) (level : Rank) → length numbered ≤ n → AreLower below numbered n level → SplitsAt below numbered n level
-    splits-end n level all before = record { lower = before; not_lower = λ k x le atx. absurd (let inside = slice_get_within numbered k x atx in omega arith) }
+    pub borders_split-end : (n : ℕ) (level : Rank) → length numbered ≤ n → AreLower below numbered n level → BordersSplitAt below numbered n level
+    borders_split-end n level all before = record { lower = before; not_lower = λ k x le atx. absurd (let inside = slice_get_within numbered k x atx in omega arith) }
 
     -- those before a split are those below its level
-    steps-lower : (n : ℕ) (level : Rank) → SplitsAt below numbered n level → {u v : ℕ} → Reach (FirstStep numbered n) u v → Reach (LowerNumberedStep below numbered level) u v
+    steps-lower : (n : ℕ) (level : Rank) → BordersSplitAt below numbered n level → {u v : ℕ} → Reach (FirstStep numbered n) u v → Reach (LowerNumberedStep below numbered level) u v
     steps-lower n level split r = reach-by (FirstStep numbered n) (LowerNumberedStep below numbered level) (λ u v s. step (s.1, at_place numbered s.0 s.1 s.3, s.4, split.lower s.0 s.1 s.2 s.3) here) r
 
-    lower-steps : (n : ℕ) (level : Rank) → SplitsAt below numbered n level → {u v : ℕ} → Reach (LowerNumberedStep below numbered level) u v → Reach (FirstStep numbered n) u v
+    lower-steps : (n : ℕ) (level : Rank) → BordersSplitAt below numbered n level → {u v : ℕ} → Reach (LowerNumberedStep below numbered level) u v → Reach (FirstStep numbered n) u v
     lower-steps n level split r = reach-by (LowerNumberedStep below numbered level) (FirstStep numbered n) (λ u v s.
         let p = place_of numbered s.0 s.1 in
         elim (cases_lt p.0 n) [
@@ -142,7 +142,7 @@ module _ (below : Rank → Rank → Bool) (order : IsStrictOrder below) where
         ]) r
 
     -- of the classes of those below a border: its places are apart exactly where no lower ones join them
-    pub first-of : (n : ℕ) (x : NumberedBorder) (old mid new : List ℕ) (one other : ℕ) (first : Bool) → SplitsAt below numbered n x.at → AreJoinedTo numbered n old
+    pub first-of : (n : ℕ) (x : NumberedBorder) (old mid new : List ℕ) (one other : ℕ) (first : Bool) → BordersSplitAt below numbered n x.at → AreJoinedTo numbered n old
         → AreOneClass old x.a one → ((u v : ℕ) → AreOneClass mid u v ↔ AreOneClass old u v) → IsLeast mid one
         → AreOneClass mid x.b other → ((u v : ℕ) → AreOneClass new u v ↔ AreOneClass mid u v) → IsLeast new other → ((u : ℕ) → IsLeast new u ↔ IsLeast mid u)
         → (first ≡ true → one ≢ other) → (one ≢ other → first ≡ true) → IsFirstOf below numbered x first
@@ -156,7 +156,7 @@ module _ (below : Rank → Rank → Bool) (order : IsStrictOrder below) where
     )
 
     -- what is below a border is below those after it
-    pub lower-next : (n i : ℕ) (x : NumberedBorder) → slice_get numbered i ≡ Some x → SplitsAt below numbered n x.at → (j : ℕ) (y : NumberedBorder) → i + 1 ≤ j → slice_get numbered j ≡ Some y → AreLower below numbered n y.at
+    pub lower-next : (n i : ℕ) (x : NumberedBorder) → slice_get numbered i ≡ Some x → BordersSplitAt below numbered n x.at → (j : ℕ) (y : NumberedBorder) → i + 1 ≤ j → slice_get numbered j ≡ Some y → AreLower below numbered n y.at
     lower-next n i x at split j y le aty k z less atz = below-along below order z.at x.at y.at (split.lower k z less atz) (in_places i j x y (omega arith) at aty)
 
     -- one more is marked

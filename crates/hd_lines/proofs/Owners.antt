@@ -20,7 +20,7 @@ use Rattle.hd_graph.proofs.Basins.{higher-bounds}
 use Rattle.hd_prune.proofs.MapOwners.{joined-top, root-reached}
 use Rattle.hd_prune.proofs.Nearest.{Contains-without, without-Contains}
 use Rattle.hd_prune.proofs.Owners.{handed-over, handed-stays}
-use Rattle.hd_prune.proofs.Points.{JoinedBy, joined_along, joined_both, joined_higher, not_above_level}
+use Rattle.hd_prune.proofs.JoinedByPaths.{JoinedBy, joined_along, joined_both, joined_higher, not_above_level}
 
 module _ (m : Map) (side : SideName) where
   -- where two points are joined, they have a saddle that is not above the level

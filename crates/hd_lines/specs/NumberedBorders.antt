@@ -29,7 +29,7 @@ abbrev pub AreLower : (Rank → Rank → Bool) → List NumberedBorder → ℕ �
 AreLower below numbered n level = (k : ℕ) (x : NumberedBorder) → k < n → slice_get numbered k ≡ Some x → below x.at level ≡ true
 
 -- and no other
-pub record SplitsAt (below : Rank → Rank → Bool) (numbered : List NumberedBorder) (n : ℕ) (level : Rank) : Type 0 where
+pub record BordersSplitAt (below : Rank → Rank → Bool) (numbered : List NumberedBorder) (n : ℕ) (level : Rank) : Type 0 where
   pub lower : AreLower below numbered n level
   pub not_lower : (k : ℕ) (x : NumberedBorder) → n ≤ k → slice_get numbered k ≡ Some x → below x.at level ≡ false
 

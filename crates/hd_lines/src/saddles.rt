@@ -5,7 +5,7 @@ ghost use Rattle.std.specs.Ordering.{is_lt};
 ghost use Rattle.hd_lines.specs.declared.saddles.NumberedBorder.{NumberedBorder};
 ghost use Rattle.hd_map.specs.Rank.{below_by};
 ghost use Rattle.hd_graph.specs.Classes.{AreFalling};
-ghost use Rattle.hd_lines.specs.NumberedBorders.{AreJoinedTo, AreLower, AreMarked, AreNumberedBorders, HasEnds, SplitsAt, is_lower};
+ghost use Rattle.hd_lines.specs.NumberedBorders.{AreJoinedTo, AreLower, AreMarked, AreNumberedBorders, HasEnds, BordersSplitAt, is_lower};
 ghost use Rattle.hd_lines.specs.FirstJoins.{AreFirstJoins};
 
 use crate::border::Border;
@@ -83,7 +83,7 @@ fn join_lower<S: Side>(
     requires falling { AreFalling classes.old.parents.items }
     requires joined { AreJoinedTo borders.now from classes.old.parents.items }
     ensures inside { result ≤ length borders.now }
-    ensures splits { SplitsAt (below_by S.NAME) borders.now result level }
+    ensures splits { BordersSplitAt (below_by S.NAME) borders.now result level }
     ensures falling { AreFalling classes.new.parents.items }
     ensures long { length classes.new.parents.items ≡ length classes.old.parents.items }
     ensures joined { AreJoinedTo borders.now result classes.new.parents.items }

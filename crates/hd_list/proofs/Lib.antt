@@ -1,1 +1,1 @@
-mod Keyed
+mod ByKey

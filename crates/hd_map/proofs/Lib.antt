@@ -19,4 +19,4 @@ pub mod PositionOrder
 pub mod Presences
 pub mod Ranks
 mod Sets
-mod Packed
+mod PackedPoints

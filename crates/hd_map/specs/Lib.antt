@@ -13,6 +13,7 @@ pub mod Passes
 pub mod Sets
 pub mod Packing
 pub mod Unmasked
+pub mod UnmaskedMarks
 pub mod Layouts
 pub mod Surface
 pub mod SurfaceLaws

@@ -1,15 +1,11 @@
--- A map with one cell, one mask or its setting set, as a file gives it, and why a set is refused.
-use Rattle.std.specs.Prelude.{◌≡◌, ◌≤◌, ◌+◌, ℕ, Bool, false, Result, MatchResult, replicate, slice_set}
+-- A map with one cell, one mask or its setting set, and why a set is refused.
+use Rattle.std.specs.Prelude.{◌≡◌, ◌≤◌, ◌+◌, ℕ, Bool, Result, MatchResult, slice_set}
 use Rattle.hd_map.specs.declared.types.Adjacency.{Adjacency}
-use Rattle.hd_map.specs.declared.types.Adjacency.TheVariants.{Eight}
 use Rattle.hd_map.specs.declared.types.Pos.{Pos}
-use Rattle.hd_map.specs.declared.types.Size.{Size}
 use Rattle.hd_map.specs.declared.types.Cell.{Cell}
-use Rattle.hd_map.specs.declared.types.Cell.TheVariants.{Bad}
-use Rattle.hd_map.specs.declared.types.DataType.{DataType}
 use Rattle.hd_map.specs.declared.types.MapError.{MapError}
 use Rattle.hd_map.specs.declared.types.MapError.TheVariants.{Outside, HeightRange}
-use Rattle.hd_map.specs.Map.{Map, InGrid, IsCellOf, cell_count, place_of}
+use Rattle.hd_map.specs.Map.{Map, InGrid, IsCellOf, place_of}
 
 -- the map with this cell at the position
 abbrev pub with_cell : Map → Pos → Cell → Map
@@ -22,14 +18,6 @@ with_mask m p masked = record m { masks = slice_set m.masks (place_of m.size p) 
 -- the map under this setting
 abbrev pub under : Adjacency → Map → Map
 under adjacency m = record m { adjacency = adjacency }
-
--- the map as a file gives it: without its masks, and with eight neighbours
-abbrev pub unmasked : Map → Map
-unmasked m = record m { masks = replicate (cell_count m.size) false; adjacency = Eight }
-
--- a map of this size and data type on which no point is measured and none is masked, with eight neighbours
-abbrev pub unmeasured_map : Size → DataType → Map
-unmeasured_map size data_type = record { size = size; data_type = data_type; cells = replicate (cell_count size) Bad; masks = replicate (cell_count size) false; adjacency = Eight }
 
 -- why this cell cannot stand at the position: it is not in the grid; else the height is not of the type
 abbrev pub IsCellRefusal : Map → Pos → Cell → MapError → Type 0

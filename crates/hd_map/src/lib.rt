@@ -30,11 +30,12 @@ pub use laws::{
     saddle_is_not_above_the_higher_of_two, saddle_is_the_same_both_ways,
     saddle_of_two_pits_is_above_both,
 };
-pub use narrow::Narrow;
+pub use narrow::{Narrow, is_narrow};
 pub use near::{are_beside, beside_at, neighbours, neighbours_by};
+pub use packing::over_least;
 pub use presence::{Presence, presence_of};
 pub use pruning_law::pruning_is_determined;
-pub use range::{greatest_of, is_cell_of, is_narrow, least_of, over_least};
+pub use range::{greatest_of, is_cell_of, least_of};
 pub use side::{Down, Side, Up, higher_of};
 pub use surface::Surface;
 pub use types::{

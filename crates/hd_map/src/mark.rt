@@ -1,7 +1,7 @@
 // The marks of the points of a surface, in one byte each.
 ghost use Rattle.std.specs.Prelude.{◌≡◌, false, IfOk};
 ghost use Rattle.hd_map.specs.Packing.{masks, measures};
-ghost use Rattle.hd_map.specs.Unmasked.{AreUnmasked};
+ghost use Rattle.hd_map.specs.UnmaskedMarks.{AreUnmasked};
 
 use hd_list::Memory;
 use std::alloc::Global;

@@ -1,5 +1,5 @@
 // A surface whose heights take four bytes each.
-ghost use Rattle.std.specs.Prelude.{◌≡◌, ◌≤ℤ◌, ◌+ℤ◌, pos, negsuc, IfOk, length, replicate, false};
+ghost use Rattle.std.specs.Prelude.{◌≡◌, ◌↔◌, ◌≤ℤ◌, ◌+ℤ◌, pos, negsuc, IfOk, IsTrue, length, replicate, false};
 ghost use Rattle.hd_map.specs.Map.{IsSize, IsMap, IsNarrow, cell_count, least_height, shown_height};
 ghost use Rattle.hd_map.specs.Packing.{cell_from, kept_map, masks, over_least};
 
@@ -12,6 +12,16 @@ use crate::{
 };
 use hd_list::Memory;
 use std::alloc::Global;
+
+/// Whether four bytes hold how far each height of a data type is over the least one.
+pub fn is_narrow(data_type: DataType) -> bool
+    ensures { IsTrue result ↔ IsNarrow data_type }
+{
+    match data_type {
+        DataType::Single { .. } | DataType::Double { .. } => false,
+        _ => true,
+    }
+}
 
 /// A surface whose data type has heights that four bytes tell apart. As measured, a point takes five
 /// bytes: four for its height and one for its mark.
@@ -33,7 +43,7 @@ impl Narrow {
     ghost use Rattle.hd_map.specs.Cells.{cells_in};
     ghost use Rattle.hd_map.specs.declared.types.Adjacency.TheVariants.{Eight};
     ghost use Rattle.hd_map.specs.Layouts.{narrow_map};
-    ghost use Rattle.hd_map.specs.Sets.{unmasked, unmeasured_map};
+    ghost use Rattle.hd_map.specs.Unmasked.{unmasked, unmeasured_map};
 
     /// A surface with these cells, none of them masked, and with eight neighbours.
     ///

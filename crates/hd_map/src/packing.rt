@@ -1,10 +1,10 @@
 // A cell and its mask as a surface keeps them.
-ghost use Rattle.std.specs.Prelude.{◌≡◌};
+ghost use Rattle.std.specs.Prelude.{◌≡◌, ◌≤ℤ◌, ◌<ℤ◌, ◌+ℤ◌, pos};
 ghost use Rattle.hd_map.specs.Map.{IsCellOf, IsNarrow};
 ghost use Rattle.hd_map.specs.Packing.{as_it_is, cell_from, masks, over_least};
 
 use crate::mark::Mark;
-use crate::{Cell, DataType, least_of, over_least};
+use crate::{Cell, DataType, least_of};
 
 /// A cell and its mask as a surface keeps them, in one of its layouts.
 #[derive(Clone, Copy, Debug, PartialEq, Eq)]
@@ -50,4 +50,14 @@ pub fn pack_wide(cell: Cell, masked: bool) -> Packed<i64>
             mark: Mark::of(false, masked),
         },
     }
+}
+
+/// How far a height is over the least one of its data type.
+#[inline]
+pub fn over_least(least: i64, height: i64) -> u32
+    requires from { least ≤ℤ height }
+    requires to { height <ℤ (least +ℤ pos 4294967296) }
+    ensures { least +ℤ pos result ≡ height }
+{
+    (height - least) as u32
 }

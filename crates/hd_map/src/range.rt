@@ -1,6 +1,6 @@
 // The ranges of the data types.
-ghost use Rattle.std.specs.Prelude.{◌≡◌, ◌↔◌, ◌≤ℤ◌, ◌<ℤ◌, ◌+ℤ◌, pos, IsTrue};
-ghost use Rattle.hd_map.specs.Map.{IsCellOf, IsNarrow, least_height, greatest_height};
+ghost use Rattle.std.specs.Prelude.{◌≡◌, ◌↔◌, IsTrue};
+ghost use Rattle.hd_map.specs.Map.{IsCellOf, least_height, greatest_height};
 
 use crate::{Cell, DataType};
 
@@ -40,24 +40,4 @@ pub fn is_cell_of(data_type: DataType, cell: Cell) -> bool
         Cell::Height(height) => least_of(data_type) <= height && height <= greatest_of(data_type),
         Cell::Bad => true,
     }
-}
-
-/// Whether four bytes hold how far each height of a data type is over the least one.
-pub fn is_narrow(data_type: DataType) -> bool
-    ensures { IsTrue result ↔ IsNarrow data_type }
-{
-    match data_type {
-        DataType::Single { .. } | DataType::Double { .. } => false,
-        _ => true,
-    }
-}
-
-/// How far a height is over the least one of its data type.
-#[inline]
-pub fn over_least(least: i64, height: i64) -> u32
-    requires from { least ≤ℤ height }
-    requires to { height <ℤ (least +ℤ pos 4294967296) }
-    ensures { least +ℤ pos result ≡ height }
-{
-    (height - least) as u32
 }

@@ -22,7 +22,7 @@ pub enum Surface {
 impl Surface {
     ghost use Rattle.hd_map.specs.Cells.{cells_in};
     ghost use Rattle.hd_map.specs.declared.types.Adjacency.TheVariants.{Eight};
-    ghost use Rattle.hd_map.specs.Sets.{unmasked, unmeasured_map};
+    ghost use Rattle.hd_map.specs.Unmasked.{unmasked, unmeasured_map};
     ghost use Rattle.hd_map.specs.Surface.{map_of};
 
     /// A surface with these cells, none of them masked, and with eight neighbours.

@@ -30,7 +30,7 @@ impl Wide {
     ghost use Rattle.hd_map.specs.Cells.{wide_cells_in};
     ghost use Rattle.hd_map.specs.declared.types.Adjacency.TheVariants.{Eight};
     ghost use Rattle.hd_map.specs.Layouts.{wide_map};
-    ghost use Rattle.hd_map.specs.Sets.{unmasked, unmeasured_map};
+    ghost use Rattle.hd_map.specs.Unmasked.{unmasked, unmeasured_map};
 
     /// A surface with these cells, none of them masked, and with eight neighbours.
     ///

@@ -12,7 +12,7 @@ use Rattle.hd_morph.specs.Filter.{IsRaised}
 use Rattle.hd_morph.specs.Plain.{relief, ArePlain, most_between, most_filtered}
 use Rattle.hd_morph.specs.Raised.{IsFlat, AreFlatlyDilated, AreTopped, AreSettled, plus}
 use Rattle.hd_morph.specs.Round.{IsRound, AreRoundGreatests}
-use Rattle.hd_morph.proofs.PlainNumbers.{entry_within, some_inside}
+use Rattle.hd_morph.proofs.PlainNumbers.{IsBounded-table_entry, some_inside}
 use Rattle.hd_morph.proofs.Settling.{settled_filtered}
 
 -- the heights round a position are those that the element leads from
@@ -103,5 +103,5 @@ all_flat e n is each = record {
 pub flat_within : (e : ElementTable) (across down : ℕ) (n : ℤ) → IsElement e → IsFlat e across down n → (neg_ℤ (pos most_entry) ≤ℤ n) × (n ≤ℤ pos most_entry)
 flat_within e across down n is flat =
     let number : number_at e (centre e) ≡ Some n = flat.each (centre e) (omega (arith, is.odd_width)) (omega (arith, is.odd_height)) in
-    let within = entry_within e.table is.entries ((centre e).y * e.width + (centre e).x) in
+    let within = IsBounded-table_entry e.table is.entries ((centre e).y * e.width + (centre e).x) in
     (within.least n number, within.greatest n number)

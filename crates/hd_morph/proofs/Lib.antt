@@ -9,4 +9,4 @@ pub mod Adjunction
 pub mod Determined
 pub mod Stable
 pub mod Raising
-pub mod Listing
+pub mod Listed

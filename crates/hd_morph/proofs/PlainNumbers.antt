@@ -89,8 +89,8 @@ pub value_read : (xs : List ℤ) (k : ℕ) → k < length xs → shown (get_or x
 value_read xs k inside = ap shown (get_or_default xs k (pos 0) missing inside)
 
 -- a number that was found to stand for a height
-pub tested : (z : ℤ) (found : Bool) → SFits w64 z → found ≡ is_some (shown (to_z w64 (of_z w64 z))) → found ≡ true → floor <ℤ z
-tested z found fits is found_it =
+pub floor-tested : (z : ℤ) (found : Bool) → SFits w64 z → found ≡ is_some (shown (to_z w64 (of_z w64 z))) → found ≡ true → floor <ℤ z
+floor-tested z found fits is found_it =
     let some : is_some (shown z) ≡ true = sym (rw (to_z-of_z w64 z fits) at is) ∙ found_it in
     by_lt_z floor z (λ above. above) (λ below. let none : is_some (shown z) ≡ false = rw (shown_below z below) in absurd (true≢false (sym some ∙ none)))
 
@@ -198,22 +198,22 @@ pub all_written : (n : ℕ) (ys zs : List ℤ) → n ≡ length ys → take n (y
 all_written n ys zs e = rw e (take-append_seam ys zs)
 
 -- an entry of a table is within the limits
-entry_of : (v : Option ℤ) → IsEntry v → IsBounded most_entry v
-entry_of None entry = record { least = λ z is. let e : None ≡ Some z = is in cc; greatest = λ z is. let e : None ≡ Some z = is in cc }
-entry_of (Some y) entry = record {
+IsBounded-entry : (v : Option ℤ) → IsEntry v → IsBounded most_entry v
+IsBounded-entry None entry = record { least = λ z is. let e : None ≡ Some z = is in cc; greatest = λ z is. let e : None ≡ Some z = is in cc }
+IsBounded-entry (Some y) entry = record {
   least = λ z is. let same : y ≡ z = cc in let low = entry.0 in omega (arith, ints);
   greatest = λ z is. let same : y ≡ z = cc in let high = entry.1 in omega (arith, ints);
 }
 
-pub entry_within : (table : List (Option ℤ)) → All IsEntry table → (k : ℕ) → IsBounded most_entry (slice_index_or table k None)
-entry_within table entries k = elim (cases_lt k (length table)) [
-  | inl inside ↦ entry_of (slice_index_or table k None) (All-get_or IsEntry table k None inside entries)
-  | inr past ↦ rw (get_or_past table k None past) (entry_of None tt)
+pub IsBounded-table_entry : (table : List (Option ℤ)) → All IsEntry table → (k : ℕ) → IsBounded most_entry (slice_index_or table k None)
+IsBounded-table_entry table entries k = elim (cases_lt k (length table)) [
+  | inl inside ↦ IsBounded-entry (slice_index_or table k None) (All-get_or IsEntry table k None inside entries)
+  | inr past ↦ rw (get_or_past table k None past) (IsBounded-entry None tt)
 ]
 
 -- a bound is one for each greater number
-pub within_more : (m n : ℕ) (v : Option ℤ) → m ≤ n → IsBounded m v → IsBounded n v
-within_more m n v more within = record {
+pub IsBounded-more : (m n : ℕ) (v : Option ℤ) → m ≤ n → IsBounded m v → IsBounded n v
+IsBounded-more m n v more within = record {
   least = λ z is. let h = within.least z is in omega (arith, ints);
   greatest = λ z is. let h = within.greatest z is in omega (arith, ints);
 }
@@ -221,9 +221,9 @@ within_more m n v more within = record {
 pub plain_more : (s : Size) (m n : ℕ) (values : List ℤ) → m ≤ n → ArePlain s m values → ArePlain s n values
 plain_more s m n values more are = record {
   whole = are.whole;
-  plain = record { each = λ k. record { bounded = within_more m n (value_at values k) more (are.plain.each k).bounded; absent = (are.plain.each k).absent } };
+  plain = record { each = λ k. record { bounded = IsBounded-more m n (value_at values k) more (are.plain.each k).bounded; absent = (are.plain.each k).absent } };
 }
 
 -- heights by position are bounded as the numbers are
-pub within_at : (s : Size) (n : ℕ) (values : List ℤ) → ArePlain s n values → (p : Pos) → InGrid s p → IsBounded n (relief s values p)
-within_at s n values are p inside = (are.plain.each (place_of s p)).bounded
+pub IsBounded-relief : (s : Size) (n : ℕ) (values : List ℤ) → ArePlain s n values → (p : Pos) → InGrid s p → IsBounded n (relief s values p)
+IsBounded-relief s n values are p inside = (are.plain.each (place_of s p)).bounded

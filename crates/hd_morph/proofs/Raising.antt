@@ -17,7 +17,7 @@ use Rattle.hd_morph.specs.Filter.{Relief, Dilation, IsOffset, IsRaised}
 use Rattle.hd_morph.specs.Plain.{missing, shown, plain_at, value_at, relief, ArePlain, most_between, most_filtered}
 use Rattle.hd_morph.specs.Raised.{ArePlainlyFiltered, AreTopped, AreSettled, plus, AreRaisedTo, AreRaisedAcross, IsRaisedBy, IsRowRaisedOnce, AreBlank, IsBlankRow, IsRowRaised, AreRaised}
 use Rattle.hd_morph.proofs.Greatest.{greatest_of, greatest_join, greatest_none, larger_none}
-use Rattle.hd_morph.proofs.PlainNumbers.{entry_within, shown_below, some_or_none, none_past, some_inside, value_read, set_same, set_other, mid_inside, mid_before, mid_after, mid_length, part_at, part_length, within_at}
+use Rattle.hd_morph.proofs.PlainNumbers.{IsBounded-table_entry, shown_below, some_or_none, none_past, some_inside, value_read, set_same, set_other, mid_inside, mid_before, mid_after, mid_length, part_at, part_length, IsBounded-relief}
 use Rattle.hd_morph.proofs.Adjunction.{origin_of, centre_links}
 use Rattle.hd_morph.proofs.Settling.{settled_filtered}
 
@@ -307,10 +307,10 @@ raised_topped s e heights tops some is plain raised = record {
       let height : relief s heights p ≡ Some z = rw place there in
       let top = (raised.each p inside).reached (z +ℤ o.number) (record { from = p; height = z; number = o.number; links = centre_links s e o p inside; is_height = height; sum = refl }) in
       let r = (raised.each p inside).attained top.0 top.1 in
-      let within = within_at s most_between heights plain r.from r.links.from in
+      let within = IsBounded-relief s most_between heights plain r.from r.links.from in
       let low = within.least r.height r.is_height in
       let high = within.greatest r.height r.is_height in
-      let numbers = entry_within e.table is.entries (r.links.offset.y * e.width + r.links.offset.x) in
+      let numbers = IsBounded-table_entry e.table is.entries (r.links.offset.y * e.width + r.links.offset.x) in
       let low' = numbers.least r.number r.links.is_number in
       let high' = numbers.greatest r.number r.links.is_number in
       let sum : top.0 ≡ r.height +ℤ r.number = r.sum in

@@ -12,7 +12,7 @@ use Rattle.hd_morph.specs.Greatest.{IsGreatest}
 use Rattle.hd_morph.specs.Filter.{Relief, Filter, Dilation, Erosion, IsRaised, IsLowered, IsDilation, IsErosion}
 use Rattle.hd_morph.specs.Plain.{missing, floor, shown, plain_at, value_at, relief, ArePlain, IsBounded, most_filtered}
 use Rattle.hd_morph.specs.Raised.{ArePlainlyFiltered, IsNumberWithin, AreTopped, IsSettled, AreSettled, plus}
-use Rattle.hd_morph.proofs.PlainNumbers.{entry_within, shown_above, shown_below, shown_is, some_or_none, none_past, within_at}
+use Rattle.hd_morph.proofs.PlainNumbers.{IsBounded-table_entry, shown_above, shown_below, shown_is, some_or_none, none_past, IsBounded-relief}
 
 -- a settled number stands for the top, raised, where a height stands
 pub settled_present : (height : Option ℤ) (top number new z : ℤ) → IsSettled height top number new → height ≡ Some z → IsNumberWithin most_filtered (shown top)
@@ -80,18 +80,18 @@ plain_of filter s e n old new some made within = record {
 }
 
 -- a dilation of bounded heights by bounded numbers is bounded
-pub dilation_within : (s : Size) (e : ElementTable) (m : ℕ) (f g : Relief) → IsElement e → ((p : Pos) → InGrid s p → IsBounded m (f p)) → IsDilation s e f g → (p : Pos) → InGrid s p → IsBounded (m + most_entry) (g p)
-dilation_within s e m f g is within raised p inside = record {
+pub IsBounded-dilation : (s : Size) (e : ElementTable) (m : ℕ) (f g : Relief) → IsElement e → ((p : Pos) → InGrid s p → IsBounded m (f p)) → IsDilation s e f g → (p : Pos) → InGrid s p → IsBounded (m + most_entry) (g p)
+IsBounded-dilation s e m f g is within raised p inside = record {
   least = λ z there.
       let r = found z there in
       let h = (within r.from r.links.from).least r.height r.is_height in
-      let b = (entry_within e.table is.entries (r.links.offset.y * e.width + r.links.offset.x)).least r.number r.links.is_number in
+      let b = (IsBounded-table_entry e.table is.entries (r.links.offset.y * e.width + r.links.offset.x)).least r.number r.links.is_number in
       let sum : z ≡ r.height +ℤ r.number = r.sum in
       omega (arith, ints);
   greatest = λ z there.
       let r = found z there in
       let h = (within r.from r.links.from).greatest r.height r.is_height in
-      let b = (entry_within e.table is.entries (r.links.offset.y * e.width + r.links.offset.x)).greatest r.number r.links.is_number in
+      let b = (IsBounded-table_entry e.table is.entries (r.links.offset.y * e.width + r.links.offset.x)).greatest r.number r.links.is_number in
       let sum : z ≡ r.height +ℤ r.number = r.sum in
       omega (arith, ints);
 } where
@@ -102,18 +102,18 @@ dilation_within s e m f g is within raised p inside = record {
   ]
 
 -- an erosion of bounded heights by bounded numbers is bounded
-pub erosion_within : (s : Size) (e : ElementTable) (m : ℕ) (f g : Relief) → IsElement e → ((p : Pos) → InGrid s p → IsBounded m (f p)) → IsErosion s e f g → (p : Pos) → InGrid s p → IsBounded (m + most_entry) (g p)
-erosion_within s e m f g is within lowered p inside = record {
+pub IsBounded-erosion : (s : Size) (e : ElementTable) (m : ℕ) (f g : Relief) → IsElement e → ((p : Pos) → InGrid s p → IsBounded m (f p)) → IsErosion s e f g → (p : Pos) → InGrid s p → IsBounded (m + most_entry) (g p)
+IsBounded-erosion s e m f g is within lowered p inside = record {
   least = λ z there.
       let r = found z there in
       let h = (within r.to r.links.to).least r.height r.is_height in
-      let b = (entry_within e.table is.entries (r.links.offset.y * e.width + r.links.offset.x)).greatest r.number r.links.is_number in
+      let b = (IsBounded-table_entry e.table is.entries (r.links.offset.y * e.width + r.links.offset.x)).greatest r.number r.links.is_number in
       let sum : z ≡ r.height -ℤ r.number = r.difference in
       omega (arith, ints);
   greatest = λ z there.
       let r = found z there in
       let h = (within r.to r.links.to).greatest r.height r.is_height in
-      let b = (entry_within e.table is.entries (r.links.offset.y * e.width + r.links.offset.x)).least r.number r.links.is_number in
+      let b = (IsBounded-table_entry e.table is.entries (r.links.offset.y * e.width + r.links.offset.x)).least r.number r.links.is_number in
       let sum : z ≡ r.height -ℤ r.number = r.difference in
       omega (arith, ints);
 } where
@@ -126,9 +126,9 @@ erosion_within s e m f g is within lowered p inside = record {
 -- what was dilated is plain, within more
 pub dilated_plain : (s : Size) (e : ElementTable) (m : ℕ) (old new : List ℤ) → 1 ≤ s.points → IsElement e → ArePlain s m old → ArePlainlyFiltered Dilation s e old new → ArePlain s (m + most_entry) new
 dilated_plain s e m old new some is plain made =
-    plain_of Dilation s e (m + most_entry) old new some made (dilation_within s e m (relief s old) (relief s new) is (within_at s m old plain) made.filtered)
+    plain_of Dilation s e (m + most_entry) old new some made (IsBounded-dilation s e m (relief s old) (relief s new) is (IsBounded-relief s m old plain) made.filtered)
 
 -- and so is what was eroded
 pub eroded_plain : (s : Size) (e : ElementTable) (m : ℕ) (old new : List ℤ) → 1 ≤ s.points → IsElement e → ArePlain s m old → ArePlainlyFiltered Erosion s e old new → ArePlain s (m + most_entry) new
 eroded_plain s e m old new some is plain made =
-    plain_of Erosion s e (m + most_entry) old new some made (erosion_within s e m (relief s old) (relief s new) is (within_at s m old plain) made.filtered)
+    plain_of Erosion s e (m + most_entry) old new some made (IsBounded-erosion s e m (relief s old) (relief s new) is (IsBounded-relief s m old plain) made.filtered)

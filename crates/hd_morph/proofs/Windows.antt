@@ -38,7 +38,7 @@ back_steps stride reach place from at steps b near back = elim (cases_lt b.steps
 
 -- two stretches that leave no value between them out are one
 pub ahead_join : (values old new : List ℤ) (stride seen step : ℕ) → step ≤ seen → AreAheadGreatests values stride seen old → IsWidened old (step * stride) new → AreAheadGreatests values stride (seen + step) new
-ahead_join values old new stride seen step no_gap before now = record {
+ahead_join values old new stride seen step joined before now = record {
   whole = omega (arith, before.whole, now.whole);
   each = λ place. rw (now.each place) (greatest_join (IsAhead values stride seen place) (IsAhead values stride seen (place + step * stride)) (IsAhead values stride (seen + step) place)
       (value_at old place) (value_at old (place + step * stride))

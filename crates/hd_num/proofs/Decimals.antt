@@ -71,9 +71,9 @@ count_none ds e few = elim (cases_Bool (is_numeral ds)) [
 ]
 
 -- the marks of an exponent
-pub marks : AgreeOn (is_in (101 ∷ 69 ∷ [])) is_exponent_mark
+pub exponent-marks : AgreeOn (is_in (101 ∷ 69 ∷ [])) is_exponent_mark
 unfolding is_in
-marks x = elim (x == 101) as (λ a. (a || (x == 69 || false)) ≡ (a || x == 69)) [
+exponent-marks x = elim (x == 101) as (λ a. (a || (x == 69 || false)) ≡ (a || x == 69)) [
   | true ↦ refl
   | false ↦ elim (x == 69) as (λ b. (b || false) ≡ b) [ true ↦ refl | false ↦ refl ]
 ]
@@ -125,9 +125,9 @@ uncapped ds all few =
     omega arith
 
 -- the digits before and after the point
-pub joined : (whole fraction : List ℕ) (first number : ℕ) → list_all is_ascii_digit whole ≡ true → list_all is_ascii_digit fraction ≡ true → length whole + length fraction ≤ 38
+pub digits-joined : (whole fraction : List ℕ) (first number : ℕ) → list_all is_ascii_digit whole ≡ true → list_all is_ascii_digit fraction ≡ true → length whole + length fraction ≤ 38
     → first ≡ min (digits_value 10 whole) (2 ^ 128 - 1) → number ≡ min (digits_value_after 10 first fraction) (2 ^ 128 - 1) → number ≡ digits_value 10 (whole ++ fraction)
-joined whole fraction first number all more few first_is number_is =
+digits-joined whole fraction first number all more few first_is number_is =
     let front : first ≡ digits_value 10 whole = first_is ∙ uncapped whole all (omega arith) in
     let both : list_all is_ascii_digit (whole ++ fraction) ≡ true = list_all-append is_ascii_digit whole fraction ∙ and_from _ _ all more in
     let value : digits_value 10 (whole ++ fraction) ≡ digits_value_after 10 first fraction = value_append 0 whole fraction ∙ ap (λ n. digits_value_after 10 n fraction) (sym front) in
@@ -188,8 +188,8 @@ small_kept z bound few small =
     to_z-of_z w32 z (omega (arith, ints))
 
 -- an exponent less a few digits is kept in 32 bits
-pub scaled : (exponent : ℤ) (few : ℕ) → few ≤ 38 → IsBounded 999 exponent → to_z w32 (of_z w32 (to_z w32 (of_z w32 exponent) -ℤ to_z w32 few)) ≡ exponent -ℤ pos few
-scaled exponent few short small =
+pub exponent-scaled : (exponent : ℤ) (few : ℕ) → few ≤ 38 → IsBounded 999 exponent → to_z w32 (of_z w32 (to_z w32 (of_z w32 exponent) -ℤ to_z w32 few)) ≡ exponent -ℤ pos few
+exponent-scaled exponent few short small =
     let low = small.low in
     let high = small.high in
     rw (small_kept exponent 999 (omega arith) small) (omega (arith, ints))

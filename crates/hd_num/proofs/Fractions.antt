@@ -75,8 +75,8 @@ pub zero_over_one : (num : ℤ) (den : ℕ) → IsReduced num den → num ≡ po
 zero_over_one num den r e = r.coprime den (subst (λ z. den ∣ unsigned_abs z) (sym e) (dvd-zero den)) (dvd_refl den)
 
 -- two reduced fractions of the same number are the same
-pub determined : (n : ℤ) (d : ℕ) (a : ℤ) (b : ℕ) (a' : ℤ) (b' : ℕ) → 0 < d → IsFraction n d a b → IsFraction n d a' b' → (a ≡ a') × (b ≡ b')
-determined n d a b a' b' some f g =
+pub IsFraction-determined : (n : ℤ) (d : ℕ) (a : ℤ) (b : ℕ) (a' : ℤ) (b' : ℕ) → 0 < d → IsFraction n d a b → IsFraction n d a' b' → (a ≡ a') × (b ≡ b')
+IsFraction-determined n d a b a' b' some f g =
     let same : b ≡ b' = dvd_antisymm (divides_other (unsigned_abs a) b b' f.reduced.coprime g.reduced.positive (subst (λ x. b ∣ x) (sym crossed ∙ mul_comm (unsigned_abs a) b') (dvd-mul_left b (unsigned_abs a'))))
     (divides_other (unsigned_abs a') b' b g.reduced.coprime f.reduced.positive (subst (λ x. b' ∣ x) (crossed ∙ mul_comm (unsigned_abs a') b) (dvd-mul_left b' (unsigned_abs a)))) in
     (cancel_signed a a' d some (sym f.value ∙ ap (λ x. n *ℤ pos x) same ∙ g.value), same)
@@ -107,8 +107,8 @@ factor_positive zero g d h some = absurd (omega arith)
 factor_positive (suc e) g d h some = omega arith
 
 -- a number and a denominator divided by their greatest common divisor
-pub divided : (n : ℤ) (d g : ℕ) → 0 < d → IsGcd (unsigned_abs n) d g → IsFraction n d (signed_number (int_lt n (pos 0)) (unsigned_abs n / g)) (d / g)
-divided n d g some h = record {
+pub IsFraction-divided : (n : ℤ) (d g : ℕ) → 0 < d → IsGcd (unsigned_abs n) d g → IsFraction n d (signed_number (int_lt n (pos 0)) (unsigned_abs n / g)) (d / g)
+IsFraction-divided n d g some h = record {
   reduced = record { positive = factor_positive (d / g) g d den some; coprime = coprime };
   value = value;
 }

@@ -29,20 +29,20 @@ abbrev pub AgreeOn : (ℕ → Bool) → (ℕ → Bool) → Type 0
 AgreeOn given test = (x : ℕ) → given x ≡ test x
 
 -- a byte that does not pass the one test fails the other
-fails : (given test : ℕ → Bool) → AgreeOn given test → (x : ℕ) → (given x ≡ true → ⊥) → test x ≡ false
-fails given test same x refused = sym (same x) ∙ false_from_ne_true (given x) refused
+piece_test-fails : (given test : ℕ → Bool) → AgreeOn given test → (x : ℕ) → (given x ≡ true → ⊥) → test x ≡ false
+piece_test-fails given test same x refused = sym (same x) ∙ false_from_ne_true (given x) refused
 
 -- a search finds the first place that passes
 pub place_found : (given test : ℕ → Bool) → AgreeOn given test → (text : List ℕ) (place : ℕ) → NoneBefore (Passes given text) 0 (length text) place → Passes given text place
     → position_or_len test text ≡ place
 place_found given test same text place none here =
     let high = none.high in
-    position_or_len_is test text place 0 (omega arith) (λ k less. fails given test same (get_or text k 0) (none.before k (omega arith) less)) (λ _. sym (same (get_or text place 0)) ∙ here)
+    position_or_len_is test text place 0 (omega arith) (λ k less. piece_test-fails given test same (get_or text k 0) (none.before k (omega arith) less)) (λ _. sym (same (get_or text place 0)) ∙ here)
 
 -- a search that finds nothing shows that no place passes
 pub place_nowhere : (given test : ℕ → Bool) → AgreeOn given test → (text : List ℕ) → Nowhere (Passes given text) 0 (length text) → position_or_len test text ≡ length text
 place_nowhere given test same text none =
-    position_or_len_is test text (length text) 0 (omega arith) (λ k less. fails given test same (get_or text k 0) (none k (omega arith) less)) (λ less. absurd (omega arith))
+    position_or_len_is test text (length text) 0 (omega arith) (λ k less. piece_test-fails given test same (get_or text k 0) (none k (omega arith) less)) (λ less. absurd (omega arith))
 
 -- a search from a place on finds the end of the piece there
 pub piece_end_found : (given test : ℕ → Bool) → AgreeOn given test → (bytes rest : List ℕ) (from count : ℕ) → rest ≡ drop from bytes → from ≤ length bytes
@@ -51,7 +51,7 @@ piece_end_found given test same bytes rest from count is fits none here =
     let len : length rest ≡ length bytes - from = ap length is ∙ length-drop from bytes in
     let high = none.high in
     let first : slice_split test rest ≡ take count rest ∷ slice_split test (drop (suc count) rest) =
-    split_first test rest count high (sym (same (get_or rest count 0)) ∙ here) (λ k less. fails given test same (get_or rest k 0) (none.before k (omega arith) less)) in
+    split_first test rest count high (sym (same (get_or rest count 0)) ∙ here) (λ k less. piece_test-fails given test same (get_or rest k 0) (none.before k (omega arith) less)) in
     let width : count ≡ from + count - from = omega arith in
     let after : from + suc count ≡ from + count + 1 = omega arith in
     let place = place_found given test same rest count none here in
@@ -76,7 +76,7 @@ piece_end_none given test same bytes rest from is fits none =
       place = omega arith;
       low = fits;
       high = omega arith;
-      last = λ _. ap (slice_split test) (sym is) ∙ split_none test rest (λ k less. fails given test same (get_or rest k 0) (none k (omega arith) less))
+      last = λ _. ap (slice_split test) (sym is) ∙ split_none test rest (λ k less. piece_test-fails given test same (get_or rest k 0) (none k (omega arith) less))
           ∙ ap (λ (xs : List ℕ). xs ∷ []) (is ∙ sym (between_to_end bytes from (length bytes) (omega arith)));
       more = λ less. absurd (omega arith);
     }

@@ -32,6 +32,12 @@ whole_of_value (Some z) = whole_of_number z
 abbrev pub whole_of : List ℕ → Whole
 whole_of word = whole_of_value (whole_value word)
 
+-- a whole number that fits i64
+abbrev pub i64_of : Whole → Option ℤ
+i64_of (Is z) = Some z
+i64_of Not = None
+i64_of Outside = None
+
 -- the count that a word writes: a numeral, of at most 4,294,967,295
 abbrev pub count_of : List ℕ → Option ℕ
 count_of word = if is_numeral word && nat_lt (digits_value 10 word) (2 ^ 32) then Some (digits_value 10 word) else None

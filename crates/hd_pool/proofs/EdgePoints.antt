@@ -13,8 +13,8 @@ use Rattle.hd_map.specs.Neighbour.{IsNear}
 use Rattle.hd_map.specs.Rank.{rank}
 use Rattle.hd_map.proofs.Gather.{same_pos}
 use Rattle.hd_map.proofs.Points.{present_or_not, shown_of}
-use Rattle.hd_basin.specs.Edge.{HasGap, IsEdge, OnBorder}
-use Rattle.hd_basin.proofs.Edges.{edge-gap, edge-on, no_edge, no_gap}
+use Rattle.hd_basin.specs.Edge.{HasAbsentBeside, IsEdge, OnBorder}
+use Rattle.hd_basin.proofs.Edges.{edge-absent_beside, edge-on, no_edge, none_absent_beside}
 use Rattle.hd_survey.specs.Edges.{at as place_at, beside, is_border, is_edge, is_here}
 use Rattle.hd_survey.proofs.RootedPoints.{inside_test, unshown}
 
@@ -113,7 +113,7 @@ nine P a b c d e f g h i (suc (suc (suc (suc (suc (suc (suc (suc (suc k)))))))))
 
 -- one of the positions beside the point has no present point
 module _ (m : Map) (p : Pos) (here : Present m p) (inner : IsInner m.size p) where
-  gap_at : (x y : ℕ) → IsNear p.x x → IsNear p.y y → is_here m (place_at x y) ≡ false → HasGap m p
+  gap_at : (x y : ℕ) → IsNear p.x x → IsNear p.y y → is_here m (place_at x y) ≡ false → HasAbsentBeside m p
   gap_at x y columns rows gone =
       let column = here.in_grid.column in
       let profile = here.in_grid.profile in
@@ -127,7 +127,7 @@ module _ (m : Map) (p : Pos) (here : Present m p) (inner : IsInner m.size p) whe
         absent = absent-here m (place_at x y) gone;
       }
 
-  some-gap : list_any (λ q. not (is_here m q)) (beside p) ≡ true → HasGap m p
+  some-gap : list_any (λ q. not (is_here m q)) (beside p) ≡ true → HasAbsentBeside m p
   some-gap e0 =
       let left : 0 < p.x = some-number p.x inner.left in
       let top : 0 < p.y = some-number p.y inner.top in
@@ -194,7 +194,7 @@ tested-edge m p here e = elim (is_border m.size p) as (λ b. is_border m.size p 
   | true ↦ λ on. edge-on m p here (border-on m.size p on)
   | false ↦ λ off. elim (or_cases _ _ e) [
     | inl on ↦ absurd (let both = sym off ∙ on in cc)
-    | inr gap ↦ edge-gap m p here (some-gap m p here (border-off m.size p off) gap)
+    | inr gap ↦ edge-absent_beside m p here (some-gap m p here (border-off m.size p off) gap)
   ]
 ] refl
 
@@ -202,4 +202,4 @@ pub tested-inner : (m : Map) (p : Pos) → Present m p → is_edge m p ≡ false
 tested-inner m p here e =
     let parts = or_parts _ _ e in
     let inner = border-off m.size p parts.0 in
-    no_edge m p here (inner-off m.size p inner) (no_gap m p (some-number p.x inner.left) (some-number p.y inner.top) (all-round m p here inner parts.1))
+    no_edge m p here (inner-off m.size p inner) (none_absent_beside m p (some-number p.x inner.left) (some-number p.y inner.top) (all-round m p here inner parts.1))

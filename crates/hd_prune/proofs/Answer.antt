@@ -37,30 +37,30 @@ use Rattle.hd_prune.proofs.Leavers.{leaving-same, steps_of}
 use Rattle.hd_prune.proofs.MapLine.{along-leaving, is_pit, pits}
 use Rattle.hd_prune.proofs.MergesLeaving.{in-leaving}
 use Rattle.hd_prune.proofs.PitLine.{OnePlace, each_once}
-use Rattle.hd_prune.proofs.Prunable.{prunable}
+use Rattle.hd_prune.proofs.MapPrunable.{prunable}
 use Rattle.hd_prune.proofs.TakeOver.{owners-left, pruned, pruning}
 
 module _ (m : Map) (whole : IsMap m) (side : SideName) (line : List Stop) (once : EachOnce line) (told : TellsSaddles m side line) (limit : Limit) (leavers : List Leaver)
     (along : AreLeaving (below_by side) (IsLeavingAlong (below_by side) (local_on side) (goes_at limit) (pit_line (below_by side) line)) leavers) where
-  pub place : OnePlace line
-  place = one_place (λ (z : Stop). z.low) line once
+  pub line-one_place : OnePlace line
+  line-one_place = one_place (λ (z : Stop). z.low) line once
 
   -- those that leave the line are those that leave the map
   pub leaving-along : AreLeaving (below_by side) (IsLeaving m side (goes_at limit)) leavers
   leaving-along = leaving-same (below_by side) (IsLeavingAlong (below_by side) (local_on side) (goes_at limit) (pit_line (below_by side) line)) (IsLeaving m side (goes_at limit)) leavers
-      (along-leaving m side line place told limit.percent.thousandths limit.sz) along
+      (along-leaving m side line line-one_place told limit.percent.thousandths limit.sz) along
 
   abbrev pub all : List Rank
-  all = pits m side line place told
+  all = pits m side line line-one_place told
 
   -- its pits in position order
   pits_sorted : (sorted : List Rank) → AreInOrder all sorted → ArePits m side sorted
   pits_sorted sorted order =
       let same : (p : Rank) → Contains all p ↔ Contains sorted p = in_order-same all sorted order in
-      let exactly : (p : Rank) → Contains sorted p ↔ IsPit m side p = λ p. (λ h. (is_pit m side line place told p).0 ((same p).1 h), λ h. (same p).0 ((is_pit m side line place told p).1 h)) in
+      let exactly : (p : Rank) → Contains sorted p ↔ IsPit m side p = λ p. (λ h. (is_pit m side line line-one_place told p).0 ((same p).1 h), λ h. (same p).0 ((is_pit m side line line-one_place told p).1 h)) in
       record {
         exactly = exactly;
-        in_order = in_order-rises m (below_by side) (below_by-order side) all sorted (pits-apart (pit_line (below_by side) line) (each_once (below_by side) (below_by-order side) is_flagged line place)) order (λ p h. ((exactly p).0 h).point);
+        in_order = in_order-rises m (below_by side) (below_by-order side) all sorted (pits-apart (pit_line (below_by side) line) (each_once (below_by side) (below_by-order side) is_flagged line line-one_place)) order (λ p h. ((exactly p).0 h).point);
       }
 
   pub pruned-along : (sorted : List Rank) → AreInOrder all sorted → SzIs m limit.sz → (ys : List Step) → AreTaken m side (λ p. p) leavers ys → (links : Links) → IsLinked m side (owner_after side (λ p. p) ys) links →
@@ -69,7 +69,7 @@ module _ (m : Map) (whole : IsMap m) (side : SideName) (line : List Stop) (once 
   pruned-along sorted order sz ys t links linked kept kept_order owners owned =
       let are_pits = pits_sorted sorted order in
       let last : List Rank = left_after (below_by side) sorted (steps_of leavers) in
-      let are_kept : AreKept m side last kept = are-kept m side line place told (goes_at limit) sorted are_pits.exactly (prunable m side limit.percent.thousandths limit.sz sorted are_pits.exactly) last (owner_after side (λ p. p) ys)
+      let are_kept : AreKept m side last kept = are-kept m side line line-one_place told (goes_at limit) sorted are_pits.exactly (prunable m side limit.percent.thousandths limit.sz sorted are_pits.exactly) last (owner_after side (λ p. p) ys)
       (owners-left m whole side limit leavers leaving-along sorted are_pits.exactly ys t) links linked
       (left-pairs (below_by side) (λ (p : Rank) (q : Rank). p.index < q.index) sorted (steps_of leavers) are_pits.in_order) kept kept_order in
       pruned m whole side limit leavers leaving-along sorted are_pits sz ys t kept are_kept owners owned

@@ -23,7 +23,7 @@ use Rattle.hd_prune.proofs.Levels.{SaddleIs as LevelIs}
 use Rattle.hd_prune.specs.Taken.{HasBeyond}
 use Rattle.hd_prune.proofs.Firsts.{first_of}
 use Rattle.hd_prune.proofs.LowerNeighbours.{lower_neighbours}
-use Rattle.hd_prune.proofs.Points.{JoinedBy, by_levels}
+use Rattle.hd_prune.proofs.JoinedByPaths.{JoinedBy, by_levels}
 use Rattle.hd_prune.proofs.Reachable.{reach_or_not}
 
 -- of the items of a list for which something holds, one is the lowest, or it holds for none

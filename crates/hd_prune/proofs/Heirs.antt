@@ -3,7 +3,7 @@ use Rattle.std.proofs.Common.{◌≡◌, ℕ, Bool, true, List}
 use Rattle.std.specs.Prelude.{Contains}
 use Rattle.hd_map.specs.Order.{IsNotAbove}
 use Rattle.hd_map.proofs.Order.{not_above-along}
-use Rattle.hd_prune.proofs.Levels.{IsPrunable}
+use Rattle.hd_prune.proofs.Prunable.{IsPrunable}
 use Rattle.hd_prune.proofs.Elder.{IsElderSaddle}
 
 module _ {V : Type 0} (below : V → V → Bool) (Joined : V → V → V → Type 0) (pits : List V) where

@@ -10,7 +10,7 @@ use Rattle.hd_map.specs.declared.types.Rank.{Rank}
 use Rattle.hd_prune.specs.declared.line.PitStop.{PitStop}
 use Rattle.hd_prune.specs.declared.step.Kept.{Kept}
 use Rattle.hd_prune.specs.Kept.{kept_along, AreKeptInOrder, pits_kept}
-use Rattle.hd_prune.specs.Line.{lower, first_gap, gap_at, pits_of}
+use Rattle.hd_prune.specs.Line.{lower, first_rise, rise_at, pits_of}
 use Rattle.hd_prune.specs.Pruned.{AreInOrder, index_less}
 
 abbrev pub kept_less : Kept → Kept → Bool
@@ -28,7 +28,7 @@ kept_in_order raw pits ys e moved sorted = record { same = subst (λ (zs : List 
 -- the pits of a line and those kept along it are the same
 pub pits_along : (below : Rank → Rank → Bool) (left : Option Rank) (line : List PitStop) → pits_kept (kept_along below left line) ≡ pits_of line
 pits_along below left [] = refl
-pits_along below left (x ∷ xs) = ap (λ (ps : List Rank). x.pit ∷ ps) (pits_along below (first_gap xs) xs)
+pits_along below left (x ∷ xs) = ap (λ (ps : List Rank). x.pit ∷ ps) (pits_along below (first_rise xs) xs)
 
 -- the pits alone are in order
 pub pits-in_order : (raw kept : List Kept) → AreKeptInOrder raw kept → AreInOrder (pits_kept raw) (pits_kept kept)
@@ -42,19 +42,19 @@ pits-in_order raw kept h = record {
       subst (λ r. index_less r (get_or (pits_kept kept) i d) ≡ false) (sym a) (subst (λ r. index_less (get_or kept (i + 1) e).pit r ≡ false) (sym b) (h.sorted i e lo (omega arith)));
 }
 
-first-at : (n : ℕ) (xs : List PitStop) → first_gap (drop n xs) ≡ gap_at xs n
+first-at : (n : ℕ) (xs : List PitStop) → first_rise (drop n xs) ≡ rise_at xs n
 first-at zero [] = refl
 first-at zero (x ∷ xs) = refl
 first-at (suc n) [] = refl
 first-at (suc n) (x ∷ xs) = first-at n xs
 
 -- one more kept pit
-pub along-more : (below : Rank → Rank → Bool) (line : List PitStop) (i : ℕ) (d : PitStop) (left right o : Option Rank) (old new all : List Kept) → i < length line → right ≡ gap_at line (i + 1) → o ≡ lower below left right →
+pub along-more : (below : Rank → Rank → Bool) (line : List PitStop) (i : ℕ) (d : PitStop) (left right o : Option Rank) (old new all : List Kept) → i < length line → right ≡ rise_at line (i + 1) → o ≡ lower below left right →
     new ≡ old ++ record { pit = (get_or line i d).pit; nearest = o } ∷ [] → old ++ kept_along below left (drop i line) ≡ all → new ++ kept_along below right (drop (i + 1) line) ≡ all
 along-more below line i d left right o old new all inside r low is so =
     let x : PitStop = get_or line i d in
     let one : drop i line ≡ x ∷ drop (suc i) line = drop-cons line i d inside in
-    let e : first_gap (drop (suc i) line) ≡ right = first-at (suc i) line ∙ ap (λ n. gap_at line n) (sym (add-one i)) ∙ sym r in
+    let e : first_rise (drop (suc i) line) ≡ right = first-at (suc i) line ∙ ap (λ n. rise_at line n) (sym (add-one i)) ∙ sym r in
     let split : kept_along below left (drop i line) ≡ record { pit = x.pit; nearest = lower below left right } ∷ kept_along below right (drop (suc i) line) =
     ap (kept_along below left) one ∙ ap (λ o. record { pit = x.pit; nearest = lower below left o } ∷ kept_along below o (drop (suc i) line)) e in
     rw (add-one, is, low, append_assoc, ← split) so

@@ -23,8 +23,8 @@ use Rattle.hd_prune.specs.Pruned.{leavings_of}
 use Rattle.hd_prune.proofs.Elder.{left_after}
 use Rattle.hd_prune.proofs.ElderSteps.{elder_steps}
 use Rattle.hd_prune.proofs.MapPruning.{left-undercut}
-use Rattle.hd_prune.proofs.Points.{JoinedBy}
-use Rattle.hd_prune.proofs.Prunable.{prunable}
+use Rattle.hd_prune.proofs.JoinedByPaths.{JoinedBy}
+use Rattle.hd_prune.proofs.MapPrunable.{prunable}
 use Rattle.hd_prune.proofs.ElderPruning.{pruning_of}
 
 -- what goes at a percent goes at each greater one

@@ -12,7 +12,7 @@ use Rattle.hd_graph.proofs.Places.{less_same_more, place_of, at_place, pairs_fro
 use Rattle.hd_graph.proofs.Rises.{higher-within, within-higher}
 use Rattle.hd_prune.specs.declared.line.PitStop.{PitStop}
 use Rattle.hd_prune.specs.Line.{higher, over, only, line_of, pits_of, pit_stop}
-use Rattle.hd_prune.proofs.Gaps.{GapWithin, TellsLevels}
+use Rattle.hd_prune.proofs.Rises.{RiseWithin, TellsLevels}
 use Rattle.hd_prune.proofs.Bounds.{place_of_pit}
 
 -- a low stands at one place of the line
@@ -63,7 +63,7 @@ module _ (below : Rank → Rank → Bool) (order : IsStrictOrder below) (stays :
   abbrev short : List Stop
   short = only below stays None line
 
-  within-splits : (t : Rank) (a b : Option Rank) → GapWithin below t (higher below a b) ↔ (GapWithin below t a × GapWithin below t b)
+  within-splits : (t : Rank) (a b : Option Rank) → RiseWithin below t (higher below a b) ↔ (RiseWithin below t a × RiseWithin below t b)
   within-splits t a b = (within-higher below order t a b, λ h. higher-within below order t a b h.0 h.1)
 
   abbrev Any : Option Rank → Type 0
@@ -110,7 +110,7 @@ module _ (below : Rank → Rank → Bool) (order : IsStrictOrder below) (stays :
   -- two stops that stay are joined at t exactly where each rise between them is within t
   abbrev pub TellsStaying : (Rank → Rank → Rank → Type 0) → Type 0
   TellsStaying Joined = (i j : ℕ) (x y : Stop) (t : Rank) → i < j → slice_get line i ≡ Some x → slice_get line j ≡ Some y → stays x ≡ true → stays y ≡ true →
-      Joined t x.low y.low ↔ ((k : ℕ) (z : Stop) → i < k → k ≤ j → slice_get line k ≡ Some z → GapWithin below t z.rise)
+      Joined t x.low y.low ↔ ((k : ℕ) (z : Stop) → i < k → k ≤ j → slice_get line k ≡ Some z → RiseWithin below t z.rise)
 
   module _ (Joined : Rank → Rank → Rank → Type 0) (tells : TellsStaying Joined) where
     pub line-tells : TellsLevels below Joined (line_of below stays line)
@@ -132,15 +132,15 @@ module _ (below : Rank → Rank → Bool) (order : IsStrictOrder below) (stays :
           λ m k z' lo hi at'.
               let az = mapped_at short k z' at' in
               let joined : Joined t u.low v.low = subst (λ p. Joined t p v.low) (sym (far.is_p ∙ ex)) (subst (λ q. Joined t x'.pit q) (sym (far.is_q ∙ ey)) m) in
-              let long : GoesFrom (GapWithin below t) line x.low y.low = subst (λ p. GoesFrom (GapWithin below t) line p y.low) far.is_p (subst (λ q. GoesFrom (GapWithin below t) line u.low q) far.is_q
-              (to_going (GapWithin below t) line far.i far.j u v far.before far.at_i far.at_j (here.0 joined))) in
-              let b = from_going (GapWithin below t) short x.low y.low (going-short below stays (GapWithin below t) (within-splits t) None line x.low y.low (pit_in i x atx) (pit_in j y aty) long) in
+              let long : GoesFrom (RiseWithin below t) line x.low y.low = subst (λ p. GoesFrom (RiseWithin below t) line p y.low) far.is_p (subst (λ q. GoesFrom (RiseWithin below t) line u.low q) far.is_q
+              (to_going (RiseWithin below t) line far.i far.j u v far.before far.at_i far.at_j (here.0 joined))) in
+              let b = from_going (RiseWithin below t) short x.low y.low (going-short below stays (RiseWithin below t) (within-splits t) None line x.low y.low (pit_in i x atx) (pit_in j y aty) long) in
               let ei : b.i ≡ i = one_of_short b.i i b.x x b.at_i atx b.is_p in
               let ej : b.j ≡ j = one_of_short b.j j b.y y b.at_j aty b.is_q in
-              subst (λ (z : PitStop). GapWithin below t z.gap) az.2 (b.all k az.0 (omega arith) (omega arith) az.1),
+              subst (λ (z : PitStop). RiseWithin below t z.rise) az.2 (b.all k az.0 (omega arith) (omega arith) az.1),
           λ h.
-              let b = from_going (GapWithin below t) line x.low y.low (going-long below stays (GapWithin below t) (within-splits t) None line x.low y.low
-              (to_going (GapWithin below t) short i j x y less atx aty (λ k z lo hi at. h k (pit_stop z) lo hi (at_mapped short k z at)))) in
+              let b = from_going (RiseWithin below t) line x.low y.low (going-long below stays (RiseWithin below t) (within-splits t) None line x.low y.low
+              (to_going (RiseWithin below t) short i j x y less atx aty (λ k z lo hi at. h k (pit_stop z) lo hi (at_mapped short k z at)))) in
               let w : Stop = b.x in
               let z : Stop = b.y in
               let pw : stays w ≡ true = pit_in i x atx w (at_place line b.i w b.at_i) b.is_p in

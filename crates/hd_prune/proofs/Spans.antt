@@ -59,8 +59,8 @@ point_of m (suc n) h whole within there =
           (rank m at, point_at m at here, is.2)
     ]
 
-some_same : (a b : HeightRange) → ◌≡◌ {A = Option HeightRange} (Some a) (Some b) → a ≡ b
-some_same a b e = cc
+range-some_same : (a b : HeightRange) → ◌≡◌ {A = Option HeightRange} (Some a) (Some b) → a ≡ b
+range-some_same a b e = cc
 
 none_some : (a : HeightRange) → ◌≡◌ {A = Option HeightRange} (Some a) None → ⊥
 none_some a e = cc
@@ -81,7 +81,7 @@ All-at P heights h all there = subst P there.2 (all there.0 h there.1)
 pub range_is : (heights : List ℤ) (range : HeightRange) → range_of heights ≡ Some range → IsRange heights range
 range_is [] range is = absurd (none_some range (sym is))
 range_is (first ∷ heights) range is =
-    let e : record { least = fold int_min first heights; greatest = fold int_max first heights } ≡ range = some_same _ range is in
+    let e : record { least = fold int_min first heights; greatest = fold int_max first heights } ≡ range = range-some_same _ range is in
     let least : range.least ≡ fold int_min first heights = ap (λ (x : HeightRange). x.least) (sym e) in
     let greatest : range.greatest ≡ fold int_max first heights = ap (λ (x : HeightRange). x.greatest) (sym e) in
     let low = fold-int_min_bounds first heights range.least least in

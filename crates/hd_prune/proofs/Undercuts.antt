@@ -4,7 +4,8 @@ use Rattle.std.specs.Prelude.{Contains}
 use Rattle.hd_map.specs.Order.{IsStrictOrder}
 use Rattle.hd_map.specs.Pruning.{without}
 use Rattle.hd_map.proofs.Levels.{Contains-head, Contains-tail, Contains-cases, Contains-none}
-use Rattle.hd_prune.proofs.Levels.{Step, IsSaddle, IsPrunable}
+use Rattle.hd_prune.proofs.Levels.{Step, IsSaddle}
+use Rattle.hd_prune.proofs.Prunable.{IsPrunable}
 use Rattle.hd_prune.proofs.Elder.{AreElderSteps, left_after}
 use Rattle.hd_prune.proofs.Nearest.{elder_at, Contains-without, without-Contains}
 

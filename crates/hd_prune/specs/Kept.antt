@@ -9,13 +9,13 @@ use Rattle.hd_map.specs.Region.{IsPit}
 use Rattle.hd_map.specs.Undercut.{Undercuts}
 use Rattle.hd_prune.specs.declared.line.PitStop.{PitStop}
 use Rattle.hd_prune.specs.declared.step.Kept.{Kept}
-use Rattle.hd_prune.specs.Line.{lower, first_gap}
+use Rattle.hd_prune.specs.Line.{lower, first_rise}
 use Rattle.hd_prune.specs.Pruned.{index_less}
 
--- the pits of a line, each with the lower of the gaps beside it, where `left` is the gap before the first
+-- the pits of a line, each with the lower of the rises beside it, where `left` is the rise before the first
 abbrev pub kept_along : (Rank → Rank → Bool) → Option Rank → List PitStop → List Kept
 kept_along below left [] = []
-kept_along below left (x ∷ xs) = record { pit = x.pit; nearest = lower below left (first_gap xs) } ∷ kept_along below (first_gap xs) xs
+kept_along below left (x ∷ xs) = record { pit = x.pit; nearest = lower below left (first_rise xs) } ∷ kept_along below (first_rise xs) xs
 
 -- these, in position order
 pub record AreKeptInOrder (raw kept : List Kept) : Type 0 where

@@ -2,7 +2,7 @@
 ghost use Rattle.std.specs.Prelude.{◌≡◌, None, IfOk};
 ghost use Rattle.hd_map.specs.Rank.{below_by};
 ghost use Rattle.hd_prune.specs.Kept.{kept_along, AreKeptInOrder};
-ghost use Rattle.hd_prune.specs.Line.{gap_at};
+ghost use Rattle.hd_prune.specs.Line.{rise_at};
 
 use crate::line::{PitStop, lower_bound};
 use crate::order::compare_indexes;
@@ -20,14 +20,14 @@ pub fn kept_in_order<S: Side>(alloc: Global, line: &[PitStop]) -> Result<List<Ke
     Ok(List::from_vec(kept))
 }
 
-// The pits of a line, each with the lower of the gaps beside it.
+// The pits of a line, each with the lower of the rises beside it.
 fn along<S: Side>(alloc: Global, line: &[PitStop]) -> Result<Vec<Kept>, Memory>
     ensures { IfOk result (λ kept. kept.items ≡ kept_along (below_by S.NAME) None line.now) }
 {
     let mut kept = Vec::with_capacity(alloc, line.len())?;
     let mut left = None;
     for (i, stop) in line.iter().enumerate() {
-        let right = gap_at(line, i + 1);
+        let right = rise_at(line, i + 1);
         kept.push(Kept {
             pit: stop.pit,
             nearest: lower_bound::<S>(left, right),
@@ -37,12 +37,12 @@ fn along<S: Side>(alloc: Global, line: &[PitStop]) -> Result<Vec<Kept>, Memory>
     Ok(kept)
 }
 
-// The gap before the stop at a place, and none past the last.
-fn gap_at(line: &[PitStop], place: usize) -> Option<Rank>
-    ensures { result ≡ gap_at line.now place }
+// The rise before the stop at a place, and none past the last.
+fn rise_at(line: &[PitStop], place: usize) -> Option<Rank>
+    ensures { result ≡ rise_at line.now place }
 {
     match line.get(place) {
-        Some(stop) => stop.gap,
+        Some(stop) => stop.rise,
         None => None,
     }
 }

@@ -17,7 +17,7 @@ pub struct PitStop {
     /// The pit.
     pub pit: Rank,
     /// The rise.
-    pub gap: Option<Rank>,
+    pub rise: Option<Rank>,
 }
 
 /// The line of those stops that are flagged as pits, each with the highest rise since the one before it.
@@ -38,12 +38,15 @@ pub fn left_line<S: Side>(
     let mut pits = Vec::with_capacity(alloc, line.len())?;
     let mut passed = None;
     for stop in line {
-        let gap = gap_over::<S>(passed, stop.rise);
+        let rise = rise_since::<S>(passed, stop.rise);
         if is_left(stop, links) {
-            pits.push(PitStop { pit: stop.low, gap })?;
+            pits.push(PitStop {
+                pit: stop.low,
+                rise,
+            })?;
             passed = None;
         } else {
-            passed = Some(gap);
+            passed = Some(rise);
         }
     }
     Ok(pits)
@@ -59,8 +62,8 @@ fn is_left(stop: &Stop, links: &HashMap<u32, Rank>) -> bool
     }
 }
 
-// The gap over what was passed since the last pit, if anything was.
-fn gap_over<S: Side>(passed: Option<Option<Rank>>, rise: Option<Rank>) -> Option<Rank>
+// The rise over what was passed since the last pit, if anything was.
+fn rise_since<S: Side>(passed: Option<Option<Rank>>, rise: Option<Rank>) -> Option<Rank>
     ensures { result ≡ over (below_by S.NAME) passed rise }
 {
     match (passed, rise) {
@@ -70,8 +73,8 @@ fn gap_over<S: Side>(passed: Option<Option<Rank>>, rise: Option<Rank>) -> Option
     }
 }
 
-/// The higher of two gaps, and none where one of them is none.
-pub fn higher_gap<S: Side>(a: Option<Rank>, b: Option<Rank>) -> Option<Rank>
+/// The higher of two rises, and none where one of them is none.
+pub fn higher_rise<S: Side>(a: Option<Rank>, b: Option<Rank>) -> Option<Rank>
     ensures { result ≡ higher (below_by S.NAME) a b }
 {
     match (a, b) {

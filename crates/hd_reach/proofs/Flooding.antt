@@ -20,7 +20,7 @@ use Rattle.hd_map.proofs.Points.{Near-at, place_inside, point_at, same_index, sa
 use Rattle.hd_reach.specs.declared.flood.Reached.{Reached}
 use Rattle.hd_reach.specs.Flood.{IsEntry, IsFlood, Reaches, ReachesAt, entry_of, is_free, noted_at}
 use Rattle.hd_reach.specs.Reached.{AreReached, IsReachedBy, ReachApart}
-use Rattle.hd_reach.proofs.Reaching.{by-point, by-start, by-step, start-point}
+use Rattle.hd_reach.proofs.Reached.{by-point, by-start, by-step, start-point}
 
 -- an option that is something is something
 some_of : (o : Option ℕ) → IsSome o → (n : ℕ) × (o ≡ Some n)

@@ -8,7 +8,7 @@ use Rattle.hd_engine.specs.Reply.{Reply}
 use Rattle.hd_engine.specs.State.{State, IsState, first_state}
 use Rattle.hd_engine.specs.Answers.{AreAnswers}
 use Rattle.hd_sdf_read.specs.File.{File}
-use Rattle.hd_words.specs.Words.{RunRequest}
+use Rattle.hd_words.specs.Requests.{RunRequest}
 use Rattle.hd_run.specs.declared.stop.Refusal.{Refusal}
 use Rattle.hd_run.specs.declared.stop.Refusal.TheVariants.{SecondTooLong}
 use Rattle.hd_run.specs.declared.stop.Stop.{Stop}

@@ -59,8 +59,8 @@ module _ (save : Option (List ℕ)) (first : State) (lines : List (List ℕ)) (s
     text_saved = ap (λ (o : Option (List ℕ)). saved_of o after) named
 
     -- all lines are answered, and their file is saved
-    pub lines_saved : WritesAnswers first lines (Ok accepted) after old new → SavesAll (canonical (saved_file after)) s → AnswersAndSaves save first lines stays s (Ok accepted) old new
-    lines_saved (text, are, written) all = (text, after, are, written, subst (IsSavedAs stays s) (sym text_saved) all)
+    pub SavesLast-lines : WritesAnswers first lines (Ok accepted) after old new → SavesAll (canonical (saved_file after)) s → AnswersAndSaves save first lines stays s (Ok accepted) old new
+    SavesLast-lines (text, are, written) all = (text, after, are, written, subst (IsSavedAs stays s) (sym text_saved) all)
 
     -- all lines are answered, and the saving of their file stops
     pub saving_stops : (T : Type 0) (stop : Stop) → WritesAnswers first lines (Ok accepted) after old new → Saves {T = T} (canonical (saved_file after)) stays (Err stop) s → AnswersAndSaves save first lines stays s (Err stop) old new

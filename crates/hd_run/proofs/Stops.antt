@@ -17,16 +17,16 @@ pub write≢read : {T : Type 0} (result : Result T Stop) → result ≡ Err Writ
 write≢read result is e = cc
 
 -- what is read leaves the count of faults
-pub read_stays : {T : Type 0} (before now : ℕ) (x : T) → HasReadStop before now (Ok x) → now ≡ before
-read_stays before now x cause = cause.no_fault (ok≢err x ReadFault)
+pub HasReadStop-ok : {T : Type 0} (before now : ℕ) (x : T) → HasReadStop before now (Ok x) → now ≡ before
+HasReadStop-ok before now x cause = cause.no_fault (ok≢err x ReadFault)
 
 -- what is written leaves it
-pub write_stays : {T : Type 0} (before now : ℕ) (x : T) → HasWriteStop before now (Ok x) → now ≡ before
-write_stays before now x cause = cause.no_fault (ok≢err x WriteFault)
+pub HasWriteStop-ok : {T : Type 0} (before now : ℕ) (x : T) → HasWriteStop before now (Ok x) → now ≡ before
+HasWriteStop-ok before now x cause = cause.no_fault (ok≢err x WriteFault)
 
 -- where no source is read no source fails
-pub no_read_fault : {T : Type 0} (out saved : Count) (result : Result T Stop) → HasSinkStop out saved result → result ≢ Err ReadFault
-no_read_fault out saved result cause e = elim (cause.only ReadFault e) [ inl w ↦ absurd (cc) | inr w ↦ absurd (cc) ]
+pub HasSinkStop-no_read_fault : {T : Type 0} (out saved : Count) (result : Result T Stop) → HasSinkStop out saved result → result ≢ Err ReadFault
+HasSinkStop-no_read_fault out saved result cause e = elim (cause.only ReadFault e) [ inl w ↦ absurd (cc) | inr w ↦ absurd (cc) ]
 
 -- a certificate that is refused is no read fault
 pub judged_no_fault : {U : Type 0} (T : Type 0) (m : Map) (text : List ℕ) (stop : Stop) → IsJudged {T = T} m text (Err stop) → ◌≡◌ {A = Result U Stop} (Err stop) (Err ReadFault) → ⊥
@@ -63,7 +63,7 @@ module _ {U : Type 0} (surface script out saved : Count) (stop : Stop) where
 -- both inputs are read, and the lines answered or not
 pub answering_stopped : {T : Type 0} (surface script out saved : Count) (result : Result T Stop) → Stays surface → Stays script → HasSinkStop out saved result → HasRunStop surface script out saved result
 answering_stopped surface script out saved result a b cause = record {
-  read = λ e. absurd (no_read_fault out saved result cause e);
+  read = λ e. absurd (HasSinkStop-no_read_fault out saved result cause e);
   write = cause.write;
   other = λ not_read not_write. let still = cause.other not_write in (a, b, still.0, still.1);
 }

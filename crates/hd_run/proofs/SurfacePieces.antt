@@ -28,9 +28,9 @@ fed_more before mid left old new count n piece fed more fits stands = record {
 }
 
 -- few bytes are taken with one more piece
-pub fed_few : (bytes : List ℕ) (before mid left : Option (List ℕ)) (reader : SdfReader) (count n : ℕ) (piece : List ℕ) → before ≡ Some bytes → HasFed before mid reader count → Consumes mid left (take n piece)
+pub TakesFew-fed : (bytes : List ℕ) (before mid left : Option (List ℕ)) (reader : SdfReader) (count n : ℕ) (piece : List ℕ) → before ≡ Some bytes → HasFed before mid reader count → Consumes mid left (take n piece)
     → count + length piece ≤ surface_limit + 1 → TakesFew bytes surface_limit left
-fed_few bytes before mid left reader count n piece told fed more fits =
+TakesFew-fed bytes before mid left reader count n piece told fed more fits =
     few_taken bytes fed.got piece surface_limit n before mid left told fed.taken more (omega (arith, fits, fed.size))
 
 -- a call that is no error was accepted

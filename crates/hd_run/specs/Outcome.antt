@@ -19,7 +19,7 @@ use Rattle.hd_sdf_write.specs.Canonical.{canonical}
 use Rattle.hd_engine.specs.State.{State, first_state, saved_file}
 use Rattle.hd_engine.specs.Answers.{AreAnswers}
 use Rattle.hd_engine.specs.Reply.{Reply}
-use Rattle.hd_words.specs.Words.{RunRequest}
+use Rattle.hd_words.specs.Requests.{RunRequest}
 use Rattle.hd_run.specs.declared.stop.Refusal.{Refusal}
 use Rattle.hd_run.specs.declared.stop.Refusal.TheVariants.{SurfaceTooLong, Surface, SecondTooLong, Unreadable, RuleFails}
 use Rattle.hd_run.specs.Limits.{certificate_limit, script_limit, surface_limit}

@@ -6,7 +6,7 @@ use Rattle.hd_base.specs.Told.{Told, AppendsPart}
 use Rattle.hd_map.specs.Map.{Map}
 use Rattle.hd_engine.specs.State.{State, first_state}
 use Rattle.hd_engine.specs.Answers.{AreAnswers}
-use Rattle.hd_words.specs.Words.{RunRequest}
+use Rattle.hd_words.specs.Requests.{RunRequest}
 use Rattle.hd_run.specs.declared.stop.Stop.{Stop}
 use Rattle.hd_run.specs.declared.stop.Stop.TheVariants.{Memory, ReadFault, WriteFault, Refused}
 use Rattle.hd_run.specs.FaultCounts.{Count, RoseIn, Stays}

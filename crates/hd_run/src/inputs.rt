@@ -26,11 +26,11 @@ pub fn read_surface<S: Source>(alloc: Global, source: &mut S, name: &str) -> Res
     if source.open(name).is_err() {
         return Err(Stop::ReadFault);
     }
-    read_open(alloc, source)
+    read_open_surface(alloc, source)
 }
 
 // The same of the open file.
-fn read_open<S: Source>(alloc: Global, source: &mut S) -> Result<SdfFile, Stop>
+fn read_open_surface<S: Source>(alloc: Global, source: &mut S) -> Result<SdfFile, Stop>
     requires { IsTrue (S.is_open source.old) }
     ensures told { (bytes : Items ℕ) → S.left source.old ≡ Some bytes → IsSurfaceRead bytes result }
     ensures few { (bytes : Items ℕ) → S.left source.old ≡ Some bytes → TakesFew bytes surface_limit (S.left source.new) }

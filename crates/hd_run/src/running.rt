@@ -6,7 +6,7 @@ ghost use Rattle.hd_num.specs.Lines.{lines_of};
 ghost use Rattle.hd_sdf_read.specs.FileOf.{file_of};
 ghost use Rattle.hd_engine.specs.State.{first_state};
 ghost use Rattle.hd_words.specs.Limits.{greatest_tile, least_tile};
-ghost use Rattle.hd_words.specs.Words.{run_request_of};
+ghost use Rattle.hd_words.specs.Requests.{run_request_of};
 ghost use Rattle.hd_run.specs.FaultCounts.{Count, SourceFailed, Stays, over};
 ghost use Rattle.hd_run.specs.Limits.{script_limit, surface_limit};
 ghost use Rattle.hd_run.specs.Outcome.{surface_of};

@@ -4,7 +4,7 @@ use Rattle.std.proofs.lemmas.List.{take_rest}
 use Rattle.hd_num.specs.declared.span.Span.{Span}
 use Rattle.hd_num.specs.Span.{text_at}
 use Rattle.hd_script.specs.declared.command.LineError.TheVariants.{WordCount}
-use Rattle.hd_script.specs.Rows.{element_words}
+use Rattle.hd_script.specs.CommandWords.{element_words}
 
 -- three words, one by one, and the others
 pub three_words : (line : List ℕ) (words : List Span) (d : Span) → 3 ≤ length words

@@ -1,4 +1,4 @@
-pub mod Counts
-pub mod Entries
+pub mod WordCounts
+pub mod EntryWords
 pub mod LongestRow
 pub mod ElementWords

@@ -1,7 +1,7 @@
 pub mod Words
-pub mod Rows
+pub mod CommandWords
 pub mod Whole
-pub mod Table
+pub mod CommandTable
 pub mod Line
 pub mod Filters
 pub mod Prunings

@@ -4,7 +4,7 @@ use Rattle.hd_num.specs.Lines.{words_of}
 use Rattle.hd_script.specs.declared.command.Command.{Command}
 use Rattle.hd_script.specs.declared.command.LineError.{LineError}
 use Rattle.hd_script.specs.declared.command.LineError.TheVariants.{LineTooLong}
-use Rattle.hd_script.specs.Table.{commands, read_by}
+use Rattle.hd_script.specs.CommandTable.{commands, read_by}
 
 -- the most bytes of a line
 abbrev pub longest_line : ℕ

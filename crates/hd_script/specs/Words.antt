@@ -8,11 +8,9 @@ use Rattle.hd_map.specs.declared.types.Adjacency.TheVariants.{Four, Six, Eight}
 use Rattle.hd_map.specs.declared.types.Pos.{Pos}
 use Rattle.hd_map.specs.declared.types.SideName.{SideName}
 use Rattle.hd_map.specs.declared.types.SideName.TheVariants.{Dales, Hills}
-use Rattle.hd_num.specs.declared.whole.Whole.{Whole}
-use Rattle.hd_num.specs.declared.whole.Whole.TheVariants as whole
 use Rattle.hd_num.specs.declared.percent.Percent.{Percent}
 use Rattle.hd_num.specs.Percent.{percent_of}
-use Rattle.hd_num.specs.Whole.{count_of, whole_of}
+use Rattle.hd_num.specs.Whole.{count_of, whole_of, i64_of}
 use Rattle.hd_script.specs.declared.command.LineError.{LineError}
 use Rattle.hd_script.specs.declared.command.LineError.TheVariants.{BadWord}
 
@@ -25,12 +23,6 @@ and_then (Err error) make = Err error
 abbrev pub read_or_bad : {A : Type 0} → ℕ → Option A → Result A LineError
 read_or_bad number (Some x) = Ok x
 read_or_bad number None = Err (BadWord number)
-
--- a whole number that fits i64
-abbrev pub fitting : Whole → Option ℤ
-fitting (whole.Is z) = Some z
-fitting whole.Not = None
-fitting whole.Outside = None
 
 -- `D` or `H`
 abbrev pub side_of : List ℕ → Option SideName
@@ -58,13 +50,13 @@ entry_of_number (Some z) = entry_within z
 
 -- an entry of an element: `-` for none, or a number
 abbrev pub entry_of : List ℕ → Option (Option ℤ)
-entry_of word = if bytes_eq word (codes "-") then Some None else entry_of_number (fitting (whole_of word))
+entry_of word = if bytes_eq word (codes "-") then Some None else entry_of_number (i64_of (whole_of word))
 
 abbrev pub count_word : ℕ → List ℕ → Result ℕ LineError
 count_word number word = read_or_bad number (count_of word)
 
 abbrev pub whole_word : ℕ → List ℕ → Result ℤ LineError
-whole_word number word = read_or_bad number (fitting (whole_of word))
+whole_word number word = read_or_bad number (i64_of (whole_of word))
 
 abbrev pub side_word : ℕ → List ℕ → Result SideName LineError
 side_word number word = read_or_bad number (side_of word)

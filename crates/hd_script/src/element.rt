@@ -2,7 +2,7 @@
 ghost use Rattle.std.specs.Prelude.{◌≡◌, ◌⊎◌, ◌∷◌, ◌<◌, ◌^◌, Err, All, IfOk, length, map};
 ghost use Rattle.hd_morph.specs.Element.{IsEntry};
 ghost use Rattle.hd_num.specs.Span.{IsPart, text_at};
-ghost use Rattle.hd_script.specs.Rows.{element_words};
+ghost use Rattle.hd_script.specs.CommandWords.{element_words};
 ghost use Rattle.hd_script.specs.Whole.{IsWhole};
 ghost use Rattle.hd_script.specs.Words.{entry_words};
 

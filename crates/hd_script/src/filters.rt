@@ -2,7 +2,7 @@
 ghost use Rattle.std.specs.Prelude.{◌≡◌, ◌⊎◌, Err, All, IfOk, map};
 ghost use Rattle.hd_num.specs.Span.{IsPart, text_at};
 ghost use Rattle.hd_script.specs.Filters.{edit_by};
-ghost use Rattle.hd_script.specs.Rows.{filter_words};
+ghost use Rattle.hd_script.specs.CommandWords.{filter_words};
 ghost use Rattle.hd_script.specs.Whole.{IsWhole};
 
 use crate::words::{name_word, text};

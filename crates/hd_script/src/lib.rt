@@ -2,12 +2,13 @@
 #![tactic(auto)]
 
 mod command;
+mod command_table;
+mod command_words;
 mod element;
 mod filters;
 mod line;
 mod parameters;
 mod prunings;
-mod rows;
 mod words;
 
 pub use command::{Command, LineError};

@@ -1,7 +1,7 @@
 // The commands whose words are kept as they stand.
 ghost use Rattle.std.specs.Prelude.{◌≡◌, ◌⊎◌, ◌∷◌, [], Err, All, IfOk, map};
 ghost use Rattle.hd_num.specs.Span.{IsPart, text_at};
-ghost use Rattle.hd_script.specs.Rows.{feature_words, height_words, hist_words, param_words, perc_words};
+ghost use Rattle.hd_script.specs.CommandWords.{feature_words, height_words, hist_words, param_words, perc_words};
 ghost use Rattle.hd_script.specs.Whole.{IsWhole};
 
 use crate::words::{bins_word, text, whole_text, whole_word};

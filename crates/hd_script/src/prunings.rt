@@ -2,7 +2,7 @@
 ghost use Rattle.std.specs.Prelude.{◌≡◌, All, IfOk, map};
 ghost use Rattle.hd_num.specs.Span.{IsPart, text_at};
 ghost use Rattle.hd_script.specs.Prunings.{command_of};
-ghost use Rattle.hd_script.specs.Rows.{pruning_words};
+ghost use Rattle.hd_script.specs.CommandWords.{pruning_words};
 ghost use Rattle.hd_script.specs.Whole.{IsWhole};
 
 use crate::words::{percent_word, side_word, text};

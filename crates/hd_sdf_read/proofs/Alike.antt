@@ -17,11 +17,11 @@ use Rattle.hd_sdf_read.specs.declared.error.SdfError.TheVariants.{DatumRange, To
 use Rattle.hd_sdf_read.specs.declared.scaled.Datum.{Datum}
 use Rattle.hd_sdf_read.specs.declared.scaled.Datum.TheVariants.{Measured, Unmeasured}
 use Rattle.hd_sdf_read.specs.declared.scaled.Scaled.{Scaled}
-use Rattle.hd_sdf_read.specs.Bodies.{data_for, datum_for, decimal_in, trailed}
-use Rattle.hd_sdf_read.specs.Decimals.{are_in_range, cell_at, cells_at, data_with, datum_of, decimals_from, greatest_in, most_places, most_places_in, most_steps, places_in, ranged, steps_at}
+use Rattle.hd_sdf_read.specs.Bodies.{decimal_in, trailed}
+use Rattle.hd_sdf_read.specs.Decimals.{data_for, datum_for, are_in_range, cell_at, cells_at, data_with, datum_of, decimals_from, greatest_in, most_places, most_places_in, most_steps, places_in, ranged, steps_at}
 use Rattle.hd_sdf_read.specs.Grammar.{decimal_map}
 use Rattle.hd_sdf_read.specs.Reads.{◌>>=◌}
-use Rattle.hd_sdf_read.specs.Scales.{Scales}
+use Rattle.hd_sdf_read.specs.Scaling.{IsScaled}
 use Rattle.hd_sdf_read.specs.Tokens.{after_token, is_absent, is_star, token_of}
 use Rattle.hd_sdf_read.proofs.Scaling.{in_range_from, most_push, out_of_range_from, signed_times, steps_grow}
 
@@ -134,7 +134,7 @@ most_kept p (Unmeasured ∷ ds) few = let more = most_kept p ds (omega (arith, f
 most_kept p (Measured negative units own ∷ ds) few = let more = most_kept p ds (omega (arith, few)) in omega (arith, more, few)
 
 -- the data that a reader keeps
-pub kept_alike : (s : Scaled) (t : DataType) (ds : List Datum) → Scales s t ds → AreAlike ds (data_for s.places (wide_cells_in s.cells))
+pub kept_alike : (s : Scaled) (t : DataType) (ds : List Datum) → IsScaled s t ds → AreAlike ds (data_for s.places (wide_cells_in s.cells))
 kept_alike s t ds kept =
     let p : ℕ = s.places in
     let most = kept.places in
@@ -146,7 +146,7 @@ kept_alike s t ds kept =
       cells = λ q enough. cells_kept p q ds (omega (arith, most)) (omega (arith, most, enough));
     })
 
-pub kept_again : (s : Scaled) (t : DataType) (ds : List Datum) → Scales s t ds → Scales s t (data_for s.places (wide_cells_in s.cells))
+pub kept_again : (s : Scaled) (t : DataType) (ds : List Datum) → IsScaled s t ds → IsScaled s t (data_for s.places (wide_cells_in s.cells))
 kept_again s t ds kept =
     let alike = kept_alike s t ds kept in
     let most = kept.places in

@@ -16,19 +16,19 @@ use Rattle.hd_sdf_read.specs.declared.error.SdfError.{SdfError}
 use Rattle.hd_sdf_read.specs.declared.error.SdfError.TheVariants.{Memory, TooFewData}
 use Rattle.hd_sdf_read.specs.declared.scaled.Datum.{Datum}
 use Rattle.hd_sdf_read.specs.declared.scaled.Scaled.{Scaled}
-use Rattle.hd_sdf_read.specs.Bodies.{datum_for, decimal_in, surveyed, trailed}
-use Rattle.hd_sdf_read.specs.DecimalCut.{DecimalsOn, TakesDatum, data_of}
-use Rattle.hd_sdf_read.specs.Decimals.{cells_at, data_with, datum_of, decimals_from, most_places_in, ranged}
-use Rattle.hd_sdf_read.specs.File.{is_gap}
+use Rattle.hd_sdf_read.specs.Bodies.{decimal_in, surveyed, trailed}
+use Rattle.hd_sdf_read.specs.Decimals.{datum_for, cells_at, data_with, datum_of, decimals_from, most_places_in, ranged}
+use Rattle.hd_sdf_read.specs.DecimalCut.{DecimalsOn, TakesDatum}
+use Rattle.hd_sdf_read.specs.Scaling.{data_of, Pushes, IsScaled}
+use Rattle.hd_sdf_read.specs.Tokens.{is_gap, after_token, is_absent, is_star, token_of}
 use Rattle.hd_sdf_read.specs.Grammar.{decimal_map, map_with, mapped}
 use Rattle.hd_sdf_read.specs.Keys.{has_decimals, with_places}
 use Rattle.hd_sdf_read.specs.Reads.{◌>>=◌}
-use Rattle.hd_sdf_read.specs.Scales.{IsNextDatum, Pushes, Scales}
-use Rattle.hd_sdf_read.specs.Tokens.{after_token, is_absent, is_star, token_of}
-use Rattle.hd_sdf_read.specs.Words.{Ends}
+use Rattle.hd_sdf_read.specs.DecimalTokens.{IsNextDatum}
+use Rattle.hd_sdf_read.specs.TokenPieces.{Ends}
 use Rattle.hd_sdf_read.proofs.Alike.{alike_in, kept_again, kept_alike}
-use Rattle.hd_sdf_read.proofs.BodySteps.{after_same, token_same, trailed_same}
-use Rattle.hd_sdf_read.proofs.Cuts.{after_here, after_stays, token_here, token_stays}
+use Rattle.hd_sdf_read.proofs.Bodies.{after_same, token_same, trailed_same}
+use Rattle.hd_sdf_read.proofs.TokenCuts.{after_here, after_stays, token_here, token_stays}
 use Rattle.hd_sdf_read.proofs.DecimalTokens.{decimals_done, decimals_more, decimals_out, decimals_stop, with_token}
 
 module _ (size : Size) (t : DataType) (ds : List Datum) where
@@ -79,15 +79,15 @@ pub count_kept : (s : Scaled) → length (data_of s) ≡ length (wide_cells_in s
 count_kept s = length-map (wide_cells_in s.cells) (datum_for s.places)
 
 -- one more datum is kept
-pub push_kept : (old new : Scaled) (t : DataType) (number : ℕ) (d : Datum) → Scales old t (data_of old) → Pushes old new number d (Ok tt) → Scales new t (data_of new)
+pub push_kept : (old new : Scaled) (t : DataType) (number : ℕ) (d : Datum) → IsScaled old t (data_of old) → Pushes old new number d (Ok tt) → IsScaled new t (data_of new)
 push_kept old new t number d kept pushes = kept_again new t (data_of old ++ d ∷ []) (pushes t (data_of old) kept).1
 
-pub push_count : (old new : Scaled) (t : DataType) (number : ℕ) (d : Datum) → Scales old t (data_of old) → Pushes old new number d (Ok tt) → length (wide_cells_in new.cells) ≡ length (wide_cells_in old.cells) + 1
+pub push_count : (old new : Scaled) (t : DataType) (number : ℕ) (d : Datum) → IsScaled old t (data_of old) → Pushes old new number d (Ok tt) → length (wide_cells_in new.cells) ≡ length (wide_cells_in old.cells) + 1
 push_count old new t number d kept pushes =
     let both = (pushes t (data_of old) kept).1 in
     sym (count_kept new) ∙ sym (kept_alike new t (data_of old ++ d ∷ []) both).count ∙ length-append (data_of old) (d ∷ []) ∙ ap (λ n. n + 1) (count_kept old)
 
-pub push_same : (size : Size) (old new : Scaled) (t : DataType) (number : ℕ) (d : Datum) (text rest : List ℕ) → Scales old t (data_of old) → Pushes old new number d (Ok tt) → length (wide_cells_in old.cells) < cell_count size
+pub push_same : (size : Size) (old new : Scaled) (t : DataType) (number : ℕ) (d : Datum) (text rest : List ℕ) → IsScaled old t (data_of old) → Pushes old new number d (Ok tt) → length (wide_cells_in old.cells) < cell_count size
     → IsNextDatum (length (wide_cells_in old.cells)) text d → rest ≡ after_token text → decimal_in size t (data_of old) text ≡ decimal_in size t (data_of new) rest
 push_same size old new t number d text rest kept pushes more next is =
     let both = pushes t (data_of old) kept in
@@ -113,10 +113,10 @@ module _ (read : ℕ) (text after : List ℕ) (after_is : after ≡ after_token 
 -- so many data are read, and what can still become stays
 pub record HasDecimalsOn (size : Size) (t : DataType) (old : Scaled) (text : List ℕ) (new : Scaled) (rest : List ℕ) (read : ℕ) : Type 0 where
   pub same : (more : List ℕ) → decimal_in size t (data_of old) (text ++ more) ≡ decimal_in size t (data_of new) (rest ++ more)
-  pub kept : Scales new t (data_of new)
+  pub kept : IsScaled new t (data_of new)
   pub count : length (wide_cells_in new.cells) ≡ read
 
-pub on_some : (size : Size) (t : DataType) (old : Scaled) (text : List ℕ) (read : ℕ) → Scales old t (data_of old) → length (wide_cells_in old.cells) ≡ read → HasDecimalsOn size t old text old text read
+pub on_some : (size : Size) (t : DataType) (old : Scaled) (text : List ℕ) (read : ℕ) → IsScaled old t (data_of old) → length (wide_cells_in old.cells) ≡ read → HasDecimalsOn size t old text old text read
 on_some size t old text read kept count = record { same = λ more. refl; kept = kept; count = count }
 
 module _ (size : Size) (t : DataType) (old : Scaled) (text : List ℕ) (new : Scaled) (rest : List ℕ) (read : ℕ) (has : HasDecimalsOn size t old text new rest read) where
@@ -152,7 +152,7 @@ module _ (size : Size) (t : DataType) (old : Scaled) (text : List ℕ) (new : Sc
   on_whole all = record { same = has.same; kept = has.kept; few = (let count = has.count in omega (arith, count, all)); ends = inl (has.count ∙ all) }
 
 -- a whole token is one more decimal
-module _ (size : Size) (t : DataType) (old : Scaled) (word : List ℕ) (kept : Scales old t (data_of old)) (some : 0 < length word) (gapless : list_any is_gap word ≡ false)
+module _ (size : Size) (t : DataType) (old : Scaled) (word : List ℕ) (kept : IsScaled old t (data_of old)) (some : 0 < length word) (gapless : list_any is_gap word ≡ false)
     (missing : length (wide_cells_in old.cells) < cell_count size) where
   place : length (data_of old) ≡ length (wide_cells_in old.cells)
   place = count_kept old
@@ -195,7 +195,7 @@ module _ (size : Size) (t : DataType) (old : Scaled) (word : List ℕ) (kept : S
         (ap (data_with (data_of old)) token ∙ with_token (data_of old) word filled_word other ∙ ap (λ n. datum_of n word >>= (λ datum. ranged (data_of old ++ datum ∷ []))) (sym here) ∙ wrong (data_of old) here)
 
 -- all data are kept as the cells of a map
-pub decimal_whole : (size : Size) (t : DataType) (s : Scaled) (text : List ℕ) → Scales s t (data_of s) → length (wide_cells_in s.cells) ≡ cell_count size
+pub decimal_whole : (size : Size) (t : DataType) (s : Scaled) (text : List ℕ) → IsScaled s t (data_of s) → length (wide_cells_in s.cells) ≡ cell_count size
     → decimal_in size t (data_of s) text ≡ trailed size (record { map = map_with size s.cells.data_type (wide_cells_in s.cells); rest = text })
 decimal_whole size t s text kept all =
     decimal_done size t (data_of s) text (count_kept s ∙ all)
@@ -208,7 +208,7 @@ decimal_none size t s missing =
     let count = count_kept s in
     decimal_nothing size t (data_of s) (omega (arith, count, missing)) ∙ ap (λ n. Err (TooFewData n)) count
 
-pub none_first : (size : Size) (t : DataType) (s : Scaled) (text : List ℕ) → has_decimals t ≡ true → Scales s t [] → surveyed size t text ≡ decimal_in size t (data_of s) text
+pub none_first : (size : Size) (t : DataType) (s : Scaled) (text : List ℕ) → has_decimals t ≡ true → IsScaled s t [] → surveyed size t text ≡ decimal_in size t (data_of s) text
 none_first size t s text type kept = decimal_first size t text type ∙ alike_in size t text [] (data_of s) (kept_alike s t [] kept)
 
 -- what is read on is what is read on from a later place

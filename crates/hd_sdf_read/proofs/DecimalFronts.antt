@@ -11,8 +11,8 @@ use Rattle.hd_num.specs.Decimal.{decimal_of}
 use Rattle.hd_num.specs.declared.decimal.Decimal.{Decimal}
 use Rattle.hd_sdf_read.specs.declared.scaled.Datum.TheVariants.{Measured}
 use Rattle.hd_sdf_read.specs.Decimals.{most_steps, places_below, power_above}
-use Rattle.hd_sdf_read.specs.File.{is_gap}
-use Rattle.hd_sdf_read.specs.Scales.{AreUnits, TakesDecimal, pointed}
+use Rattle.hd_sdf_read.specs.Tokens.{is_gap}
+use Rattle.hd_sdf_read.specs.DecimalTokens.{AreUnits, TakesDecimal, pointed}
 use Rattle.hd_sdf_read.proofs.Gapless.{digits_gapless, signed_gapless}
 
 -- a text without gaps ends at a gap or with the text

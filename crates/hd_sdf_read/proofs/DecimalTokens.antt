@@ -14,7 +14,7 @@ use Rattle.hd_num.proofs.ReadsBack.{digits}
 use Rattle.hd_num.proofs.StepReads.{value_after}
 use Rattle.hd_num.specs.Decimal.{decimal_of}
 use Rattle.hd_num.specs.Lines.{without_start}
-use Rattle.hd_sdf_read.specs.File.{is_gap}
+use Rattle.hd_sdf_read.specs.Tokens.{is_gap, after_token, is_absent, is_star, token_of}
 use Rattle.hd_num.specs.declared.decimal.Decimal.{Decimal}
 use Rattle.hd_sdf_read.specs.declared.error.SdfError.{SdfError}
 use Rattle.hd_sdf_read.specs.declared.error.SdfError.TheVariants.{DatumRange, TooFewData}
@@ -23,8 +23,8 @@ use Rattle.hd_sdf_read.specs.declared.scaled.Scaled.{Scaled}
 use Rattle.hd_map.specs.declared.types.DataType.{DataType}
 use Rattle.hd_sdf_read.specs.Decimals.{IsSmall, data_with, datum_of, decimals_from, measured, ranged}
 use Rattle.hd_sdf_read.specs.Reads.{◌>>=◌}
-use Rattle.hd_sdf_read.specs.Scales.{AreUnits, IsNextDatum, Pushes, Scales, TakesDecimal}
-use Rattle.hd_sdf_read.specs.Tokens.{after_token, is_absent, is_star, token_of}
+use Rattle.hd_sdf_read.specs.Scaling.{Pushes, IsScaled}
+use Rattle.hd_sdf_read.specs.DecimalTokens.{AreUnits, IsNextDatum, TakesDecimal}
 use Rattle.hd_sdf_read.proofs.WholeFronts.{rest_at, token_at}
 use Rattle.hd_sdf_read.proofs.Scaling.{not_small}
 
@@ -164,7 +164,7 @@ first_byte (x ∷ xs) byte other some is = ap (λ b. b ∷ xs) is
 -- so many data are read, and what is left of the text gives the others
 pub record HasRead (s : Scaled) (t : DataType) (read count : ℕ) (rest text : List ℕ) : Type 0 where
   pub items : List Datum
-  pub kept : Scales s t items
+  pub kept : IsScaled s t items
   pub size : length items ≡ read
   pub left : decimals_from items (count - read) rest ≡ decimals_from [] count text
 

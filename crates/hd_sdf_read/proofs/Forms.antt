@@ -12,9 +12,10 @@ use Rattle.hd_sdf_read.specs.declared.error.SdfError.{SdfError}
 use Rattle.hd_sdf_read.specs.declared.file.Extra.{Extra}
 use Rattle.hd_sdf_read.specs.declared.file.Version.{Version}
 use Rattle.hd_sdf_read.specs.Entries.{value_of}
-use Rattle.hd_sdf_read.specs.File.{AreGood, HasForms, is_gap, is_trailer}
-use Rattle.hd_sdf_read.specs.Grammar.{Frame, decimal_at, file_with, minus_one, resolution_of}
-use Rattle.hd_sdf_read.specs.Places.{HasDecimals, IsRead}
+use Rattle.hd_sdf_read.specs.File.{AreGood, HasForms, is_trailer}
+use Rattle.hd_sdf_read.specs.Tokens.{is_gap}
+use Rattle.hd_sdf_read.specs.Grammar.{file_with, minus_one, resolution_of}
+use Rattle.hd_sdf_read.specs.RequiredKeys.{RequiredKeys, decimal_at, HasDecimals, IsRead}
 use Rattle.hd_sdf_read.proofs.GoodEntries.{extra_apart, extra_good, text_good}
 use Rattle.hd_sdf_read.proofs.Trims.{trimmed_is, trimmed_same}
 
@@ -67,9 +68,9 @@ trailer_good text short =
     and_from _ _ (le-leb _ _ short) ((bytes_eq-Decides (trimmed_by is_gap (trimmed_by is_gap text)) (trimmed_by is_gap text)).1 (trimmed_same is_gap (trimmed_by is_gap text) (trimmed_is is_gap text)))
 
 -- the file of such parts
-pub forms_good : (version : Version) (entries : List Extra) (frame : Frame) (map : Map) (trailer : List ℕ) → AreGood entries → HasDecimals frame → is_trailer trailer ≡ true
-    → HasForms (file_with version entries frame map trailer)
-forms_good version entries frame map trailer good decimals end = record {
+pub forms_good : (version : Version) (entries : List Extra) (keys : RequiredKeys) (map : Map) (trailer : List ℕ) → AreGood entries → HasDecimals keys → is_trailer trailer ≡ true
+    → HasForms (file_with version entries keys map trailer)
+forms_good version entries keys map trailer good decimals end = record {
   manufac_id = text_good (codes "ManufacID") entries good.forms;
   create_date = text_good (codes "CreateDate") entries good.forms;
   mod_date = text_good (codes "ModDate") entries good.forms;

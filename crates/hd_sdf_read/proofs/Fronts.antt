@@ -8,8 +8,7 @@ use Rattle.std.proofs.lemmas.List.Elements.{All-get_or}
 use Rattle.std.proofs.lemmas.List.Splits.{length-slice_split, slice_split_first}
 use Rattle.std.proofs.lemmas.List.Sums.{AllPass-from_list_all, suffix_len_is}
 use Rattle.hd_num.specs.Lines.{after_line, is_line_feed, lines_of, trimmed_by, without_empty_last, without_end, without_start}
-use Rattle.hd_sdf_read.specs.File.{is_gap}
-use Rattle.hd_sdf_read.specs.Tokens.{after_token, token_of}
+use Rattle.hd_sdf_read.specs.Tokens.{is_gap, after_token, token_of}
 use Rattle.hd_sdf_read.proofs.Trims.{IsTrimmed}
 
 module _ (test : ℕ → Bool) where

@@ -10,13 +10,14 @@ use Rattle.std.proofs.lemmas.List.Folds.{list_any_at}
 use Rattle.std.proofs.lemmas.List.Sums.{take_while-cons}
 use Rattle.std.proofs.lemmas.Slice.Eq.{bytes_eq-Decides}
 use Rattle.hd_num.specs.Decimal.{decimal_of, fraction_digits, has_exponent, has_exponent_form, is_decimal, is_exponent, is_exponent_mark, is_point, is_unsigned_decimal, mantissa, whole_digits}
-use Rattle.hd_num.specs.Lines.{is_blank, is_line_feed, trimmed}
+use Rattle.hd_num.specs.Lines.{is_blank, is_line_feed, trimmed, without_start}
 use Rattle.hd_num.specs.Whole.{is_numeral, whole_of, whole_of_value}
 use Rattle.hd_num.specs.declared.decimal.Decimal.{Decimal}
 use Rattle.hd_num.specs.declared.whole.Whole.TheVariants.{Is, Not}
-use Rattle.hd_sdf_read.specs.File.{is_gap, is_header_value}
+use Rattle.hd_sdf_read.specs.File.{is_header_value}
+use Rattle.hd_sdf_read.specs.Tokens.{is_gap, token_of}
 use Rattle.hd_sdf_read.proofs.WholeFronts.{digit_no_gap}
-use Rattle.hd_sdf_read.proofs.Trims.{IsTrimmed, trimmed_same}
+use Rattle.hd_sdf_read.proofs.Trims.{IsTrimmed, trimmed_same, none_before}
 
 -- a test that fails wherever another fails
 any_weaker : (p q : ℕ → Bool) → ((x : ℕ) → p x ≡ false → q x ≡ false) → (text : List ℕ) → list_any p text ≡ false → list_any q text ≡ false
@@ -127,3 +128,8 @@ decimal_value word d is =
     let right = decimal_form word d is in
     let short = leb-true (length word) 64 (and_parts (leb (length word) 64) (is_unsigned_decimal (without_leading_sign word)) right).0 in
     gapless_value word (omega arith) (decimal_gapless word right)
+
+-- a token has no gap
+pub token_gapless : (text : List ℕ) → list_any is_gap (token_of text) ≡ false
+unfolding token_of
+token_gapless text = none_before is_gap (without_start is_gap text)

@@ -17,7 +17,7 @@ use Rattle.hd_sdf_read.specs.declared.file.Extra.{Extra}
 use Rattle.hd_sdf_read.specs.Entries.{Ends, Keyed, Skipped, Unread, entry_of, extra_entries, has_key, is_comment, is_equals, is_key, is_value, keyed, kind_of, kind_of_text, offence, text_of, value_offence, value_of}
 use Rattle.hd_sdf_read.specs.File.{AreGood, are_apart, is_entry, is_extra, is_header_key, is_header_value, is_trimmed_line}
 use Rattle.hd_sdf_read.specs.Keys.{form_of, same_key}
-use Rattle.hd_sdf_read.proofs.HeaderSteps.{length-trimmed}
+use Rattle.hd_sdf_read.proofs.HeaderFrom.{length-trimmed}
 use Rattle.hd_sdf_read.proofs.Trims.{IsTrimmed, any_drop, any_take, any_trimmed, none_before, trimmed_first, trimmed_is, trimmed_same}
 
 -- a trimmed text of one line

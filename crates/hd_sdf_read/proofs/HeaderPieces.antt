@@ -15,10 +15,10 @@ use Rattle.hd_sdf_read.specs.Entries.{Header, Keyed, Kind, Skipped, Ends, Unread
 use Rattle.hd_sdf_read.specs.declared.file.Version.TheVariants.{Bcr}
 use Rattle.hd_sdf_read.specs.FirstLine.{IsFirstLine}
 use Rattle.hd_sdf_read.specs.Grammar.{after_lines, body_in, file_in, version_of_line, version_of_text}
-use Rattle.hd_sdf_read.specs.Pieces.{header_in}
+use Rattle.hd_sdf_read.specs.HeaderPieces.{header_in}
 use Rattle.hd_sdf_read.specs.Reads.{◌>>=◌}
 use Rattle.hd_sdf_read.proofs.Fronts.{after_line_front, lines_front}
-use Rattle.hd_sdf_read.proofs.HeaderSteps.{header_kind}
+use Rattle.hd_sdf_read.proofs.HeaderFrom.{header_kind}
 
 -- an entry without an offence is read on
 unless_ok : (o : Option SdfError) (r : Result Header SdfError) (h : Header) → unless o r ≡ Ok h → r ≡ Ok h

@@ -1,15 +1,16 @@
 mod Alike
-mod BodySteps
+mod Bodies
 mod BodyPieces
-pub mod Counting
-mod Cuts
-mod CutSteps
+pub mod CellsFrom
+mod TokenCuts
+mod WholeCuts
+pub mod DatumAt
 mod DecimalCuts
 pub mod DecimalFronts
 pub mod DecimalTokens
 mod EntryLists
-mod Feeding
-mod Firsts
+mod States
+mod FirstBytes
 pub mod Follow
 mod Forms
 pub mod Fronts
@@ -17,9 +18,9 @@ pub mod Gapless
 pub mod GoodEntries
 pub mod WholeFronts
 mod HeaderPieces
-mod HeaderSteps
+mod HeaderFrom
 pub mod Scaling
-pub mod ShortSteps
-pub mod Stages
-mod TrailerPieces
+pub mod ShortWords
+pub mod Grammar
+mod PartTrailers
 pub mod Trims

@@ -24,7 +24,7 @@ use Rattle.hd_sdf_read.specs.declared.scaled.Datum.TheVariants.{Unmeasured, Meas
 use Rattle.hd_sdf_read.specs.declared.error.SdfError.TheVariants.{DatumRange}
 use Rattle.hd_sdf_read.specs.Decimals.{IsSmall, are_in_range, cell_at, cells_at, greatest_in, most_places, most_places_in, most_steps, places_in, ranged, size_of, steps_at}
 use Rattle.hd_sdf_read.specs.Keys.{has_decimals, with_places}
-use Rattle.hd_sdf_read.specs.Scales.{Grows, IsBeyond, Refined, Refines, Scales}
+use Rattle.hd_sdf_read.specs.Scaling.{Grows, IsBeyond, IsRefined, Refines, IsScaled}
 
 -- a number with a sign is as far from 0 as without it
 pub size_signed : (negative : Bool) (n : ℕ) → unsigned_abs (signed_number negative n) ≡ n
@@ -186,7 +186,7 @@ products_fit t new places k cs decimals is small =
     cells_fit new (map (multiplied (pos k)) cs) (decimals_of t new places decimals is) (omega (arith, greatest_times k cs, small))
 
 -- what is kept of data, with one more
-module _ (old new : Scaled) (t : DataType) (before : List Datum) (d : Datum) (kept : Refined old t before (places_in d))
+module _ (old new : Scaled) (t : DataType) (before : List Datum) (d : Datum) (kept : IsRefined old t before (places_in d))
     (cells : wide_cells_in new.cells ≡ wide_cells_in old.cells ++ cell_at old.places d ∷ []) (places : new.places ≡ old.places) (data_type : new.cells.data_type ≡ old.cells.data_type) where
   cells_with : cells_at old.places (before ++ d ∷ []) ≡ wide_cells_in new.cells
   cells_with = map-append (cell_at old.places) before (d ∷ []) ∙ ap (λ cs. cs ++ cell_at old.places d ∷ []) (sym kept.cells) ∙ sym cells
@@ -194,8 +194,8 @@ module _ (old new : Scaled) (t : DataType) (before : List Datum) (d : Datum) (ke
   most_with : most_places_in (before ++ d ∷ []) ≡ old.places
   most_with = most_push before d ∙ sym kept.places_are
 
-  pub pushed : (ranged (before ++ d ∷ []) ≡ Ok (before ++ d ∷ [])) × Scales new t (before ++ d ∷ [])
-  pushed =
+  pub IsScaled-pushed : (ranged (before ++ d ∷ []) ≡ Ok (before ++ d ∷ [])) × IsScaled new t (before ++ d ∷ [])
+  IsScaled-pushed =
       let size = new.greatest_is in
       let small = new.small in (
         ranged_in (before ++ d ∷ []) old.places most_with old.few (omega (arith, size, small, ap greatest_in cells_with)),
@@ -207,9 +207,9 @@ module _ (old new : Scaled) (t : DataType) (before : List Datum) (d : Datum) (ke
       )
 
 -- one more datum is out of range
-pub not_pushed : (old : Scaled) (t : DataType) (before : List Datum) (d : Datum) (number : ℕ) → Refined old t before (places_in d) → most_steps < steps_at old.places d → number ≡ length before + 1
+pub ranged-not_pushed : (old : Scaled) (t : DataType) (before : List Datum) (d : Datum) (number : ℕ) → IsRefined old t before (places_in d) → most_steps < steps_at old.places d → number ≡ length before + 1
     → ranged (before ++ d ∷ []) ≡ Err (DatumRange number)
-not_pushed old t before d number kept great is =
+ranged-not_pushed old t before d number kept great is =
     let cells : greatest_in (cells_at old.places (before ++ d ∷ [])) ≡ max (greatest_in (cells_at old.places before)) (size_of (cell_at old.places d)) =
     ap greatest_in (map-append (cell_at old.places) before (d ∷ [])) ∙ greatest_push (cells_at old.places before) (cell_at old.places d) in
     ranged_out (before ++ d ∷ []) old.places (most_push before d ∙ sym kept.places_are) (omega (arith, cells, size_at old.places d, great))
@@ -227,9 +227,9 @@ not_refined before d number beyond is =
     ∙ ap (λ n. Err (DatumRange n)) (length-append before (d ∷ []) ∙ sym is)
 
 -- steps of more places are taken
-pub grown : (old new : Scaled) (t : DataType) (before : List Datum) (places : ℕ) → Scales old t before → old.places < places
-    → wide_cells_in new.cells ≡ map (multiplied (pos (10 ^ (places - old.places)))) (wide_cells_in old.cells) → new.places ≡ places → new.cells.data_type ≡ with_places old.cells.data_type places → Refined new t before places
-grown old new t before places kept more cells places_are data_type =
+pub IsRefined-grown : (old new : Scaled) (t : DataType) (before : List Datum) (places : ℕ) → IsScaled old t before → old.places < places
+    → wide_cells_in new.cells ≡ map (multiplied (pos (10 ^ (places - old.places)))) (wide_cells_in old.cells) → new.places ≡ places → new.cells.data_type ≡ with_places old.cells.data_type places → IsRefined new t before places
+IsRefined-grown old new t before places kept more cells places_are data_type =
     let most = kept.places in
     record {
       cells = cells ∙ ap (map (multiplied (pos (10 ^ (places - old.places))))) kept.cells ∙ cells_grow old.places places before (omega (arith, most)) (omega (arith, more)) ∙ ap (λ p. cells_at p before) (sym places_are);
@@ -237,8 +237,8 @@ grown old new t before places kept more cells places_are data_type =
       data_type = data_type ∙ ap (λ x. with_places x places) kept.data_type ∙ with_again t old.places places ∙ ap (with_places t) (sym places_are);
     }
 
-pub not_grown : (old : Scaled) (t : DataType) (before : List Datum) (places : ℕ) → Scales old t before → old.places < places → most_steps < greatest_in (wide_cells_in old.cells) * 10 ^ (places - old.places) → IsBeyond before places
-not_grown old t before places kept more great =
+pub IsBeyond-not_grown : (old : Scaled) (t : DataType) (before : List Datum) (places : ℕ) → IsScaled old t before → old.places < places → most_steps < greatest_in (wide_cells_in old.cells) * 10 ^ (places - old.places) → IsBeyond before places
+IsBeyond-not_grown old t before places kept more great =
     let most = kept.places in
     let same : greatest_in (cells_at places before) ≡ greatest_in (wide_cells_in old.cells) * 10 ^ (places - old.places) =
     ap greatest_in (sym (cells_grow old.places places before (omega (arith, most)) (omega (arith, more)))) ∙ greatest_times (10 ^ (places - old.places)) (cells_at old.places before)
@@ -246,8 +246,8 @@ not_grown old t before places kept more great =
     record { more = omega (arith, most, more); great = omega (arith, same, great) }
 
 -- a datum of places that are reached needs no others
-pub same_kept : (s : Scaled) (t : DataType) (ds : List Datum) (places : ℕ) → Scales s t ds → places ≤ s.places → Refined s t ds places
-same_kept s t ds places kept few =
+pub IsRefined-same : (s : Scaled) (t : DataType) (ds : List Datum) (places : ℕ) → IsScaled s t ds → places ≤ s.places → IsRefined s t ds places
+IsRefined-same s t ds places kept few =
     let most = kept.places in
     record { cells = kept.cells; places_are = omega (arith, most, few); data_type = kept.data_type }
 
@@ -280,8 +280,8 @@ module _ (old : Scaled) (places factor greatest : ℕ) (t new : DataType) (same 
       sym (ap greatest_in cells_are ∙ ap (λ k. greatest_in (map (multiplied k) (wide_cells_in old.cells))) (power_kept factor grown_small) ∙ greatest_times factor (wide_cells_in old.cells) ∙ grown_greatest)
 
 pub refined_by : (old new : Scaled) (places : ℕ) (done : Bool) → old.places < places → Grows old new places done → Refines old new places done
-refined_by old new places true more grows = λ t before kept. grown old new t before places kept more grows.0 grows.1 grows.2
-refined_by old new places false more grows = λ t before kept. not_grown old t before places kept more grows
+refined_by old new places true more grows = λ t before kept. IsRefined-grown old new t before places kept more grows.0 grows.1 grows.2
+refined_by old new places false more grows = λ t before kept. IsBeyond-not_grown old t before places kept more grows
 
 -- a power of ten makes nothing smaller
 pub at_least : (units power : ℕ) → units ≤ units * 10 ^ power

@@ -17,11 +17,10 @@ use Rattle.hd_map.specs.declared.types.Cell.{Cell}
 use Rattle.hd_num.specs.Lines.{without_start}
 use Rattle.hd_num.specs.Whole.{is_numeral, signed_number, whole_of, whole_of_value}
 use Rattle.hd_num.specs.declared.whole.Whole.TheVariants.{Is, Not, Outside}
-use Rattle.hd_sdf_read.specs.File.{is_gap}
+use Rattle.hd_sdf_read.specs.Tokens.{is_gap, after_token, is_star, token_of}
 use Rattle.hd_sdf_read.specs.Grammar.{cell_of, datum_at}
-use Rattle.hd_sdf_read.specs.Tokens.{after_token, is_star, token_of}
-use Rattle.hd_sdf_read.proofs.Counting.{datum_by_token}
-use Rattle.hd_sdf_read.specs.Places.{TakesHeight, TakesCell}
+use Rattle.hd_sdf_read.proofs.DatumAt.{datum_at-by_token}
+use Rattle.hd_sdf_read.specs.WholeTokens.{TakesHeight, TakesCell}
 
 -- a digit is no gap
 pub digit_no_gap : (byte : ℕ) → is_ascii_digit byte ≡ true → is_gap byte ≡ false
@@ -150,4 +149,4 @@ cell_given least greatest read text front rest cell is taken =
     let no_bad : bytes_eq takes.token (codes "BAD") ≡ false = no_word (codes "BAD") takes.token taken.height refl takes.number in
     let within : (int_le least taken.height && int_le taken.height greatest) ≡ true = and_from _ _ taken.low taken.high in
     let right : cell_of least greatest (read + 1) takes.token ≡ Ok cell = rw (no_bad, takes.number, within, taken.cell_is) refl in
-    (datum_by_token least greatest read text takes.token (sym token) takes.filled no_star ∙ right, rest_at text front rest is takes.after)
+    (datum_at-by_token least greatest read text takes.token (sym token) takes.filled no_star ∙ right, rest_at text front rest is takes.after)

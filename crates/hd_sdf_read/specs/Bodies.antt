@@ -1,9 +1,7 @@
 -- What a text behind a header can still become whose front is read.
-use Rattle.std.specs.Prelude.{◌-◌, ◌++◌, ℕ, pos, int_lt, unsigned_abs, List, length, map, Result, Ok, Err}
+use Rattle.std.specs.Prelude.{◌-◌, ◌++◌, ℕ, List, length, map, Result, Ok, Err}
 use Rattle.hd_map.specs.declared.types.Cell.{Cell}
-use Rattle.hd_map.specs.declared.types.Cell.TheVariants.{Bad, Height}
 use Rattle.hd_sdf_read.specs.declared.scaled.Datum.{Datum}
-use Rattle.hd_sdf_read.specs.declared.scaled.Datum.TheVariants.{Measured, Unmeasured}
 use Rattle.hd_sdf_read.specs.Decimals.{decimals_from}
 use Rattle.hd_map.specs.declared.types.DataType.{DataType}
 use Rattle.hd_map.specs.declared.types.Size.{Size}
@@ -34,15 +32,6 @@ with_front front (Err e) = Err e
 unfoldable pub whole_in : Size → DataType → List Cell → List ℕ → Result Surveyed SdfError
 whole_in size t front text =
     (with_front front (cells_from (least_height t) (greatest_height t) (length front) (cell_count size - length front) text) >>= whole_map size t) >>= trailed size
-
--- the datum of a cell in steps of the last of so many places
-abbrev pub datum_for : ℕ → Cell → Datum
-datum_for places Bad = Unmeasured
-datum_for places (Height h) = Measured (int_lt h (pos 0)) (unsigned_abs h) places
-
--- the data of cells
-abbrev pub data_for : ℕ → List Cell → List Datum
-data_for places cells = map (datum_for places) cells
 
 -- the map and the trailer of a text behind these decimals
 unfoldable pub decimal_in : Size → DataType → List Datum → List ℕ → Result Surveyed SdfError

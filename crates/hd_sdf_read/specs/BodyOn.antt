@@ -1,7 +1,6 @@
 -- What stands behind a header can still become.
 use Rattle.std.specs.Prelude.{◌≡◌, ◌++◌, ℕ, List, Result, Ok, Err}
 use Rattle.hd_map.specs.declared.cells.Cells as packed
-use Rattle.hd_map.specs.declared.surface.Surface.{Surface}
 use Rattle.hd_map.specs.declared.types.Size.{Size}
 use Rattle.hd_map.specs.Cells.{cells_in}
 use Rattle.hd_map.specs.Surface.{map_of}
@@ -10,7 +9,7 @@ use Rattle.hd_sdf_read.specs.declared.body.Body.TheVariants as bodies
 use Rattle.hd_sdf_read.specs.declared.error.SdfError.{SdfError}
 use Rattle.hd_sdf_read.specs.declared.error.SdfError.TheVariants.{Memory}
 use Rattle.hd_sdf_read.specs.Bodies.{Surveyed, decimal_in, trailed, whole_in}
-use Rattle.hd_sdf_read.specs.DecimalCut.{data_of}
+use Rattle.hd_sdf_read.specs.Scaling.{data_of}
 use Rattle.hd_sdf_read.specs.declared.scaled.Scaled.{Scaled}
 use Rattle.hd_map.specs.declared.types.DataType.{DataType}
 use Rattle.hd_sdf_read.specs.PartTrailers.{trailer_on}
@@ -37,7 +36,3 @@ GoesOn size cells text (Err e) = (e ≡ Memory → ⊥) → (more : List ℕ) �
 abbrev pub DecimalsGoOn : Size → DataType → Scaled → List ℕ → Result Body SdfError → Type 0
 DecimalsGoOn size t scaled text (Ok body) = (more : List ℕ) → decimal_in size t (data_of scaled) (text ++ more) ≡ body_on body more
 DecimalsGoOn size t scaled text (Err e) = (e ≡ Memory → ⊥) → (more : List ℕ) → decimal_in size t (data_of scaled) (text ++ more) ≡ Err e
-
--- the surface and the trailer that a caller holds
-abbrev pub surveyed_view : Surface × List ℕ → Surveyed
-surveyed_view parts = record { map = map_of parts.0; trailer = parts.1 }

@@ -9,15 +9,12 @@ use Rattle.hd_sdf_read.specs.declared.error.SdfError.{SdfError}
 use Rattle.hd_sdf_read.specs.declared.error.SdfError.TheVariants.{Memory}
 use Rattle.hd_sdf_read.specs.declared.scaled.Datum.{Datum}
 use Rattle.hd_sdf_read.specs.declared.scaled.Scaled.{Scaled}
-use Rattle.hd_sdf_read.specs.Bodies.{data_for, decimal_in}
+use Rattle.hd_sdf_read.specs.Bodies.{decimal_in}
 use Rattle.hd_sdf_read.specs.Decimals.{data_with}
-use Rattle.hd_sdf_read.specs.Scales.{IsNextDatum, Scales}
+use Rattle.hd_sdf_read.specs.Scaling.{IsScaled, data_of}
+use Rattle.hd_sdf_read.specs.DecimalTokens.{IsNextDatum}
 use Rattle.hd_sdf_read.specs.Tokens.{after_token, token_of}
-use Rattle.hd_sdf_read.specs.Words.{Ends}
-
--- the data that are kept as cells
-abbrev pub data_of : Scaled → List Datum
-data_of s = data_for s.places (wide_cells_in s.cells)
+use Rattle.hd_sdf_read.specs.TokenPieces.{Ends}
 
 -- the next datum, whatever follows the text, and the text after it; or none, where its end has not come; or why there
 -- is none whatever follows
@@ -29,7 +26,7 @@ CutDecimal read text (Err e) = (e ≡ Memory → ⊥) → (before : List Datum) 
 -- decimals are read on as far as their ends have come, and what can still become stays
 pub record DecimalsOn (size : Size) (t : DataType) (old : Scaled) (text : List ℕ) (new : Scaled) (rest : List ℕ) : Type 0 where
   pub same : (more : List ℕ) → decimal_in size t (data_of old) (text ++ more) ≡ decimal_in size t (data_of new) (rest ++ more)
-  pub kept : Scales new t (data_of new)
+  pub kept : IsScaled new t (data_of new)
   pub few : length (wide_cells_in new.cells) ≤ cell_count size
   pub ends : (length (wide_cells_in new.cells) ≡ cell_count size) ⊎ (after_token rest ≡ [])
 
@@ -40,7 +37,7 @@ AreReadOn size t old text (Err e) = (e ≡ Memory → ⊥) → (more : List ℕ)
 -- a token is one more decimal, before a gap or the end
 pub record TakesDatum (size : Size) (t : DataType) (old : Scaled) (word : List ℕ) (new : Scaled) : Type 0 where
   pub same : (rest : List ℕ) → Ends rest → decimal_in size t (data_of old) (word ++ rest) ≡ decimal_in size t (data_of new) rest
-  pub kept : Scales new t (data_of new)
+  pub kept : IsScaled new t (data_of new)
   pub count : length (wide_cells_in new.cells) ≡ length (wide_cells_in old.cells) + 1
 
 abbrev pub DatumTaken : Size → DataType → Scaled → List ℕ → Result Scaled SdfError → Type 0

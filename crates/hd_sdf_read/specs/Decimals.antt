@@ -1,5 +1,5 @@
 -- The data of types of decimals.
-use Rattle.std.specs.Prelude.{◌≤◌, ◌+◌, ◌-◌, ◌*◌, ◌^◌, ◌++◌, ℕ, ℤ, zero, suc, pos, negsuc, unsigned_abs, max, nat_le, Bool, ◌&&◌, ◌||◌, List, [], ◌∷◌, length, map, Option, Some, None, Result, Ok, Err, if◌then◌else◌, bytes_eq, codes}
+use Rattle.std.specs.Prelude.{◌≤◌, ◌+◌, ◌-◌, ◌*◌, ◌^◌, ◌++◌, ℕ, ℤ, zero, suc, pos, negsuc, unsigned_abs, max, nat_le, Bool, ◌&&◌, ◌||◌, List, [], ◌∷◌, length, map, Option, Some, None, Result, Ok, Err, if◌then◌else◌, bytes_eq, codes, int_lt}
 use Rattle.std.specs.List.{list_all}
 use Rattle.hd_map.specs.declared.types.Cell.{Cell}
 use Rattle.hd_map.specs.declared.types.Cell.TheVariants.{Height, Bad}
@@ -106,3 +106,12 @@ greatest_in (c ∷ cs) = max (size_of c) (greatest_in cs)
 abbrev pub IsSmall : Datum → Type 0
 IsSmall Unmeasured = Unit {0}
 IsSmall (Measured negative units places) = (places ≤ most_places) × (units ≤ most_steps)
+
+-- the datum of a cell in steps of the last of so many places
+abbrev pub datum_for : ℕ → Cell → Datum
+datum_for places Bad = Unmeasured
+datum_for places (Height h) = Measured (int_lt h (pos 0)) (unsigned_abs h) places
+
+-- the data of cells
+abbrev pub data_for : ℕ → List Cell → List Datum
+data_for places cells = map (datum_for places) cells

@@ -1,14 +1,15 @@
 -- What an SDF file holds, and the forms of its texts.
-use Rattle.std.specs.Prelude.{◌≡◌, ◌≤◌, ◌&&◌, ◌||◌, ℕ, nat_le, Bool, true, not, List, [], ◌∷◌, length, Some, is_none, bytes_eq}
+use Rattle.std.specs.Prelude.{◌≡◌, ◌≤◌, ◌&&◌, ℕ, nat_le, Bool, true, not, List, [], ◌∷◌, length, Some, is_none, bytes_eq}
 use Rattle.std.specs.List.{list_all, list_any}
 use Rattle.hd_map.specs.Map.{Map}
 use Rattle.hd_num.specs.Decimal.{decimal_of}
-use Rattle.hd_num.specs.Lines.{is_blank, is_line_feed, trimmed, trimmed_by}
+use Rattle.hd_num.specs.Lines.{is_line_feed, trimmed, trimmed_by}
 use Rattle.hd_num.specs.declared.decimal.Decimal.{Decimal}
 use Rattle.hd_sdf_read.specs.declared.file.Extra.{Extra}
 use Rattle.hd_sdf_read.specs.declared.file.Version.{Version}
 use Rattle.hd_sdf_read.specs.Entries.{extra_entries, has_key, is_comment, is_equals, is_key, is_value}
 use Rattle.hd_sdf_read.specs.Keys.{form_of}
+use Rattle.hd_sdf_read.specs.Tokens.{is_gap}
 
 -- a file: its texts, and the map of its surface
 pub record File : Type 0 where
@@ -23,10 +24,6 @@ pub record File : Type 0 where
   pub extra : List Extra
   pub map : Map
   pub trailer : List ℕ
-
--- a blank or an LF, which parts tokens
-abbrev pub is_gap : ℕ → Bool
-is_gap byte = is_blank byte || is_line_feed byte
 
 -- the text begins and ends with no blank, and is one line
 abbrev pub is_trimmed_line : List ℕ → Bool

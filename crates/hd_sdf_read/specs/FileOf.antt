@@ -1,11 +1,7 @@
 -- The file that a caller holds.
-use Rattle.std.specs.Prelude.{ℕ, List}
-use denote.Bor.{Bor}
-use Rattle.hd_map.specs.declared.surface.Surface.{Surface}
 use Rattle.hd_map.specs.Surface.{map_of}
 use Rattle.hd_sdf_read.specs.declared.file.SdfFile.{SdfFile}
 use Rattle.hd_sdf_read.specs.File.{File}
-use Rattle.hd_sdf_read.specs.Grammar.{Mapped}
 
 -- its texts, and the map of its surface
 abbrev pub file_of : SdfFile → File
@@ -22,7 +18,3 @@ file_of f = record {
   map = map_of f.surface;
   trailer = f.trailer;
 }
-
--- the map of a surface, and a text without where it lies in memory
-abbrev pub mapped_view : Surface × Bor (List ℕ) → Mapped
-mapped_view parts = record { map = map_of parts.0; rest = parts.1.now }

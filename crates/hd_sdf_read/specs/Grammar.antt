@@ -1,28 +1,28 @@
 -- The grammar of SDF texts: each text has a file or the first offence.
-use Rattle.std.specs.Prelude.{◌||◌, ◌&&◌, ◌+◌, ℕ, ℤ, zero, suc, pos, nat_lt, nat_le, int_le, true, false, List, [], ◌∷◌, length, drop, replicate, Option, Some, None, Result, Ok, Err, ok_or, option_and_then, unwrap_or, if◌then◌else◌, bytes_eq, codes}
+use Rattle.std.specs.Prelude.{◌||◌, ◌&&◌, ◌+◌, ℕ, ℤ, zero, suc, pos, nat_lt, int_le, true, false, List, [], ◌∷◌, length, drop, replicate, Option, Some, None, Result, Ok, Err, ok_or, unwrap_or, if◌then◌else◌, bytes_eq, codes}
 use Rattle.hd_map.specs.declared.types.Adjacency.TheVariants.{Eight}
 use Rattle.hd_map.specs.Map.{Map, cell_count, least_height, greatest_height}
 use Rattle.hd_map.specs.declared.types.Cell.{Cell}
 use Rattle.hd_map.specs.declared.types.Cell.TheVariants.{Height, Bad}
 use Rattle.hd_map.specs.declared.types.DataType.{DataType}
 use Rattle.hd_map.specs.declared.types.Size.{Size}
-use Rattle.hd_num.specs.Decimal.{decimal_of}
 use Rattle.hd_num.specs.Lines.{after_line, lines_of, trimmed, trimmed_by}
 use Rattle.hd_num.specs.Whole.{whole_of}
 use Rattle.hd_num.specs.declared.decimal.Decimal.{Decimal}
 use Rattle.hd_num.specs.declared.whole.Whole.{Whole}
 use Rattle.hd_num.specs.declared.whole.Whole.TheVariants.{Not, Outside, Is}
 use Rattle.hd_sdf_read.specs.declared.error.SdfError.{SdfError}
-use Rattle.hd_sdf_read.specs.declared.error.SdfError.TheVariants.{BadVersion, MissingKey, TooLarge, BadDatum, DatumRange, TooFewData, TooManyData, TrailerTooLong}
+use Rattle.hd_sdf_read.specs.declared.error.SdfError.TheVariants.{BadVersion, BadDatum, DatumRange, TooFewData, TooManyData, TrailerTooLong}
 use Rattle.hd_sdf_read.specs.declared.file.Extra.{Extra}
 use Rattle.hd_sdf_read.specs.declared.file.Version.{Version}
 use Rattle.hd_sdf_read.specs.declared.file.Version.TheVariants.{Bcr, Iso}
-use Rattle.hd_sdf_read.specs.Entries.{extra_entries, header_from, text_of, value_of}
-use Rattle.hd_sdf_read.specs.File.{File, is_gap}
+use Rattle.hd_sdf_read.specs.Entries.{extra_entries, header_from, text_of}
+use Rattle.hd_sdf_read.specs.File.{File}
+use Rattle.hd_sdf_read.specs.Tokens.{is_gap, after_token, is_absent, is_star, token_of}
 use Rattle.hd_sdf_read.specs.Decimals.{Decimals, cells_at, decimals_from, most_places_in}
-use Rattle.hd_sdf_read.specs.Keys.{extent_of, has_decimals, type_of, with_places}
+use Rattle.hd_sdf_read.specs.Keys.{has_decimals, with_places}
 use Rattle.hd_sdf_read.specs.Reads.{◌>>=◌}
-use Rattle.hd_sdf_read.specs.Tokens.{after_token, is_absent, is_star, token_of}
+use Rattle.hd_sdf_read.specs.RequiredKeys.{RequiredKeys, decimal_at, required_keys_of}
 
 -- the version that a trimmed line names
 abbrev pub version_of_text : List ℕ → Option Version
@@ -44,44 +44,6 @@ version_of (line ∷ lines) = ok_or (version_of_line line) BadVersion
 abbrev pub after_lines : ℕ → List ℕ → List ℕ
 after_lines zero text = text
 after_lines (suc n) text = after_line (after_lines n text)
-
--- what the key of this number says, or that it is missing
-abbrev pub required : {X : Type 0} → ℕ → Option X → Result X SdfError
-required number (Some x) = Ok x
-required number None = Err (MissingKey number)
-
--- what the required keys say
-pub record Frame : Type 0 where
-  pub size : Size
-  pub data_type : DataType
-  pub x_scale : Decimal
-  pub y_scale : Decimal
-  pub z_scale : Decimal
-
--- at most 4,194,304 points
-abbrev pub limited : Frame → Result Frame SdfError
-limited frame = if nat_le (cell_count frame.size) 4194304 then Ok frame else Err TooLarge
-
--- the decimal of a key
-abbrev pub decimal_at : List ℕ → List Extra → Option Decimal
-decimal_at key entries = option_and_then decimal_of (value_of key entries)
-
--- what the required keys of a header say
-unfoldable pub frame_of : List Extra → Result Frame SdfError
-frame_of entries = do
-  points ← required 1 (option_and_then extent_of (value_of (codes "NumPoints") entries))
-  profiles ← required 2 (option_and_then extent_of (value_of (codes "NumProfiles") entries))
-  x ← required 3 (decimal_at (codes "Xscale") entries)
-  y ← required 4 (decimal_at (codes "Yscale") entries)
-  z ← required 5 (decimal_at (codes "Zscale") entries)
-  data_type ← required 6 (option_and_then type_of (value_of (codes "DataType") entries))
-  limited (record {
-    size = record { points = points; profiles = profiles };
-    data_type = data_type;
-    x_scale = x;
-    y_scale = y;
-    z_scale = z;
-  })
 
 -- -1
 abbrev pub minus_one : Decimal
@@ -172,15 +134,15 @@ mapped size t text =
     else (cells_from (least_height t) (greatest_height t) 0 (cell_count size) text >>= whole_map size t)
 
 -- the file of these parts
-abbrev pub file_with : Version → List Extra → Frame → Map → List ℕ → File
-file_with version entries frame map trailer = record {
+abbrev pub file_with : Version → List Extra → RequiredKeys → Map → List ℕ → File
+file_with version entries keys map trailer = record {
   version = version;
   manufac_id = text_of (codes "ManufacID") entries;
   create_date = text_of (codes "CreateDate") entries;
   mod_date = text_of (codes "ModDate") entries;
-  x_scale = frame.x_scale;
-  y_scale = frame.y_scale;
-  z_scale = frame.z_scale;
+  x_scale = keys.x_scale;
+  y_scale = keys.y_scale;
+  z_scale = keys.z_scale;
   z_resolution = resolution_of entries;
   extra = extra_entries entries;
   map = map;
@@ -190,10 +152,10 @@ file_with version entries frame map trailer = record {
 -- the file of a version, the entries of a header and the text after it, or the first offence there
 unfoldable pub body_in : Version → List Extra → List ℕ → Result File SdfError
 body_in version entries text = do
-  frame ← frame_of entries
-  parts ← mapped frame.size frame.data_type text
-  trailer ← trailer_of (cell_count frame.size) parts.rest
-  Ok (file_with version entries frame parts.map trailer)
+  keys ← required_keys_of entries
+  parts ← mapped keys.size keys.data_type text
+  trailer ← trailer_of (cell_count keys.size) parts.rest
+  Ok (file_with version entries keys parts.map trailer)
 
 -- the file that a text is, or the first offence
 unfoldable pub file_in : List ℕ → Result File SdfError

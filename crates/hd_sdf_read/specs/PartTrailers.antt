@@ -4,7 +4,7 @@ use Rattle.hd_num.specs.Lines.{trimmed_by}
 use Rattle.hd_sdf_read.specs.declared.error.SdfError.{SdfError}
 use Rattle.hd_sdf_read.specs.declared.error.SdfError.TheVariants.{Memory}
 use Rattle.hd_sdf_read.specs.declared.part_trailer.PartTrailer.{PartTrailer}
-use Rattle.hd_sdf_read.specs.File.{is_gap}
+use Rattle.hd_sdf_read.specs.Tokens.{is_gap}
 use Rattle.hd_sdf_read.specs.Grammar.{trailer_text}
 
 -- the trailer in the text after the end of the data

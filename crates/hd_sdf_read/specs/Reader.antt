@@ -4,7 +4,7 @@ use Rattle.hd_sdf_read.specs.declared.error.SdfError.{SdfError}
 use Rattle.hd_sdf_read.specs.declared.error.SdfError.TheVariants.{Memory}
 use Rattle.hd_sdf_read.specs.declared.reader.SdfReader.{SdfReader}
 use Rattle.hd_sdf_read.specs.Grammar.{file_in}
-use Rattle.hd_sdf_read.specs.Pieces.{continued, refusal_in}
+use Rattle.hd_sdf_read.specs.States.{continued, refusal_in}
 
 -- a reader stands for these bytes: with whatever follows them, they are the file, or have the first offence, that is
 -- read on from what the reader keeps

@@ -7,8 +7,8 @@ use Rattle.hd_map.specs.Cells.{cells_in}
 use Rattle.hd_map.specs.Map.{cell_count}
 use Rattle.hd_num.specs.Lines.{without_start}
 use Rattle.hd_sdf_read.specs.Bodies.{whole_in}
-use Rattle.hd_sdf_read.specs.File.{is_gap}
-use Rattle.hd_sdf_read.specs.Places.{TakesCell}
+use Rattle.hd_sdf_read.specs.Tokens.{is_gap}
+use Rattle.hd_sdf_read.specs.WholeTokens.{TakesCell}
 
 -- the next token of a text is a height in the range, which gives this cell, and the rest follows it from a gap on
 pub record IsShort (least greatest : ℤ) (text rest : List ℕ) (cell : Cell) : Type 0 where

@@ -1,8 +1,11 @@
 -- The tokens of a text.
-use Rattle.std.specs.Prelude.{◌==◌, ℕ, Bool, List, length, drop, bytes_eq, codes}
+use Rattle.std.specs.Prelude.{◌==◌, ℕ, Bool, List, length, drop, bytes_eq, codes, ◌||◌}
 use Rattle.std.specs.List.{before_first}
-use Rattle.hd_num.specs.Lines.{without_start}
-use Rattle.hd_sdf_read.specs.File.{is_gap}
+use Rattle.hd_num.specs.Lines.{without_start, is_blank, is_line_feed}
+
+-- a blank or an LF, which parts tokens
+abbrev pub is_gap : ℕ → Bool
+is_gap byte = is_blank byte || is_line_feed byte
 
 -- the first token of a text: the first longest run of bytes that are neither blanks nor LFs, or nothing
 unfoldable pub token_of : List ℕ → List ℕ

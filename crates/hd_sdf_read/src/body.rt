@@ -2,9 +2,8 @@
 ghost use Rattle.std.specs.Prelude.{◌≡◌, ◌<◌, false, length};
 ghost use Rattle.hd_map.specs.Cells.{cells_in, wide_cells_in};
 ghost use Rattle.hd_map.specs.Map.{IsSize, cell_count};
-ghost use Rattle.hd_sdf_read.specs.DecimalCut.{data_of};
+ghost use Rattle.hd_sdf_read.specs.Scaling.{data_of, IsScaled};
 ghost use Rattle.hd_sdf_read.specs.Keys.{has_decimals};
-ghost use Rattle.hd_sdf_read.specs.Scales.{Scales};
 
 use crate::part_token::PartToken;
 use crate::part_trailer::PartTrailer;
@@ -30,7 +29,7 @@ pub struct DecimalPart {
     pub scaled: Scaled,
     pub token: PartToken,
     ghost limits: { IsSize size },
-    ghost kept: { Scales scaled data_type (data_of scaled) },
+    ghost kept: { IsScaled scaled data_type (data_of scaled) },
     ghost missing: { length (wide_cells_in scaled.cells) < cell_count size },
 }
 

@@ -1,9 +1,9 @@
 // The data of a file.
 ghost use Rattle.std.specs.Prelude.{◌≡◌, ◌<◌, ◌^◌, IfSome, IsTrue, length, slice_index, true};
 ghost use Rattle.hd_num.specs.Whole.{signed_number};
-ghost use Rattle.hd_sdf_read.specs.File.{is_gap};
+ghost use Rattle.hd_sdf_read.specs.Tokens.{is_gap};
 ghost use Rattle.hd_sdf_read.specs.Grammar.{cell_of};
-ghost use Rattle.hd_sdf_read.specs.Places.{AreDigits, TakesCell, TakesHeight};
+ghost use Rattle.hd_sdf_read.specs.WholeTokens.{AreDigits, TakesCell, TakesHeight};
 
 use crate::SdfError;
 use crate::token::is_gap;

@@ -3,9 +3,9 @@ ghost use Rattle.std.specs.Prelude.{◌≡◌, ◌≤◌, ◌+◌, ◌<◌, ◌^
 ghost use Rattle.std.specs.List.{list_any};
 ghost use Rattle.hd_map.specs.Cells.{wide_cells_in};
 ghost use Rattle.hd_map.specs.Map.{cell_count};
-ghost use Rattle.hd_sdf_read.specs.DecimalCut.{AreReadOn, CutDecimal, DatumTaken, data_of};
-ghost use Rattle.hd_sdf_read.specs.File.{is_gap};
-ghost use Rattle.hd_sdf_read.specs.Scales.{Scales};
+ghost use Rattle.hd_sdf_read.specs.DecimalCut.{AreReadOn, CutDecimal, DatumTaken};
+ghost use Rattle.hd_sdf_read.specs.Scaling.{data_of, IsScaled};
+ghost use Rattle.hd_sdf_read.specs.Tokens.{is_gap};
 
 use crate::SdfError;
 use crate::decimals::{datum_of, leading_decimal, token_decimal};
@@ -23,7 +23,7 @@ pub fn read_decimals_on(
     size: Size,
     text: &[u8],
 ) -> Result<(Scaled, &[u8]), SdfError>
-    requires kept { Scales scaled data_type (data_of scaled) }
+    requires kept { IsScaled scaled data_type (data_of scaled) }
     requires count { length (wide_cells_in scaled.cells) ≤ cell_count size }
     requires small { cell_count size < 2 ^ 32 }
     ensures { AreReadOn size data_type scaled text.now result }
@@ -79,7 +79,7 @@ pub fn take_decimal(
     size: Size,
     word: &[u8],
 ) -> Result<Scaled, SdfError>
-    requires kept { Scales scaled data_type (data_of scaled) }
+    requires kept { IsScaled scaled data_type (data_of scaled) }
     requires missing { length (wide_cells_in scaled.cells) < cell_count size }
     requires small { cell_count size < 2 ^ 32 }
     requires some { 0 < length word.now }

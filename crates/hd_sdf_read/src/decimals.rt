@@ -1,7 +1,7 @@
 // The data of a type of decimals.
 ghost use Rattle.std.specs.Prelude.{◌≡◌, ◌<◌, ◌≤◌, ◌+◌, ◌*◌, ◌^◌, IfSome, MatchOption};
 ghost use Rattle.hd_sdf_read.specs.Decimals.{IsSmall, measured, most_steps};
-ghost use Rattle.hd_sdf_read.specs.Scales.{AreUnits, DecimalGiven, TakesDecimal, TokenGiven};
+ghost use Rattle.hd_sdf_read.specs.DecimalTokens.{AreUnits, DecimalGiven, TakesDecimal, TokenGiven};
 
 use crate::SdfError;
 use crate::datum::ends_token;

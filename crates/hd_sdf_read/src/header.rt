@@ -45,7 +45,7 @@ pub struct Header {
 impl Header {
     ghost use Rattle.std.specs.Prelude.{true};
     ghost use Rattle.hd_sdf_read.specs.File.{is_entry};
-    ghost use Rattle.hd_sdf_read.specs.Pieces.{TakesEntry, TakesLine};
+    ghost use Rattle.hd_sdf_read.specs.HeaderPieces.{TakesEntry, TakesLine};
     ghost use Rattle.hd_sdf_read.specs.Views.{extra_of};
 
     /// The header before line 2.

@@ -2,8 +2,8 @@
 ghost use Rattle.std.specs.Prelude.{◌≡◌, ◌<◌, ◌++◌, ℕ, List as Items, IfOk, MatchOption, false, length, slice_index};
 ghost use Rattle.std.specs.List.{list_any};
 ghost use Rattle.hd_num.specs.Lines.{without_start};
-ghost use Rattle.hd_sdf_read.specs.File.{is_gap};
-ghost use Rattle.hd_sdf_read.specs.Words.{IsCut, JoinGiven};
+ghost use Rattle.hd_sdf_read.specs.Tokens.{is_gap};
+ghost use Rattle.hd_sdf_read.specs.TokenPieces.{IsCut, JoinGiven};
 
 use crate::part_token::PartToken;
 use crate::token::{skip_gaps, token_len};

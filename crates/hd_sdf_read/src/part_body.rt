@@ -3,12 +3,12 @@ ghost use Rattle.std.specs.Prelude.{◌≡◌, ◌≤◌, ℕ, List as Items, []
 ghost use Rattle.hd_map.specs.Cells.{cells_in, wide_cells_in};
 ghost use Rattle.hd_map.specs.Map.{IsSize, cell_count};
 ghost use Rattle.hd_sdf_read.specs.Bodies.{surveyed};
-ghost use Rattle.hd_sdf_read.specs.BodyOn.{DecimalsGoOn, FeedsBody, GoesOn, body_on, surveyed_view};
-ghost use Rattle.hd_sdf_read.specs.DecimalCut.{data_of};
+ghost use Rattle.hd_sdf_read.specs.BodyOn.{DecimalsGoOn, FeedsBody, GoesOn, body_on};
+ghost use Rattle.hd_sdf_read.specs.Views.{surveyed_view};
+ghost use Rattle.hd_sdf_read.specs.Scaling.{data_of, IsScaled};
 ghost use Rattle.hd_sdf_read.specs.File.{is_trailer};
 ghost use Rattle.hd_sdf_read.specs.Keys.{has_decimals};
 ghost use Rattle.hd_sdf_read.specs.Reads.{Gives};
-ghost use Rattle.hd_sdf_read.specs.Scales.{Scales};
 
 use crate::SdfError;
 use crate::body::{Body, DecimalPart, WholePart};
@@ -139,7 +139,7 @@ fn go_on_decimals(
     text: &[u8],
 ) -> Result<Body, SdfError>
     requires limits { IsSize size }
-    requires kept { Scales scaled data_type (data_of scaled) }
+    requires kept { IsScaled scaled data_type (data_of scaled) }
     requires few { length (wide_cells_in scaled.cells) ≤ cell_count size }
     ensures { DecimalsGoOn size data_type scaled text.now result }
 {

@@ -1,7 +1,7 @@
 // A token whose end has not come yet.
 ghost use Rattle.std.specs.Prelude.{◌≡◌, ◌++◌, [], IfOk, false};
 ghost use Rattle.std.specs.List.{list_any};
-ghost use Rattle.hd_sdf_read.specs.File.{is_gap};
+ghost use Rattle.hd_sdf_read.specs.Tokens.{is_gap};
 
 use hd_list::{List, Memory};
 use std::alloc::Global;

@@ -1,6 +1,6 @@
 // A trailer whose end has not come yet.
 ghost use Rattle.std.specs.Prelude.{◌≡◌, ◌<◌, ◌≤◌, [], true, false, length, slice_index};
-ghost use Rattle.hd_sdf_read.specs.File.{is_gap};
+ghost use Rattle.hd_sdf_read.specs.Tokens.{is_gap};
 
 use crate::SdfError;
 use crate::token::{drop_gaps, skip_gaps};

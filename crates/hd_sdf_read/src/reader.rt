@@ -1,6 +1,6 @@
 // A text that comes in pieces.
 ghost use Rattle.std.specs.Prelude.{◌≤◌, ◌<◌, ◌+◌, ◌^◌};
-ghost use Rattle.hd_sdf_read.specs.Pieces.{number_of};
+ghost use Rattle.hd_sdf_read.specs.States.{number_of};
 
 use crate::part_line::PartLine;
 use crate::state::{State, ended, feed};
@@ -27,7 +27,7 @@ impl SdfReader {
     ghost use Rattle.hd_sdf_read.specs.FileOf.{file_of};
     ghost use Rattle.hd_sdf_read.specs.Grammar.{file_in};
     ghost use Rattle.hd_sdf_read.specs.Reader.{CountsFed, StandsFor, TakesPiece, fed_of, is_refusal, refusal_of};
-    ghost use Rattle.hd_sdf_read.specs.Pieces.{StaysRefused};
+    ghost use Rattle.hd_sdf_read.specs.States.{StaysRefused};
     ghost use Rattle.hd_sdf_read.specs.Reads.{Gives};
 
     /// A reader before the first piece.

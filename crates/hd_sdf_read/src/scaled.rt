@@ -48,7 +48,7 @@ pub struct Scaled {
 impl Scaled {
     ghost use Rattle.std.specs.Prelude.{◌∷◌, ◌++◌, [], IfOk, IsTrue, OnOk, length};
     ghost use Rattle.hd_sdf_read.specs.Decimals.{IsSmall, size_of};
-    ghost use Rattle.hd_sdf_read.specs.Scales.{Grows, Pushes, Refines, Scales};
+    ghost use Rattle.hd_sdf_read.specs.Scaling.{Grows, Pushes, Refines, IsScaled};
 
     /// No data of a type of decimals, and the memory for this many.
     pub fn with_capacity(
@@ -57,7 +57,7 @@ impl Scaled {
         capacity: usize,
     ) -> Result<Scaled, Memory>
         requires { has_decimals data_type ≡ true }
-        ensures { IfOk result (λ scaled. Scales scaled data_type []) }
+        ensures { IfOk result (λ scaled. IsScaled scaled data_type []) }
     {
         let cells = WideCells::with_capacity(alloc, with_places(data_type, 0), capacity)?;
         Ok(Scaled {

@@ -5,12 +5,14 @@ ghost use Rattle.hd_sdf_read.specs.Entries.{extra_entries, text_of};
 ghost use Rattle.hd_sdf_read.specs.File.{AreGood, is_trailer};
 ghost use Rattle.hd_sdf_read.specs.FileOf.{file_of};
 ghost use Rattle.hd_sdf_read.specs.Grammar.{file_in, file_with, resolution_of};
-ghost use Rattle.hd_sdf_read.specs.Places.{HasDecimals, IsKept, IsOrigin, frame_view};
+ghost use Rattle.hd_sdf_read.specs.Kept.{IsKept, IsOrigin};
+ghost use Rattle.hd_sdf_read.specs.RequiredKeys.{HasDecimals};
+ghost use Rattle.hd_sdf_read.specs.Views.{required_keys_view};
 ghost use Rattle.hd_sdf_read.specs.Reads.{Gives};
 
 use crate::entries::value_of;
-use crate::frame::{Frame, decimal_at};
 use crate::keys::form_of;
+use crate::required_keys::{RequiredKeys, decimal_at};
 use crate::{Extra, SdfError, SdfFile, SdfReader, Version};
 use hd_list::{List, Memory};
 use hd_map::Surface;
@@ -49,17 +51,17 @@ pub fn build(
     alloc: Global,
     version: Version,
     entries: &[Extra],
-    frame: Frame,
+    frame: RequiredKeys,
     surface: Surface,
     trailer: List<u8>,
 ) -> Result<SdfFile, Memory>
     requires entries { AreGood entries.now }
-    requires decimals { HasDecimals (frame_view frame) }
+    requires decimals { HasDecimals (required_keys_view frame) }
     requires trailer { is_trailer trailer ≡ true }
-    ensures { IfOk result (λ f. file_of f ≡ file_with version entries.now (frame_view frame) (map_of surface) trailer) }
+    ensures { IfOk result (λ f. file_of f ≡ file_with version entries.now (required_keys_view frame) (map_of surface) trailer) }
 {
     let kept = kept_of(alloc, entries)?;
-    let Frame {
+    let RequiredKeys {
         size: _,
         data_type: _,
         x_scale,
@@ -81,7 +83,7 @@ pub fn build(
     })
 }
 
-// What a file keeps of its header beside the frame.
+// What a file keeps of its header beside the required keys.
 #[derive(Drop)]
 struct Kept {
     origin: Origin,
@@ -89,7 +91,7 @@ struct Kept {
     extra: List<Extra>,
 }
 
-// What the entries of a header say beside the frame.
+// What the entries of a header say beside the required keys.
 fn kept_of(alloc: Global, entries: &[Extra]) -> Result<Kept, Memory>
     ensures { IfOk result (λ kept. IsKept kept entries.now) }
 {

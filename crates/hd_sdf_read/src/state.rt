@@ -2,15 +2,15 @@
 ghost use Rattle.std.specs.Prelude.{◌≡◌, ◌<◌, ◌≤◌, ◌+◌, ◌^◌, [], IfOk, None, length};
 ghost use Rattle.hd_sdf_read.specs.FileOf.{file_of};
 ghost use Rattle.hd_sdf_read.specs.Grammar.{body_in};
-ghost use Rattle.hd_sdf_read.specs.Pieces.{Begins, Feeds, FeedsBehind, StaysRefused, continued, number_of, refusal_in};
+ghost use Rattle.hd_sdf_read.specs.States.{Begins, Feeds, FeedsBehind, StaysRefused, continued, number_of, refusal_in};
 ghost use Rattle.hd_sdf_read.specs.Reads.{Gives};
 
 use crate::body::Body;
-use crate::frame::read_frame;
 use crate::header::{Header, version_joined, version_of_line};
 use crate::heading::Heading;
 use crate::part_body::{ended_body, feed_body, new_body};
 use crate::part_line::{PartLine, split_line};
+use crate::required_keys::read_required_keys;
 use crate::sdf::build;
 use crate::{SdfError, SdfFile};
 use std::alloc::Global;
@@ -113,7 +113,7 @@ fn feed_behind(alloc: Global, header: Header, text: &[u8]) -> Result<State, SdfE
 fn begin(alloc: Global, header: Header, bytes: usize) -> Result<(Heading, Body), SdfError>
     ensures { Begins header result }
 {
-    let frame = match read_frame(alloc, header.entries.as_slice()) {
+    let frame = match read_required_keys(alloc, header.entries.as_slice()) {
         Ok(frame) => frame,
         Err(refusal) => return Err(refusal),
     };

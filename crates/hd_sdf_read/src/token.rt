@@ -2,8 +2,7 @@
 ghost use Rattle.std.specs.Prelude.{◌≡◌};
 ghost use Rattle.std.specs.List.{position_or_len};
 ghost use Rattle.hd_num.specs.Lines.{without_end, without_start};
-ghost use Rattle.hd_sdf_read.specs.File.{is_gap};
-ghost use Rattle.hd_sdf_read.specs.Tokens.{after_token, token_of};
+ghost use Rattle.hd_sdf_read.specs.Tokens.{is_gap, after_token, token_of};
 
 /// The first token of a text, or nothing, and the text after it.
 #[tactic(auto, unfolding(crate::specs::Tokens::token_of, crate::specs::Tokens::after_token))]

@@ -3,8 +3,8 @@ ghost use Rattle.std.specs.Prelude.{◌≡◌, ◌≤◌, ◌+◌, ◌<◌, ◌^
 ghost use Rattle.std.specs.List.{list_any};
 ghost use Rattle.hd_map.specs.Cells.{cells_in};
 ghost use Rattle.hd_map.specs.Map.{cell_count};
-ghost use Rattle.hd_sdf_read.specs.Cut.{CutGiven, IsReadOn, IsTaken};
-ghost use Rattle.hd_sdf_read.specs.File.{is_gap};
+ghost use Rattle.hd_sdf_read.specs.WholeCut.{CutGiven, IsReadOn, IsTaken};
+ghost use Rattle.hd_sdf_read.specs.Tokens.{is_gap};
 ghost use Rattle.hd_sdf_read.specs.Keys.{has_decimals};
 ghost use Rattle.hd_sdf_read.specs.ShortWords.{IsShort, ReadsShort};
 

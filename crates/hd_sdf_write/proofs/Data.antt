@@ -17,7 +17,7 @@ use Rattle.hd_sdf_read.proofs.Gapless.{decimal_form}
 use Rattle.hd_sdf_write.specs.Canonical.{cell_text, line, profile, profile_lines, spaced}
 use Rattle.hd_sdf_write.specs.Data.{AddsData, data_from, data_text, datum_text, gap_after}
 use Rattle.hd_sdf_write.proofs.Laid.{height_decimal}
-use Rattle.hd_sdf_write.proofs.Rows.{length-profile, row_first, row_more}
+use Rattle.hd_sdf_write.proofs.Profiles.{length-profile, row_first, row_more}
 
 -- one more datum
 pub data_more : (m : Map) (k : ℕ) → k < cell_count m.size → data_from m k ≡ datum_text m k ++ data_from m (k + 1)
@@ -171,5 +171,5 @@ some_added m from index old new has onward more = elim (cases_eq index from) [
   | inr other ↦ omega (arith, onward, other)
 ]
 
-pub added : (m : Map) (from index : ℕ) (old new : List ℕ) → HasAdded m from old new index → from < index → index ≤ cell_count m.size → AddsData m from old new index
-added m from index old new has some within = record { text = has.text; within = within; some = some; longer = has.some some; short = has.short }
+pub AddsData-added : (m : Map) (from index : ℕ) (old new : List ℕ) → HasAdded m from old new index → from < index → index ≤ cell_count m.size → AddsData m from old new index
+AddsData-added m from index old new has some within = record { text = has.text; within = within; some = some; longer = has.some some; short = has.short }

@@ -14,7 +14,8 @@ use Rattle.hd_sdf_read.specs.declared.file.Extra.{Extra}
 use Rattle.hd_sdf_read.specs.declared.keys.Verdict.TheVariants.{Right}
 use Rattle.hd_sdf_read.specs.Entries.{entry, extra_entries}
 use Rattle.hd_sdf_read.specs.File.{File, HasForms}
-use Rattle.hd_sdf_read.specs.Grammar.{Frame, frame_of, resolution_of}
+use Rattle.hd_sdf_read.specs.Grammar.{resolution_of}
+use Rattle.hd_sdf_read.specs.RequiredKeys.{RequiredKeys, required_keys_of}
 use Rattle.hd_sdf_read.specs.Keys.{extent_in, extent_of, form_of, judge_type, type_by_code, type_in, type_of, with_places}
 use Rattle.hd_sdf_read.proofs.Follow.{extra_kept}
 
@@ -89,12 +90,12 @@ pub extra_is : (f : File) → HasForms f → extra_entries (entries_of f) ≡ f.
 extra_is f forms = no_extra f f.extra ∙ extra_kept f.extra forms.extra
 
 -- what the required keys say
-abbrev pub frame_for : File → Frame
-frame_for f = record { size = f.map.size; data_type = with_places f.map.data_type 0; x_scale = f.x_scale; y_scale = f.y_scale; z_scale = f.z_scale }
+abbrev pub required_keys_for : File → RequiredKeys
+required_keys_for f = record { size = f.map.size; data_type = with_places f.map.data_type 0; x_scale = f.x_scale; y_scale = f.y_scale; z_scale = f.z_scale }
 
-pub frame_is : (f : File) → IsMap f.map → HasForms f → frame_of (entries_of f) ≡ Ok (frame_for f)
-unfolding frame_of
-frame_is f whole forms =
+pub required_keys_are : (f : File) → IsMap f.map → HasForms f → required_keys_of (entries_of f) ≡ Ok (required_keys_for f)
+unfolding required_keys_of
+required_keys_are f whole forms =
     let size = whole.size in
     let few : leb (cell_count f.map.size) 4194304 ≡ true = le-leb (cell_count f.map.size) 4194304 size.cells in
     rw (

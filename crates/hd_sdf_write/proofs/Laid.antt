@@ -1,23 +1,21 @@
 -- The data of the canonical text are read as the cells that they write.
-use Rattle.std.proofs.Common.{◌≡◌, ◌+◌, ◌-◌, ◌*◌, ◌<◌, ◌≤◌, ◌≤ℤ◌, ◌&&◌, ℕ, ℤ, zero, suc, pos, negsuc, true, false, List, [], ◌∷◌, ◌++◌, length, take, drop, eqb, ltb, cond, Some, None, Ok, refl, sym, ap, subst, arith, ◌∙◌, append_assoc, append-nil, ne_eqb}
+use Rattle.std.proofs.Common.{◌≡◌, ◌+◌, ◌-◌, ◌*◌, ◌<◌, ◌≤◌, ◌≤ℤ◌, ◌&&◌, ℕ, ℤ, zero, suc, pos, negsuc, true, false, List, [], ◌∷◌, ◌++◌, length, take, drop, eqb, Some, None, Ok, refl, sym, ap, subst, arith, ◌∙◌, append_assoc, append-nil, ne_eqb}
 use Rattle.std.specs.Prelude.{bytes_eq, codes, int_le}
 use Rattle.std.specs.Fmt.{signed_decimal}
 use Rattle.std.specs.Int.{w64}
 use Rattle.std.specs.Int.RustNames.{FitsSigned}
 use Rattle.std.specs.List.{list_all, list_any}
 use Rattle.std.proofs.Math.Seq.{take-add}
-use Rattle.std.proofs.lemmas.Bool.{and_from, and_parts, le-ltb, leb-true}
+use Rattle.std.proofs.lemmas.Bool.{and_from}
 use Rattle.std.proofs.lemmas.Int.{ints}
 use Rattle.std.proofs.lemmas.List.{take_all}
 use Rattle.std.proofs.lemmas.List.Concat.{flat_map-cons}
-use Rattle.std.proofs.lemmas.Slice.Eq.{bytes_eq-Decides}
 use Rattle.hd_map.specs.declared.types.Cell.{Cell}
 use Rattle.hd_map.specs.declared.types.Cell.TheVariants.{Bad, Height}
 use Rattle.hd_map.specs.declared.types.DataType.{DataType}
 use Rattle.hd_map.specs.declared.types.DataType.TheVariants.{U8, U16, U32, I8, I16, I32, Single, Double}
 use Rattle.hd_map.specs.Map.{AreCellsOf, IsCellOf, IsMap, Map, greatest_height, least_height, most_places, places_of}
 use Rattle.hd_map.proofs.DataTypes.{type_limits}
-use Rattle.hd_num.specs.Lines.{trimmed_by}
 use Rattle.hd_num.specs.Whole.{whole_of}
 use Rattle.hd_num.specs.declared.whole.Whole.TheVariants.{Is}
 use Rattle.hd_num.proofs.ReadsBack.{whole_of-signed_decimal}
@@ -26,17 +24,15 @@ use Rattle.hd_num.proofs.StepTexts.{whole_text}
 use Rattle.hd_num.specs.Decimal.{decimal_of}
 use Rattle.hd_num.specs.Steps.{steps_decimal}
 use Rattle.hd_num.specs.declared.decimal.Decimal.{Decimal}
-use Rattle.hd_sdf_read.specs.File.{is_gap, is_trailer}
-use Rattle.hd_sdf_read.specs.Grammar.{cells_from, datum_at, trailer_of}
-use Rattle.hd_sdf_read.specs.Tokens.{after_token, token_of}
+use Rattle.hd_sdf_read.specs.Tokens.{is_gap, after_token, token_of}
+use Rattle.hd_sdf_read.specs.Grammar.{cells_from, datum_at}
 use Rattle.hd_sdf_read.specs.Keys.{has_decimals}
-use Rattle.hd_sdf_read.proofs.Counting.{datum_by_token}
+use Rattle.hd_sdf_read.proofs.DatumAt.{datum_at-by_token}
 use Rattle.hd_sdf_read.proofs.WholeFronts.{no_word}
-use Rattle.hd_sdf_read.proofs.Trims.{IsTrimmed, trimmed_is}
-use Rattle.hd_sdf_write.specs.Canonical.{cell_text, end_lines, line, profile, profile_lines, spaced}
-use Rattle.hd_sdf_read.proofs.Fronts.{after_token_front, token_front, trim_around}
+use Rattle.hd_sdf_write.specs.Canonical.{cell_text, line, profile, profile_lines, spaced}
+use Rattle.hd_sdf_read.proofs.Fronts.{after_token_front, token_front}
 use Rattle.hd_sdf_read.proofs.Gapless.{decimal_form, decimal_gapless, number_some}
-use Rattle.hd_sdf_write.proofs.Rows.{length-profile}
+use Rattle.hd_sdf_write.proofs.Profiles.{length-profile}
 
 -- heights fit 64 bits
 small_fits : (h : ℤ) → negsuc 9007199254740991 ≤ℤ h → h ≤ℤ pos 9007199254740992 → FitsSigned w64 h
@@ -89,7 +85,7 @@ int_le-from a b le = grind (arith, ints)
 
 -- and is read as its cell
 datum_read : (t : DataType) (read : ℕ) (text : List ℕ) (cell : Cell) → has_decimals t ≡ false → IsCellOf t cell → token_of text ≡ cell_text t cell → datum_at (least_height t) (greatest_height t) read text ≡ Ok cell
-datum_read t read text Bad whole fits is = datum_by_token (least_height t) (greatest_height t) read text (codes "BAD") (sym is) refl refl
+datum_read t read text Bad whole fits is = datum_at-by_token (least_height t) (greatest_height t) read text (codes "BAD") (sym is) refl refl
 datum_read t read text (Height h) whole fits is =
     let token : List ℕ = signed_decimal h in
     let number : whole_of (signed_decimal h) ≡ Is h = height_read t h fits in
@@ -97,7 +93,7 @@ datum_read t read text (Height h) whole fits is =
     let filled : eqb (length (signed_decimal h)) 0 ≡ false = ne_eqb (length (signed_decimal h)) 0 (λ none. omega (arith, none, some)) in
     let no_bad : bytes_eq (signed_decimal h) (codes "BAD") ≡ false = no_word (codes "BAD") (signed_decimal h) h refl number in
     let within : (int_le (least_height t) h && int_le h (greatest_height t)) ≡ true = and_from _ _ (int_le-from (least_height t) h (fits h refl).0) (int_le-from h (greatest_height t) (fits h refl).1) in
-    datum_by_token (least_height t) (greatest_height t) read text (signed_decimal h) (sym (is ∙ height_text t h whole)) filled (no_word (codes "*") (signed_decimal h) h refl number)
+    datum_at-by_token (least_height t) (greatest_height t) read text (signed_decimal h) (sym (is ∙ height_text t h whole)) filled (no_word (codes "*") (signed_decimal h) h refl number)
     ∙ rw (no_bad, number, within) refl
 
 -- a text begins with the datum of a cell, between gaps
@@ -208,24 +204,3 @@ pub whole_read : (m : Map) (rest : List ℕ) → IsMap m → has_decimals m.data
 whole_read m rest whole type =
     ap (λ n. cells_from (least_height m.data_type) (greatest_height m.data_type) 0 n (profile_lines m m.size.profiles ++ rest)) (sym whole.cells)
     ∙ cells_laid m.data_type m.cells 0 (profile_lines m m.size.profiles ++ rest) (gaps_after m.size.profiles ++ rest) type whole.places (all_fit m.data_type m.cells whole.heights) (cells_are_laid m rest whole)
-
--- a trailer between LFs
-trailer_trims : (trailer : List ℕ) → bytes_eq (trimmed_by is_gap trailer) trailer ≡ true → trimmed_by is_gap (10 ∷ cond (eqb (length trailer) 0) [] (line trailer)) ≡ trailer
-trailer_trims [] good = refl
-trailer_trims (x ∷ xs) good =
-    let trims : IsTrimmed is_gap (x ∷ xs) = subst (IsTrimmed is_gap) ((bytes_eq-Decides (trimmed_by is_gap (x ∷ xs)) (x ∷ xs)).0 good) (trimmed_is is_gap (x ∷ xs)) in
-    ap (λ b. trimmed_by is_gap (10 ∷ cond b [] (line (x ∷ xs)))) (ne_eqb (length (x ∷ xs)) 0 (λ none. omega (arith, none)))
-    ∙ trim_around is_gap (10 ∷ []) (x ∷ xs) (10 ∷ []) refl refl trims
-
--- the end of the data and the trailer are read back
-pub trailer_read : (count : ℕ) (front trailer : List ℕ) → list_all is_gap front ≡ true → is_trailer trailer ≡ true → trailer_of count (front ++ end_lines trailer) ≡ Ok trailer
-unfolding trailer_of end_lines
-trailer_read count front trailer gaps good =
-    let more : List ℕ = cond (eqb (length trailer) 0) [] (line trailer) in
-    let parts = and_parts _ (bytes_eq (trimmed_by is_gap trailer) trailer) good in
-    let short = leb-true (length trailer) 65536 parts.0 in
-    let token : token_of (front ++ end_lines trailer) ≡ codes "*" = token_front front (codes "*") 10 more gaps (omega arith) refl refl in
-    let after : after_token (front ++ end_lines trailer) ≡ 10 ∷ more = after_token_front front (codes "*") 10 more gaps (omega arith) refl refl in
-    let text : trimmed_by is_gap (after_token (front ++ end_lines trailer)) ≡ trailer = ap (trimmed_by is_gap) after ∙ trailer_trims trailer parts.1 in
-    let fits : ltb 65536 (length trailer) ≡ false = le-ltb 65536 (length trailer) short in
-    rw (token, text, fits) refl

@@ -8,5 +8,5 @@ mod Laid
 mod LaidDecimals
 mod Parts
 mod ReadsBack
-mod Rows
+mod Profiles
 mod Sizes

@@ -1,32 +1,35 @@
 -- The canonical text of a file is read as this file.
-use Rattle.std.proofs.Common.{◌≡◌, ◌+◌, ◌-◌, ◌*◌, ℕ, zero, suc, false, List, [], ◌∷◌, ◌++◌, take, drop, Option, Some, Ok, inl, inr, refl, sym, ap, ap₂, ◌∙◌, append_assoc, append-nil}
-use Rattle.std.specs.Prelude.{codes, ok_or}
+use Rattle.std.proofs.Common.{◌≡◌, ◌+◌, ◌-◌, ◌*◌, ℕ, zero, suc, false, List, [], ◌∷◌, ◌++◌, take, drop, Option, Some, Ok, inl, inr, refl, sym, ap, ap₂, ◌∙◌, append_assoc, append-nil, true, length, eqb, ltb, cond, subst, arith, ne_eqb}
+use Rattle.std.specs.Prelude.{codes, ok_or, bytes_eq}
 use Rattle.std.specs.Fmt.{decimal}
-use Rattle.std.specs.List.{flat_map, list_any}
-use Rattle.std.proofs.lemmas.Bool.{cases_Bool, or_from, or_parts}
+use Rattle.std.specs.List.{flat_map, list_any, list_all}
+use Rattle.std.proofs.lemmas.Bool.{cases_Bool, or_from, or_parts, and_parts, le-ltb, leb-true}
 use Rattle.std.proofs.lemmas.List.Concat.{flat_map-append, flat_map-cons}
+use Rattle.std.proofs.lemmas.Slice.Eq.{bytes_eq-Decides}
 use Rattle.hd_map.specs.declared.types.DataType.{DataType}
 use Rattle.hd_map.specs.declared.types.DataType.TheVariants.{U8, U16, U32, I8, I16, I32, Single, Double}
 use Rattle.hd_map.specs.declared.types.Cell.{Cell}
 use Rattle.hd_map.specs.declared.types.Cell.TheVariants.{Bad, Height}
 use Rattle.hd_map.specs.Map.{IsMap, Map, code_of, places_of}
-use Rattle.hd_map.specs.Sets.{unmasked}
-use Rattle.hd_num.specs.Lines.{after_line, is_line_feed, lines_of}
+use Rattle.hd_map.specs.Unmasked.{unmasked}
+use Rattle.hd_num.specs.Lines.{after_line, is_line_feed, lines_of, trimmed_by}
 use Rattle.hd_sdf_read.specs.declared.error.SdfError.TheVariants.{BadVersion}
 use Rattle.hd_sdf_read.specs.declared.file.Extra.{Extra}
 use Rattle.hd_sdf_read.specs.declared.file.Version.{Version}
 use Rattle.hd_sdf_read.specs.declared.file.Version.TheVariants.{Bcr, Iso}
 use Rattle.hd_sdf_read.specs.Entries.{header_from}
-use Rattle.hd_sdf_read.specs.File.{File, HasForms}
-use Rattle.hd_sdf_read.specs.Grammar.{after_lines, file_in, file_with, map_with, mapped, version_of, version_of_line}
+use Rattle.hd_sdf_read.specs.File.{File, HasForms, is_trailer}
+use Rattle.hd_sdf_read.specs.Tokens.{is_gap, after_token, token_of}
+use Rattle.hd_sdf_read.specs.Grammar.{after_lines, file_in, file_with, map_with, mapped, version_of, version_of_line, trailer_of}
 use Rattle.hd_sdf_read.specs.Keys.{has_decimals, with_places}
-use Rattle.hd_sdf_read.proofs.Stages.{decimals, whole_body, whole_header, whole_numbers}
+use Rattle.hd_sdf_read.proofs.Grammar.{mapped-decimals, body_in-whole_body, file_in-whole_header, mapped-whole_numbers}
 use Rattle.hd_sdf_write.specs.Canonical.{as_read, canonical, cell_text, encoding_lines, end_lines, entry_line, extra_lines, is_height, line, name_lines, profile, profile_lines, scale_lines, spaced, type_read, typed, version_text}
-use Rattle.hd_sdf_read.proofs.Fronts.{after_line_front, lines_front}
+use Rattle.hd_sdf_read.proofs.Fronts.{after_line_front, lines_front, after_token_front, token_front, trim_around}
+use Rattle.hd_sdf_read.proofs.Trims.{IsTrimmed, trimmed_is}
 use Rattle.hd_sdf_write.proofs.HeaderText.{header_reads}
-use Rattle.hd_sdf_write.proofs.Known.{entries_of, extra_is, frame_for, frame_is, known, resolution_is}
+use Rattle.hd_sdf_write.proofs.Known.{entries_of, extra_is, required_keys_for, required_keys_are, known, resolution_is}
 use Rattle.hd_sdf_write.proofs.Follow.{entries_follow}
-use Rattle.hd_sdf_write.proofs.Laid.{are_gaps, gaps_after, trailer_read, whole_read}
+use Rattle.hd_sdf_write.proofs.Laid.{are_gaps, gaps_after, whole_read}
 use Rattle.hd_sdf_write.proofs.LaidDecimals.{cells_are_read, data_for, decimals_read, type_is_read}
 
 -- the lines of the known entries
@@ -80,8 +83,29 @@ canonical_lines f = ap lines_of (canonical_is f) ∙ lines_front (version_text f
 version_found : (f : File) → version_of (lines_of (canonical f)) ≡ Ok f.version
 version_found f = ap version_of (canonical_lines f) ∙ ap (λ (o : Option Version). ok_or o BadVersion) (version_reads f.version)
 
+-- a trailer between LFs
+trailer_trims : (trailer : List ℕ) → bytes_eq (trimmed_by is_gap trailer) trailer ≡ true → trimmed_by is_gap (10 ∷ cond (eqb (length trailer) 0) [] (line trailer)) ≡ trailer
+trailer_trims [] good = refl
+trailer_trims (x ∷ xs) good =
+    let trims : IsTrimmed is_gap (x ∷ xs) = subst (IsTrimmed is_gap) ((bytes_eq-Decides (trimmed_by is_gap (x ∷ xs)) (x ∷ xs)).0 good) (trimmed_is is_gap (x ∷ xs)) in
+    ap (λ b. trimmed_by is_gap (10 ∷ cond b [] (line (x ∷ xs)))) (ne_eqb (length (x ∷ xs)) 0 (λ none. omega (arith, none)))
+    ∙ trim_around is_gap (10 ∷ []) (x ∷ xs) (10 ∷ []) refl refl trims
+
+-- the end of the data and the trailer are read back
+pub trailer_read : (count : ℕ) (front trailer : List ℕ) → list_all is_gap front ≡ true → is_trailer trailer ≡ true → trailer_of count (front ++ end_lines trailer) ≡ Ok trailer
+unfolding trailer_of end_lines
+trailer_read count front trailer gaps good =
+    let more : List ℕ = cond (eqb (length trailer) 0) [] (line trailer) in
+    let parts = and_parts _ (bytes_eq (trimmed_by is_gap trailer) trailer) good in
+    let short = leb-true (length trailer) 65536 parts.0 in
+    let token : token_of (front ++ end_lines trailer) ≡ codes "*" = token_front front (codes "*") 10 more gaps (omega arith) refl refl in
+    let after : after_token (front ++ end_lines trailer) ≡ 10 ∷ more = after_token_front front (codes "*") 10 more gaps (omega arith) refl refl in
+    let text : trimmed_by is_gap (after_token (front ++ end_lines trailer)) ≡ trailer = ap (trimmed_by is_gap) after ∙ trailer_trims trailer parts.1 in
+    let fits : ltb 65536 (length trailer) ≡ false = le-ltb 65536 (length trailer) short in
+    rw (token, text, fits) refl
+
 -- the parts make the file
-parts_are : (f : File) → HasForms f → file_with f.version (entries_of f) (frame_for f) (map_with f.map.size (type_read f.map) f.map.cells) f.trailer ≡ as_read f
+parts_are : (f : File) → HasForms f → file_with f.version (entries_of f) (required_keys_for f) (map_with f.map.size (type_read f.map) f.map.cells) f.trailer ≡ as_read f
 parts_are f forms = rw (resolution_is f forms, extra_is f forms) refl
 
 -- a type of whole numbers has no places
@@ -118,12 +142,12 @@ map_reads f whole = elim (cases_Bool (has_decimals f.map.data_type)) [
   | inl type ↦
       let m : Map = f.map in
       let p : ℕ = places_of m.data_type in
-      decimals m.size (with_places m.data_type 0) (data_text f) (record { items = data_for p m.cells; rest = gaps_after m.size.profiles ++ end_lines f.trailer }) (same_kind m.data_type ∙ type) (decimals_read m (end_lines f.trailer) whole type)
+      mapped-decimals m.size (with_places m.data_type 0) (data_text f) (record { items = data_for p m.cells; rest = gaps_after m.size.profiles ++ end_lines f.trailer }) (same_kind m.data_type ∙ type) (decimals_read m (end_lines f.trailer) whole type)
       ∙ ap₂ (λ (t : DataType) (cells : List Cell). Ok (record { map = map_with m.size t cells; rest = gaps_after m.size.profiles ++ end_lines f.trailer })) (type_is_read m type) (cells_are_read m)
   | inr type ↦
       let m : Map = f.map in
       ap (λ (t : DataType). mapped m.size t (data_text f)) (whole_type m.data_type type)
-      ∙ whole_numbers m.size m.data_type (data_text f) (record { cells = m.cells; rest = gaps_after m.size.profiles ++ end_lines f.trailer }) type (whole_read m (end_lines f.trailer) whole type)
+      ∙ mapped-whole_numbers m.size m.data_type (data_text f) (record { cells = m.cells; rest = gaps_after m.size.profiles ++ end_lines f.trailer }) type (whole_read m (end_lines f.trailer) whole type)
       ∙ ap (λ (t : DataType). Ok (record { map = map_with m.size t m.cells; rest = gaps_after m.size.profiles ++ end_lines f.trailer })) (whole_type_read m type)
 ]
 
@@ -138,9 +162,9 @@ reads_back f whole forms =
     let header : header_from 2 [] (drop 1 (lines_of (canonical f))) ≡ Ok (record { entries = entries_of f; last = reads.last }) =
     ap (λ (ls : List (List ℕ)). header_from 2 [] (drop 1 ls)) lines ∙ reads.header in
     let trailer = trailer_read (f.map.size.profiles * f.map.size.points) (gaps_after f.map.size.profiles) f.trailer (are_gaps f.map.size.profiles) forms.trailer in
-    whole_header (canonical f) f.version (record { entries = entries_of f; last = reads.last }) (data_text f) version header reads.rest_is
-    ∙ whole_body f.version (entries_of f) (data_text f) (frame_for f) (record { map = map_with f.map.size (type_read f.map) f.map.cells; rest = gaps_after f.map.size.profiles ++ end_lines f.trailer }) f.trailer
-    (frame_is f whole forms) (map_reads f whole) trailer
+    file_in-whole_header (canonical f) f.version (record { entries = entries_of f; last = reads.last }) (data_text f) version header reads.rest_is
+    ∙ body_in-whole_body f.version (entries_of f) (data_text f) (required_keys_for f) (record { map = map_with f.map.size (type_read f.map) f.map.cells; rest = gaps_after f.map.size.profiles ++ end_lines f.trailer }) f.trailer
+    (required_keys_are f whole forms) (map_reads f whole) trailer
     ∙ ap (λ (x : File). Ok x) (parts_are f forms)
 
 -- the code of a type does not tell its places

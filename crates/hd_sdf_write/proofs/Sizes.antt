@@ -17,7 +17,8 @@ use Rattle.hd_sdf_read.specs.declared.file.Extra.{Extra}
 use Rattle.hd_sdf_read.specs.declared.file.Version.{Version}
 use Rattle.hd_sdf_read.specs.declared.file.Version.TheVariants.{Bcr, Iso}
 use Rattle.hd_sdf_read.specs.Entries.{is_value}
-use Rattle.hd_sdf_read.specs.File.{File, HasForms, is_entry, is_extra, is_gap, is_header_key, is_header_value, is_trailer, is_trimmed_line}
+use Rattle.hd_sdf_read.specs.File.{File, HasForms, is_entry, is_extra, is_header_key, is_header_value, is_trailer, is_trimmed_line}
+use Rattle.hd_sdf_read.specs.Tokens.{is_gap}
 use Rattle.hd_sdf_read.specs.Keys.{form_of}
 use Rattle.hd_sdf_read.proofs.Gapless.{decimal_form}
 use Rattle.hd_sdf_write.specs.Canonical.{encoding_lines, end_lines, entry_line, entry_text, extra_lines, header_lines, line, name_lines, scale_lines, version_text}

@@ -6,7 +6,7 @@ use Rattle.hd_map.specs.declared.types.Cell.{Cell}
 use Rattle.hd_map.specs.declared.types.Cell.TheVariants.{Height, Bad}
 use Rattle.hd_map.specs.declared.types.DataType.{DataType}
 use Rattle.hd_map.specs.Map.{Map, code_of, places_of}
-use Rattle.hd_map.specs.Sets.{unmasked}
+use Rattle.hd_map.specs.Unmasked.{unmasked}
 use Rattle.hd_num.specs.Steps.{steps_text}
 use Rattle.hd_sdf_read.specs.declared.file.Extra.{Extra}
 use Rattle.hd_sdf_read.specs.declared.file.Version.{Version}

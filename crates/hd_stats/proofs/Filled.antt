@@ -25,10 +25,10 @@ use Rattle.hd_prune.proofs.Lists.{AllPairs-map, Contains-filter, Contains-map, f
 use Rattle.hd_prune.proofs.Ranges.{range-Contains, range-rises}
 use Rattle.hd_reach.specs.Reached.{AreReached, IsReachedBy}
 use Rattle.hd_reach.proofs.Flooding.{noted-inside}
-use Rattle.hd_reach.proofs.Reaching.{by-point}
+use Rattle.hd_reach.proofs.Reached.{by-point}
 use Rattle.hd_stats.specs.Fill.{AreFilled, AreFills, IsFill}
 use Rattle.hd_stats.specs.Volumes.{AreValues, AreVolumes, IsValueOf, added, difference, is_below_nearest, is_number, nearest_of}
-use Rattle.hd_stats.proofs.Filling.{AreNearest, below-reached, kept-listed, nearest-at, reached-below}
+use Rattle.hd_stats.proofs.ReachedBelow.{AreNearest, below-reached, kept-listed, nearest-at, reached-below}
 
 -- the height of a present point
 shown : (c : Cell) (masked : Bool) → IsMeasured c → masked ≡ false → shown_height c masked ≡ Some (height_or_zero c)

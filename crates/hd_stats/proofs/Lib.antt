@@ -1,6 +1,6 @@
 pub mod Gathering
-pub mod Binning
-pub mod Filling
+pub mod Bins
+pub mod ReachedBelow
 pub mod AddedVolumes
 pub mod Filled
 pub mod Totals

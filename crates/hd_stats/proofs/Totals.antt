@@ -9,7 +9,7 @@ use Rattle.std.proofs.lemmas.Option.{get_or_from_slice_get}
 use Rattle.hd_feature.specs.Value.{greatest, least}
 use Rattle.hd_stats.specs.Distribution.{AreCounts, bin_of, counted_in}
 use Rattle.hd_stats.proofs.AddedVolumes.{range-push}
-use Rattle.hd_stats.proofs.Binning.{one_at, other_bin, same_bin}
+use Rattle.hd_stats.proofs.Bins.{one_at, other_bin, same_bin}
 
 -- the bins below n
 abbrev over_bins : (ℕ → ℕ) → ℕ → ℕ

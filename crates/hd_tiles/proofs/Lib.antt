@@ -1,4 +1,4 @@
 pub mod TilesAlong
 pub mod Corners
 pub mod Stamping
-pub mod Changes
+pub mod ComesFrom

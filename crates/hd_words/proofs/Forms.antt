@@ -7,8 +7,9 @@ use Rattle.hd_num.specs.Whole.{is_numeral}
 use Rattle.hd_words.specs.CommandLines.{form_by, ids_of}
 use Rattle.hd_words.specs.Demo.{demo_of}
 use Rattle.hd_words.specs.Limits.{usual_tile}
-use Rattle.hd_words.specs.Words.{Given, Request, begins_with_dash, check_form, check_names, dales_form, dales_names, demo_form, demo_names, filled, form_named, form_of, given_of, run_form, run_names, savable, save_of, tile_of}
-use Rattle.hd_words.specs.Words.{Run as RunOf, Check as CheckOf, Demonstrate as DemoOf}
+use Rattle.hd_words.specs.Forms.{check_form, check_form_by, dales_form, dales_form_by, demo_form, demo_form_by, filled, form_named, form_of, run_form, run_form_by, savable, save_of, tile_of}
+use Rattle.hd_words.specs.GivenWords.{Given, begins_with_dash, given_of}
+use Rattle.hd_words.specs.Requests.{Request, Run as RunOf, Check as CheckOf, Demonstrate as DemoOf}
 use Rattle.hd_words.specs.WordSteps.{HasNoForm}
 use Rattle.hd_words.specs.declared.command_lines.CommandLine.{CommandLine}
 use Rattle.hd_words.specs.declared.command_lines.CommandLine.TheVariants.{Dales, Run, Check}
@@ -35,12 +36,12 @@ filled_is (byte ∷ bytes) text is = cc
 -- ---- the form of the words, by what they give
 
 -- words that give this have the form that it has
-pub formed : (words : List (List ℕ)) (name : List ℕ) (rest : List (List ℕ)) (given : Given) → words ≡ name ∷ rest → given_of Options rest ≡ Some given → form_of words ≡ form_named name given
-formed words name rest given are gives = ap form_of are ∙ ap (option_and_then (form_named name)) gives
+pub form_of-formed : (words : List (List ℕ)) (name : List ℕ) (rest : List (List ℕ)) (given : Given) → words ≡ name ∷ rest → given_of Options rest ≡ Some given → form_of words ≡ form_named name given
+form_of-formed words name rest given are gives = ap form_of are ∙ ap (option_and_then (form_named name)) gives
 
 -- words that no command has
-pub unformed : (words : List (List ℕ)) (name : List ℕ) (rest : List (List ℕ)) → words ≡ name ∷ rest → HasNoForm (given_of Options rest) → form_of words ≡ None
-unformed words name rest are lacks = ap form_of are ∙ none (given_of Options rest) lacks
+pub form_of-unformed : (words : List (List ℕ)) (name : List ℕ) (rest : List (List ℕ)) → words ≡ name ∷ rest → HasNoForm (given_of Options rest) → form_of words ≡ None
+form_of-unformed words name rest are lacks = ap form_of are ∙ none (given_of Options rest) lacks
   where
     none : (given : Option Given) → HasNoForm given → option_and_then (form_named name) given ≡ None
     none None h = refl
@@ -120,7 +121,7 @@ pub record DalesFound (names tiles saves : List (List ℕ)) (request : Request) 
   pub saves_are : saves ≡ []
   pub request_is : request ≡ RunOf (record { surface = surface; script = None; tile = usual_tile; save = None })
 
-pub dales_found : (names tiles saves : List (List ℕ)) (request : Request) → dales_names names tiles saves ≡ Some request → DalesFound names tiles saves request
+pub dales_found : (names tiles saves : List (List ℕ)) (request : Request) → dales_form_by names tiles saves ≡ Some request → DalesFound names tiles saves request
 dales_found [] tiles saves request is = absurd (cc)
 dales_found (surface ∷ []) [] [] request is =
     let (name, found, same) = mapped_some (filled surface) _ request is in
@@ -140,7 +141,7 @@ pub record RunFound (names tiles saves : List (List ℕ)) (request : Request) : 
   pub save_is : IsOne saves
   pub request_is : request ≡ RunOf (record { surface = surface; script = Some script; tile = side; save = slice_get saves 0 })
 
-pub run_found : (names tiles saves : List (List ℕ)) (request : Request) → run_names names tiles saves ≡ Some request → RunFound names tiles saves request
+pub run_found : (names tiles saves : List (List ℕ)) (request : Request) → run_form_by names tiles saves ≡ Some request → RunFound names tiles saves request
 run_found [] tiles saves request is = absurd (cc)
 run_found (surface ∷ []) tiles saves request is = absurd (cc)
 run_found (surface ∷ (script ∷ (other ∷ names))) tiles saves request is = absurd (cc)
@@ -164,7 +165,7 @@ pub record CheckFound (names tiles saves : List (List ℕ)) (request : Request) 
   pub saves_are : saves ≡ []
   pub request_is : request ≡ CheckOf (record { surface = surface; certificate = certificate })
 
-pub check_found : (names tiles saves : List (List ℕ)) (request : Request) → check_names names tiles saves ≡ Some request → CheckFound names tiles saves request
+pub check_found : (names tiles saves : List (List ℕ)) (request : Request) → check_form_by names tiles saves ≡ Some request → CheckFound names tiles saves request
 check_found [] tiles saves request is = absurd (cc)
 check_found (surface ∷ []) tiles saves request is = absurd (cc)
 check_found (surface ∷ (certificate ∷ (other ∷ names))) tiles saves request is = absurd (cc)
@@ -192,7 +193,7 @@ pub record DemoFound (names tiles saves : List (List ℕ)) (request : Request) :
   pub demo_is : demo_of points profiles number edits side ≡ Some demo
   pub request_is : request ≡ DemoOf demo
 
-pub demo_found : (names tiles saves : List (List ℕ)) (request : Request) → demo_names names tiles saves ≡ Some request → DemoFound names tiles saves request
+pub demo_found : (names tiles saves : List (List ℕ)) (request : Request) → demo_form_by names tiles saves ≡ Some request → DemoFound names tiles saves request
 demo_found [] tiles saves request is = absurd (cc)
 demo_found (points ∷ []) tiles saves request is = absurd (cc)
 demo_found (points ∷ (profiles ∷ [])) tiles saves request is = absurd (cc)

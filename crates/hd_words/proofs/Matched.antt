@@ -7,8 +7,9 @@ use Rattle.clap.specs.Matches.{first_value, found_of}
 use Rattle.clap.specs.declared.parser.matches.ArgMatches.{ArgMatches}
 use Rattle.hd_words.specs.CommandLines.{Asks, HasForm, HasGiven, Holds, form_by}
 use Rattle.hd_words.specs.Limits.{usual_tile}
-use Rattle.hd_words.specs.Words.{Given, Request, check_form, command_for, dales_form, demo_form, form_named, form_of, given_of, run_command, run_form}
-use Rattle.hd_words.specs.Words.{Run as RunOf, Check as CheckOf, Demonstrate as DemoOf}
+use Rattle.hd_words.specs.Forms.{check_form, dales_form, demo_form, form_named, form_of, run_form}
+use Rattle.hd_words.specs.GivenWords.{Given, given_of}
+use Rattle.hd_words.specs.Requests.{Request, command_for, run_command, Run as RunOf, Check as CheckOf, Demonstrate as DemoOf}
 use Rattle.hd_words.specs.declared.command.Command.{Command}
 use Rattle.hd_words.specs.declared.command.Command.TheVariants as command
 use Rattle.hd_words.specs.declared.command_lines.CommandLine.{CommandLine}

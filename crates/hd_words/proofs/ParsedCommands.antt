@@ -15,7 +15,7 @@ use Rattle.clap.specs.declared.builder.command.Command.{Command}
 use Rattle.clap.specs.declared.parser.matches.ArgMatches.{ArgMatches}
 use Rattle.clap.proofs.WalkLemmas.{first_value-rows}
 use Rattle.hd_words.specs.CommandLines.{HasForm, HasGiven, Holds, app_for, ids_of}
-use Rattle.hd_words.specs.Words.{Given}
+use Rattle.hd_words.specs.GivenWords.{Given}
 use Rattle.hd_words.specs.declared.command_lines.CommandLine.{CommandLine}
 use Rattle.hd_words.specs.declared.command_lines.CommandLine.TheVariants.{Dales, Run, Check}
 use Rattle.hd_words.proofs.Forms.{form_fits, saves_of, tiles_of}
@@ -23,8 +23,8 @@ use Rattle.hd_words.proofs.ParsedKeys.{Key, Name, Save, Tile, id_of, said, taken
 use Rattle.hd_words.proofs.ParsedWords.{Goes, Reads, all_walked}
 
 -- one more argument
-pub adds : (old new : Command) (a : Arg) (app : App) (rule : Rule) → AddsArg old a new → a.global ≡ false → app_of old ≡ app → rule_of a ≡ rule → app_of new ≡ with_rule app rule
-adds old new a app rule more own is rule_is = more.shape own ∙ ap₂ with_rule is rule_is
+pub with_rule-adds : (old new : Command) (a : Arg) (app : App) (rule : Rule) → AddsArg old a new → a.global ≡ false → app_of old ≡ app → rule_of a ≡ rule → app_of new ≡ with_rule app rule
+with_rule-adds old new a app rule more own is rule_is = more.shape own ∙ ap₂ with_rule is rule_is
 
 abbrev option_rule_of : Text → Rule
 option_rule_of id = taken id (Some id) None

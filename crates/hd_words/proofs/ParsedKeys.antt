@@ -12,7 +12,7 @@ use Rattle.clap.specs.Walk.{Row, Rule, Text}
 use Rattle.clap.specs.declared.builder.action.ArgAction.TheVariants.{Set}
 use Rattle.clap.specs.declared.builder.value_parser.ValueParser.TheVariants as vp
 use Rattle.clap.specs.declared.parser.matches.ValueSource.TheVariants.{CommandLine}
-use Rattle.hd_words.specs.Words.{Given}
+use Rattle.hd_words.specs.GivenWords.{Given}
 use Rattle.hd_words.proofs.ParsedRows.{row_at, found_last, found_before}
 
 -- an argument that takes one text, as a parse reads it

@@ -12,18 +12,18 @@ none≢some : {X : Type 0} {x : X} → Some x ≡ None → ⊥
 none≢some e = cc
 
 -- where an id has no row, its row joins at the end
-pub joins : (id : Text) (change : Row → List Row) (missing rows : List Row) → row_at id rows ≡ None → at_row id change missing rows ≡ rows ++ missing
-joins id change missing [] none = refl
-joins id change missing (r ∷ rows) none = go (bytes_eq r.id id) none (joins id change missing rows)
+pub at_row-joins : (id : Text) (change : Row → List Row) (missing rows : List Row) → row_at id rows ≡ None → at_row id change missing rows ≡ rows ++ missing
+at_row-joins id change missing [] none = refl
+at_row-joins id change missing (r ∷ rows) none = go (bytes_eq r.id id) none (at_row-joins id change missing rows)
   where
     go : (b : Bool) → cond b (Some r) (row_at id rows) ≡ None → (row_at id rows ≡ None → at_row id change missing rows ≡ rows ++ missing)
         → cond b (change r ++ rows) (r ∷ at_row id change missing rows) ≡ r ∷ (rows ++ missing)
     go true found rest = absurd (none≢some found)
     go false found rest = ap (λ more. r ∷ more) (rest found)
 
-pub lacks : (id : Text) (rows : List Row) → row_at id rows ≡ None → has_row id rows ≡ false
-lacks id [] none = refl
-lacks id (r ∷ rows) none = go (bytes_eq r.id id) none (lacks id rows)
+pub has_row-lacks : (id : Text) (rows : List Row) → row_at id rows ≡ None → has_row id rows ≡ false
+has_row-lacks id [] none = refl
+has_row-lacks id (r ∷ rows) none = go (bytes_eq r.id id) none (has_row-lacks id rows)
   where
     go : (b : Bool) → cond b (Some r) (row_at id rows) ≡ None → (row_at id rows ≡ None → has_row id rows ≡ false) → (b || has_row id rows) ≡ false
     go true found rest = absurd (none≢some found)

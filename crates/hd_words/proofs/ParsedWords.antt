@@ -11,13 +11,13 @@ use Rattle.clap.specs.Lexer.{long_of, short_of, usize_max}
 use Rattle.clap.specs.Simple.{Shape, new_shape}
 use Rattle.clap.specs.Takes.{settle_passes, step_passes, turn_passes, use_passes, walk_passes}
 use Rattle.clap.specs.Walk.{Held, Row, Rule, Text, Walk, arg_by_id, arg_by_index, arg_by_long, has_row, idle, is_pending, more_values, nothing_held, option as waits_for, reacted, settled, to_positional, used, value as is_value, walk_from, walked, without}
-use Rattle.hd_words.specs.Words.{Given, given_of, with_name, with_tile, with_save, begins_with_dash}
+use Rattle.hd_words.specs.GivenWords.{Given, given_of, with_name, with_tile, with_save, begins_with_dash}
 use Rattle.hd_words.specs.WordSteps.{both_given, followed_by}
 use Rattle.hd_words.specs.declared.found.Stage.{Stage}
 use Rattle.hd_words.specs.declared.found.Stage.TheVariants.{Options, TileValue, SaveValue, Names}
 use Rattle.hd_words.proofs.StartsWith.{same_byte}
 use Rattle.hd_words.proofs.WordSteps.{one_name}
-use Rattle.hd_words.proofs.ParsedRows.{row_at, joins, lacks}
+use Rattle.hd_words.proofs.ParsedRows.{row_at, at_row-joins, has_row-lacks}
 use Rattle.hd_words.proofs.ParsedKeys.{Adds, AreDifferent, HasRows, Key, adds_name, adds_save, adds_tile, id_of, Name, row_added, said, Save, taken, Tile}
 
 -- a command that is built, with neither help nor version
@@ -133,9 +133,9 @@ module _ (command : Text) (rules : List Rule) (ids : List Text) (tiles saves : �
   first_use : (id text : Text) (long : Option Text) (index : Option ℕ) (rows : List Row) → row_at id rows ≡ None
       → (use_passes false (taken id long index) (text ∷ []) rows ≡ true) × (used (taken id long index) (text ∷ []) rows ≡ rows ++ (said id text ∷ []))
   first_use id text long index rows none =
-      let one : without id rows ≡ rows = joins id (λ _. []) [] rows none ∙ append-nil rows in
-      let lacking : has_row id rows ≡ false = lacks id rows none in
-      (rw lacking refl, rw one (joins id (more_values _ (text ∷ [])) _ rows none))
+      let one : without id rows ≡ rows = at_row-joins id (λ _. []) [] rows none ∙ append-nil rows in
+      let lacking : has_row id rows ≡ false = has_row-lacks id rows none in
+      (rw lacking refl, rw one (at_row-joins id (more_values _ (text ∷ [])) _ rows none))
 
   -- where the walk stands before a name or an option
   abbrev stands : Bool → Held → ℕ → Walk

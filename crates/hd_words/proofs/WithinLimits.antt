@@ -7,7 +7,9 @@ use Rattle.std.proofs.lemmas.Bool.Decides.{nat_tests}
 use Rattle.hd_num.specs.Whole.{count_of, is_numeral}
 use Rattle.hd_words.specs.Demo.{IsDemo, demo_of, demo_within, is_demo_side, is_size}
 use Rattle.hd_words.specs.Limits.{greatest_tile, least_tile, most_edits, usual_tile}
-use Rattle.hd_words.specs.Words.{Given, IsWithinLimits, Request, check_form, dales_form, demo_form, form_named, form_of, given_of, run_form, tile_of}
+use Rattle.hd_words.specs.Forms.{check_form, dales_form, demo_form, form_named, form_of, run_form, tile_of}
+use Rattle.hd_words.specs.GivenWords.{Given, given_of}
+use Rattle.hd_words.specs.Requests.{IsWithinLimits, Request}
 use Rattle.hd_words.specs.declared.demo.Demo.{Demo}
 use Rattle.hd_words.specs.declared.found.Stage.TheVariants.{Options}
 use Rattle.hd_words.proofs.Forms.{check_found, dales_found, demo_found, run_found, then_some}

@@ -2,16 +2,17 @@
 use Rattle.std.proofs.Common.{◌≡◌, ℕ, true, false, List, [], ◌∷◌, ◌++◌, length, Option, Some, None, codes, nat_eq, refl, append_assoc, arith}
 use Rattle.std.specs.List.{starts_with}
 use Rattle.std.specs.Option.{option_and_then}
-use Rattle.hd_words.specs.Words.{Given, given_of, with_name, with_tile, with_save, begins_with_dash, dales_names, run_names, check_names, demo_names, tile_of}
+use Rattle.hd_words.specs.Forms.{dales_form_by, run_form_by, check_form_by, demo_form_by, tile_of}
+use Rattle.hd_words.specs.GivenWords.{Given, given_of, with_name, with_tile, with_save, begins_with_dash}
 use Rattle.hd_words.specs.WordSteps.{HasNoForm, IsNoOptionAlone, followed_by}
 use Rattle.hd_words.specs.declared.found.Stage.TheVariants.{Options}
 
-two_tiles-dales : (names saves : List (List ℕ)) (first second : List ℕ) (more : List (List ℕ)) → dales_names names (first ∷ (second ∷ more)) saves ≡ None
+two_tiles-dales : (names saves : List (List ℕ)) (first second : List ℕ) (more : List (List ℕ)) → dales_form_by names (first ∷ (second ∷ more)) saves ≡ None
 two_tiles-dales [] saves first second more = refl
 two_tiles-dales (name ∷ []) saves first second more = refl
 two_tiles-dales (name ∷ (other ∷ names)) saves first second more = refl
 
-two_tiles-run : (names saves : List (List ℕ)) (first second : List ℕ) (more : List (List ℕ)) → run_names names (first ∷ (second ∷ more)) saves ≡ None
+two_tiles-run : (names saves : List (List ℕ)) (first second : List ℕ) (more : List (List ℕ)) → run_form_by names (first ∷ (second ∷ more)) saves ≡ None
 two_tiles-run [] saves first second more = refl
 two_tiles-run (name ∷ []) saves first second more = refl
 two_tiles-run ([] ∷ (script ∷ [])) saves first second more = refl
@@ -19,26 +20,26 @@ two_tiles-run ((byte ∷ bytes) ∷ ([] ∷ [])) saves first second more = refl
 two_tiles-run ((byte ∷ bytes) ∷ ((letter ∷ letters) ∷ [])) saves first second more = refl
 two_tiles-run (name ∷ (script ∷ (other ∷ names))) saves first second more = refl
 
-two_saves-dales : (names tiles : List (List ℕ)) (first second : List ℕ) (more : List (List ℕ)) → dales_names names tiles (first ∷ (second ∷ more)) ≡ None
+two_saves-dales : (names tiles : List (List ℕ)) (first second : List ℕ) (more : List (List ℕ)) → dales_form_by names tiles (first ∷ (second ∷ more)) ≡ None
 two_saves-dales [] tiles first second more = refl
 two_saves-dales (name ∷ []) [] first second more = refl
 two_saves-dales (name ∷ []) (tile ∷ tiles) first second more = refl
 two_saves-dales (name ∷ (other ∷ names)) tiles first second more = refl
 
-two_tiles-check : (names saves : List (List ℕ)) (first second : List ℕ) (more : List (List ℕ)) → check_names names (first ∷ (second ∷ more)) saves ≡ None
+two_tiles-check : (names saves : List (List ℕ)) (first second : List ℕ) (more : List (List ℕ)) → check_form_by names (first ∷ (second ∷ more)) saves ≡ None
 two_tiles-check [] saves first second more = refl
 two_tiles-check (name ∷ []) saves first second more = refl
 two_tiles-check (name ∷ (other ∷ [])) saves first second more = refl
 two_tiles-check (name ∷ (other ∷ (third ∷ names))) saves first second more = refl
 
-two_saves-check : (names tiles : List (List ℕ)) (first second : List ℕ) (more : List (List ℕ)) → check_names names tiles (first ∷ (second ∷ more)) ≡ None
+two_saves-check : (names tiles : List (List ℕ)) (first second : List ℕ) (more : List (List ℕ)) → check_form_by names tiles (first ∷ (second ∷ more)) ≡ None
 two_saves-check [] tiles first second more = refl
 two_saves-check (name ∷ []) tiles first second more = refl
 two_saves-check (name ∷ (other ∷ [])) [] first second more = refl
 two_saves-check (name ∷ (other ∷ [])) (tile ∷ tiles) first second more = refl
 two_saves-check (name ∷ (other ∷ (third ∷ names))) tiles first second more = refl
 
-two_tiles-demo : (names saves : List (List ℕ)) (first second : List ℕ) (more : List (List ℕ)) → demo_names names (first ∷ (second ∷ more)) saves ≡ None
+two_tiles-demo : (names saves : List (List ℕ)) (first second : List ℕ) (more : List (List ℕ)) → demo_form_by names (first ∷ (second ∷ more)) saves ≡ None
 two_tiles-demo [] saves first second more = refl
 two_tiles-demo (one ∷ []) saves first second more = refl
 two_tiles-demo (one ∷ (two ∷ [])) saves first second more = refl
@@ -47,7 +48,7 @@ two_tiles-demo (one ∷ (two ∷ (three ∷ (four ∷ [])))) [] first second mor
 two_tiles-demo (one ∷ (two ∷ (three ∷ (four ∷ [])))) (save ∷ saves) first second more = refl
 two_tiles-demo (one ∷ (two ∷ (three ∷ (four ∷ (five ∷ names))))) saves first second more = refl
 
-two_saves-demo : (names tiles : List (List ℕ)) (first second : List ℕ) (more : List (List ℕ)) → demo_names names tiles (first ∷ (second ∷ more)) ≡ None
+two_saves-demo : (names tiles : List (List ℕ)) (first second : List ℕ) (more : List (List ℕ)) → demo_form_by names tiles (first ∷ (second ∷ more)) ≡ None
 two_saves-demo [] tiles first second more = refl
 two_saves-demo (one ∷ []) tiles first second more = refl
 two_saves-demo (one ∷ (two ∷ [])) tiles first second more = refl
@@ -59,7 +60,7 @@ none_then : {X Y : Type 0} (r : Option X) (f : X → Option Y) → ((x : X) → 
 none_then None f h = refl
 none_then (Some x) f h = h x
 
-two_saves-run : (names tiles : List (List ℕ)) (first second : List ℕ) (more : List (List ℕ)) → run_names names tiles (first ∷ (second ∷ more)) ≡ None
+two_saves-run : (names tiles : List (List ℕ)) (first second : List ℕ) (more : List (List ℕ)) → run_form_by names tiles (first ∷ (second ∷ more)) ≡ None
 two_saves-run [] tiles first second more = refl
 two_saves-run (name ∷ []) tiles first second more = refl
 two_saves-run ([] ∷ (script ∷ [])) tiles first second more = refl

@@ -8,7 +8,9 @@ use Rattle.clap.specs.declared.parser.matches.ArgMatches.{ArgMatches}
 use Rattle.hd_words.specs.declared.command_lines.CommandLine.{CommandLine}
 use Rattle.hd_words.specs.declared.command_lines.CommandLine.TheVariants.{Dales, Run, Check}
 use Rattle.hd_words.specs.declared.found.Stage.TheVariants.{Options}
-use Rattle.hd_words.specs.Words.{Given, Request, given_of, form_of, dales_form, run_form, check_form}
+use Rattle.hd_words.specs.Forms.{form_of, dales_form, run_form, check_form}
+use Rattle.hd_words.specs.GivenWords.{Given, given_of}
+use Rattle.hd_words.specs.Requests.{Request}
 
 -- the argument of a name
 abbrev pub name_rule : List ℕ → Rule

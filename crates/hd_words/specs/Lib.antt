@@ -1,5 +1,7 @@
+pub mod GivenWords
 pub mod Limits
 pub mod Demo
-pub mod Words
+pub mod Requests
+pub mod Forms
 pub mod WordSteps
 pub mod CommandLines

@@ -1,7 +1,8 @@
 -- The words after the command, read one by one.
 use Rattle.std.specs.Prelude.{◌≡◌, ◌++◌, ℕ, false, codes, bytes_eq, List, [], ◌∷◌, Option, None}
 use Rattle.std.specs.Option.{option_copied, option_to_list, option_map, option_and_then}
-use Rattle.hd_words.specs.Words.{Given, given_of, dales_form, run_form, check_form, demo_form}
+use Rattle.hd_words.specs.Forms.{dales_form, run_form, check_form, demo_form}
+use Rattle.hd_words.specs.GivenWords.{Given, given_of}
 use Rattle.hd_words.specs.declared.found.Found.{Found}
 use Rattle.hd_words.specs.declared.found.FoundNames.{FoundNames}
 use Rattle.hd_words.specs.declared.found.FoundNames.TheVariants.{Zero, One, Two, Three, Four}

@@ -1,7 +1,8 @@
 // The command whose form the words have, judged without taking memory.
 ghost use Rattle.std.specs.Prelude.{◌≡◌, [], ◌∷◌, map, is_some, string_bytes};
 ghost use Rattle.std.specs.Option.{option_copied, option_map, option_to_list};
-ghost use Rattle.hd_words.specs.Words.{check_form, command_for, dales_form, demo_form, form_named, form_of, run_form, save_of, tile_of};
+ghost use Rattle.hd_words.specs.Forms.{check_form, dales_form, demo_form, form_named, form_of, run_form, save_of, tile_of};
+ghost use Rattle.hd_words.specs.Requests.{command_for};
 ghost use Rattle.hd_words.specs.WordSteps.{found_so_far};
 
 use crate::demo::Demo;

@@ -2,7 +2,7 @@
 ghost use Rattle.std.specs.Prelude.{◌≡◌, [], ◌∷◌, ◌++◌, length, drop, map, nat_eq, string_bytes, IfNone, IfSome, if◌then◌else◌};
 ghost use Rattle.std.specs.List.{starts_with};
 ghost use Rattle.std.specs.Option.{option_copied};
-ghost use Rattle.hd_words.specs.Words.{begins_with_dash, given_of};
+ghost use Rattle.hd_words.specs.GivenWords.{begins_with_dash, given_of};
 ghost use Rattle.hd_words.specs.WordSteps.{HasNoForm, IsNoOptionAlone, IsRefused, LeadsTo, at_stage, found_so_far};
 
 // What the next word may be: an option or a name, the value of `--tile` or of `--save`, or a name

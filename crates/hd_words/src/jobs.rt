@@ -3,7 +3,8 @@ ghost use Rattle.std.specs.Prelude.{◌≡◌, IfOk, IsSome, Some, map, string_b
 ghost use Rattle.std.specs.Option.{option_map};
 ghost use Rattle.clap.specs.Matches.{first_value, found_of};
 ghost use Rattle.hd_words.specs.CommandLines.{Asks, HasForm, HasGiven};
-ghost use Rattle.hd_words.specs.Words.{Check, IsWithinLimits, Request, Run, check_request_of, command_for, form_of, request_of, run_request_of};
+ghost use Rattle.hd_words.specs.Forms.{form_of};
+ghost use Rattle.hd_words.specs.Requests.{Check, IsWithinLimits, Request, Run, check_request_of, command_for, request_of, run_request_of};
 
 use crate::command::Command;
 use crate::command_lines::{CommandLine, parse};

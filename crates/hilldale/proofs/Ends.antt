@@ -6,7 +6,8 @@ use Rattle.std.proofs.Math.Seq.{take-length, take-nil}
 use Rattle.hd_base.specs.Told.{AppendsStart}
 use Rattle.hd_base.proofs.Told.{AppendsPart-kept}
 use Rattle.hd_words.specs.declared.demo.Demo.{Demo}
-use Rattle.hd_words.specs.Words.{Request, Demonstrate, form_of, save_name, second_name, surface_name}
+use Rattle.hd_words.specs.Forms.{form_of}
+use Rattle.hd_words.specs.Requests.{Request, Demonstrate, save_name, second_name, surface_name}
 use Rattle.hd_run.specs.declared.stop.Refusal.{Refusal}
 use Rattle.hd_run.specs.declared.stop.Refusal.TheVariants.{SurfaceTooLong, Surface, SecondTooLong, Unreadable, RuleFails}
 use Rattle.hd_run.specs.declared.stop.Stop.{Stop}

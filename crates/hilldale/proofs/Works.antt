@@ -3,7 +3,7 @@ use Rattle.std.proofs.Common.{◌≡◌, ◌⊎◌, ℕ, Bool, List, Option, Res
 use Rattle.std.specs.Io.KnownBytes.{Appends, Keeps}
 use Rattle.hd_base.specs.Told.{AppendsPart}
 use Rattle.hd_base.proofs.Told.{AppendsPart-start}
-use Rattle.hd_words.specs.Words.{RunRequest}
+use Rattle.hd_words.specs.Requests.{RunRequest}
 use Rattle.hd_run.specs.declared.stop.Stop.{Stop}
 use Rattle.hd_run.specs.declared.stop.Stop.TheVariants.{Memory, ReadFault, WriteFault, Refused}
 use Rattle.hd_run.specs.Outcome.{RunOutcome, Work, IsTheRunOutcome, IsOutcomeOfCheck, IsOutcomeOfRun, acceptance}

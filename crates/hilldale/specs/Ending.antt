@@ -3,7 +3,8 @@ use Rattle.std.specs.Prelude.{◌≡◌, ◌⊎◌, ℕ, Bool, List, [], Option,
 use Rattle.std.specs.Io.KnownBytes.{Appends, Keeps}
 use Rattle.hd_base.specs.Told.{Told, AppendsPart, AppendsStart}
 use Rattle.hd_words.specs.declared.demo.Demo.{Demo}
-use Rattle.hd_words.specs.Words.{Request, Run, Check, Demonstrate, form_of}
+use Rattle.hd_words.specs.Forms.{form_of}
+use Rattle.hd_words.specs.Requests.{Request, Run, Check, Demonstrate}
 use Rattle.hd_demo.specs.DemoText.{IsTheDemoText}
 use Rattle.hd_run.specs.declared.stop.Stop.{Stop}
 use Rattle.hd_run.specs.declared.stop.Stop.TheVariants as stop

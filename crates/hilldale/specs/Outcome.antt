@@ -1,7 +1,8 @@
 -- What the words and the bytes of the two inputs come to.
 use Rattle.std.specs.Prelude.{◌≡◌, ℕ, List, Option, Some, None, Ok, Err, MatchOption}
 use Rattle.hd_base.specs.Told.{Told}
-use Rattle.hd_words.specs.Words.{Request, Run, Check, Demonstrate, form_of, surface_name, second_name}
+use Rattle.hd_words.specs.Forms.{form_of}
+use Rattle.hd_words.specs.Requests.{Request, Run, Check, Demonstrate, surface_name, second_name}
 use Rattle.hd_demo.specs.DemoText.{IsDemoText}
 use Rattle.hd_run.specs.Outcome.{RunOutcome, IsOutcomeOfRun, IsOutcomeOfCheck}
 use Rattle.hd_run.specs.Refusals.{refusal_text}

@@ -1,7 +1,7 @@
 -- The order of work over the sources and sinks.
 use Rattle.std.specs.Prelude.{◌≡◌, ◌≢◌, ◌⊎◌, ℕ, List, Option, Some, None, IsTrue}
 use Rattle.hd_base.specs.Told.{Told}
-use Rattle.hd_words.specs.Words.{Request, Run, Check, Demonstrate, save_name, second_name, surface_name}
+use Rattle.hd_words.specs.Requests.{Request, Run, Check, Demonstrate, save_name, second_name, surface_name}
 use Rattle.hd_run.specs.FaultCounts.{Count, Stays}
 use Rattle.hd_run.specs.Limits.{certificate_limit, script_limit, surface_limit}
 use Rattle.hd_run.specs.ReadOrder.{Reading, SecondComesLast, StopsWithin}

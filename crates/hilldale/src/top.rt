@@ -3,7 +3,8 @@ ghost use Rattle.std.specs.Prelude.{◌≡◌, ◌≢◌, ◌⊎◌, ℕ, List a
 ghost use Rattle.std.specs.Option.{ForSome};
 ghost use Rattle.std.specs.Io.KnownBytes.{Appends};
 ghost use Rattle.hd_words.specs.Demo.{IsDemo};
-ghost use Rattle.hd_words.specs.Words.{form_of, save_name, second_name, surface_name};
+ghost use Rattle.hd_words.specs.Forms.{form_of};
+ghost use Rattle.hd_words.specs.Requests.{save_name, second_name, surface_name};
 ghost use Rattle.hd_run.specs.FaultCounts.{SourceFailed, over};
 ghost use Rattle.hd_run.specs.Outcome.{surface_of};
 ghost use Rattle.hd_run.specs.ReadOrder.{reading};

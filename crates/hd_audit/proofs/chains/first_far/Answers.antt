@@ -10,7 +10,7 @@ use Rattle.hd_audit.specs.Lines.{line_at, rank_at}
 use Rattle.hd_audit.specs.Rules.{IsWithin}
 use Rattle.hd_audit.proofs.ChainTops.{chains_more, chains_none, not_within, right_where, top_fits, top_point}
 use Rattle.hd_audit.proofs.Heights.{height_kept}
-use Rattle.hd_audit.proofs.Tests.{fails, holds}
+use Rattle.hd_audit.proofs.FailedTests.{test-fails, test-holds}
 use Rattle.hd_audit.proofs.chains.first_far.Goals as goal
 
 -- what `is_far` tells of a line
@@ -39,7 +39,7 @@ returns-then-is_far g c =
     let i : ℕ = (line_at lines c.loop-k.k).index in
     let up = c.top_of-top.ensures in
     let same = up.height_is ∙ sym (height_kept c.top_of-top.result (top_fits m l.side lines c.requires.new (g.met.G.Heights.whole c.args.surface.now) i c.top_of-top.result up)) in
-    let far = subst (λ (x : AuditLine). IsFar m l.side l.percent.thousandths l.sz up.top x) c.at-line.ensures (holds c.is_far.result c.if-is_far.true (c.is_far.ensures up.top same)) in (
+    let far = subst (λ (x : AuditLine). IsFar m l.side l.percent.thousandths l.sz up.top x) c.at-line.ensures (test-holds c.is_far.result c.if-is_far.true (c.is_far.ensures up.top same)) in (
       c.loop-k.k,
       rw c.len-k-end.ensures at c.loop-k-test.true,
       c.loop-k.invariant.right,
@@ -56,7 +56,7 @@ loop-k-preserved g c =
     let i : ℕ = (line_at lines k).index in
     let up = c.top_of-top.ensures in
     let kept = height_kept c.top_of-top.result (top_fits m l.side lines c.requires.new (g.met.G.Heights.whole c.args.surface.now) i c.top_of-top.result up) in
-    let near = subst (λ (x : AuditLine). IsFar m l.side l.percent.thousandths l.sz up.top x → ⊥) c.at-line.ensures (fails c.is_far.result c.if-is_far.false (c.is_far.ensures up.top (up.height_is ∙ sym kept))) in
+    let near = subst (λ (x : AuditLine). IsFar m l.side l.percent.thousandths l.sz up.top x → ⊥) c.at-line.ensures (test-fails c.is_far.result c.if-is_far.false (c.is_far.ensures up.top (up.height_is ∙ sym kept))) in
     let new = c.requires.new k (rw c.len-k-end.ensures at c.loop-k-test.true) in
     rw (kept, c.at-line.ensures) (chains_more m l.side l.percent.thousandths l.sz lines c.loop-k.tops.items k c.top_of-top.result new.new new.inside c.loop-k.invariant up
     (right_where m l.side l.percent.thousandths l.sz lines k up.top up.is_top near))

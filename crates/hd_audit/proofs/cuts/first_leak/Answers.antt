@@ -1,6 +1,6 @@
 use Rattle.std.proofs.Common.{None, arith}
 use Rattle.hd_audit.specs.Rules.{FirstLeak}
-use Rattle.hd_audit.proofs.Tests.{up_to}
+use Rattle.hd_audit.proofs.FailedTests.{up_to}
 use Rattle.hd_audit.proofs.cuts.first_leak.Goals as goal
 
 pub loop-k-preserved : goal.loop-k-preserved

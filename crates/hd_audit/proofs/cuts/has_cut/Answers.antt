@@ -1,7 +1,7 @@
 use Rattle.std.proofs.Common.{ap, sym, ◌∙◌}
 use Rattle.std.proofs.lemmas.Bool.{false≢true}
 use Rattle.hd_audit.specs.declared.types.AuditLine.{AuditLine}
-use Rattle.hd_audit.proofs.Tests.{is_some_of}
+use Rattle.hd_audit.proofs.FailedTests.{is_some_of}
 use Rattle.hd_audit.proofs.Noted.{cut_at, has_cut_at, no_cut_at}
 use Rattle.hd_audit.proofs.cuts.has_cut.Goals as goal
 

@@ -9,7 +9,7 @@ use Rattle.hd_audit.specs.Flooding.{IsFront, next_line, rank_of_waiting}
 use Rattle.hd_audit.specs.Lines.{IsPointAt, line_at}
 use Rattle.hd_audit.specs.Listing.{AreShownTo}
 use Rattle.hd_audit.specs.Standings.{seen_of}
-use Rattle.hd_audit.proofs.Levels.{IsListed, list-level, passed-level}
+use Rattle.hd_audit.proofs.FrontsAtLevel.{IsListed, list-level, passed-level}
 use Rattle.hd_audit.proofs.listing.list_from.Given.{Over}
 use Rattle.hd_audit.proofs.listing.list_from.Goals as goal
 use Rattle.hd_audit.proofs.listing.list_from.Goals.{In-Some, In_ok-list_point}

@@ -4,7 +4,7 @@ use Rattle.hd_audit.specs.declared.standing.Standing.TheVariants.{Seen}
 use Rattle.hd_audit.specs.declared.types.AuditLine.{AuditLine}
 use Rattle.hd_audit.specs.Flooding.{AreBegun, kept_line}
 use Rattle.hd_audit.specs.Standings.{is_seen, seen_of}
-use Rattle.hd_audit.proofs.Begun.{no_kept, begun-none, begun-more}
+use Rattle.hd_audit.proofs.AreBegun.{no_kept, begun-none, begun-more}
 use Rattle.hd_audit.proofs.Standings.{standing-seen}
 use Rattle.hd_audit.proofs.listing.list_kept.Goals as goal
 

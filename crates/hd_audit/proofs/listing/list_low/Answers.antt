@@ -11,7 +11,7 @@ use Rattle.hd_audit.specs.Flooding.{IsFront, next_line, rank_of_waiting}
 use Rattle.hd_audit.specs.Lines.{line_at}
 use Rattle.hd_audit.specs.Listing.{AreShownTo}
 use Rattle.hd_audit.specs.Standings.{seen_of}
-use Rattle.hd_audit.proofs.Levels.{IsListed, list-low}
+use Rattle.hd_audit.proofs.FrontsAtLevel.{IsListed, list-low}
 use Rattle.hd_audit.proofs.listing.list_low.Given.{Over}
 use Rattle.hd_audit.proofs.listing.list_low.Goals as goal
 use Rattle.hd_audit.proofs.listing.list_low.Goals.{After-position_of-at, In-Some}

@@ -10,7 +10,7 @@ use Rattle.hd_audit.specs.Flooding.{AreNotBelow, ArePassed, IsFrontAt}
 use Rattle.hd_audit.specs.Lines.{rank_at}
 use Rattle.hd_audit.specs.Placed.{IsPlaced}
 use Rattle.hd_audit.specs.Standings.{AreStanding, passed, seen_of, standing_at}
-use Rattle.hd_audit.proofs.Levels.{all-passed, next-lowest, passed-more}
+use Rattle.hd_audit.proofs.FrontsAtLevel.{all-passed, next-lowest, passed-more}
 use Rattle.hd_audit.proofs.Placed.{placed-rank}
 use Rattle.hd_audit.proofs.Standings.{pass-seen, standing-first, standing-next}
 use Rattle.hd_audit.proofs.listing.list_others.Goals as goal

@@ -1,9 +1,9 @@
-use Rattle.hd_audit.proofs.Begun.{begun-points, begun-shown}
+use Rattle.hd_audit.proofs.AreBegun.{begun-points, begun-shown}
 use Rattle.std.proofs.Common.{◌≡◌, None, ap, length, replicate, rules}
 use Rattle.hd_map.specs.Map.{cell_count}
 use Rattle.std.specs.BinaryHeap.{heap_items}
 use Rattle.hd_audit.specs.Standings.{seen_of}
-use Rattle.hd_audit.proofs.Levels.{front-begin, front-at}
+use Rattle.hd_audit.proofs.FrontsAtLevel.{front-begin, front-at}
 use Rattle.hd_audit.proofs.KeptAlone.{alone-firm, alone-points, alone-in_order}
 use Rattle.hd_audit.proofs.listing.shown_lines.Goals as goal
 

@@ -1,4 +1,4 @@
-use Rattle.hd_audit.proofs.Placing.{ArePlacedBefore}
+use Rattle.hd_audit.proofs.PlaceAt.{ArePlacedBefore}
 use Rattle.hd_audit.proofs.places.first_not_new.Given as goal
 
 abbrev pub invariant-loop-k : goal.invariant-loop-k

@@ -1,6 +1,6 @@
 use Rattle.std.proofs.Common.{None}
 use Rattle.std.proofs.lemmas.Result.{err_from_is_err_and}
-use Rattle.hd_check.proofs.Adding.{line_added, line_refused}
+use Rattle.hd_check.proofs.AppendedTexts.{line_added, line_refused}
 use Rattle.hd_audit.specs.Text.{point_line}
 use Rattle.hd_audit.proofs.writing.push_lines.Goals as goal
 

@@ -4,7 +4,7 @@ use Rattle.hd_num.specs.Percent.{percent_text}
 use Rattle.hd_num.specs.Text.{AppendsPrefix}
 use Rattle.hd_check.specs.Text.{adjacency_word, line_text, side_word}
 use Rattle.std.proofs.lemmas.Result.{err_from_is_err_and}
-use Rattle.hd_check.proofs.Adding.{adds_part, part_after, adds_last}
+use Rattle.hd_check.proofs.AppendedTexts.{adds_part, part_after, adds_last}
 use Rattle.hd_audit.proofs.Parts.{audit_parts, points_text}
 use Rattle.hd_audit.proofs.writing.write_audit.Goals as goal
 

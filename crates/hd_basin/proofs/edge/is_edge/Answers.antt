@@ -2,7 +2,7 @@ use Rattle.std.proofs.Common.{inl, inr, ◌∙◌, ap, sym}
 use Rattle.hd_map.specs.declared.types.Size.{Size}
 use Rattle.hd_map.specs.Map.{Map}
 use Rattle.hd_basin.specs.Edge.{OnBorder}
-use Rattle.hd_basin.proofs.Edges.{edge-gap, no_edge}
+use Rattle.hd_basin.proofs.Edges.{edge-absent_beside, no_edge}
 use Rattle.hd_basin.proofs.edge.is_edge.Goals as goal
 
 pub returns : goal.returns
@@ -19,6 +19,6 @@ returns g c =
       ]
     ] in
     record {
-      edge = λ e. edge-gap m c.args.at c.requires.present (c.has_gap.ensures.gap e);
-      inner = λ e edge. no_edge m c.args.at c.requires.present inner (c.has_gap.ensures.none e) edge;
+      edge = λ e. edge-absent_beside m c.args.at c.requires.present (c.has_absent_beside.ensures.absent e);
+      inner = λ e edge. no_edge m c.args.at c.requires.present inner (c.has_absent_beside.ensures.none e) edge;
     }

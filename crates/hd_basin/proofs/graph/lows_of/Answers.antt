@@ -1,6 +1,6 @@
 use Rattle.std.proofs.Common.{◌∙◌, [], ap, map}
 use Rattle.hd_basin.specs.Graph.{as_low, lows_in}
-use Rattle.hd_basin.proofs.Listed.{flat-more, flat-whole}
+use Rattle.hd_basin.proofs.FlatLists.{flat-more, flat-whole}
 use Rattle.hd_basin.proofs.graph.lows_of.Goals as goal
 
 pub parts-preserved : goal.parts-preserved

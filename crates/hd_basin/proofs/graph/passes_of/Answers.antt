@@ -7,7 +7,7 @@ use Rattle.hd_basin.specs.declared.part.Join.{Join}
 use Rattle.hd_basin.specs.declared.part.Seam.{Seam}
 use Rattle.hd_basin.specs.Graph.{in_order, pass_of, passes_in}
 use Rattle.hd_basin.specs.Parts.{inner_passes, pass_named}
-use Rattle.hd_basin.proofs.Listed.{flat-more, flat-whole}
+use Rattle.hd_basin.proofs.FlatLists.{flat-more, flat-whole}
 use Rattle.hd_basin.proofs.graph.passes_of.Goals as goal
 
 pub parts-preserved : goal.parts-preserved

@@ -1,6 +1,6 @@
 use Rattle.std.proofs.Common.{◌∙◌, refl}
 use Rattle.hd_basin.specs.Graph.{pass_of}
-use Rattle.hd_basin.proofs.Listed.{flat-more, flat-whole}
+use Rattle.hd_basin.proofs.FlatLists.{flat-more, flat-whole}
 use Rattle.hd_basin.proofs.graph.push_across.Goals as goal
 
 pub seams-preserved : goal.seams-preserved

@@ -3,7 +3,7 @@ use Rattle.hd_map.specs.declared.types.Pass.{Pass}
 use Rattle.hd_basin.specs.declared.part.Join.{Join}
 use Rattle.hd_basin.specs.Graph.{in_order}
 use Rattle.hd_basin.specs.Parts.{pass_named}
-use Rattle.hd_basin.proofs.Listed.{map-more, map-twice, map-whole}
+use Rattle.hd_basin.proofs.FlatLists.{map-more, map-twice, map-whole}
 use Rattle.hd_basin.proofs.graph.push_inside.Goals as goal
 
 pub found-preserved : goal.found-preserved

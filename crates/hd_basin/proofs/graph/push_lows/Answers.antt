@@ -1,6 +1,6 @@
 use Rattle.std.proofs.Common.{◌∙◌}
 use Rattle.hd_basin.specs.Graph.{as_low}
-use Rattle.hd_basin.proofs.Listed.{map-more, map-whole}
+use Rattle.hd_basin.proofs.FlatLists.{map-more, map-whole}
 use Rattle.hd_basin.proofs.graph.push_lows.Goals as goal
 
 pub nodes-preserved : goal.nodes-preserved

@@ -1,6 +1,6 @@
 use Rattle.std.proofs.Common.{[], ◌∙◌}
 use Rattle.hd_basin.specs.Inside.{join_of}
-use Rattle.hd_basin.proofs.Listed.{map-more, map-whole}
+use Rattle.hd_basin.proofs.FlatLists.{map-more, map-whole}
 use Rattle.hd_basin.proofs.inside.list_joins.Goals as goal
 
 pub meetings-preserved : goal.meetings-preserved

@@ -1,6 +1,6 @@
 use Rattle.hd_basin.specs.Basin.{IsSinkOf}
 use Rattle.hd_graph.proofs.Basins.{least-is_saddle, line-tells_saddles, pit-own}
-use Rattle.hd_graph.proofs.Merged.{merges-tell_saddles}
+use Rattle.hd_graph.proofs.AgreeingMerges.{merges-tell_saddles}
 use Rattle.hd_basin.proofs.PoolGraph.{graph-crossings}
 use Rattle.hd_basin.proofs.laws.graph_of_basins_tells_the_saddles.Goals as goal
 

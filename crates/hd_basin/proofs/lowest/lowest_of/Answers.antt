@@ -3,7 +3,7 @@ use Rattle.std.specs.BTreeMap.{get}
 use Rattle.std.proofs.lemmas.List.{take_more}
 use Rattle.hd_basin.specs.declared.part.Seam.{Seam}
 use Rattle.hd_basin.specs.Lowest.{HasLowest, pair_cmp}
-use Rattle.hd_basin.proofs.Lowests.{lowest-updates, lowest-kept}
+use Rattle.hd_basin.proofs.HasLowest.{lowest-updates, lowest-kept}
 use Rattle.hd_basin.proofs.lowest.lowest_of.Goals as goal
 
 pub loop-seam-preserved : goal.loop-seam-preserved

@@ -9,7 +9,7 @@ use Rattle.hd_basin.specs.Views.{ShowSame}
 use Rattle.hd_basin.specs.WindowMap.{map_of_window}
 use Rattle.hd_basin.proofs.Frames.{frame-shows, frame-in_grid}
 use Rattle.hd_basin.proofs.Views.{keeps-show}
-use Rattle.hd_basin.proofs.Noding.{noded-kept}
+use Rattle.hd_basin.proofs.IsNoded.{noded-kept}
 use Rattle.hd_basin.proofs.made.made.Goals as goal
 
 pub look-requires-clause-allowed : goal.look-requires-clause-allowed

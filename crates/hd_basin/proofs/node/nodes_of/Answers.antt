@@ -1,6 +1,6 @@
 use Rattle.std.proofs.Common.{◌∙◌, [], ap}
 use Rattle.hd_basin.specs.Extents.{nodes_in}
-use Rattle.hd_basin.proofs.Listed.{flat-more, flat-whole}
+use Rattle.hd_basin.proofs.FlatLists.{flat-more, flat-whole}
 use Rattle.hd_basin.proofs.node.nodes_of.Goals as goal
 
 pub parts-preserved : goal.parts-preserved

@@ -8,7 +8,7 @@ use Rattle.hd_basin.specs.Parts.{pass_named}
 use Rattle.hd_basin.specs.Inside.{AreNamed}
 use Rattle.hd_basin.specs.Sinks.{IsArea}
 use Rattle.hd_basin.proofs.Areas.{area-small}
-use Rattle.hd_basin.proofs.Noding.{gathered-named, gathered-noded}
+use Rattle.hd_basin.proofs.IsNoded.{noded-named, gathered-noded}
 use Rattle.hd_basin.proofs.noded.noded.Goals as goal
 
 pub passes_inside-requires-clause-area : goal.passes_inside-requires-clause-area
@@ -22,7 +22,7 @@ passes_inside-requires-clause-named g c =
     let f : Frame = c.area_of-area.result in
     let area : IsArea m.size t c.args.tile f = subst (λ (s : Size). IsArea s t c.args.tile f) c.requires.size c.area_of-area.ensures in
     let of = c.in_ok-nodes.field-0 in
-    let named = gathered-named m g.S.Side.NAME t c.args.tile f (omega (arith, least)) area (area-small m.size t c.args.tile f c.args.tiling.tile_side.greatest area) of.nodes.items of.numbers.items of.labels.items c.in_ok-nodes.ensures in
+    let named = noded-named m g.S.Side.NAME t c.args.tile f (omega (arith, least)) area (area-small m.size t c.args.tile f c.args.tiling.tile_side.greatest area) of.nodes.items of.numbers.items of.labels.items c.in_ok-nodes.ensures in
     subst (λ (xs : List Node). AreNamed m g.S.Side.NAME t f xs c.as_slice-5.result.now) (sym c.as_slice-6.ensures.value) (subst (λ (xs : List ℕ). AreNamed m g.S.Side.NAME t f of.nodes.items xs) (sym c.as_slice-5.ensures.value) named)
 
 pub returns-clause-noded : goal.returns-clause-noded

@@ -8,7 +8,7 @@ use Rattle.hd_basin.specs.declared.part.Part.{Part}
 use Rattle.hd_basin.specs.Basin.{IsLabel}
 use Rattle.hd_basin.specs.Built.{EndIs}
 use Rattle.hd_basin.specs.Parts.{IsFresh, low_of, node_at, place_in_tile}
-use Rattle.hd_basin.proofs.Pairing.{other-label}
+use Rattle.hd_basin.proofs.Candidates.{other-label}
 use Rattle.hd_basin.proofs.seams.end_at.Goals as goal
 
 pub returns : goal.returns

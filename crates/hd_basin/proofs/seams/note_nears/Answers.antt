@@ -13,7 +13,7 @@ use Rattle.hd_basin.specs.declared.part.Seam.{Seam}
 use Rattle.hd_basin.specs.Built.{IsAskedNext, NotesPair}
 use Rattle.hd_basin.specs.Seams.{AreCandidates}
 use Rattle.hd_basin.proofs.Views.{present_kept, rank_kept, round_neighbour}
-use Rattle.hd_basin.proofs.Pairing.{pairs-begin, pairs-more, pairs-end}
+use Rattle.hd_basin.proofs.Candidates.{pairs-begin, pairs-more, pairs-end}
 use Rattle.hd_basin.proofs.seams.note_nears.Goals as goal
 
 abbrev none : Pos

@@ -4,7 +4,7 @@ use Rattle.hd_map.specs.Map.{Map}
 use Rattle.hd_basin.specs.declared.frame.Frame.{Frame}
 use Rattle.hd_basin.specs.Frames.{InFrame}
 use Rattle.hd_basin.proofs.Areas.{area-grid, area-tile, place-at}
-use Rattle.hd_basin.proofs.Pairing.{pairs-inner}
+use Rattle.hd_basin.proofs.Candidates.{pairs-inner}
 use Rattle.hd_basin.proofs.seams.note_place.Goals as goal
 
 pub returns-then-is_inner : goal.returns-then-is_inner

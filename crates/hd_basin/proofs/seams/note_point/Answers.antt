@@ -10,7 +10,7 @@ use Rattle.hd_basin.specs.Basin.{IsLabel}
 use Rattle.hd_basin.specs.Built.{IsNoded}
 use Rattle.hd_basin.specs.Parts.{low_of, node_at, place_in_tile}
 use Rattle.hd_basin.proofs.Views.{show-sym, neighbour_kept}
-use Rattle.hd_basin.proofs.Pairing.{pairs-absent}
+use Rattle.hd_basin.proofs.Candidates.{pairs-absent}
 use Rattle.hd_basin.proofs.seams.note_point.Goals as goal
 
 -- the label of the point

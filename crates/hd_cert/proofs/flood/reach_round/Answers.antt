@@ -13,7 +13,7 @@ pub returns : goal.returns
 returns g c start head f at =
     let m = g.G.Heights.map c.args.grid.now in
     let here = c.args.here in
-    let residue = c.after-residue.result in
+    let residue = c.residue_after-residue.result in
     let residues = c.args.residues.now.items in
     let places = c.args.queue.now.items in
     let IsOpen = LiesWithin m g.S.Side.NAME c.args.bound.level c.args.bound.strict in
@@ -22,7 +22,7 @@ returns g c start head f at =
     let place : c.index_of.result ≡ place_of m.size here = c.index_of.ensures.value ∙ ap (λ (s : Size). place_of s here) c.size.ensures in
     let whole : c.index_of.result < length residues = rw (place, c.requires.whole) (place_inside m.size here at.in_grid) in
     let read : c.index.result.now ≡ residue_at m.size residues here = c.index.ensures ∙ get_or_default residues c.index_of.result c.index.result.now Unreached whole ∙ ap (λ i. get_or residues i Unreached) place in
-    let residue_is : residue ≡ residue_of (Some (n + 1)) = c.after-residue.ensures ∙ ap residue_after read ∙ from.1 in
+    let residue_is : residue ≡ residue_of (Some (n + 1)) = c.residue_after-residue.ensures ∙ ap residue_after read ∙ from.1 in
     let round1 = round_more m IsOpen start (λ p is_open. is_open.present) here n residue 0 c.reach_at.new.residues.items c.reach_at.new.queue.items residue_is (omega arith) c.in_ok-reach_at.ensures.reaches from.2 in
     let round2 = round_more m IsOpen start (λ p is_open. is_open.present) here n residue 1 c.reach_at-2.new.residues.items c.reach_at-2.new.queue.items residue_is (omega arith) c.in_ok-reach_at-2.ensures.reaches round1 in
     let round3 = round_more m IsOpen start (λ p is_open. is_open.present) here n residue 2 c.reach_at-3.new.residues.items c.reach_at-3.new.queue.items residue_is (omega arith) c.in_ok-reach_at-3.ensures.reaches round2 in

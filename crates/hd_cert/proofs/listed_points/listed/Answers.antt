@@ -2,7 +2,7 @@ use Rattle.std.proofs.Common.{◌≡◌, refl, subst, arith, rules, ℕ}
 use Rattle.hd_map.specs.Map.{cell_count}
 use Rattle.hd_cert.specs.Listed.{AreListed, Lists}
 use Rattle.hd_map.proofs.PositionOrder.{at-first, at-inside, at-next}
-use Rattle.hd_cert.proofs.Listing.{listed_more}
+use Rattle.hd_cert.proofs.Listed.{listed_more}
 use Rattle.hd_cert.proofs.listed_points.listed.Goals as goal
 
 pub list_one-requires-clause-at : goal.list_one-requires-clause-at

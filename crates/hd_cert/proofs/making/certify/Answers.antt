@@ -1,7 +1,7 @@
 use Rattle.hd_check.specs.Rules.{IsRight}
 use Rattle.hd_cert.specs.Routes.{IsMade}
 use Rattle.hd_cert.specs.Shown.{IsShownCertificate}
-use Rattle.hd_cert.proofs.Ranks.{made_shown}
+use Rattle.hd_cert.proofs.RoutesAsPaths.{made_shown}
 use Rattle.hd_cert.proofs.Right.{shown_right}
 use Rattle.hd_cert.proofs.Shown.{if_ok_more}
 use Rattle.hd_cert.proofs.making.certify.Goals as goal

@@ -1,5 +1,5 @@
 use Rattle.std.proofs.Common.{◌∙◌, List, Option, ℕ}
-use Rattle.hd_cert.specs.Nearer.{GoesNearer, LeadsDown}
+use Rattle.hd_cert.specs.FirstNearer.{GoesNearer, LeadsDown}
 use Rattle.hd_cert.specs.Routes.{IsShownRoute}
 use Rattle.hd_cert.proofs.Shown.{open_path, begin_noted, leads_down, path_shown, if_ok_more}
 use Rattle.hd_cert.proofs.making.shown_path.Goals as goal

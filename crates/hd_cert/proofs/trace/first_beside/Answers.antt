@@ -9,8 +9,8 @@ use Rattle.hd_check.specs.Rules.{point_of}
 use Rattle.hd_check.proofs.Searching.{place_found}
 use Rattle.hd_check.proofs.Pits.{near_at}
 use Rattle.hd_cert.specs.declared.residue.Residue.TheVariants.{Unreached}
-use Rattle.hd_cert.specs.Nearer.{IsBesideWith}
-use Rattle.hd_cert.proofs.Nearest.{first_of}
+use Rattle.hd_cert.specs.FirstNearer.{IsBesideWith}
+use Rattle.hd_cert.proofs.FirstNearer.{first_of}
 use Rattle.hd_cert.proofs.trace.first_beside.Goals as goal
 
 pub index_of-requires-clause-in_grid : goal.index_of-requires-clause-in_grid

@@ -1,6 +1,6 @@
 use Rattle.std.proofs.Common.{◌<◌, ℕ}
 use Rattle.hd_check.specs.Rules.{point_of}
-use Rattle.hd_cert.specs.Nearer.{IsBesideWith}
+use Rattle.hd_cert.specs.FirstNearer.{IsBesideWith}
 use Rattle.hd_cert.proofs.trace.first_beside.Given as goal
 
 abbrev pub invariant-loop-k : goal.invariant-loop-k

@@ -3,7 +3,7 @@ use Rattle.hd_map.specs.declared.types.Size.{Size}
 use Rattle.hd_map.specs.Map.{place_of, cell_count}
 use Rattle.hd_cert.specs.declared.residue.Residue.TheVariants.{Unreached}
 use Rattle.hd_cert.specs.Residues.{residue_after, residue_at}
-use Rattle.hd_cert.proofs.Nearest.{different, down_begin, down_more, down_end, down_past}
+use Rattle.hd_cert.proofs.FirstNearer.{positions-different, down_begin, down_more, down_end, down_past}
 use Rattle.hd_cert.proofs.trace.path_down.Goals as goal
 
 pub returns-then-eq : goal.returns-then-eq
@@ -24,11 +24,11 @@ loop-gone-preserved g c =
     let here = c.loop-gone.here in
     let present = c.loop-gone.invariant.present in
     let place : c.index_of.result ≡ place_of m.size here = c.index_of.ensures.value ∙ ap (λ (s : Size). place_of s here) c.size-size.ensures in
-    let residue : residue_after c.before-residue.result ≡ residue_at m.size residues here = c.before-residue.ensures ∙ ap (λ i. get_or residues i Unreached) place in
-    let apart : here ≡ c.args.to → ⊥ = different here c.args.to c.eq.result c.eq.ensures c.if-eq.false in
+    let residue : residue_after c.residue_before-residue.result ≡ residue_at m.size residues here = c.residue_before-residue.ensures ∙ ap (λ i. get_or residues i Unreached) place in
+    let apart : here ≡ c.args.to → ⊥ = positions-different here c.args.to c.eq.result c.eq.ensures c.if-eq.false in
     record {
       present = c.first_beside-here.ensures.present;
-      going = λ steps count leads. rw c.in_ok-push.ensures.items (down_more m residues c.args.from c.args.to steps count leads c.loop-gone.path.items here c.first_beside-here.result c.loop-gone.gone c.before-residue.result
+      going = λ steps count leads. rw c.in_ok-push.ensures.items (down_more m residues c.args.from c.args.to steps count leads c.loop-gone.path.items here c.first_beside-here.result c.loop-gone.gone c.residue_before-residue.result
           present apart residue c.first_beside-here.ensures.first (c.loop-gone.invariant.going steps count leads));
     }
 

@@ -1,7 +1,7 @@
 use Rattle.std.proofs.Common.{ℕ, List, Option}
 use Rattle.hd_map.specs.Map.{Present}
-use Rattle.hd_cert.specs.Nearer.{LeadsDown}
-use Rattle.hd_cert.proofs.Nearest.{IsDown}
+use Rattle.hd_cert.specs.FirstNearer.{LeadsDown}
+use Rattle.hd_cert.proofs.FirstNearer.{IsDown}
 use Rattle.hd_cert.proofs.trace.path_down.Given as goal
 
 abbrev pub invariant-loop-gone : goal.invariant-loop-gone

@@ -3,7 +3,7 @@ use Rattle.std.specs.Prelude.{decimal, length}
 use Rattle.hd_check.specs.Text.{point_line}
 use Rattle.std.specs.List.{flat_map}
 use Rattle.std.proofs.lemmas.Result.{err_from_is_err_and}
-use Rattle.hd_check.proofs.Adding.{adds_part, part_after, adds_last}
+use Rattle.hd_check.proofs.AppendedTexts.{adds_part, part_after, adds_last}
 use Rattle.hd_check.proofs.writing.push_counted.Goals as goal
 
 pub returns-in_err-push_text : goal.returns-in_err-push_text

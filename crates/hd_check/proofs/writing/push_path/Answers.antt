@@ -4,7 +4,7 @@ use Rattle.std.specs.Fmt.{signed_decimal}
 use Rattle.hd_check.specs.Text.{line_text, point_line}
 use Rattle.std.specs.List.{flat_map}
 use Rattle.std.proofs.lemmas.Result.{err_from_is_err_and}
-use Rattle.hd_check.proofs.Adding.{adds_part, part_after, adds_last}
+use Rattle.hd_check.proofs.AppendedTexts.{adds_part, part_after, adds_last}
 use Rattle.hd_check.proofs.writing.push_path.Goals as goal
 
 pub returns-in_err-push_saddle_line : goal.returns-in_err-push_saddle_line

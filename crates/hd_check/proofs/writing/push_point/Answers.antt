@@ -1,7 +1,7 @@
 use Rattle.std.proofs.Common.{◌++◌, ◌∷◌, []}
 use Rattle.std.specs.Prelude.{decimal}
 use Rattle.std.proofs.lemmas.Result.{err_from_is_err_and}
-use Rattle.hd_check.proofs.Adding.{adds_part, part_after, adds_last}
+use Rattle.hd_check.proofs.AppendedTexts.{adds_part, part_after, adds_last}
 use Rattle.hd_check.proofs.writing.push_point.Goals as goal
 
 pub returns-in_err-push_count : goal.returns-in_err-push_count

@@ -1,6 +1,6 @@
 use Rattle.std.proofs.lemmas.Result.{err_from_is_err_and}
 use Rattle.hd_check.specs.Text.{point_line}
-use Rattle.hd_check.proofs.Adding.{line_added, line_refused}
+use Rattle.hd_check.proofs.AppendedTexts.{line_added, line_refused}
 use Rattle.hd_check.proofs.writing.push_points.Goals as goal
 
 pub returns-in_err-push_point : goal.returns-in_err-push_point

@@ -4,7 +4,7 @@ use Rattle.std.specs.List.{flat_map}
 use Rattle.std.proofs.lemmas.Result.{err_from_is_err_and}
 use Rattle.hd_num.specs.Text.{AppendsPrefix}
 use Rattle.hd_check.specs.Text.{adjacency_word, line_text, point_line, point_words, saddle_lines, side_word}
-use Rattle.hd_check.proofs.Adding.{adds_part, part_after, adds_last}
+use Rattle.hd_check.proofs.AppendedTexts.{adds_part, part_after, adds_last}
 use Rattle.hd_check.proofs.Parts.{text_parts_at}
 use Rattle.hd_check.proofs.writing.write_certificate.Goals as goal
 

@@ -1,6 +1,6 @@
 use Rattle.std.proofs.Common.{◌∙◌, ap}
 use Rattle.hd_engine.specs.State.{first_state}
-use Rattle.hd_demo.proofs.Summaries.{told-is_the_text}
+use Rattle.hd_demo.proofs.DemoTexts.{told-is_the_text}
 use Rattle.hd_demo.proofs.demo.demo_text.Goals as goal
 
 pub returns : goal.returns

@@ -1,5 +1,5 @@
 use Rattle.hd_demo.proofs.Drawings.{drawn_is_map}
-use Rattle.hd_demo.proofs.Summaries.{OneAnswer, demo-one}
+use Rattle.hd_demo.proofs.DemoTexts.{OneAnswer, demo-one}
 use Rattle.hd_demo.specs.Generator.{drawn_file}
 use Rattle.hd_demo.proofs.demo.demo_text_is_determined.Goals as goal
 

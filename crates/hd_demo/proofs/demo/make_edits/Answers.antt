@@ -1,6 +1,6 @@
 use Rattle.std.proofs.Common.{◌∙◌, arith}
 use Rattle.hd_demo.proofs.Drawings.{draws_more, edit_is}
-use Rattle.hd_demo.proofs.Summaries.{edits_more}
+use Rattle.hd_demo.proofs.DemoTexts.{edits_more}
 use Rattle.hd_demo.proofs.demo.make_edits.Goals as goal
 
 pub edits-preserved : goal.edits-preserved

@@ -1,4 +1,4 @@
-use Rattle.hd_demo.proofs.Summaries.{told_of}
+use Rattle.hd_demo.proofs.DemoTexts.{told_of}
 use Rattle.hd_demo.proofs.demo.push_told.Goals as goal
 
 pub returns : goal.returns

@@ -1,6 +1,6 @@
 use Rattle.std.specs.Prelude.{List, [], ◌∷◌, codes}
 use Rattle.hd_demo.specs.DemoText.{Row, row}
-use Rattle.hd_demo.proofs.Summaries.{no_rows, row_then}
+use Rattle.hd_demo.proofs.DemoTexts.{no_rows, row_then}
 use Rattle.hd_demo.proofs.summary.push_summary.Goals as goal
 
 pub returns-clause-summary : goal.returns-clause-summary

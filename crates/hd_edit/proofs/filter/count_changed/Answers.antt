@@ -6,7 +6,7 @@ use Rattle.hd_edit.specs.Filtered.{becomes_other}
 use Rattle.hd_edit.specs.Stroke.{count_below}
 use Rattle.hd_edit.proofs.Strokes.{count-few}
 use Rattle.hd_map.proofs.PositionOrder.{at-first, at-next}
-use Rattle.hd_edit.proofs.CellLists.{counted_next}
+use Rattle.hd_edit.proofs.FilteredCells.{counted_next}
 use Rattle.hd_edit.proofs.filter.count_changed.Goals as goal
 use Rattle.hd_edit.proofs.filter.count_changed.Goals.{then-not-is_same, else-not-is_same}
 

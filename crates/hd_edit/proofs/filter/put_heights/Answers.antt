@@ -5,7 +5,7 @@ use Rattle.hd_edit.specs.NewNotes.{NewNotesState}
 use Rattle.hd_edit.specs.Filtered.{becomes_other}
 use Rattle.hd_edit.proofs.Strokes.{count-few}
 use Rattle.hd_map.proofs.PositionOrder.{at-first, at-next, at-inside}
-use Rattle.hd_edit.proofs.CellLists.{noted_first, noted_inside, noted_whole, noted_fits, noted_room, noted_notes, noted_next, noted_last, noted_few}
+use Rattle.hd_edit.proofs.FilteredCells.{noted_first, noted_inside, noted_whole, noted_fits, noted_room, filtered-noted_notes, noted_next, noted_last, noted_few}
 use Rattle.hd_edit.proofs.filter.put_heights.Goals as goal
 
 pub loop-index-init : goal.loop-index-init
@@ -63,7 +63,7 @@ put_height-requires-clause-notes g c =
     let m = g.G.Heights.map c.args.grid.now in
     let n = c.loop-index._index in
     let inside : n < cell_count m.size = subst (λ (s : Size). n < cell_count s) c.size-size.ensures c.loop-index-test.true in
-    noted_notes m c.args.heights.now n c.loop-index.at c.loop-index.invariant.at.place inside (g.G.Heights.map c.loop-index.grid) c.loop-index.notes.changes c.loop-index.invariant.noted
+    filtered-noted_notes m c.args.heights.now n c.loop-index.at c.loop-index.invariant.at.place inside (g.G.Heights.map c.loop-index.grid) c.loop-index.notes.changes c.loop-index.invariant.noted
 
 pub position_after-at-requires-clause-in_grid : goal.position_after-at-requires-clause-in_grid
 position_after-at-requires-clause-in_grid g c =

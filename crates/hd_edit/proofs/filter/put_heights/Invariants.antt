@@ -1,6 +1,6 @@
 use Rattle.std.proofs.Common.{◌≡◌, ◌≤◌, ◌+◌, length}
 use Rattle.hd_map.proofs.PositionOrder.{IsAt}
-use Rattle.hd_edit.proofs.CellLists.{Noted}
+use Rattle.hd_edit.proofs.FilteredCells.{Noted}
 use Rattle.hd_edit.proofs.filter.put_heights.Given as goal
 
 abbrev pub invariant-loop-index : goal.invariant-loop-index

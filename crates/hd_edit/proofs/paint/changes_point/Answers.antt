@@ -3,24 +3,24 @@ use Rattle.hd_map.specs.declared.types.Cell.{Cell}
 use Rattle.hd_map.specs.declared.types.DataType.{DataType}
 use Rattle.hd_map.specs.Map.{IsCellOf, cell_at, mask_at}
 use Rattle.hd_edit.specs.declared.stroke.Stroke.{Stroke}
-use Rattle.hd_edit.specs.declared.stroke.Touch.TheVariants as touch
-use Rattle.hd_edit.specs.Stroke.{Touches, cell_after, changes}
+use Rattle.hd_edit.specs.declared.stroke.Effect.TheVariants as effect
+use Rattle.hd_edit.specs.Stroke.{HasEffect, cell_after, changes}
 use Rattle.hd_edit.proofs.Changes.{cell_of}
-use Rattle.hd_edit.proofs.Touches.{changes-none, changes-mask}
+use Rattle.hd_edit.proofs.StrokeChanges.{changes-none, changes-mask}
 use Rattle.hd_edit.proofs.paint.changes_point.Goals as goal
 
 -- what was read at the point is what stands there
-pub touch_of-requires : goal.touch_of-requires
-touch_of-requires g c = rw (c.cell.ensures, c.data_type.ensures) (cell_of (g.G.Heights.map c.args.grid.now) (g.met.G.Heights.whole c.args.grid.now) c.args.at c.requires)
+pub effect_of-requires : goal.effect_of-requires
+effect_of-requires g c = rw (c.cell.ensures, c.data_type.ensures) (cell_of (g.G.Heights.map c.args.grid.now) (g.met.G.Heights.whole c.args.grid.now) c.args.at c.requires)
 
 -- the facts of a point, read or as it stands
 module _ (t t' : DataType) (s : Stroke) (cell cell' : Cell) (masked masked' : Bool) (type_is : t ≡ t') (cell_is : cell ≡ cell') (mask_is : masked ≡ masked') where
-  nothing : Touches t s cell masked touch.Nothing → IsCellOf t' cell' → (false ≡ changes s cell' masked') × IsCellOf t' (cell_after s cell' masked')
+  nothing : HasEffect t s cell masked effect.Nothing → IsCellOf t' cell' → (false ≡ changes s cell' masked') × IsCellOf t' (cell_after s cell' masked')
   nothing is of =
       let e = rw (cell_is, mask_is) at is in
       (changes-none s cell' masked' e.0 e.1, subst (λ (c : Cell). IsCellOf t' c) (sym e.0) of)
 
-  masks : (new : Bool) → Touches t s cell masked (touch.Mask new) → IsCellOf t' cell' → (true ≡ changes s cell' masked') × IsCellOf t' (cell_after s cell' masked')
+  masks : (new : Bool) → HasEffect t s cell masked (effect.Mask new) → IsCellOf t' cell' → (true ≡ changes s cell' masked') × IsCellOf t' (cell_after s cell' masked')
   masks new is of =
       let e = rw (cell_is, mask_is) at is in
       (changes-mask s cell' masked' e.2 (λ same. e.1 (e.0 ∙ same)), subst (λ (c : Cell). IsCellOf t' c) (sym e.2) of)

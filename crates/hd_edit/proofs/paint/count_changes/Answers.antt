@@ -4,7 +4,7 @@ use Rattle.hd_map.proofs.Points.{place_inside}
 use Rattle.hd_edit.specs.Stroke.{next_in, changes_at}
 use Rattle.hd_edit.proofs.Rectangles.{stands_first, stands_next, stands_inside, next_later, stands_low}
 use Rattle.hd_edit.proofs.Strokes.{count-few}
-use Rattle.hd_edit.proofs.Walks.{counted_first, counted_next, counted_last, refused_here}
+use Rattle.hd_edit.proofs.CountedChanges.{counted_first, counted_next, counted_last, refused_here}
 use Rattle.hd_edit.proofs.paint.count_changes.Goals as goal
 use Rattle.hd_edit.proofs.paint.count_changes.Goals.{then-changes, else-changes}
 

@@ -1,7 +1,7 @@
 use Rattle.std.proofs.Common.{◌-◌, ◌+◌}
 use Rattle.hd_map.specs.Map.{place_of}
 use Rattle.hd_edit.proofs.Rectangles.{StandsAt}
-use Rattle.hd_edit.proofs.Walks.{Counted}
+use Rattle.hd_edit.proofs.CountedChanges.{Counted}
 use Rattle.hd_edit.proofs.paint.count_changes.Given as goal
 
 abbrev pub invariant-loop-at : goal.invariant-loop-at

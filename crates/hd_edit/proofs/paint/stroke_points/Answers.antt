@@ -16,19 +16,19 @@ loop-at-init g c = let m = g.G.Heights.map c.args.grid.now in record {
   few = omega arith;
 }
 
-pub touch_point-requires-clause-in_range : goal.touch_point-requires-clause-in_range
-touch_point-requires-clause-in_range g c =
+pub stroke_point-requires-clause-in_range : goal.stroke_point-requires-clause-in_range
+stroke_point-requires-clause-in_range g c =
     let m = g.G.Heights.map c.args.grid.now in
     drawn_fits m c.args.from c.args.to c.args.stroke (g.met.G.Heights.whole c.args.grid.now) c.requires.rectangle c.loop-at.at c.loop-at.invariant.stands c.loop-at-test.true (g.G.Heights.map c.loop-at.grid) c.loop-at.notes.changes c.loop-at.invariant.drawn c.requires.in_range
 
-pub touch_point-requires-clause-count : goal.touch_point-requires-clause-count
-touch_point-requires-clause-count g c =
+pub stroke_point-requires-clause-count : goal.stroke_point-requires-clause-count
+stroke_point-requires-clause-count g c =
     let m = g.G.Heights.map c.args.grid.now in
     let room = drawn_room m c.args.from c.args.to c.args.stroke (g.met.G.Heights.whole c.args.grid.now) c.requires.rectangle c.loop-at.at c.loop-at.invariant.stands c.loop-at-test.true (g.G.Heights.map c.loop-at.grid) c.loop-at.notes.changes c.loop-at.invariant.drawn in
     omega (arith, c.loop-at.invariant.few, room, c.requires.room, c.ranges.count.fits, c.requires.changes)
 
-pub touch_point-requires-clause-room : goal.touch_point-requires-clause-room
-touch_point-requires-clause-room g c =
+pub stroke_point-requires-clause-room : goal.stroke_point-requires-clause-room
+stroke_point-requires-clause-room g c =
     let m = g.G.Heights.map c.args.grid.now in
     rw (c.loop-at.invariant.room, c.requires.room) (drawn_room m c.args.from c.args.to c.args.stroke (g.met.G.Heights.whole c.args.grid.now) c.requires.rectangle c.loop-at.at c.loop-at.invariant.stands c.loop-at-test.true (g.G.Heights.map c.loop-at.grid) c.loop-at.notes.changes c.loop-at.invariant.drawn)
 
@@ -47,11 +47,11 @@ loop-at-preserved g c =
       stands = rw c.step-at.ensures (stands_next m.size c.args.from c.args.to c.loop-at.at c.requires.rectangle c.loop-at.invariant.stands c.loop-at-test.true);
       drawn = rw c.step-at.ensures (drawn_next m c.args.from c.args.to c.args.stroke (g.met.G.Heights.whole c.args.grid.now) c.requires.rectangle c.loop-at.at c.loop-at.invariant.stands c.loop-at-test.true
           (g.G.Heights.map c.loop-at.grid) c.loop-at.notes.changes c.loop-at.invariant.drawn
-          (g.G.Heights.map c.touch_point.new.grid) c.touch_point.new.notes.changes c.touch_point.ensures.map c.touch_point.ensures.before c.touch_point.ensures.notes c.touch_point.ensures.len);
-      room = c.touch_point.ensures.room ∙ c.loop-at.invariant.room;
-      origin = g.met.G.Grid.onward c.args.grid.now c.loop-at.grid c.touch_point.new.grid c.loop-at.invariant.origin c.touch_point.ensures.origin;
-      rises = omega (arith, c.loop-at.invariant.rises, c.touch_point.ensures.rises);
-      few = omega (arith, c.loop-at.invariant.few, c.touch_point.ensures.count);
+          (g.G.Heights.map c.stroke_point.new.grid) c.stroke_point.new.notes.changes c.stroke_point.ensures.map c.stroke_point.ensures.before c.stroke_point.ensures.notes c.stroke_point.ensures.len);
+      room = c.stroke_point.ensures.room ∙ c.loop-at.invariant.room;
+      origin = g.met.G.Grid.onward c.args.grid.now c.loop-at.grid c.stroke_point.new.grid c.loop-at.invariant.origin c.stroke_point.ensures.origin;
+      rises = omega (arith, c.loop-at.invariant.rises, c.stroke_point.ensures.rises);
+      few = omega (arith, c.loop-at.invariant.few, c.stroke_point.ensures.count);
     }
 
 pub returns-clause-map : goal.returns-clause-map

@@ -1,5 +1,5 @@
 use Rattle.hd_feature.specs.Value.{is_significant}
-use Rattle.hd_feature.proofs.Bounds.{mean_small}
+use Rattle.hd_feature.proofs.ValueBounds.{mean_small}
 use Rattle.hd_feature.proofs.laws.mean_height_is_small.Goals as goal
 
 pub returns : goal.returns

@@ -9,7 +9,7 @@ use Rattle.hd_feature.specs.declared.notation.Statistic.{Statistic}
 use Rattle.hd_feature.specs.Notation.{attribute_of, kind_of, paired, pruning_of, scope_of, significance_of, statistic_of}
 use Rattle.hd_feature.specs.declared.notation.NotationError.TheVariants.{BadPart}
 use Rattle.hd_feature.specs.Parts.{and_then, parts_left, no_part, part, parts_of}
-use Rattle.hd_feature.proofs.Appended.{followed, notation_followed, reads-followed, sum_alone, sum_seventh}
+use Rattle.hd_feature.proofs.PartsWithSum.{followed, notation_followed, reads-followed, sum_alone, sum_seventh}
 use Rattle.hd_feature.proofs.reading.read_without_statistic.Goals as goal
 
 abbrev made : Kind → Percent → Significance → Attribute → Statistic → Result Notation NotationError

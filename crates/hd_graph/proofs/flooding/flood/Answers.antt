@@ -4,9 +4,9 @@ use Rattle.hd_graph.specs.declared.graph.Low.{Low}
 use Rattle.hd_map.specs.declared.types.Link.{Link}
 use Rattle.hd_graph.specs.Line.{IsFloodLine}
 use Rattle.hd_graph.specs.Links.{HasEnds, pass_of}
-use Rattle.hd_graph.proofs.InOrder.{same-each}
+use Rattle.hd_graph.proofs.LinkOrder.{same-each}
 use Rattle.hd_graph.proofs.Linked.{passes-permuted}
-use Rattle.hd_graph.proofs.Stops.{line-same_passes}
+use Rattle.hd_graph.proofs.LineSoFar.{line-same_passes}
 use Rattle.hd_graph.proofs.flooding.flood.Goals as goal
 
 pub links_of-requires-clause-joins : goal.links_of-requires-clause-joins

@@ -4,7 +4,7 @@ use Rattle.hd_map.specs.Rank.{below_by}
 use Rattle.hd_graph.specs.Flood.{is_done}
 use Rattle.hd_graph.specs.Links.{pass_of}
 use Rattle.hd_graph.proofs.Reached.{none-done}
-use Rattle.hd_graph.proofs.Stops.{line-all, line-none, link-ends}
+use Rattle.hd_graph.proofs.LineSoFar.{line-all, line-none, link-ends}
 use Rattle.hd_graph.proofs.flooding.visit_all.Goals as goal
 
 pub loop-start-init : goal.loop-start-init

@@ -4,9 +4,9 @@ use Rattle.hd_map.specs.Rank.{below_by}
 use Rattle.hd_map.specs.declared.types.Link.{Link}
 use Rattle.hd_graph.specs.Links.{HasEnds}
 use Rattle.hd_graph.specs.Onward.{IsOnward}
-use Rattle.hd_graph.proofs.InOrder.{link-each}
+use Rattle.hd_graph.proofs.LinkOrder.{link-each}
 use Rattle.hd_graph.proofs.Reached.{done-kept, done-set, far-from, reached-all, reached-first, reached-next, reached-over, undone, undone-less, undone-set}
-use Rattle.hd_graph.proofs.Stops.{line-first, line-next}
+use Rattle.hd_graph.proofs.LineSoFar.{line-first, line-next}
 use Rattle.hd_graph.proofs.flooding.visit_part.Goals as goal
 use Rattle.hd_graph.proofs.flooding.visit_part.Goals.{After-far_end-low}
 use Rattle.hd_graph.proofs.flooding.visit_part.Given.{Over}

@@ -1,4 +1,4 @@
-use Rattle.hd_graph.proofs.Merged.{merges-same_passes}
+use Rattle.hd_graph.proofs.AgreeingMerges.{merges-same_passes}
 use Rattle.hd_graph.proofs.laws.merges_rest_on_the_passes.Goals as goal
 
 pub returns : goal.returns

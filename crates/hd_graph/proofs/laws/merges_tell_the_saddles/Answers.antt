@@ -1,5 +1,5 @@
 use Rattle.hd_map.specs.Passes.{IsLabelled}
-use Rattle.hd_graph.proofs.Merged.{merges-tell_saddles}
+use Rattle.hd_graph.proofs.AgreeingMerges.{merges-tell_saddles}
 use Rattle.hd_graph.proofs.laws.merges_tell_the_saddles.Goals as goal
 
 pub returns : goal.returns

@@ -1,4 +1,4 @@
-use Rattle.hd_graph.proofs.Regional.{regions-basins, regions-lows}
+use Rattle.hd_graph.proofs.RegionBasins.{regions-basins, regions-lows}
 use Rattle.hd_graph.proofs.laws.regions_are_basins.Goals as goal
 
 pub returns : goal.returns

@@ -5,7 +5,7 @@ use Rattle.hd_map.specs.declared.types.Pass.{Pass}
 use Rattle.hd_map.specs.declared.types.Rank.{Rank}
 use Rattle.hd_map.specs.declared.types.Link.{Link}
 use Rattle.hd_graph.specs.Links.{HasEnds}
-use Rattle.hd_graph.proofs.Numbers.{number-within, link-of, links-more}
+use Rattle.hd_graph.proofs.NumberedLinks.{number-within, link-of, links-more}
 use Rattle.std.proofs.lemmas.Grind.{common_steps}
 use Rattle.hd_graph.proofs.links.links_of.Goals as goal
 

@@ -1,4 +1,4 @@
-use Rattle.hd_graph.proofs.Numbers.{AreWithin}
+use Rattle.hd_graph.proofs.NumberedLinks.{AreWithin}
 use Rattle.hd_graph.proofs.links.room_for.Given as goal
 
 abbrev pub invariant-loop-low : goal.invariant-loop-low

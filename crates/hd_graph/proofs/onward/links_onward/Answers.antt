@@ -2,7 +2,7 @@ use Rattle.std.proofs.Common.{◌≡◌, ◌+◌, ◌∙◌, ◌++◌, ◌∷◌
 use Rattle.std.proofs.lemmas.List.{length-replicate, length-set, length_push}
 use Rattle.std.proofs.lemmas.Option.{slice_get_within}
 use Rattle.hd_graph.specs.Links.{HasEnds}
-use Rattle.hd_graph.proofs.InOrder.{link-each}
+use Rattle.hd_graph.proofs.LinkOrder.{link-each}
 use Rattle.hd_graph.proofs.LeadsOn.{leads-all, leads-join, leads-none, leads-skip, top-inside}
 use Rattle.hd_graph.proofs.Places.{get-from_read}
 use Rattle.hd_graph.proofs.onward.links_onward.Goals as goal

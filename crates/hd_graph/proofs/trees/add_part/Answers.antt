@@ -1,7 +1,7 @@
 use Rattle.std.proofs.Common.{◌≡◌, true, false, refl}
 use Rattle.std.proofs.lemmas.Result.{on_ok_weaker}
 use Rattle.hd_map.specs.Rank.{below_by}
-use Rattle.hd_graph.proofs.Adding.{part-grows, part-adds}
+use Rattle.hd_graph.proofs.WithPart.{part-grows, part-adds}
 use Rattle.hd_graph.proofs.trees.add_part.Goals as goal
 
 pub returns-then-not-below : goal.returns-then-not-below

@@ -1,4 +1,4 @@
-use Rattle.hd_lines.proofs.Nearest.{nearest-passes}
+use Rattle.hd_lines.proofs.PassesAndSaddles.{nearest-passes}
 use Rattle.hd_lines.proofs.laws.nearest_saddles_are_passes.Goals as goal
 
 pub returns : goal.returns

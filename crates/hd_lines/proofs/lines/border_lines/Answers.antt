@@ -11,7 +11,7 @@ use Rattle.hd_lines.specs.FirstJoins.{AreFirstJoins}
 use Rattle.hd_lines.specs.Listed.{AreListed}
 use Rattle.hd_lines.specs.Places.{AreOwnerPlaces, IsNumbered}
 use Rattle.hd_lines.proofs.BorderLines.{borders-within, lines-are}
-use Rattle.hd_lines.proofs.Placing.{kept-few, kept-numbered, kept-numbers, owners-numbered, owners-whole}
+use Rattle.hd_lines.proofs.HasPlace.{kept-few, kept-numbered, kept-numbers, owners-numbered, owners-whole}
 use Rattle.hd_lines.proofs.lines.border_lines.Given.{Over}
 use Rattle.hd_lines.proofs.lines.border_lines.Goals as goal
 use Rattle.hd_lines.proofs.lines.border_lines.Goals.{In_ok-borders}

@@ -4,7 +4,7 @@ use Rattle.hd_prune.specs.declared.step.Kept.{Kept}
 use Rattle.hd_lines.specs.declared.border.Border.{Border}
 use Rattle.hd_lines.specs.declared.line.BorderLine.{BorderLine}
 use Rattle.hd_lines.specs.Listed.{AreListed}
-use Rattle.hd_lines.proofs.Listing.{listed-more, listed-none}
+use Rattle.hd_lines.proofs.Listed.{listed-more, listed-none}
 use Rattle.hd_lines.proofs.lines.list_lines.Goals as goal
 
 abbrev border : Border

@@ -2,7 +2,7 @@ use Rattle.std.proofs.Common.{◌+◌, ◌∙◌, List, length, sym, ap, subst}
 use Rattle.hd_map.specs.Map.{Map}
 use Rattle.hd_lines.specs.declared.border.Border.{Border}
 use Rattle.hd_lines.proofs.Borders.{AreBordersBefore, borders-all, borders-more}
-use Rattle.hd_lines.proofs.Slots.{indexed-apart}
+use Rattle.hd_lines.proofs.Indexed.{indexed-apart}
 use Rattle.hd_lines.proofs.pairs.borders_of.Goals as goal
 
 pub places-preserved : goal.places-preserved

@@ -4,7 +4,7 @@ use Rattle.hd_map.specs.declared.types.Pos.{Pos}
 use Rattle.hd_map.specs.declared.types.Size.{Size}
 use Rattle.hd_map.specs.Map.{InGrid, Map, Present, cell_count, place_of}
 use Rattle.hd_map.specs.Neighbour.{IsNear}
-use Rattle.hd_lines.proofs.Finding.{found-past}
+use Rattle.hd_lines.proofs.AreFoundOf.{found-past}
 use Rattle.hd_lines.proofs.Seen.{absent-apart, surrounded-apart}
 use Rattle.hd_lines.proofs.pairs.note_point.Goals as goal
 

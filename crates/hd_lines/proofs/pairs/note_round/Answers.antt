@@ -1,8 +1,8 @@
 use Rattle.std.proofs.Common.{◌+◌, ◌<◌, arith}
 use Rattle.hd_map.specs.Map.{Map, place_of}
 use Rattle.hd_lines.specs.Found.{IsSeenTo}
-use Rattle.hd_lines.proofs.Finding.{found-as}
-use Rattle.hd_lines.proofs.Rounds.{round-all, round-start}
+use Rattle.hd_lines.proofs.AreFoundOf.{found-as}
+use Rattle.hd_lines.proofs.SeenTo.{round-all, round-start}
 use Rattle.hd_lines.proofs.pairs.note_round.Goals as goal
 
 pub note_step-requires-clause-before : goal.note_step-requires-clause-before

@@ -4,9 +4,9 @@ use Rattle.hd_map.specs.declared.types.Pos.{Pos}
 use Rattle.hd_map.specs.declared.types.Size.{Size}
 use Rattle.hd_map.specs.Map.{InGrid, Map}
 use Rattle.hd_lines.specs.Found.{IsSeenTo}
-use Rattle.hd_lines.proofs.Finding.{found-as, found-few, found-pair}
-use Rattle.hd_lines.proofs.Rounds.{step-fresh, step-more, step-none}
-use Rattle.hd_lines.proofs.Slots.{indexed-once}
+use Rattle.hd_lines.proofs.AreFoundOf.{found-as, found-few, found-pair}
+use Rattle.hd_lines.proofs.SeenTo.{step-fresh, step-more, step-none}
+use Rattle.hd_lines.proofs.Indexed.{indexed-once}
 use Rattle.hd_lines.proofs.pairs.note_step.Goals as goal
 
 pub note_pair-requires-clause-small : goal.note_pair-requires-clause-small

@@ -3,7 +3,7 @@ use Rattle.std.specs.Prelude.{pos}
 use Rattle.std.proofs.lemmas.Option.{slice_get-get_or}
 use Rattle.hd_map.specs.Rank.{below_by}
 use Rattle.hd_lines.specs.declared.saddles.NumberedBorder.{NumberedBorder}
-use Rattle.hd_lines.proofs.NumberedBorders.{joined-more, lower-more, splits-end, splits-here}
+use Rattle.hd_lines.proofs.NumberedBorders.{joined-more, lower-more, borders_split-end, borders_split-here}
 use Rattle.hd_lines.proofs.saddles.join_lower.Goals as goal
 
 abbrev none : NumberedBorder
@@ -24,9 +24,9 @@ loop-place-preserved g c =
 
 pub returns-else-below-clause-splits : goal.returns-else-below-clause-splits
 returns-else-below-clause-splits g c =
-    splits-here (below_by g.S.Side.NAME) g.met.S.Side.order c.args.borders.now c.requires.sorted c.loop-place.place (get_or c.args.borders.now c.loop-place.place none) c.args.level
+    borders_split-here (below_by g.S.Side.NAME) g.met.S.Side.order c.args.borders.now c.requires.sorted c.loop-place.place (get_or c.args.borders.now c.loop-place.place none) c.args.level
     (slice_get-get_or c.args.borders.now c.loop-place.place none c.loop-place-test.true) (sym c.below.ensures ∙ c.if-below.false) c.loop-place.invariant.lower
 
 pub returns-after-loop-place-clause-splits : goal.returns-after-loop-place-clause-splits
 returns-after-loop-place-clause-splits g c =
-    splits-end (below_by g.S.Side.NAME) g.met.S.Side.order c.args.borders.now c.requires.sorted c.loop-place.place c.args.level c.loop-place-test.false c.loop-place.invariant.lower
+    borders_split-end (below_by g.S.Side.NAME) g.met.S.Side.order c.args.borders.now c.requires.sorted c.loop-place.place c.args.level c.loop-place-test.false c.loop-place.invariant.lower

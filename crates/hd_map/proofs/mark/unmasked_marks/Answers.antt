@@ -1,5 +1,5 @@
 use Rattle.std.proofs.Common.{◌≡◌, ◌<◌, ℕ, length, subst, ◌∙◌, arith, refl}
-use Rattle.hd_map.proofs.Packed.{AreCleared, alike_length, more_cleared, cleared_all}
+use Rattle.hd_map.proofs.PackedPoints.{AreCleared, alike_length, more_cleared, cleared_all}
 use Rattle.hd_map.proofs.mark.unmasked_marks.Goals as goal
 
 pub loop-index-init : goal.loop-index-init

@@ -1,4 +1,4 @@
-use Rattle.hd_map.proofs.Packed.{AreCleared}
+use Rattle.hd_map.proofs.PackedPoints.{AreCleared}
 use Rattle.hd_map.proofs.mark.unmasked_marks.Given as goal
 
 abbrev pub invariant-loop-index : goal.invariant-loop-index

@@ -2,7 +2,7 @@ use Rattle.std.proofs.Common.{◌≡◌, ◌*ℤ◌, ◌*◌, ◌%◌, ◌≤◌
 use Rattle.std.specs.Int.{int_wrap, w64}
 use mir.Val.{of_z, to_z}
 use Rattle.std.proofs.lemmas.Int.{to_z-of_z, wraps}
-use Rattle.hd_map.proofs.Packed.{multiplied_all, multiplied_more}
+use Rattle.hd_map.proofs.PackedPoints.{multiplied_all, multiplied_more}
 use Rattle.hd_map.proofs.wide_cells.multiply_all.Goals as goal
 
 pub loop-index-init : goal.loop-index-init

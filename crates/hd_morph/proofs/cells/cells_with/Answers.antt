@@ -4,7 +4,7 @@ use Rattle.std.specs.List.{range_with_len}
 use Rattle.hd_map.specs.declared.types.Size.{Size}
 use Rattle.hd_map.specs.Map.{place_of, cell_at, cell_count}
 use Rattle.hd_morph.specs.NewHeights.{cell_with, cell_after}
-use Rattle.hd_morph.proofs.Listing.{cells_none, cells_more}
+use Rattle.hd_morph.proofs.Listed.{cells_none, cells_more}
 use Rattle.hd_morph.proofs.cells.cells_with.Goals as goal
 
 pub loop-index-init : goal.loop-index-init

@@ -1,4 +1,4 @@
-use Rattle.hd_morph.proofs.Listing.{CellsBefore}
+use Rattle.hd_morph.proofs.Listed.{CellsBefore}
 use Rattle.hd_morph.proofs.cells.cells_with.Given as goal
 
 abbrev pub invariant-loop-index : goal.invariant-loop-index

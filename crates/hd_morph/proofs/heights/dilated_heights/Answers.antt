@@ -3,7 +3,7 @@ use Rattle.hd_morph.specs.Filter.{Dilation}
 use Rattle.hd_morph.specs.Plain.{most_height, most_between}
 use Rattle.hd_morph.specs.Raised.{ArePlainlyFiltered}
 use Rattle.hd_morph.proofs.PlainNumbers.{plain_more}
-use Rattle.hd_morph.proofs.Listing.{filters_heights}
+use Rattle.hd_morph.proofs.Listed.{filters_heights}
 use Rattle.hd_morph.proofs.heights.dilated_heights.Goals as goal
 
 pub dilated-requires-clause-heights : goal.dilated-requires-clause-heights

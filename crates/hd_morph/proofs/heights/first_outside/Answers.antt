@@ -2,7 +2,7 @@ use Rattle.std.proofs.Common.{arith, pos, get_or, refl, rules, SFits, w64}
 use Rattle.std.proofs.lemmas.Bool.{false≢true}
 use Rattle.std.proofs.lemmas.Int.{to_z-of_z}
 use Rattle.hd_morph.proofs.PlainNumbers.{value_read}
-use Rattle.hd_morph.proofs.Listing.{between_more, between_all, outside_first}
+use Rattle.hd_morph.proofs.Listed.{between_more, between_all, outside_first}
 use Rattle.hd_morph.proofs.heights.first_outside.Goals as goal
 
 pub returns-then-not-is_between : goal.returns-then-not-is_between

@@ -1,4 +1,4 @@
-use Rattle.hd_morph.proofs.Listing.{BetweenBefore}
+use Rattle.hd_morph.proofs.Listed.{BetweenBefore}
 use Rattle.hd_morph.proofs.heights.first_outside.Given as goal
 
 abbrev pub invariant-loop-index : goal.invariant-loop-index

@@ -2,7 +2,7 @@ use Rattle.std.proofs.Common.{◌≡◌, ◌<◌, ◌≤◌, ◌+◌, length, re
 use Rattle.std.proofs.lemmas.Int.{to_z-of_z}
 use Rattle.hd_map.specs.declared.types.Size.{Size}
 use Rattle.hd_map.specs.Map.{place_of, cell_count}
-use Rattle.hd_morph.proofs.Listing.{at_inside, heights_none, heights_more, heights_all}
+use Rattle.hd_morph.proofs.Listed.{at_inside, heights_none, heights_more, heights_all}
 use Rattle.hd_morph.proofs.heights.heights_of.Goals as goal
 
 pub loop-index-init : goal.loop-index-init

@@ -1,4 +1,4 @@
-use Rattle.hd_morph.proofs.Listing.{HeightsBefore}
+use Rattle.hd_morph.proofs.Listed.{HeightsBefore}
 use Rattle.hd_morph.proofs.heights.heights_of.Given as goal
 
 abbrev pub invariant-loop-index : goal.invariant-loop-index

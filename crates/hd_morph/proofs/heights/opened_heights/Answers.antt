@@ -1,6 +1,6 @@
 use Rattle.hd_morph.specs.Filter.{Opening}
 use Rattle.hd_morph.specs.Raised.{ArePlainlyFiltered}
-use Rattle.hd_morph.proofs.Listing.{filters_heights}
+use Rattle.hd_morph.proofs.Listed.{filters_heights}
 use Rattle.hd_morph.proofs.heights.opened_heights.Goals as goal
 
 pub returns : goal.returns

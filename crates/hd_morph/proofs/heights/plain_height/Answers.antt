@@ -1,6 +1,6 @@
 use Rattle.std.proofs.Common.{rules, sym, SFits, w64}
 use Rattle.std.proofs.lemmas.Int.{to_z-of_z}
-use Rattle.hd_morph.proofs.Listing.{plain_some, plain_none}
+use Rattle.hd_morph.proofs.Listed.{plain_some, plain_none}
 use Rattle.hd_morph.proofs.heights.plain_height.Goals as goal
 
 pub returns-in-Some : goal.returns-in-Some

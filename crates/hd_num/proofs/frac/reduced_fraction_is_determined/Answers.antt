@@ -1,5 +1,5 @@
-use Rattle.hd_num.proofs.Fractions.{determined}
+use Rattle.hd_num.proofs.Fractions.{IsFraction-determined}
 use Rattle.hd_num.proofs.frac.reduced_fraction_is_determined.Goals as goal
 
 pub returns : goal.returns
-returns c = determined
+returns c = IsFraction-determined

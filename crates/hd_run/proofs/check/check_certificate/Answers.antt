@@ -4,7 +4,7 @@ use Rattle.hd_sdf_read.specs.FileOf.{file_of}
 use Rattle.hd_run.proofs.Checks.{check_surface_stops}
 use Rattle.hd_run.proofs.Readings.{stop_moved}
 use Rattle.hd_run.proofs.Runs.{second_after, second_untouched}
-use Rattle.hd_run.proofs.Stops.{read_stays, surface_stopped}
+use Rattle.hd_run.proofs.Stops.{HasReadStop-ok, surface_stopped}
 use Rattle.hd_run.proofs.check.check_certificate.Goals as goal
 
 pub returns-clause-told : goal.returns-clause-told
@@ -12,13 +12,13 @@ returns-clause-told g c = λ bytes second told named. c.check_second-checked.ens
 
 pub returns-clause-order : goal.returns-clause-order
 returns-clause-order g c =
-    second_after (Some c.args.job.now.certificate.now) _ _ c.args.script.now _ c.args.job.now.certificate.now (file_of c.in-Ok.file) refl (read_stays _ _ c.in-Ok.file c.in-Ok.ensures.cause) c.in-Ok.ensures.told
+    second_after (Some c.args.job.now.certificate.now) _ _ c.args.script.now _ c.args.job.now.certificate.now (file_of c.in-Ok.file) refl (HasReadStop-ok _ _ c.in-Ok.file c.in-Ok.ensures.cause) c.in-Ok.ensures.told
 
 pub returns-clause-failed : goal.returns-clause-failed
 returns-clause-failed g c = λ bytes told e. inr (file_of c.in-Ok.file, c.in-Ok.ensures.told bytes told, c.check_second-checked.ensures.failed e)
 
 pub returns-clause-cause : goal.returns-clause-cause
-returns-clause-cause g c = λ saved kept. c.check_second-checked.ensures.cause _ saved (read_stays _ _ c.in-Ok.file c.in-Ok.ensures.cause) kept
+returns-clause-cause g c = λ saved kept. c.check_second-checked.ensures.cause _ saved (HasReadStop-ok _ _ c.in-Ok.file c.in-Ok.ensures.cause) kept
 
 pub returns-in-Err-clause-open : goal.returns-in-Err-clause-open
 returns-in-Err-clause-open g c = c.requires.open

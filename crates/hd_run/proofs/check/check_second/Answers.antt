@@ -11,7 +11,7 @@ use Rattle.hd_run.specs.Texts.{accepted_text}
 use Rattle.hd_run.specs.declared.stop.Stop.TheVariants.{ReadFault, WriteFault}
 use Rattle.hd_run.proofs.Checks.{check_accepts, check_cut_short, check_judge_stops, check_second_stops, of_err, of_ok}
 use Rattle.hd_run.proofs.Readings.{stop_moved}
-use Rattle.hd_run.proofs.Stops.{judged_no_fault, judged_stopped, ok≢err, read_stays, second_stopped, write≢read}
+use Rattle.hd_run.proofs.Stops.{judged_no_fault, judged_stopped, ok≢err, HasReadStop-ok, second_stopped, write≢read}
 use Rattle.hd_run.proofs.check.check_second.Goals as goal
 
 pub returns-in-Err-judge-clause-told : goal.returns-in-Err-judge-clause-told
@@ -62,7 +62,7 @@ returns-clause-cause g c = λ surface saved still kept.
       write = λ e. absurd (ok≢err true WriteFault e);
       other = λ not_read not_write. (
         still,
-        read_stays _ _ c.in-Ok.text c.in-Ok.ensures.cause,
+        HasReadStop-ok _ _ c.in-Ok.text c.in-Ok.ensures.cause,
         of_ok c.write_all.result fine c.write_all.ensures.cause.accepted,
         kept,
       );
@@ -100,7 +100,7 @@ returns-in-Err-judge-clause-failed g c = λ e. absurd (judged_no_fault ⊤ (map_
 
 pub returns-in-Err-judge-clause-cause : goal.returns-in-Err-judge-clause-cause
 returns-in-Err-judge-clause-cause g c = λ surface saved still kept.
-    judged_stopped surface _ _ saved c.in-Err-judge.stop ⊤ (map_of c.args.file.now.surface) c.in-Ok.text c.in-Err-judge.ensures still (read_stays _ _ c.in-Ok.text c.in-Ok.ensures.cause) refl kept
+    judged_stopped surface _ _ saved c.in-Err-judge.stop ⊤ (map_of c.args.file.now.surface) c.in-Ok.text c.in-Err-judge.ensures still (HasReadStop-ok _ _ c.in-Ok.text c.in-Ok.ensures.cause) refl kept
 
 pub returns-then-is_err-clause-open : goal.returns-then-is_err-clause-open
 returns-then-is_err-clause-open g c = c.write_all.ensures.open

@@ -3,8 +3,8 @@ use Rattle.std.specs.Option.{option_copied}
 use Rattle.std.specs.Prelude.{⊤}
 use Rattle.hd_num.specs.Lines.{lines_of}
 use Rattle.hd_run.specs.declared.stop.Stop.TheVariants.{WriteFault}
-use Rattle.hd_run.proofs.Savings.{last_saved, last_stopped, last_unasked, last_unreached, lines_kept, lines_saved, lines_stop, saving_cause, saving_stops}
-use Rattle.hd_run.proofs.Stops.{ok≢err, write_stays}
+use Rattle.hd_run.proofs.Savings.{last_saved, last_stopped, last_unasked, last_unreached, lines_kept, SavesLast-lines, lines_stop, saving_cause, saving_stops}
+use Rattle.hd_run.proofs.Stops.{ok≢err, HasWriteStop-ok}
 use Rattle.hd_run.proofs.running.answer_and_save.Goals as goal
 
 pub returns-in-Err-clause-cause : goal.returns-in-Err-clause-cause
@@ -25,11 +25,11 @@ returns-in-Err-save_file-clause-answers g c =
     saving_stops (option_copied c.args.job.now.save) first lines _ _ old new accepted after c.in-Some.name.now (ap option_copied c.in-Some.is) ⊤ c.in-Err-save_file.stop c.in-Ok.ensures.answers c.in-Err-save_file.ensures
 
 pub returns-in-Err-save_file-clause-cause : goal.returns-in-Err-save_file-clause-cause
-returns-in-Err-save_file-clause-cause g c = saving_cause _ _ ⊤ c.in-Err-save_file.stop _ _ (write_stays _ _ c.in-Ok.accepted c.in-Ok.ensures.cause) c.in-Err-save_file.ensures
+returns-in-Err-save_file-clause-cause g c = saving_cause _ _ ⊤ c.in-Err-save_file.stop _ _ (HasWriteStop-ok _ _ c.in-Ok.accepted c.in-Ok.ensures.cause) c.in-Err-save_file.ensures
 
 pub returns-in-Err-save_file-clause-saved : goal.returns-in-Err-save_file-clause-saved
 returns-in-Err-save_file-clause-saved g c = λ surface script a b.
-    last_stopped _ _ _ surface script _ _ ⊤ c.in-Err-save_file.stop c.in-Some.name.now _ (ap option_copied c.in-Some.is) refl a b (write_stays _ _ c.in-Ok.accepted c.in-Ok.ensures.cause) c.in-Err-save_file.ensures
+    last_stopped _ _ _ surface script _ _ ⊤ c.in-Err-save_file.stop c.in-Some.name.now _ (ap option_copied c.in-Some.is) refl a b (HasWriteStop-ok _ _ c.in-Ok.accepted c.in-Ok.ensures.cause) c.in-Err-save_file.ensures
 
 pub returns-clause-answers : goal.returns-clause-answers
 returns-clause-answers g c =
@@ -39,12 +39,12 @@ returns-clause-answers g c =
     let first = c.args.session.now.state in
     let after = c.answer_lines.new.session.state in
     let accepted = c.in-Ok.accepted in
-    lines_saved (option_copied c.args.job.now.save) first lines _ _ old new accepted after c.in-Some.name.now (ap option_copied c.in-Some.is) c.in-Ok.ensures.answers c.in-Ok-save_file.ensures
+    SavesLast-lines (option_copied c.args.job.now.save) first lines _ _ old new accepted after c.in-Some.name.now (ap option_copied c.in-Some.is) c.in-Ok.ensures.answers c.in-Ok-save_file.ensures
 
 pub returns-clause-cause : goal.returns-clause-cause
 returns-clause-cause g c = record {
   write = λ e. absurd (ok≢err c.in-Ok.accepted WriteFault e);
-  other = λ e. (write_stays _ _ c.in-Ok.accepted c.in-Ok.ensures.cause, c.in-Ok-save_file.ensures.count);
+  other = λ e. (HasWriteStop-ok _ _ c.in-Ok.accepted c.in-Ok.ensures.cause, c.in-Ok-save_file.ensures.count);
   only = λ stop e. absurd (ok≢err c.in-Ok.accepted stop e);
 }
 
@@ -81,7 +81,7 @@ returns-in_default-clause-answers g c =
 pub returns-in_default-clause-cause : goal.returns-in_default-clause-cause
 returns-in_default-clause-cause g c = record {
   write = λ e. absurd (ok≢err c.in-Ok.accepted WriteFault e);
-  other = λ e. (write_stays _ _ c.in-Ok.accepted c.in-Ok.ensures.cause, refl);
+  other = λ e. (HasWriteStop-ok _ _ c.in-Ok.accepted c.in-Ok.ensures.cause, refl);
   only = λ stop e. absurd (ok≢err c.in-Ok.accepted stop e);
 }
 

@@ -4,14 +4,14 @@ use Rattle.std.proofs.KnownBytes.{Keeps-refl}
 use Rattle.hd_map.specs.SurfaceLaws.{surface-whole}
 use Rattle.hd_num.specs.Lines.{lines_of}
 use Rattle.hd_sdf_read.specs.FileOf.{file_of}
-use Rattle.hd_words.specs.Words.{run_request_of}
+use Rattle.hd_words.specs.Requests.{run_request_of}
 use Rattle.hd_run.specs.FaultCounts.{over}
 use Rattle.hd_run.specs.Limits.{script_limit}
 use Rattle.hd_run.specs.ReadOrder.{reading}
 use Rattle.hd_run.proofs.Readings.{stop_moved}
 use Rattle.hd_run.proofs.Runs.{inputs_of-ok, lines_to_answer-none, lines_to_answer-fits, run_answered, second_after, second_read, script_stops, second_untouched, surface_stops}
 use Rattle.hd_run.proofs.Savings.{last_unreached}
-use Rattle.hd_run.proofs.Stops.{answering_stopped, no_read_fault, read_stays, second_stopped, surface_stopped}
+use Rattle.hd_run.proofs.Stops.{answering_stopped, HasSinkStop-no_read_fault, HasReadStop-ok, second_stopped, surface_stopped}
 use Rattle.hd_run.proofs.running.run.Goals as goal
 
 pub returns-in-Err-clause-told : goal.returns-in-Err-clause-told
@@ -41,10 +41,10 @@ pub returns-in_default-clause-order : goal.returns-in_default-clause-order
 returns-in_default-clause-order g c = second_untouched (option_copied c.args.job.now.script) _ _ c.args.script.now
 
 pub returns-in_default-clause-failed : goal.returns-in_default-clause-failed
-returns-in_default-clause-failed g c = λ bytes told e. absurd (no_read_fault _ _ c.answer_all.result c.answer_all.ensures.cause e)
+returns-in_default-clause-failed g c = λ bytes told e. absurd (HasSinkStop-no_read_fault _ _ c.answer_all.result c.answer_all.ensures.cause e)
 
 pub returns-in_default-clause-saved : goal.returns-in_default-clause-saved
-returns-in_default-clause-saved g c = c.answer_all.ensures.saved _ _ (read_stays _ _ c.in-Ok.file c.in-Ok.ensures.cause) refl
+returns-in_default-clause-saved g c = c.answer_all.ensures.saved _ _ (HasReadStop-ok _ _ c.in-Ok.file c.in-Ok.ensures.cause) refl
 
 pub returns-in-Err-read_second-clause-told : goal.returns-in-Err-read_second-clause-told
 returns-in-Err-read_second-clause-told g c = λ bytes second told named.
@@ -54,7 +54,7 @@ returns-in-Err-read_second-clause-told g c = λ bytes second told named.
 
 pub returns-in-Err-read_second-clause-order : goal.returns-in-Err-read_second-clause-order
 returns-in-Err-read_second-clause-order g c =
-    second_after (option_copied c.args.job.now.script) _ _ c.args.script.now _ c.in-Some.name.now (file_of c.in-Ok.file) (ap option_copied c.in-Some.is) (read_stays _ _ c.in-Ok.file c.in-Ok.ensures.cause) c.in-Ok.ensures.told
+    second_after (option_copied c.args.job.now.script) _ _ c.args.script.now _ c.in-Some.name.now (file_of c.in-Ok.file) (ap option_copied c.in-Some.is) (HasReadStop-ok _ _ c.in-Ok.file c.in-Ok.ensures.cause) c.in-Ok.ensures.told
 
 pub returns-in-Err-read_second-clause-failed : goal.returns-in-Err-read_second-clause-failed
 returns-in-Err-read_second-clause-failed g c = λ bytes told e.
@@ -77,7 +77,7 @@ returns-clause-told g c = λ bytes second told named.
 
 pub returns-clause-order : goal.returns-clause-order
 returns-clause-order g c =
-    second_after (option_copied c.args.job.now.script) _ _ c.args.script.now _ c.in-Some.name.now (file_of c.in-Ok.file) (ap option_copied c.in-Some.is) (read_stays _ _ c.in-Ok.file c.in-Ok.ensures.cause) c.in-Ok.ensures.told
+    second_after (option_copied c.args.job.now.script) _ _ c.args.script.now _ c.in-Some.name.now (file_of c.in-Ok.file) (ap option_copied c.in-Some.is) (HasReadStop-ok _ _ c.in-Ok.file c.in-Ok.ensures.cause) c.in-Ok.ensures.told
 
 pub returns-clause-script_left : goal.returns-clause-script_left
 returns-clause-script_left g c = λ name named.
@@ -86,10 +86,10 @@ returns-clause-script_left g c = λ name named.
     second_read (option_copied c.args.job.now.script) c.in-Some.name.now name script_limit read (ap option_copied c.in-Some.is) named c.in-Ok-read_second.ensures.left
 
 pub returns-clause-failed : goal.returns-clause-failed
-returns-clause-failed g c = λ bytes told e. absurd (no_read_fault _ _ c.answer_all-2.result c.answer_all-2.ensures.cause e)
+returns-clause-failed g c = λ bytes told e. absurd (HasSinkStop-no_read_fault _ _ c.answer_all-2.result c.answer_all-2.ensures.cause e)
 
 pub returns-clause-saved : goal.returns-clause-saved
-returns-clause-saved g c = c.answer_all-2.ensures.saved _ _ (read_stays _ _ c.in-Ok.file c.in-Ok.ensures.cause) (read_stays _ _ c.in-Ok-read_second.lines c.in-Ok-read_second.ensures.cause)
+returns-clause-saved g c = c.answer_all-2.ensures.saved _ _ (HasReadStop-ok _ _ c.in-Ok.file c.in-Ok.ensures.cause) (HasReadStop-ok _ _ c.in-Ok-read_second.lines c.in-Ok-read_second.ensures.cause)
 
 pub returns-in-Err-clause-open : goal.returns-in-Err-clause-open
 returns-in-Err-clause-open g c = c.requires.open
@@ -110,7 +110,7 @@ pub returns-in_default-clause-open : goal.returns-in_default-clause-open
 returns-in_default-clause-open g c = c.answer_all.ensures.open
 
 pub returns-in_default-clause-unwritten : goal.returns-in_default-clause-unwritten
-returns-in_default-clause-unwritten g c = λ e. absurd (no_read_fault _ _ c.answer_all.result c.answer_all.ensures.cause e)
+returns-in_default-clause-unwritten g c = λ e. absurd (HasSinkStop-no_read_fault _ _ c.answer_all.result c.answer_all.ensures.cause e)
 
 pub returns-in_default-clause-surface_left : goal.returns-in_default-clause-surface_left
 returns-in_default-clause-surface_left g c = c.in-Ok.ensures.left
@@ -119,7 +119,7 @@ pub returns-in_default-clause-script_left : goal.returns-in_default-clause-scrip
 returns-in_default-clause-script_left g c = λ name named. inl refl
 
 pub returns-in_default-clause-cause : goal.returns-in_default-clause-cause
-returns-in_default-clause-cause g c = answering_stopped _ _ _ _ c.answer_all.result (read_stays _ _ c.in-Ok.file c.in-Ok.ensures.cause) refl c.answer_all.ensures.cause
+returns-in_default-clause-cause g c = answering_stopped _ _ _ _ c.answer_all.result (HasReadStop-ok _ _ c.in-Ok.file c.in-Ok.ensures.cause) refl c.answer_all.ensures.cause
 
 pub returns-in-Err-read_second-clause-open : goal.returns-in-Err-read_second-clause-open
 returns-in-Err-read_second-clause-open g c = c.requires.open
@@ -137,16 +137,16 @@ returns-in-Err-read_second-clause-script_left g c = λ name named.
     second_read (option_copied c.args.job.now.script) c.in-Some.name.now name script_limit read (ap option_copied c.in-Some.is) named c.in-Err-read_second.ensures.left
 
 pub returns-in-Err-read_second-clause-cause : goal.returns-in-Err-read_second-clause-cause
-returns-in-Err-read_second-clause-cause g c = second_stopped _ _ _ _ c.in-Err-read_second.stop (read_stays _ _ c.in-Ok.file c.in-Ok.ensures.cause) c.in-Err-read_second.ensures.cause refl refl
+returns-in-Err-read_second-clause-cause g c = second_stopped _ _ _ _ c.in-Err-read_second.stop (HasReadStop-ok _ _ c.in-Ok.file c.in-Ok.ensures.cause) c.in-Err-read_second.ensures.cause refl refl
 
 pub returns-clause-open : goal.returns-clause-open
 returns-clause-open g c = c.answer_all-2.ensures.open
 
 pub returns-clause-unwritten : goal.returns-clause-unwritten
-returns-clause-unwritten g c = λ e. absurd (no_read_fault _ _ c.answer_all-2.result c.answer_all-2.ensures.cause e)
+returns-clause-unwritten g c = λ e. absurd (HasSinkStop-no_read_fault _ _ c.answer_all-2.result c.answer_all-2.ensures.cause e)
 
 pub returns-clause-surface_left : goal.returns-clause-surface_left
 returns-clause-surface_left g c = c.in-Ok.ensures.left
 
 pub returns-clause-cause : goal.returns-clause-cause
-returns-clause-cause g c = answering_stopped _ _ _ _ c.answer_all-2.result (read_stays _ _ c.in-Ok.file c.in-Ok.ensures.cause) (read_stays _ _ c.in-Ok-read_second.lines c.in-Ok-read_second.ensures.cause) c.answer_all-2.ensures.cause
+returns-clause-cause g c = answering_stopped _ _ _ _ c.answer_all-2.result (HasReadStop-ok _ _ c.in-Ok.file c.in-Ok.ensures.cause) (HasReadStop-ok _ _ c.in-Ok-read_second.lines c.in-Ok-read_second.ensures.cause) c.answer_all-2.ensures.cause

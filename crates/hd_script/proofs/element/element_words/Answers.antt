@@ -2,7 +2,7 @@ use Rattle.std.proofs.Common.{◌≡◌, ◌∷◌, ◌∙◌, ◌-◌, take, dr
 use Rattle.std.proofs.lemmas.List.{take_rest}
 use Rattle.std.proofs.lemmas.List.Elements.{All-drop}
 use Rattle.hd_num.specs.Span.{IsPart, text_at}
-use Rattle.hd_script.specs.Rows.{element_words}
+use Rattle.hd_script.specs.CommandWords.{element_words}
 use Rattle.hd_script.proofs.ElementWords.{three_words, fewer_words}
 use Rattle.hd_script.proofs.element.element_words.Goals as goal
 

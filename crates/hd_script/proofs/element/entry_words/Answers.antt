@@ -5,7 +5,7 @@ use Rattle.std.proofs.lemmas.List.Elements.{All-push}
 use Rattle.hd_morph.specs.Element.{IsEntry}
 use Rattle.hd_num.specs.Span.{text_at}
 use Rattle.hd_script.specs.Words.{entry_words}
-use Rattle.hd_script.proofs.Entries.{entry_next, with_others, Onward}
+use Rattle.hd_script.proofs.EntryWords.{entry_next, with_others, Onward}
 use Rattle.hd_script.proofs.element.entry_words.Goals as goal
 
 pub returns-in_err-entry_word-clause-value : goal.returns-in_err-entry_word-clause-value

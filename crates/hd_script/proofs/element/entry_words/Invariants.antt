@@ -3,7 +3,7 @@ use Rattle.std.specs.Prelude.{All}
 use Rattle.hd_morph.specs.Element.{IsEntry}
 use Rattle.hd_num.specs.Span.{text_at}
 use Rattle.hd_script.specs.Words.{entry_words}
-use Rattle.hd_script.proofs.Entries.{with_others}
+use Rattle.hd_script.proofs.EntryWords.{with_others}
 use Rattle.hd_script.proofs.element.entry_words.Given as goal
 
 abbrev pub invariant-entries : goal.invariant-entries

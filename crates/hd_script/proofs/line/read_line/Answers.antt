@@ -1,5 +1,5 @@
 use Rattle.std.proofs.Common.{◌<◌, length, arith, subst, sym}
-use Rattle.hd_script.proofs.Counts.{words_few}
+use Rattle.hd_script.proofs.WordCounts.{words_few}
 use Rattle.hd_script.proofs.line.read_line.Goals as goal
 
 pub read_words-requires-clause-few : goal.read_words-requires-clause-few

@@ -1,6 +1,6 @@
 use Rattle.std.proofs.Common.{◌≡◌, ◌∷◌, ◌+◌, ◌*◌, ◌^◌, ◌<◌, ℕ, List, length, take, arith, ap, sym, subst, ◌∙◌}
 use Rattle.std.proofs.lemmas.List.{length-take-le}
-use Rattle.hd_sdf_read.specs.Scales.{AreUnits}
+use Rattle.hd_sdf_read.specs.DecimalTokens.{AreUnits}
 use Rattle.hd_sdf_read.proofs.DecimalTokens.{first_byte, pointed_small, units_pointed}
 use Rattle.hd_sdf_read.proofs.decimals.leading_units.Goals as goal
 use Rattle.hd_sdf_read.proofs.decimals.leading_units.Goals.{After-pow}

@@ -1,7 +1,7 @@
 use Rattle.std.proofs.Common.{◌+◌, arith, ◌∙◌}
 use Rattle.std.proofs.lemmas.Bool.{eq-eqb}
 use Rattle.std.proofs.lemmas.List.{take_rest}
-use Rattle.hd_sdf_read.proofs.Firsts.{first_at, none_at}
+use Rattle.hd_sdf_read.proofs.FirstBytes.{first_at, none_at}
 use Rattle.hd_sdf_read.specs.Entries.{is_equals}
 use Rattle.hd_sdf_read.proofs.entries.split_at_equals.Goals as goal
 

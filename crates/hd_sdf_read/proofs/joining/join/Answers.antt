@@ -1,4 +1,4 @@
-use Rattle.hd_sdf_read.proofs.Cuts.{part_joined, word_joined}
+use Rattle.hd_sdf_read.proofs.TokenCuts.{part_joined, word_joined}
 use Rattle.hd_sdf_read.proofs.joining.join.Goals as goal
 
 pub returns-in_ok-joined-in-None : goal.returns-in_ok-joined-in-None

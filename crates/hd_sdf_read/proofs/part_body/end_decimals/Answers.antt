@@ -5,20 +5,21 @@ use Rattle.hd_map.specs.Layouts.{wide_map}
 use Rattle.hd_map.specs.Map.{Map, cell_count}
 use Rattle.hd_sdf_read.specs.declared.error.SdfError.TheVariants.{TooFewData}
 use Rattle.hd_sdf_read.specs.Bodies.{decimal_in}
-use Rattle.hd_sdf_read.specs.DecimalCut.{TakesDatum, data_of}
+use Rattle.hd_sdf_read.specs.DecimalCut.{TakesDatum}
+use Rattle.hd_sdf_read.specs.Scaling.{data_of}
 use Rattle.hd_sdf_read.specs.Grammar.{map_with}
-use Rattle.hd_sdf_read.proofs.BodySteps.{ends_none, trailed_nothing}
+use Rattle.hd_sdf_read.proofs.Bodies.{ends_none, trailed_nothing}
 use Rattle.hd_sdf_read.proofs.DecimalCuts.{decimal_none, decimal_whole}
-use Rattle.hd_sdf_read.proofs.CutSteps.{filled, nothing}
+use Rattle.hd_sdf_read.proofs.WholeCuts.{text-filled, text-nothing}
 use Rattle.hd_sdf_read.proofs.part_body.end_decimals.Goals as goal
 
 pub take_decimal-requires-clause-some : goal.take_decimal-requires-clause-some
-take_decimal-requires-clause-some c = filled c.as_slice-2.result.now (ap (λ (t : List ℕ). eqb (length t) 0) (c.as_slice-2.ensures ∙ sym c.as_slice.ensures) ∙ sym c.is_empty.ensures ∙ c.if-is_empty.false)
+take_decimal-requires-clause-some c = text-filled c.as_slice-2.result.now (ap (λ (t : List ℕ). eqb (length t) 0) (c.as_slice-2.ensures ∙ sym c.as_slice.ensures) ∙ sym c.is_empty.ensures ∙ c.if-is_empty.false)
 
 pub returns-then-is_empty-clause-text : goal.returns-then-is_empty-clause-text
 returns-then-is_empty-clause-text c = λ _.
     let part = c.args.part in
-    let none : part.token.text ≡ [] = sym c.as_slice.ensures ∙ nothing c.as_slice.result.now (sym c.is_empty.ensures ∙ c.if-is_empty.true) in
+    let none : part.token.text ≡ [] = sym c.as_slice.ensures ∙ text-nothing c.as_slice.result.now (sym c.is_empty.ensures ∙ c.if-is_empty.true) in
     ap (λ (t : List ℕ). decimal_in part.size part.data_type (data_of part.scaled) (t ++ [])) none ∙ decimal_none part.size part.data_type part.scaled part.missing
     ∙ ap (λ n. Err (TooFewData n)) (sym c.len.ensures)
 

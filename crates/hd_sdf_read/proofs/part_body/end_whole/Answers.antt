@@ -4,19 +4,19 @@ use Rattle.hd_map.specs.Map.{Map, cell_count}
 use Rattle.hd_map.specs.Surface.{map_of}
 use Rattle.hd_sdf_read.specs.declared.error.SdfError.TheVariants.{TooFewData}
 use Rattle.hd_sdf_read.specs.Bodies.{whole_in}
-use Rattle.hd_sdf_read.specs.Cut.{TakesWord}
+use Rattle.hd_sdf_read.specs.WholeCut.{TakesWord}
 use Rattle.hd_sdf_read.specs.Grammar.{map_with}
-use Rattle.hd_sdf_read.proofs.BodySteps.{ends_none, trailed_nothing, whole_done, whole_nothing}
-use Rattle.hd_sdf_read.proofs.CutSteps.{filled, nothing}
+use Rattle.hd_sdf_read.proofs.Bodies.{ends_none, trailed_nothing, whole_done, whole_nothing}
+use Rattle.hd_sdf_read.proofs.WholeCuts.{text-filled, text-nothing}
 use Rattle.hd_sdf_read.proofs.part_body.end_whole.Goals as goal
 
 pub take_word-requires-clause-some : goal.take_word-requires-clause-some
-take_word-requires-clause-some c = filled c.as_slice-2.result.now (ap (λ (t : List ℕ). eqb (length t) 0) (c.as_slice-2.ensures ∙ sym c.as_slice.ensures) ∙ sym c.is_empty.ensures ∙ c.if-is_empty.false)
+take_word-requires-clause-some c = text-filled c.as_slice-2.result.now (ap (λ (t : List ℕ). eqb (length t) 0) (c.as_slice-2.ensures ∙ sym c.as_slice.ensures) ∙ sym c.is_empty.ensures ∙ c.if-is_empty.false)
 
 pub returns-then-is_empty-clause-text : goal.returns-then-is_empty-clause-text
 returns-then-is_empty-clause-text c = λ _.
     let part = c.args.part in
-    let none : part.token.text ≡ [] = sym c.as_slice.ensures ∙ nothing c.as_slice.result.now (sym c.is_empty.ensures ∙ c.if-is_empty.true) in
+    let none : part.token.text ≡ [] = sym c.as_slice.ensures ∙ text-nothing c.as_slice.result.now (sym c.is_empty.ensures ∙ c.if-is_empty.true) in
     ap (λ (t : List ℕ). whole_in part.size part.cells.data_type (cells_in part.cells) (t ++ [])) none ∙ whole_nothing part.size part.cells.data_type (cells_in part.cells) part.missing
     ∙ ap (λ n. Err (TooFewData n)) (sym c.len.ensures)
 

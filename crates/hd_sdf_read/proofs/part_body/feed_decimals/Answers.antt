@@ -1,9 +1,10 @@
 use Rattle.std.proofs.Common.{◌++◌, ℕ, List, sym, ap, subst, ◌∙◌}
 use Rattle.hd_sdf_read.specs.declared.body.Body.TheVariants.{Decimals}
 use Rattle.hd_sdf_read.specs.Bodies.{decimal_in}
-use Rattle.hd_sdf_read.specs.DecimalCut.{TakesDatum, data_of}
-use Rattle.hd_sdf_read.specs.Words.{IsWord}
-use Rattle.hd_sdf_read.proofs.BodySteps.{ends_more}
+use Rattle.hd_sdf_read.specs.DecimalCut.{TakesDatum}
+use Rattle.hd_sdf_read.specs.Scaling.{data_of}
+use Rattle.hd_sdf_read.specs.TokenPieces.{IsWord}
+use Rattle.hd_sdf_read.proofs.Bodies.{ends_more}
 use Rattle.hd_sdf_read.proofs.DecimalCuts.{decimal_same, decimals_feed}
 use Rattle.hd_sdf_read.proofs.part_body.feed_decimals.Goals as goal
 

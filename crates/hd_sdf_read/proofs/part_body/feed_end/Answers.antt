@@ -6,9 +6,9 @@ use Rattle.hd_sdf_read.specs.declared.error.SdfError.TheVariants.{TooManyData}
 use Rattle.hd_sdf_read.specs.PartTrailers.{trailer_in}
 use Rattle.hd_sdf_read.specs.Reads.{◌>>=◌}
 use Rattle.hd_sdf_read.specs.Tokens.{is_star}
-use Rattle.hd_sdf_read.specs.Words.{IsWord}
+use Rattle.hd_sdf_read.specs.TokenPieces.{IsWord}
 use Rattle.hd_sdf_read.specs.declared.body.Body.TheVariants.{End, Trailer}
-use Rattle.hd_sdf_read.proofs.BodySteps.{end_many, end_star, ends_more, feeds_from, trailed_same}
+use Rattle.hd_sdf_read.proofs.Bodies.{end_many, end_star, ends_more, feeds_from, trailed_same}
 use Rattle.hd_sdf_read.proofs.part_body.feed_end.Goals as goal
 
 pub returns-in-Part : goal.returns-in-Part

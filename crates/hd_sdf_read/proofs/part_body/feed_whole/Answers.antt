@@ -2,9 +2,9 @@ use Rattle.std.proofs.Common.{◌++◌, ℕ, List, sym, ap, subst, ◌∙◌}
 use Rattle.hd_map.specs.Cells.{cells_in}
 use Rattle.hd_sdf_read.specs.declared.body.Body.TheVariants.{Whole}
 use Rattle.hd_sdf_read.specs.Bodies.{whole_in}
-use Rattle.hd_sdf_read.specs.Cut.{TakesWord}
-use Rattle.hd_sdf_read.specs.Words.{IsWord}
-use Rattle.hd_sdf_read.proofs.BodySteps.{ends_more, feeds_on, whole_same}
+use Rattle.hd_sdf_read.specs.WholeCut.{TakesWord}
+use Rattle.hd_sdf_read.specs.TokenPieces.{IsWord}
+use Rattle.hd_sdf_read.proofs.Bodies.{ends_more, feeds_on, whole_same}
 use Rattle.hd_sdf_read.proofs.part_body.feed_whole.Goals as goal
 
 pub returns-in-Part : goal.returns-in-Part

@@ -5,11 +5,11 @@ use Rattle.hd_map.specs.Map.{Map, cell_count}
 use Rattle.hd_map.specs.Surface.{map_of}
 use Rattle.hd_sdf_read.specs.declared.body.Body.TheVariants.{End}
 use Rattle.hd_sdf_read.specs.Bodies.{trailed, whole_in}
-use Rattle.hd_sdf_read.specs.File.{is_gap}
+use Rattle.hd_sdf_read.specs.Tokens.{is_gap, after_token, token_of}
 use Rattle.hd_sdf_read.specs.Grammar.{map_with}
-use Rattle.hd_sdf_read.specs.Tokens.{after_token, token_of}
-use Rattle.hd_sdf_read.proofs.BodySteps.{goes_from, token_gapless, whole_done, whole_same}
-use Rattle.hd_sdf_read.proofs.Cuts.{open_same}
+use Rattle.hd_sdf_read.proofs.Bodies.{goes_from, whole_done, whole_same}
+use Rattle.hd_sdf_read.proofs.Gapless.{token_gapless}
+use Rattle.hd_sdf_read.proofs.TokenCuts.{open_same}
 use Rattle.hd_sdf_read.proofs.part_body.go_on.Goals as goal
 
 pub joined-requires : goal.joined-requires

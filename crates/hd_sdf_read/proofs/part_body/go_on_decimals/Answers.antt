@@ -7,12 +7,11 @@ use Rattle.hd_map.specs.Map.{Map, cell_count}
 use Rattle.hd_map.specs.declared.surface.Surface.TheVariants.{Wide}
 use Rattle.hd_sdf_read.specs.declared.body.Body.TheVariants.{End}
 use Rattle.hd_sdf_read.specs.Bodies.{decimal_in, trailed}
-use Rattle.hd_sdf_read.specs.DecimalCut.{data_of}
-use Rattle.hd_sdf_read.specs.File.{is_gap}
+use Rattle.hd_sdf_read.specs.Scaling.{data_of}
+use Rattle.hd_sdf_read.specs.Tokens.{is_gap, after_token, token_of}
 use Rattle.hd_sdf_read.specs.Grammar.{map_with}
-use Rattle.hd_sdf_read.specs.Tokens.{after_token, token_of}
-use Rattle.hd_sdf_read.proofs.BodySteps.{token_gapless}
-use Rattle.hd_sdf_read.proofs.Cuts.{open_same}
+use Rattle.hd_sdf_read.proofs.Gapless.{token_gapless}
+use Rattle.hd_sdf_read.proofs.TokenCuts.{open_same}
 use Rattle.hd_sdf_read.proofs.DecimalCuts.{decimal_same, decimal_whole, decimals_from_mid}
 use Rattle.hd_sdf_read.proofs.part_body.go_on_decimals.Goals as goal
 

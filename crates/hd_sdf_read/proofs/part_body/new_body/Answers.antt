@@ -3,8 +3,8 @@ use Rattle.hd_map.specs.Cells.{cells_in}
 use Rattle.hd_map.specs.declared.types.Cell.{Cell}
 use Rattle.hd_map.specs.declared.types.DataType.{DataType}
 use Rattle.hd_sdf_read.specs.Bodies.{decimal_in, whole_in}
-use Rattle.hd_sdf_read.specs.DecimalCut.{data_of}
-use Rattle.hd_sdf_read.proofs.BodySteps.{whole_first}
+use Rattle.hd_sdf_read.specs.Scaling.{data_of}
+use Rattle.hd_sdf_read.proofs.Bodies.{whole_first}
 use Rattle.hd_sdf_read.proofs.DecimalCuts.{none_first}
 use Rattle.hd_sdf_read.proofs.part_body.new_body.Goals as goal
 

@@ -2,7 +2,7 @@ use Rattle.std.proofs.Common.{◌+◌, List, ℕ, take, sym, subst, arith}
 use Rattle.std.proofs.lemmas.List.{take_rest}
 use Rattle.hd_num.specs.Lines.{is_line_feed}
 use Rattle.hd_sdf_read.specs.FirstLine.{IsFirstLine}
-use Rattle.hd_sdf_read.proofs.Firsts.{first_line, none_at}
+use Rattle.hd_sdf_read.proofs.FirstBytes.{first_line, none_at}
 use Rattle.hd_sdf_read.proofs.part_line.split_line.Goals as goal
 
 pub returns-then-byte-eq10 : goal.returns-then-byte-eq10

@@ -1,5 +1,5 @@
 use Rattle.hd_map.specs.Surface.{map_of}
-use Rattle.hd_sdf_read.specs.Places.{frame_view}
+use Rattle.hd_sdf_read.specs.Views.{required_keys_view}
 use Rattle.hd_sdf_read.proofs.Forms.{forms_good}
 use Rattle.hd_sdf_read.proofs.sdf.build.Goals as goal
 
@@ -8,5 +8,5 @@ invariant_of-result c =
     let kept = c.in_ok-kept.ensures in
     record {
       forms = rw (kept.origin.manufac_id, kept.origin.create_date, kept.origin.mod_date, kept.z_resolution, kept.extra)
-          (forms_good c.args.version c.args.entries.now (frame_view c.args.frame) (map_of c.args.surface) c.args.trailer c.requires.entries c.requires.decimals c.requires.trailer);
+          (forms_good c.args.version c.args.entries.now (required_keys_view c.args.frame) (map_of c.args.surface) c.args.trailer c.requires.entries c.requires.decimals c.requires.trailer);
     }

@@ -1,6 +1,6 @@
 use Rattle.std.proofs.Common.{[], sym, ap, ◌∙◌, append-nil}
 use Rattle.hd_sdf_read.specs.Grammar.{file_in, version_of_line}
-use Rattle.hd_sdf_read.specs.Pieces.{continued}
+use Rattle.hd_sdf_read.specs.States.{continued}
 use Rattle.hd_sdf_read.specs.declared.state.State.{State}
 use Rattle.hd_sdf_read.proofs.HeaderPieces.{no_version_alone, version_alone}
 use Rattle.hd_sdf_read.proofs.state.ended.Goals as goal

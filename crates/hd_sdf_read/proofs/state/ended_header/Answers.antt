@@ -4,9 +4,9 @@ use Rattle.hd_sdf_read.specs.declared.error.SdfError.{SdfError}
 use Rattle.hd_sdf_read.specs.File.{File}
 use Rattle.hd_sdf_read.specs.FileOf.{file_of}
 use Rattle.hd_sdf_read.specs.Grammar.{body_in}
-use Rattle.hd_sdf_read.specs.Pieces.{header_on}
+use Rattle.hd_sdf_read.specs.HeaderPieces.{header_on}
 use Rattle.hd_sdf_read.specs.Reads.{Gives}
-use Rattle.hd_sdf_read.proofs.Feeding.{some_filled, text_none}
+use Rattle.hd_sdf_read.proofs.States.{some_filled, text_none}
 use Rattle.hd_sdf_read.proofs.HeaderPieces.{last_line, no_line}
 use Rattle.hd_sdf_read.proofs.state.ended_header.Goals as goal
 

@@ -1,5 +1,5 @@
 use Rattle.hd_sdf_read.specs.declared.state.State.TheVariants.{Body}
-use Rattle.hd_sdf_read.proofs.Feeding.{feeds_behind}
+use Rattle.hd_sdf_read.proofs.States.{feeds_behind}
 use Rattle.hd_sdf_read.proofs.state.feed_behind.Goals as goal
 
 pub returns-clause-text : goal.returns-clause-text

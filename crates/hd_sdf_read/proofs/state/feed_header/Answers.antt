@@ -1,7 +1,7 @@
 use Rattle.std.proofs.Common.{◌++◌, List, ℕ, sym, ap, ◌∙◌, append_assoc}
 use Rattle.hd_sdf_read.specs.declared.state.State.TheVariants.{Header}
-use Rattle.hd_sdf_read.specs.Pieces.{header_on}
-use Rattle.hd_sdf_read.proofs.Feeding.{behind_feeds, piece_at}
+use Rattle.hd_sdf_read.specs.HeaderPieces.{header_on}
+use Rattle.hd_sdf_read.proofs.States.{behind_feeds, piece_at}
 use Rattle.hd_sdf_read.proofs.HeaderPieces.{long_line, none_joined}
 use Rattle.hd_sdf_read.proofs.state.feed_header.Goals as goal
 

@@ -1,5 +1,5 @@
 use Rattle.std.proofs.Common.{◌≡◌, ◌+◌, ◌≤◌, ◌++◌, ℕ, List, length}
-use Rattle.hd_sdf_read.specs.Pieces.{header_on}
+use Rattle.hd_sdf_read.specs.HeaderPieces.{header_on}
 use Rattle.hd_sdf_read.proofs.state.feed_header.Given as goal
 
 abbrev pub invariant-lines : goal.invariant-lines

@@ -2,8 +2,8 @@ use Rattle.std.proofs.Common.{◌≡◌, ◌++◌, List, [], ℕ, sym, ap, ◌�
 use Rattle.hd_sdf_read.specs.declared.file.Version.TheVariants.{Bcr}
 use Rattle.hd_sdf_read.specs.declared.state.State.TheVariants.{Header, Version}
 use Rattle.hd_sdf_read.specs.Grammar.{file_in}
-use Rattle.hd_sdf_read.specs.Pieces.{continued}
-use Rattle.hd_sdf_read.proofs.Feeding.{feeds_from, piece_at}
+use Rattle.hd_sdf_read.specs.States.{continued}
+use Rattle.hd_sdf_read.proofs.States.{feeds_from, piece_at}
 use Rattle.hd_sdf_read.proofs.HeaderPieces.{long_version, none_joined, version_missing, version_named}
 use Rattle.hd_sdf_read.proofs.state.feed_version.Goals as goal
 

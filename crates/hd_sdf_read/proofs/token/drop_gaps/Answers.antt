@@ -1,7 +1,7 @@
 use Rattle.std.proofs.Common.{◌≡◌, ◌-◌, ◌<◌, length, take, false, get_or, arith, sym, ap, ◌∙◌}
 use Rattle.std.specs.List.{suffix_len}
 use Rattle.std.proofs.lemmas.List.Sums.{suffix_len_is}
-use Rattle.hd_sdf_read.specs.File.{is_gap}
+use Rattle.hd_sdf_read.specs.Tokens.{is_gap}
 use Rattle.hd_sdf_read.proofs.token.drop_gaps.Goals as goal
 use Rattle.hd_sdf_read.proofs.token.drop_gaps.Goals.{then-bytes-test+else-is_gap, else-bytes-test}
 

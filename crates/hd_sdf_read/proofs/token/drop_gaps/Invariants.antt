@@ -1,5 +1,5 @@
 use Rattle.std.proofs.Common.{◌≡◌, ◌<◌, ◌≤◌, ℕ, true, get_or, length}
-use Rattle.hd_sdf_read.specs.File.{is_gap}
+use Rattle.hd_sdf_read.specs.Tokens.{is_gap}
 use Rattle.hd_sdf_read.proofs.token.drop_gaps.Given as goal
 
 abbrev pub invariant-bytes : goal.invariant-bytes

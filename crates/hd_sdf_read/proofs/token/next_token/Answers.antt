@@ -1,6 +1,6 @@
 use Rattle.std.proofs.Common.{not, arith}
 use Rattle.std.proofs.lemmas.List.Sums.{prefix_len-le-length}
-use Rattle.hd_sdf_read.specs.File.{is_gap}
+use Rattle.hd_sdf_read.specs.Tokens.{is_gap}
 use Rattle.hd_sdf_read.proofs.token.next_token.Goals as goal
 
 pub split_at-requires : goal.split_at-requires

@@ -5,9 +5,9 @@ use Rattle.std.proofs.lemmas.Int.{to_z-of_z}
 use Rattle.hd_map.specs.Cells.{cells_in}
 use Rattle.hd_map.specs.declared.types.DataType.{DataType}
 use Rattle.hd_map.specs.Map.{IsCellOf, cell_count, greatest_height, least_height}
-use Rattle.hd_sdf_read.proofs.Counting.{datum_fits}
-use Rattle.hd_sdf_read.proofs.CutSteps.{has_another, has_refused}
-use Rattle.hd_sdf_read.proofs.ShortSteps.{has_again, has_more}
+use Rattle.hd_sdf_read.proofs.DatumAt.{datum_at-fits}
+use Rattle.hd_sdf_read.proofs.WholeCuts.{has_another, has_refused}
+use Rattle.hd_sdf_read.proofs.ShortWords.{has_again, has_more}
 use Rattle.hd_sdf_read.proofs.whole_data.read_on.Goals as goal
 
 pub push-requires : goal.push-requires
@@ -18,7 +18,7 @@ push-requires c =
     let reads = c.in_ok-rest.ensures in
     let has = has_more c.args.size c.args.cells c.args.text.now c.data.cells c.data.rest.now (length (cells_in c.data.cells)) c.read_short.new.cells c.in_ok-rest.rest.now c.len-read.result c.data.invariant.0 reads c.len-read.ensures in
     subst (λ (t : DataType). IsCellOf t c.in-Ok-Some.cell) (sym has.data_type)
-    (datum_fits c.args.cells.data_type (to_z w64 (of_z w64 c.least_of-least.result)) (to_z w64 (of_z w64 c.greatest_of-greatest.result)) c.len-read.result (c.in_ok-rest.rest.now ++ []) c.in-Ok-Some.cell low high (given []).0)
+    (datum_at-fits c.args.cells.data_type (to_z w64 (of_z w64 c.least_of-least.result)) (to_z w64 (of_z w64 c.greatest_of-greatest.result)) c.len-read.result (c.in_ok-rest.rest.now ++ []) c.in-Ok-Some.cell low high (given []).0)
 
 pub data-preserved : goal.data-preserved
 data-preserved c =

@@ -1,7 +1,7 @@
 use Rattle.std.proofs.Common.{◌-◌, ◌≤◌, length}
 use Rattle.hd_map.specs.Cells.{cells_in}
 use Rattle.hd_map.specs.Map.{cell_count}
-use Rattle.hd_sdf_read.proofs.CutSteps.{HasOn}
+use Rattle.hd_sdf_read.proofs.WholeCuts.{HasOn}
 use Rattle.hd_sdf_read.proofs.whole_data.read_on.Given as goal
 
 abbrev pub invariant-data : goal.invariant-data

@@ -3,8 +3,8 @@ use mir.Syntax.{w64}
 use mir.Val.{of_z, to_z}
 use Rattle.std.proofs.lemmas.Int.{to_z-of_z}
 use Rattle.hd_map.specs.Map.{greatest_height, least_height}
-use Rattle.hd_sdf_read.proofs.CutSteps.{has_another}
-use Rattle.hd_sdf_read.proofs.ShortSteps.{short_given}
+use Rattle.hd_sdf_read.proofs.WholeCuts.{has_another}
+use Rattle.hd_sdf_read.proofs.ShortWords.{short_given}
 use Rattle.hd_sdf_read.proofs.whole_data.read_short.Goals as goal
 
 pub short-preserved : goal.short-preserved

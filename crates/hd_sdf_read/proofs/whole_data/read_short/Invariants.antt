@@ -1,6 +1,6 @@
 use Rattle.std.proofs.Common.{◌≡◌, ◌<◌, true, get_or, length}
-use Rattle.hd_sdf_read.specs.File.{is_gap}
-use Rattle.hd_sdf_read.proofs.CutSteps.{HasOn}
+use Rattle.hd_sdf_read.specs.Tokens.{is_gap}
+use Rattle.hd_sdf_read.proofs.WholeCuts.{HasOn}
 use Rattle.hd_sdf_read.proofs.whole_data.read_short.Given as goal
 
 abbrev pub invariant-short : goal.invariant-short

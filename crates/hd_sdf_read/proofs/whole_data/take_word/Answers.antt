@@ -6,7 +6,7 @@ use Rattle.std.proofs.lemmas.Int.{to_z-of_z}
 use Rattle.hd_map.specs.Map.{greatest_height, least_height}
 use Rattle.hd_sdf_read.specs.declared.error.SdfError.TheVariants.{TooFewData}
 use Rattle.hd_sdf_read.specs.Grammar.{cell_of}
-use Rattle.hd_sdf_read.proofs.CutSteps.{word_fits, word_refused, word_star, word_taken}
+use Rattle.hd_sdf_read.proofs.WholeCuts.{word_fits, word_refused, word_star, word_taken}
 use Rattle.hd_sdf_read.proofs.whole_data.take_word.Goals as goal
 
 pub returns-then-eq : goal.returns-then-eq

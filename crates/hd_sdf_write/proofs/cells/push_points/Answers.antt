@@ -3,7 +3,7 @@ use Rattle.hd_map.specs.declared.types.Size.{Size}
 use Rattle.hd_map.specs.Map.{cell_count, place_of, places_of}
 use Rattle.hd_map.proofs.PositionOrder.{at-next}
 use Rattle.hd_sdf_write.specs.Data.{gap_after}
-use Rattle.hd_sdf_write.proofs.Data.{added, more_added, none_added, some_added}
+use Rattle.hd_sdf_write.proofs.Data.{AddsData-added, more_added, none_added, some_added}
 use Rattle.hd_sdf_write.proofs.cells.push_points.Goals as goal
 
 pub points-init : goal.points-init
@@ -29,7 +29,7 @@ returns g c =
     let count : c.size-size.result.profiles * c.size-size.result.points ≡ cell_count m.size = ap cell_count c.size-size.ensures in
     let last : c.points.index ≡ c.size-size.result.profiles * c.size-size.result.points = omega (arith, c.points-test.false, c.points.auto.index-end) in
     let some = c.requires in
-    rw last at (added m c.args.from c.points.index c.args.out.now c.points.out c.points.invariant.1 (omega (arith, last, count, some)) (omega (arith, last, count)))
+    rw last at (AddsData-added m c.args.from c.points.index c.args.out.now c.points.out c.points.invariant.1 (omega (arith, last, count, some)) (omega (arith, last, count)))
 
 pub returns-then-as_slice-most : goal.returns-then-as_slice-most
 returns-then-as_slice-most g c =
@@ -37,4 +37,4 @@ returns-then-as_slice-most g c =
     let count : c.size-size.result.profiles * c.size-size.result.points ≡ cell_count m.size = ap cell_count c.size-size.ensures in
     let some = some_added m c.args.from c.points.index c.args.out.now c.points.out c.points.invariant.1 c.points.auto.index
     (omega (arith, c.if-as_slice-most.true, ap length c.as_slice-in-points.ensures, ap length c.as_slice.ensures)) in
-    added m c.args.from c.points.index c.args.out.now c.points.out c.points.invariant.1 some (omega (arith, c.points-test.true, count))
+    AddsData-added m c.args.from c.points.index c.args.out.now c.points.out c.points.invariant.1 some (omega (arith, c.points-test.true, count))

@@ -1,6 +1,6 @@
 use Rattle.std.proofs.Common.{◌∙◌, ◌-ℤ◌, unsigned_abs, ap, ap₂, w64, of_z, ◌*◌, ◌/◌, rules}
 use Rattle.std.proofs.lemmas.Int.{to_z-of_z}
-use Rattle.hd_stats.proofs.Binning.{bin-apart}
+use Rattle.hd_stats.proofs.Bins.{bin-apart}
 use Rattle.hd_stats.proofs.distribution.bin_of.Goals as goal
 
 pub returns-clause-value : goal.returns-clause-value

@@ -3,7 +3,7 @@ use Rattle.std.proofs.Math.ListN.{length-set}
 use Rattle.std.proofs.lemmas.Int.{to_z-of_z}
 use Rattle.hd_feature.specs.Value.{greatest, least}
 use Rattle.hd_stats.specs.Distribution.{bin_of}
-use Rattle.hd_stats.proofs.Binning.{bins-counted, bins-few, bins-next}
+use Rattle.hd_stats.proofs.Bins.{bins-counted, bins-few, bins-next}
 use Rattle.hd_stats.proofs.distribution.count_bins.Goals as goal
 
 pub overflow_add-index_mut : goal.overflow_add-index_mut

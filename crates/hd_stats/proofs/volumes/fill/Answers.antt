@@ -4,7 +4,7 @@ use Rattle.hd_prune.specs.Kept.{pits_kept}
 use Rattle.hd_reach.specs.Reached.{AreReached}
 use Rattle.hd_stats.specs.Fill.{AreFills}
 use Rattle.hd_stats.specs.Volumes.{AreVolumes, is_below_nearest}
-use Rattle.hd_stats.proofs.Filling.{AreNearest, kept-nearest}
+use Rattle.hd_stats.proofs.ReachedBelow.{AreNearest, kept-nearest}
 use Rattle.hd_stats.proofs.Filled.{are-fills, numbers-few}
 use Rattle.hd_stats.proofs.volumes.fill.Goals as goal
 

@@ -4,7 +4,7 @@ use Rattle.hd_map.specs.declared.types.SideName.{SideName}
 use Rattle.hd_prune.specs.Kept.{pits_kept}
 use Rattle.hd_reach.specs.Reached.{AreReached, ReachApart}
 use Rattle.hd_stats.specs.Volumes.{is_below_nearest}
-use Rattle.hd_stats.proofs.Filling.{kept-apart, kept-nearest}
+use Rattle.hd_stats.proofs.ReachedBelow.{kept-apart, kept-nearest}
 use Rattle.hd_stats.proofs.volumes.reached_below.Goals as goal
 
 pub reached_from-requires : goal.reached_from-requires

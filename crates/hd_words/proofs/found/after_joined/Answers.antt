@@ -1,6 +1,6 @@
 use Rattle.std.proofs.Common.{◌≡◌, ◌∙◌, ap, false, true, None, codes, drop, nat_eq, sym}
 use Rattle.std.specs.List.{starts_with}
-use Rattle.hd_words.specs.Words.{given_of, begins_with_dash}
+use Rattle.hd_words.specs.GivenWords.{given_of, begins_with_dash}
 use Rattle.hd_words.specs.WordSteps.{found_so_far, followed_by}
 use Rattle.hd_words.specs.declared.found.Stage.TheVariants.{Options}
 use Rattle.hd_words.proofs.StartsWith.{absent-false}

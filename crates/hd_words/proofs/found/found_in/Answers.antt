@@ -1,5 +1,5 @@
 use Rattle.std.proofs.Common.{◌≡◌, ◌<◌, ◌+◌, ◌∙◌, ℕ, List, ◌∷◌, ap, arith, drop, drop-cons, get_or, length, map, string_bytes, suc, sym}
-use Rattle.hd_words.specs.Words.{given_of}
+use Rattle.hd_words.specs.GivenWords.{given_of}
 use Rattle.hd_words.specs.WordSteps.{given_after}
 use Rattle.hd_words.specs.declared.found.Stage.TheVariants.{Options}
 use Rattle.hd_words.proofs.WordSteps.{none_before}

@@ -1,5 +1,5 @@
 use Rattle.std.proofs.Common.{◌≡◌, map, drop, string_bytes}
-use Rattle.hd_words.specs.Words.{given_of}
+use Rattle.hd_words.specs.GivenWords.{given_of}
 use Rattle.hd_words.specs.WordSteps.{given_after}
 use Rattle.hd_words.specs.declared.found.Stage.TheVariants.{Options}
 use Rattle.hd_words.proofs.found.found_in.Given as goal

@@ -1,4 +1,4 @@
-use Rattle.hd_words.specs.Words.{given_of}
+use Rattle.hd_words.specs.GivenWords.{given_of}
 use Rattle.hd_words.specs.WordSteps.{found_so_far, names_in}
 use Rattle.hd_words.specs.declared.found.Stage.TheVariants.{Options}
 use Rattle.hd_words.proofs.WordSteps.{first_tile, full_tiles}

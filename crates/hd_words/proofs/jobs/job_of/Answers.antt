@@ -1,5 +1,5 @@
 use Rattle.std.proofs.Common.{◌≡◌, ◌∙◌, Some, ap, map, string_bytes, subst, sym}
-use Rattle.hd_words.specs.Words.{Check, IsWithinLimits, Run}
+use Rattle.hd_words.specs.Requests.{Check, IsWithinLimits, Run}
 use Rattle.hd_words.specs.declared.command_lines.CommandLine.TheVariants as line
 use Rattle.hd_words.proofs.Matched.{AsksBy, asks_by, asks_of, demo_asked, line_of}
 use Rattle.hd_words.proofs.WithinLimits.{request_within}

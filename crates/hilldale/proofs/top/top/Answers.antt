@@ -1,7 +1,8 @@
 use Rattle.std.proofs.Common.{◌≡◌, ◌∙◌, ap, subst, map, string_bytes, Option, None, Some, refl}
 use Rattle.std.specs.Option.{option_map}
 use Rattle.hd_words.specs.declared.jobs.Job.{Job}
-use Rattle.hd_words.specs.Words.{Request, Run, Check, Demonstrate, IsWithinLimits, check_request_of, command_for, form_of, request_of, run_request_of}
+use Rattle.hd_words.specs.Forms.{form_of}
+use Rattle.hd_words.specs.Requests.{Request, Run, Check, Demonstrate, IsWithinLimits, check_request_of, command_for, request_of, run_request_of}
 use Rattle.hd_run.specs.FaultCounts.{over}
 use Rattle.hd_run.specs.Limits.{certificate_limit}
 use Rattle.hd_run.specs.Outcome.{IsOutcomeOfCheck, IsOutcomeOfRun}

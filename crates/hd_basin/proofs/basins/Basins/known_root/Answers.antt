@@ -1,7 +1,7 @@
 use Rattle.std.proofs.Common.{◌<◌, refl, sym, subst}
 use Rattle.hd_map.specs.Map.{position_at}
-use Rattle.hd_basin.proofs.Rooted.{onward-inside, onward-labelled, root-here}
-use Rattle.hd_basin.proofs.Rooting.{way-own, way-smaller}
+use Rattle.hd_basin.proofs.NodeRoots.{onward-inside, onward-labelled, root-here}
+use Rattle.hd_basin.proofs.PointRoots.{way-own, way-smaller}
 use Rattle.hd_basin.proofs.AreRoots.{from-more, low-inside}
 use Rattle.hd_basin.proofs.basins.Basins.known_root.Goals as goal
 

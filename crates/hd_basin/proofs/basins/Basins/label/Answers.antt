@@ -1,7 +1,7 @@
 use Rattle.std.proofs.Common.{◌≡◌, sym, ◌∙◌, ap, rules}
 use Rattle.hd_map.specs.declared.types.Size.{Size}
 use Rattle.hd_map.specs.Map.{position_at}
-use Rattle.hd_basin.proofs.Rooting.{way-start, way-inside, way-more, way-smaller, way-labelled, way-end}
+use Rattle.hd_basin.proofs.PointRoots.{way-start, way-inside, way-more, way-smaller, way-labelled, way-end}
 use Rattle.hd_basin.proofs.basins.Basins.label.Goals as goal
 
 pub walk-init : goal.walk-init

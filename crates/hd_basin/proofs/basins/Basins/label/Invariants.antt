@@ -1,5 +1,5 @@
 use Rattle.hd_map.proofs.Depth.{depth_by}
-use Rattle.hd_basin.proofs.Rooting.{OnWay}
+use Rattle.hd_basin.proofs.PointRoots.{OnWay}
 use Rattle.hd_basin.proofs.basins.Basins.label.Given as goal
 
 abbrev pub invariant-walk : goal.invariant-walk

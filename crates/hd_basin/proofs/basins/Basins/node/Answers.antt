@@ -6,8 +6,8 @@ use Rattle.hd_tiles.specs.Tile.{tile_of}
 use Rattle.hd_basin.specs.declared.node.Node.{Node}
 use Rattle.hd_basin.specs.Parts.{Pool, node_of}
 use Rattle.hd_basin.specs.Reading.{NodeIs}
-use Rattle.hd_basin.proofs.Naming.{key-below, key-labelled, key-own}
-use Rattle.hd_basin.proofs.Rooting.{node-had}
+use Rattle.hd_basin.proofs.NodesOfKeys.{key-below, key-labelled, key-own}
+use Rattle.hd_basin.proofs.PointRoots.{node-had}
 use Rattle.hd_basin.proofs.basins.Basins.node.Goals as goal
 
 -- the node of a position, told of the position of the key

@@ -1,7 +1,7 @@
 use Rattle.std.proofs.Common.{◌<◌, length, rules, sym, subst}
 use Rattle.hd_map.specs.Map.{position_at}
-use Rattle.hd_basin.proofs.Rooted.{onward-inside, onward-labelled}
-use Rattle.hd_basin.proofs.Rooting.{way-own, way-smaller}
+use Rattle.hd_basin.proofs.NodeRoots.{onward-inside, onward-labelled}
+use Rattle.hd_basin.proofs.PointRoots.{way-own, way-smaller}
 use Rattle.hd_basin.proofs.AreRoots.{known-set, low-inside, noted-more}
 use Rattle.hd_basin.proofs.basins.Basins.note_root.Goals as goal
 

@@ -7,7 +7,7 @@ use Rattle.hd_map.specs.Map.{Map}
 use Rattle.hd_tiles.specs.Tile.{tile_count}
 use Rattle.hd_basin.specs.InStep.{KeepsSeen}
 use Rattle.hd_basin.specs.Parts.{Pool, IsFresh, stale_count}
-use Rattle.hd_basin.proofs.Whole.{keeps-itself, keeps-onward, all-pool_of}
+use Rattle.hd_basin.proofs.FreshPools.{keeps-itself, keeps-onward, all-pool_of}
 use Rattle.hd_basin.proofs.basins.Basins.refresh.Goals as goal
 
 on_err : {A E : Type 0} (r : Result A E) {P : Type 0} → P → OnErr r P

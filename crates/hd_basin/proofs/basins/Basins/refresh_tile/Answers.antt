@@ -10,9 +10,9 @@ use Rattle.hd_basin.specs.declared.part.Part.{Part}
 use Rattle.hd_basin.specs.Built.{IsBuilt}
 use Rattle.hd_basin.specs.InStep.{IsInStep, KeepsSeen}
 use Rattle.hd_basin.specs.Parts.{Pool, IsFresh, stale_count}
-use Rattle.hd_basin.proofs.Replacing.{sized, sized-back, replaced-in_step, replaced-fresh, replaced-keeps}
-use Rattle.hd_basin.proofs.Staleness.{stale-set, stale-some, seen_with, not_seen_with}
-use Rattle.hd_basin.proofs.Whole.{keeps-itself}
+use Rattle.hd_basin.proofs.Replacing.{in_step-sized, in_step-sized_back, replaced-in_step, replaced-fresh, replaced-keeps}
+use Rattle.hd_basin.proofs.StaleCount.{stale-set, stale-some, seen_with, not_seen_with}
+use Rattle.hd_basin.proofs.FreshPools.{keeps-itself}
 use Rattle.hd_basin.proofs.basins.Basins.refresh_tile.Goals as goal
 
 -- a tile with another seen stamp is not fresh
@@ -47,16 +47,16 @@ module _ (m : Map) (side : SideName) (stamps : List ℕ) (s : Size) (t : ℕ) (p
     made = subst (λ (p : Pool). IsBuilt m side p.side stamps p.parts tile part) (sym view) built
 
     in_step : IsInStep m side stamps (record { size = s; side = t; parts = set parts tile part })
-    in_step = sized-back m side stamps s t (set parts tile part) stepped.size (replaced-in_step m side t stamps parts tile stamp part (sized m side stamps s t parts stepped) made now seen
+    in_step = in_step-sized_back m side stamps s t (set parts tile part) stepped.size (replaced-in_step m side t stamps parts tile stamp part (in_step-sized m side stamps s t parts stepped) made now seen
         (not_fresh stamps parts tile stamp old now at other) inside)
 
     fresh : IsFresh stamps (set parts tile part) tile
-    fresh = replaced-fresh m side t stamps parts tile stamp part (sized m side stamps s t parts stepped) made now seen (not_fresh stamps parts tile stamp old now at other) inside
+    fresh = replaced-fresh m side t stamps parts tile stamp part (in_step-sized m side stamps s t parts stepped) made now seen (not_fresh stamps parts tile stamp old now at other) inside
 
     kept : KeepsSeen stamps pool (record { size = s; side = t; parts = set parts tile part })
     kept =
         let k : KeepsSeen stamps (record { size = s; side = t; parts = parts }) (record { size = s; side = t; parts = set parts tile part }) =
-        (let r = replaced-keeps m side t stamps parts tile stamp part (sized m side stamps s t parts stepped) made now seen (not_fresh stamps parts tile stamp old now at other) inside in record { fresh = r.fresh; known = r.known }) in
+        (let r = replaced-keeps m side t stamps parts tile stamp part (in_step-sized m side stamps s t parts stepped) made now seen (not_fresh stamps parts tile stamp old now at other) inside in record { fresh = r.fresh; known = r.known }) in
         subst (λ (p : Pool). KeepsSeen stamps p (record { size = s; side = t; parts = set parts tile part })) view k
 
     fewer : (cost before after : ℕ) → after ≤ before + cost → after + stale_count stamps (set parts tile part) * cost ≤ before + stale_count stamps pool.parts * cost

@@ -2,7 +2,7 @@ use Rattle.std.proofs.Common.{◌≡◌, ◌<◌, ◌∙◌, ap₂, rules, subst
 use Rattle.hd_map.specs.declared.types.Size.{Size}
 use Rattle.hd_map.specs.Map.{cell_count, position_at}
 use Rattle.hd_tiles.specs.Tile.{tile_of}
-use Rattle.hd_basin.proofs.Rooting.{node-had}
+use Rattle.hd_basin.proofs.PointRoots.{node-had}
 use Rattle.hd_basin.proofs.AreRoots.{low-inside, root-inside, root-told}
 use Rattle.hd_basin.proofs.basins.Basins.root.Goals as goal
 

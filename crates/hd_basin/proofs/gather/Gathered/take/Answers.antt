@@ -8,7 +8,7 @@ use Rattle.hd_basin.specs.Parts.{place_in_tile}
 use Rattle.hd_basin.specs.Sinks.{at_place, no_node}
 use Rattle.hd_basin.proofs.Areas.{area-small}
 use Rattle.hd_basin.proofs.Gathers.{gathered-absent, gathered-starts, gathered-adds, numbers-known}
-use Rattle.hd_basin.proofs.Sinking.{sink-home, sunk-absent, sunk-here}
+use Rattle.hd_basin.proofs.IsSunk.{sink-home, sunk-absent, sunk-here}
 use Rattle.hd_basin.proofs.gather.Gathered.take.Goals as goal
 
 -- the point is present

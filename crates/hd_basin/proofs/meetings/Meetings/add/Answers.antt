@@ -2,7 +2,7 @@ use Rattle.std.proofs.Common.{◌≡◌, ℕ, List, [], ◌∷◌, ◌++◌, Opt
 use Rattle.std.proofs.lemmas.Option.{slice_get_read}
 use Rattle.hd_basin.specs.declared.meetings.Meeting.{Meeting}
 use Rattle.hd_basin.specs.Meetings.{AreChained}
-use Rattle.hd_basin.proofs.Chains.{chained-add}
+use Rattle.hd_basin.proofs.ChainedMeetings.{chained-add}
 use Rattle.hd_basin.proofs.meetings.Meetings.add.Goals as goal
 
 pub returns-clause-chained : goal.returns-clause-chained

@@ -2,7 +2,7 @@ use Rattle.std.proofs.Common.{◌<◌, List, Some, length, refl, sym, subst, ari
 use Rattle.std.specs.Prelude.{Option, ℕ}
 use Rattle.std.proofs.lemmas.Option.{slice_get_read}
 use Rattle.hd_basin.specs.declared.meetings.Meeting.{Meeting}
-use Rattle.hd_basin.proofs.Chains.{IsAhead, up_to, ahead-start, ahead-more}
+use Rattle.hd_basin.proofs.ChainedMeetings.{IsAhead, up_to, ahead-start, ahead-more}
 use Rattle.hd_basin.proofs.meetings.Meetings.find.Goals as goal
 
 -- the meeting that is looked at

@@ -1,4 +1,4 @@
-use Rattle.hd_basin.proofs.Chains.{IsAhead, up_to}
+use Rattle.hd_basin.proofs.ChainedMeetings.{IsAhead, up_to}
 use Rattle.hd_basin.proofs.meetings.Meetings.find.Given as goal
 
 abbrev pub invariant-walk : goal.invariant-walk

@@ -3,7 +3,7 @@ use Rattle.std.proofs.Math.ListN.{length-set}
 use Rattle.std.proofs.lemmas.Option.{same_Some, slice_get_read}
 use Rattle.hd_map.specs.Rank.{below_by}
 use Rattle.hd_basin.specs.declared.meetings.Meeting.{Meeting}
-use Rattle.hd_basin.proofs.Chains.{chained-set}
+use Rattle.hd_basin.proofs.ChainedMeetings.{chained-set}
 use Rattle.hd_basin.proofs.meetings.Meetings.lower.Goals as goal
 
 pub returns-then-not-below-clause-lowers : goal.returns-then-not-below-clause-lowers

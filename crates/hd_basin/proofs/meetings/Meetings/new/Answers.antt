@@ -3,7 +3,7 @@ use Rattle.std.specs.Prelude.{replicate}
 use Rattle.std.proofs.lemmas.List.{length-replicate}
 use Rattle.hd_basin.specs.declared.meetings.Meeting.{Meeting}
 use Rattle.hd_basin.specs.Meetings.{AreChained}
-use Rattle.hd_basin.proofs.Chains.{chained-none}
+use Rattle.hd_basin.proofs.ChainedMeetings.{chained-none}
 use Rattle.hd_basin.proofs.meetings.Meetings.new.Goals as goal
 
 pub returns-clause-chained : goal.returns-clause-chained

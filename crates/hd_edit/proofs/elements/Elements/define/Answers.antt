@@ -1,5 +1,5 @@
 use Rattle.std.proofs.Common.{◌≡◌, refl, ◌∙◌}
-use Rattle.hd_edit.proofs.Named.{named_with, tables_with}
+use Rattle.hd_edit.proofs.NamedElements.{named_with, tables_with}
 use Rattle.hd_edit.proofs.elements.Elements.define.Goals as goal
 
 pub invariant_of-self-2 : goal.invariant_of-self-2

@@ -1,5 +1,5 @@
 use Rattle.std.proofs.Common.{refl, sym, ◌∙◌}
-use Rattle.hd_edit.proofs.Named.{found_by_name}
+use Rattle.hd_edit.proofs.NamedElements.{found_by_name}
 use Rattle.hd_edit.proofs.elements.Elements.find.Goals as goal
 
 pub returns-in-Some : goal.returns-in-Some

@@ -1,7 +1,7 @@
 use Rattle.std.proofs.Common.{◌≡◌, true, false, ◌∷◌, ◌++◌, ◌+◌, [], List, map, take, subst, sym, ◌∙◌, arith}
 use Rattle.hd_morph.specs.Element.{ElementTable}
 use Rattle.hd_edit.specs.Elements.{line_of}
-use Rattle.hd_edit.proofs.Named.{line_more}
+use Rattle.hd_edit.proofs.NamedElements.{line_more}
 use Rattle.hd_edit.proofs.elements.Elements.lines.Goals as goal
 use Rattle.hd_edit.proofs.elements.Elements.lines.Goals.{in-Some+in_ok-line+in_ok-push, in_default}
 

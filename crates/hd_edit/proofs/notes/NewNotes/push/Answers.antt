@@ -24,7 +24,7 @@ invariant_of-self c =
     ] in
     let heights = c.if-is_empty-2.self-inside.heights in (
       sym (ap (λ (x : Change). x.index) c.in-Some.ensures)
-          ∙ ap (λ (i : ℕ). i + c.in-Some.note.gap) (begun.last ∙ ap (λ (v : Vec HeightNote Global). last_after c.if-is_empty-2.self-inside.first v.items) (sym begun.heights))
+          ∙ ap (λ (i : ℕ). i + c.in-Some.note.distance) (begun.last ∙ ap (λ (v : Vec HeightNote Global). last_after c.if-is_empty-2.self-inside.first v.items) (sym begun.heights))
           ∙ sym (last-push c.if-is_empty-2.self-inside.first heights.items c.in-Some.note) ∙ sym (ap (last_after c.if-is_empty-2.self-inside.first) c.push_reserved.ensures.items),
       ap (λ (v : Vec Change Global). vec_capacity v) begun.others ∙ c.self.invariant.1 ∙ sym (ap (λ (v : Vec HeightNote Global). vec_capacity v) begun.heights) ∙ sym c.push_reserved.ensures.capacity,
     )

@@ -1,4 +1,4 @@
-use Rattle.hd_graph.proofs.Unions.{joins-as, one-class, two-classes}
+use Rattle.hd_graph.proofs.AreOneClass.{joins-as, one-class, two-classes}
 use Rattle.hd_graph.proofs.classes.Classes.join.Goals as goal
 
 pub returns-then-first-second-clause-one : goal.returns-then-first-second-clause-one

@@ -1,7 +1,7 @@
 use Rattle.std.proofs.Common.{◌≡◌, ◌<◌, ℕ, length, slice_get, Some}
 use Rattle.std.specs.Prelude.{◌↔◌}
 use Rattle.hd_graph.specs.Classes.{AreFalling, AreOneClass}
-use Rattle.hd_graph.proofs.Unions.{Refines}
+use Rattle.hd_graph.proofs.AreOneClass.{Refines}
 use Rattle.hd_graph.proofs.classes.Classes.least_of.Given as goal
 
 abbrev pub invariant-loop-least : goal.invariant-loop-least

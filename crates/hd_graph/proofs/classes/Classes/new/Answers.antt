@@ -1,5 +1,5 @@
 use Rattle.std.proofs.Common.{◌≡◌, ◌++◌, ◌∷◌, [], inl, inr, arith, List, ℕ}
-use Rattle.hd_graph.proofs.Unions.{own-classes}
+use Rattle.hd_graph.proofs.AreOneClass.{own-classes}
 use Rattle.std.proofs.lemmas.List.{length_push}
 use Rattle.hd_graph.proofs.Places.{get-push_cases}
 use Rattle.hd_graph.proofs.classes.Classes.new.Goals as goal

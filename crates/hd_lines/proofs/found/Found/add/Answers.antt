@@ -2,7 +2,7 @@ use Rattle.std.proofs.Common.{◌≡◌, ◌∙◌, ℕ, inr, List, length, set,
 use Rattle.hd_graph.proofs.Places.{get-from_read}
 use Rattle.hd_lines.specs.declared.border.Border.{Border}
 use Rattle.hd_lines.specs.Found.{AreIndexed, of_pair}
-use Rattle.hd_lines.proofs.Slots.{indexed-few, indexed-push, slot-none}
+use Rattle.hd_lines.proofs.Indexed.{indexed-few, indexed-push, slot-none}
 use Rattle.hd_lines.proofs.found.Found.add.Given.{Over}
 use Rattle.hd_lines.proofs.found.Found.add.Goals as goal
 use Rattle.hd_lines.proofs.found.Found.add.Goals.{In_ok-push, else-slot-len-via-then-slot-len+else-index-b, else-slot-len-via-else-slot-len}

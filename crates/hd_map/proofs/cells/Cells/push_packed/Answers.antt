@@ -1,6 +1,6 @@
 use Rattle.std.proofs.Common.{◌≡◌, ◌∷◌, ◌++◌, [], ap, ◌∙◌, ◌+◌, rules}
 use Rattle.hd_map.specs.Packing.{over_least}
-use Rattle.hd_map.proofs.Packed.{cells_push, of_type_push, paired_push, popped, unmasked_push}
+use Rattle.hd_map.proofs.PackedPoints.{cells_push, of_type_push, paired_push, popped, unmasked_push}
 use Rattle.hd_map.proofs.cells.Cells.push_packed.Goals as goal
 
 pub invariant_of-self : goal.invariant_of-self

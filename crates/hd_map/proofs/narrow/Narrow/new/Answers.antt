@@ -1,7 +1,7 @@
 use Rattle.hd_map.specs.declared.types.Adjacency.TheVariants.{Eight}
 use Rattle.hd_map.specs.Packing.{over_least}
 use Rattle.hd_map.proofs.DataTypes.{narrow_places}
-use Rattle.hd_map.proofs.Packed.{fresh_map, fresh_whole}
+use Rattle.hd_map.proofs.PackedPoints.{fresh_map, fresh_whole}
 use Rattle.hd_map.proofs.narrow.Narrow.new.Goals as goal
 
 pub invariant_of-result-clause-whole : goal.invariant_of-result-clause-whole

@@ -2,7 +2,7 @@ use Rattle.std.proofs.Common.{rules, sym, subst}
 use Rattle.hd_map.specs.Map.{IsMap}
 use Rattle.hd_map.specs.Packing.{over_least}
 use Rattle.hd_map.proofs.DataTypes.{narrow_places}
-use Rattle.hd_map.proofs.Packed.{unmeasured_is, unmeasured_whole}
+use Rattle.hd_map.proofs.PackedPoints.{unmeasured_is, unmeasured_whole}
 use Rattle.hd_map.proofs.narrow.Narrow.unmeasured.Goals as goal
 
 pub invariant_of-result-clause-paired : goal.invariant_of-result-clause-paired

@@ -1,6 +1,6 @@
 use Rattle.std.proofs.Common.{sym, ◌∙◌}
 use Rattle.hd_map.specs.Packing.{over_least}
-use Rattle.hd_map.proofs.Packed.{bad_read}
+use Rattle.hd_map.proofs.PackedPoints.{bad_read}
 use Rattle.hd_map.proofs.narrow.NarrowGrid.cell.Goals as goal
 
 pub returns-else-is_measured : goal.returns-else-is_measured

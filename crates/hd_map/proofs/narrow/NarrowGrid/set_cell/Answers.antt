@@ -3,7 +3,7 @@ use Rattle.hd_map.specs.Layouts.{narrow_map}
 use Rattle.hd_map.specs.Map.{IsMap, IsCellOf}
 use Rattle.hd_map.specs.Packing.{over_least}
 use Rattle.std.proofs.Math.ListN.{length-set}
-use Rattle.hd_map.proofs.Packed.{cell_set}
+use Rattle.hd_map.proofs.PackedPoints.{cell_set}
 use Rattle.hd_map.proofs.Sets.{cell_kept}
 use Rattle.hd_map.proofs.narrow.NarrowGrid.set_cell.Goals as goal
 

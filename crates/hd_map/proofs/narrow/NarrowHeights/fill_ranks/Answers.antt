@@ -8,7 +8,7 @@ use Rattle.hd_map.specs.Map.{cell_count, shown_height}
 use Rattle.hd_map.specs.Packing.{cell_from, masks, over_least}
 use Rattle.hd_map.specs.Ranks.{rank_shown}
 use Rattle.hd_map.proofs.DataTypes.{least_read}
-use Rattle.hd_map.proofs.Packed.{height_read}
+use Rattle.hd_map.proofs.PackedPoints.{height_read}
 use Rattle.hd_map.proofs.Points.{place_inside}
 use Rattle.hd_map.proofs.Ranks.{ranks_all, ranks_more, ranks_none}
 use Rattle.hd_map.proofs.narrow.NarrowHeights.fill_ranks.Goals as goal

@@ -2,7 +2,7 @@ use Rattle.std.proofs.Common.{◌∙◌, ◌+ℤ◌, ℕ, ℤ, ap, pos}
 use Rattle.hd_map.specs.Map.{shown_height}
 use Rattle.hd_map.specs.Packing.{cell_from, masks, over_least}
 use Rattle.hd_map.proofs.DataTypes.{least_read}
-use Rattle.hd_map.proofs.Packed.{height_read}
+use Rattle.hd_map.proofs.PackedPoints.{height_read}
 use Rattle.hd_map.proofs.narrow.NarrowHeights.height.Goals as goal
 
 pub returns : goal.returns

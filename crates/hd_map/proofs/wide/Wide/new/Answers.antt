@@ -1,6 +1,6 @@
 use Rattle.hd_map.specs.declared.types.Adjacency.TheVariants.{Eight}
 use Rattle.hd_map.specs.Packing.{as_it_is}
-use Rattle.hd_map.proofs.Packed.{fresh_map, fresh_whole}
+use Rattle.hd_map.proofs.PackedPoints.{fresh_map, fresh_whole}
 use Rattle.hd_map.proofs.wide.Wide.new.Goals as goal
 
 pub invariant_of-result-clause-whole : goal.invariant_of-result-clause-whole

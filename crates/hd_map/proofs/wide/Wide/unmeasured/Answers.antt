@@ -1,7 +1,7 @@
 use Rattle.std.proofs.Common.{rules, pos, sym, subst}
 use Rattle.hd_map.specs.Map.{IsMap}
 use Rattle.hd_map.specs.Packing.{as_it_is}
-use Rattle.hd_map.proofs.Packed.{unmeasured_is, unmeasured_whole}
+use Rattle.hd_map.proofs.PackedPoints.{unmeasured_is, unmeasured_whole}
 use Rattle.hd_map.proofs.wide.Wide.unmeasured.Goals as goal
 
 pub invariant_of-result-clause-paired : goal.invariant_of-result-clause-paired

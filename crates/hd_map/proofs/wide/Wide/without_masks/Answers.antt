@@ -1,8 +1,8 @@
 use Rattle.std.proofs.Common.{◌∙◌, List, subst}
 use Rattle.hd_map.specs.declared.mark.Mark.{Mark}
 use Rattle.hd_map.specs.Packing.{as_it_is}
-use Rattle.hd_map.specs.Unmasked.{AreUnmasked}
-use Rattle.hd_map.proofs.Packed.{unmasked_map, unmasked_paired, unmasked_whole}
+use Rattle.hd_map.specs.UnmaskedMarks.{AreUnmasked}
+use Rattle.hd_map.proofs.PackedPoints.{unmasked_map, unmasked_paired, unmasked_whole}
 use Rattle.hd_map.proofs.wide.Wide.without_masks.Goals as goal
 
 pub invariant_of-result-clause-paired : goal.invariant_of-result-clause-paired

@@ -1,6 +1,6 @@
 use Rattle.std.proofs.Common.{pos, sym, ◌∙◌}
 use Rattle.hd_map.specs.Packing.{as_it_is}
-use Rattle.hd_map.proofs.Packed.{bad_read}
+use Rattle.hd_map.proofs.PackedPoints.{bad_read}
 use Rattle.hd_map.proofs.wide.WideGrid.cell.Goals as goal
 
 pub returns-else-is_measured : goal.returns-else-is_measured

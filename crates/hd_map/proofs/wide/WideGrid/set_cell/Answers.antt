@@ -4,7 +4,7 @@ use Rattle.hd_map.specs.Layouts.{wide_map}
 use Rattle.hd_map.specs.Map.{IsMap, IsCellOf}
 use Rattle.hd_map.specs.Packing.{as_it_is}
 use Rattle.std.proofs.Math.ListN.{length-set}
-use Rattle.hd_map.proofs.Packed.{cell_set}
+use Rattle.hd_map.proofs.PackedPoints.{cell_set}
 use Rattle.hd_map.proofs.Sets.{cell_kept}
 use Rattle.hd_map.proofs.wide.WideGrid.set_cell.Goals as goal
 

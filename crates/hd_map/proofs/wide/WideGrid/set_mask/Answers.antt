@@ -3,7 +3,7 @@ use Rattle.hd_map.specs.Layouts.{wide_map}
 use Rattle.hd_map.specs.Map.{IsMap}
 use Rattle.hd_map.specs.Packing.{as_it_is}
 use Rattle.std.proofs.Math.ListN.{length-set}
-use Rattle.hd_map.proofs.Packed.{mask_set}
+use Rattle.hd_map.proofs.PackedPoints.{mask_set}
 use Rattle.hd_map.proofs.Sets.{mask_kept}
 use Rattle.hd_map.proofs.wide.WideGrid.set_mask.Goals as goal
 

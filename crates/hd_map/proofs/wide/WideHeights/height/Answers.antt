@@ -1,7 +1,7 @@
 use Rattle.std.proofs.Common.{◌∙◌, ℤ, List, ap, get_or, pos}
 use Rattle.hd_map.specs.Map.{shown_height}
 use Rattle.hd_map.specs.Packing.{as_it_is, cell_from, masks}
-use Rattle.hd_map.proofs.Packed.{height_read}
+use Rattle.hd_map.proofs.PackedPoints.{height_read}
 use Rattle.hd_map.proofs.wide.WideHeights.height.Goals as goal
 
 pub returns : goal.returns

@@ -3,7 +3,7 @@ use Rattle.std.specs.Int.{w64}
 use Rattle.std.proofs.lemmas.Int.{to_z-of_z}
 use Rattle.std.proofs.lemmas.List.{length-map}
 use Rattle.hd_map.specs.Map.{AreCellsOf}
-use Rattle.hd_map.proofs.Packed.{multiplied_kept}
+use Rattle.hd_map.proofs.PackedPoints.{multiplied_kept}
 use Rattle.hd_map.proofs.wide_cells.WideCells.multiply.Goals as goal
 
 pub invariant_of-self : goal.invariant_of-self

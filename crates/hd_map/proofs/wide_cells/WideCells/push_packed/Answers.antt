@@ -2,7 +2,7 @@ use Rattle.std.proofs.Common.{◌≡◌, ◌∷◌, ◌++◌, [], ap, ◌∙◌,
 use mir.Syntax.{w64}
 use Rattle.std.proofs.lemmas.Int.{to_z-of_z}
 use Rattle.hd_map.specs.Packing.{as_it_is}
-use Rattle.hd_map.proofs.Packed.{cells_push, of_type_push, paired_push, popped, unmasked_push}
+use Rattle.hd_map.proofs.PackedPoints.{cells_push, of_type_push, paired_push, popped, unmasked_push}
 use Rattle.hd_map.proofs.wide_cells.WideCells.push_packed.Goals as goal
 
 pub invariant_of-self : goal.invariant_of-self

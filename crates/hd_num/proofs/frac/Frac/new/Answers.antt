@@ -4,7 +4,7 @@ use Rattle.std.specs.Int.{IsGcd}
 use Rattle.std.proofs.lemmas.Int.{to_z-of_z}
 use Rattle.hd_num.specs.Frac.{IsFraction}
 use Rattle.hd_num.specs.Whole.{signed_number}
-use Rattle.hd_num.proofs.Fractions.{divided}
+use Rattle.hd_num.proofs.Fractions.{IsFraction-divided}
 use Rattle.hd_num.proofs.frac.Frac.new.Goals as goal
 
 fraction : (c : goal.After-signed) → IsFraction c.args.n c.args.d (to_z w128 (of_z w128 c.signed.result)) (c.args.d / c.common_divisor-divisor.result)
@@ -16,7 +16,7 @@ fraction c =
     let fits : FitsSigned w128 c.signed.result = search rules in
     let num : to_z w128 (of_z w128 c.signed.result) ≡ signed_number (int_lt c.args.n (pos 0)) (unsigned_abs c.args.n / g) =
     to_z-of_z w128 _ fits ∙ c.signed.ensures ∙ ap₂ (λ z m. signed_number (int_lt z (pos 0)) (m / g)) kept size in
-    subst (λ z. IsFraction c.args.n c.args.d z (c.args.d / g)) (sym num) (divided c.args.n c.args.d g c.requires divisor)
+    subst (λ z. IsFraction c.args.n c.args.d z (c.args.d / g)) (sym num) (IsFraction-divided c.args.n c.args.d g c.requires divisor)
 
 pub invariant_of-result : goal.invariant_of-result
 invariant_of-result c = record { reduced = (fraction c).reduced }

@@ -1,7 +1,8 @@
 use Rattle.std.proofs.Common.{◌≡◌, List, ℕ, length, take, true, sym, ap, ap₂, subst, ◌∙◌}
 use Rattle.hd_num.specs.Lines.{without_end}
-use Rattle.hd_sdf_read.specs.File.{is_gap, is_trailer}
-use Rattle.hd_sdf_read.proofs.TrailerPieces.{ended_good, take_end}
+use Rattle.hd_sdf_read.specs.File.{is_trailer}
+use Rattle.hd_sdf_read.specs.Tokens.{is_gap}
+use Rattle.hd_sdf_read.proofs.PartTrailers.{ended_good, take_end}
 use Rattle.hd_sdf_read.proofs.part_trailer.PartTrailer.ended.Goals as goal
 
 pub returns-clause-form : goal.returns-clause-form

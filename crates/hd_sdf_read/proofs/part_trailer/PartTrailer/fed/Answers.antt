@@ -2,9 +2,9 @@ use Rattle.std.proofs.Common.{◌≡◌, ◌≤◌, ◌++◌, List, ℕ, length,
 use Rattle.std.specs.List.{list_all}
 use borrow.Author.Tests.{eqb-true}
 use Rattle.std.proofs.lemmas.List.{take-append-drop}
-use Rattle.hd_sdf_read.specs.File.{is_gap}
-use Rattle.hd_sdf_read.proofs.Feeding.{some_filled}
-use Rattle.hd_sdf_read.proofs.TrailerPieces.{extended_feeds, gaps_none, gaps_some, over_gaps, over_long}
+use Rattle.hd_sdf_read.specs.Tokens.{is_gap}
+use Rattle.hd_sdf_read.proofs.States.{some_filled}
+use Rattle.hd_sdf_read.proofs.PartTrailers.{extended_feeds, gaps_none, gaps_some, over_gaps, over_long}
 use Rattle.hd_sdf_read.proofs.part_trailer.PartTrailer.fed.Goals as goal
 
 pub returns-then-not-is_empty : goal.returns-then-not-is_empty

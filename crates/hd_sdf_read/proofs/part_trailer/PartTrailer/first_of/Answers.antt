@@ -1,8 +1,8 @@
 use Rattle.std.proofs.Common.{◌≡◌, ◌<◌, ◌++◌, List, [], ℕ, length, eqb, get_or, false, sym, ap, subst, ◌∙◌}
-use Rattle.hd_sdf_read.specs.File.{is_gap}
+use Rattle.hd_sdf_read.specs.Tokens.{is_gap}
 use Rattle.hd_sdf_read.specs.PartTrailers.{trailer_in}
-use Rattle.hd_sdf_read.proofs.Feeding.{text_none}
-use Rattle.hd_sdf_read.proofs.TrailerPieces.{skipped, start_begins}
+use Rattle.hd_sdf_read.proofs.States.{text_none}
+use Rattle.hd_sdf_read.proofs.PartTrailers.{trailer_in-skipped, start_begins}
 use Rattle.hd_sdf_read.proofs.part_trailer.PartTrailer.first_of.Goals as goal
 
 pub returns-then-is_empty-clause-same : goal.returns-then-is_empty-clause-same
@@ -10,7 +10,7 @@ returns-then-is_empty-clause-same c = λ more.
     let text = c.args.self.now.text in
     let piece = c.args.piece.now in
     let none : text ≡ [] = text_none text (ap (λ (t : List ℕ). eqb (length t) 0) (sym c.as_slice.ensures) ∙ sym c.is_empty.ensures ∙ c.if-is_empty.true) in
-    ap (λ (t : List ℕ). trailer_in (t ++ (piece ++ more))) none ∙ skipped piece more
+    ap (λ (t : List ℕ). trailer_in (t ++ (piece ++ more))) none ∙ trailer_in-skipped piece more
     ∙ ap (λ (t : List ℕ). trailer_in (t ++ more)) (sym c.skip_gaps.ensures) ∙ ap (λ (t : List ℕ). trailer_in (t ++ (c.skip_gaps.result.now ++ more))) (sym none)
 
 pub returns-then-is_empty-clause-begins : goal.returns-then-is_empty-clause-begins

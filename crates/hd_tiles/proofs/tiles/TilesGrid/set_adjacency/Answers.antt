@@ -1,6 +1,6 @@
 use Rattle.std.proofs.Common.{◌≡◌, sym, ◌∙◌, ap, rules, arith}
 use Rattle.hd_map.specs.Map.{Map}
-use Rattle.hd_tiles.proofs.Changes.{up_to, setting-comes, setting-touches}
+use Rattle.hd_tiles.proofs.ComesFrom.{up_to, setting-comes, setting-touches}
 use Rattle.hd_tiles.proofs.tiles.TilesGrid.set_adjacency.Goals as goal
 
 pub set_adjacency-requires : goal.set_adjacency-requires

@@ -2,7 +2,7 @@ use Rattle.std.proofs.Common.{◌≡◌, sym, ◌∙◌, subst, ap, rules, arith
 use Rattle.hd_map.specs.declared.types.Size.{Size}
 use Rattle.hd_map.specs.Map.{Map, InGrid, cell_at}
 use Rattle.hd_tiles.specs.Tile.{IsRound}
-use Rattle.hd_tiles.proofs.Changes.{cell_stands, up_to, cell-comes, cell-touches}
+use Rattle.hd_tiles.proofs.ComesFrom.{cell_stands, up_to, cell-comes, cell-touches}
 use Rattle.hd_tiles.proofs.tiles.TilesGrid.set_cell.Goals as goal
 
 pub returns-then-eq-clause-sets : goal.returns-then-eq-clause-sets

@@ -2,7 +2,7 @@ use Rattle.std.proofs.Common.{◌≡◌, sym, ◌∙◌, subst, ap, rules, arith
 use Rattle.hd_map.specs.declared.types.Size.{Size}
 use Rattle.hd_map.specs.Map.{Map, InGrid, mask_at}
 use Rattle.hd_tiles.specs.Tile.{IsRound}
-use Rattle.hd_tiles.proofs.Changes.{mask_stands, up_to, mask-comes, mask-touches}
+use Rattle.hd_tiles.proofs.ComesFrom.{mask_stands, up_to, mask-comes, mask-touches}
 use Rattle.hd_tiles.proofs.tiles.TilesGrid.set_mask.Goals as goal
 
 pub returns-then-masked-clause-sets : goal.returns-then-masked-clause-sets
