@@ -1,12 +1,14 @@
 // What is found of a side of a grid by what is kept of it, before a report asks for it.
-ghost use Rattle.std.specs.Prelude.{◌≡◌};
+ghost use Rattle.std.specs.Prelude.{◌≡◌, ◌↔◌, IsTrue};
 ghost use Rattle.std.specs.Option.{is_some};
-ghost use Rattle.hd_pool.specs.Following.{Follows};
-ghost use Rattle.hd_survey.specs.Findings.{AreFindings};
-ghost use Rattle.hd_engine.specs.declared.by_pool_or_links.Need.TheVariants.{Merges, Regions};
+ghost use Rattle.hd_num.specs.declared.percent.Percent.{Percent as APercent};
+ghost use Rattle.hd_pool.specs.Following.{Follows, HasLinks};
+ghost use Rattle.hd_survey.specs.Findings.{AreFindings, WasPrunedAt};
+ghost use Rattle.hd_engine.specs.declared.by_pool_or_links.Need.TheVariants.{Merges, Pruning, Regions};
 
 use hd_list::Memory;
-use hd_map::{Grid, Side};
+use hd_map::{Grid, Heights, Side};
+use hd_num::Percent;
 use hd_pool::{Question, SidePool};
 use hd_survey::{Findings, SideView};
 use hd_tiles::Tiles;
@@ -19,6 +21,8 @@ pub(crate) enum Need {
     Regions,
     /// The merges of the pits.
     Merges,
+    /// The pruning at a percent.
+    Pruning(Percent),
 }
 
 /// Finds what a report on a side asks for, unless it is found: by the pool of the side where it serves, else by its links
@@ -39,11 +43,10 @@ pub(crate) fn find_by_pool_or_links<S: Side, G: Grid>(
         return Ok(());
     }
     if pool.serves(alloc, tiles, Question::Report)? {
-        return find_by(findings, need, &pool.view(alloc, tiles));
+        return find_by(alloc, tiles, findings, need, &pool.view(alloc, tiles));
     }
     if pool.keeps_links(alloc, tiles)? {
-        let view = pool.view_by_links(alloc, tiles)?;
-        return find_by(findings, need, &view);
+        return find_by_links(alloc, tiles, pool, findings, need);
     }
     Ok(())
 }
@@ -52,24 +55,59 @@ pub(crate) fn find_by_pool_or_links<S: Side, G: Grid>(
 fn is_found<S: Side>(findings: &Findings<S>, need: Need) -> bool
     ensures regions { need ≡ Regions → result ≡ is_some findings.now.sizes }
     ensures merges { need ≡ Merges → result ≡ is_some findings.now.merges }
+    ensures pruning { (percent : APercent) → need ≡ Pruning percent → IsTrue result ↔ WasPrunedAt percent.thousandths findings.now.pruned }
 {
     match need {
         Need::Regions => findings.has_sizes(),
         Need::Merges => findings.has_merges(),
+        Need::Pruning(percent) => findings.has_pruned(percent),
     }
 }
 
-// Finds what a report asks for by a view of the side.
-fn find_by<S: Side, V: SideView<S>>(
+// Finds what a report asks for by the links of the side, which are those of the grid. For the merges alone, the ways from
+// the ends of descents are traced, and no regions are found.
+fn find_by_links<S: Side, G: Grid>(
+    alloc: Global,
+    tiles: &Tiles<G>,
+    pool: &mut SidePool<S>,
+    findings: &mut Findings<S>,
+    need: Need,
+) -> Result<(), Memory>
+    requires links { HasLinks (G.map tiles.now.grid) S.NAME pool.old }
+    requires follows { Follows (G.map tiles.now.grid) S.NAME tiles.now.tiling.side tiles.now.stamps.items pool.old }
+    requires findings { AreFindings (G.map tiles.now.grid) S.NAME findings.old }
+    ensures follows { Follows (G.map tiles.now.grid) S.NAME tiles.now.tiling.side tiles.now.stamps.items pool.new }
+    ensures findings { AreFindings (G.map tiles.now.grid) S.NAME findings.new }
+{
+    match need {
+        Need::Merges => {
+            pool.bring_descents_up(alloc, tiles)?;
+            let merges = pool.merges_by_links(alloc, tiles)?;
+            findings.add_merges(tiles, merges);
+            Ok(())
+        }
+        need => {
+            let view = pool.view_by_links(alloc, tiles)?;
+            find_by(alloc, tiles, findings, need, &view)
+        }
+    }
+}
+
+// Finds what a report asks for by a view of the side of a grid.
+fn find_by<S: Side, G: Heights, V: SideView<S>>(
+    alloc: Global,
+    grid: &G,
     findings: &mut Findings<S>,
     need: Need,
     view: &V,
 ) -> Result<(), Memory>
-    requires { AreFindings (V.map view.now) S.NAME findings.old }
-    ensures { AreFindings (V.map view.now) S.NAME findings.new }
+    requires view { V.map view.now ≡ G.map grid.now }
+    requires findings { AreFindings (G.map grid.now) S.NAME findings.old }
+    ensures { AreFindings (G.map grid.now) S.NAME findings.new }
 {
     match need {
         Need::Regions => findings.find_sizes_by(view),
         Need::Merges => findings.find_merges_by(view),
+        Need::Pruning(percent) => findings.find_pruned_by(alloc, grid, view, percent),
     }
 }

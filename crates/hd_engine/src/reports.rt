@@ -34,7 +34,7 @@ use hd_report::{
     Scales, list_borders, list_pruning, list_regions, list_tree, list_volumes, tell_info,
 };
 use hd_stats::fill;
-use hd_survey::{Findings, change_tree, pruned_lines, pruned_regions};
+use hd_survey::{Findings, change_tree, pruned_lines};
 use std::alloc::Global;
 
 /// The size, the type, the present points and the range of their heights, and the scales.
@@ -99,7 +99,8 @@ pub(crate) fn report_pruning<S: Side, G: Heights>(
     ensures text { IfOk result (λ text. (steps : Items Leaving) × (kept : Items RegionSize) × ArePrunedRegions (G.map grid.now) S.NAME percent.thousandths steps kept
         × (text ≡ prune_text S.NAME percent.thousandths (G.map grid.now).size steps kept)) }
 {
-    let pruned = pruned_regions::<S, G>(alloc, grid, findings, percent)?;
+    findings.find_pruned(alloc, grid, percent)?;
+    let pruned = findings.pruned();
     let text = list_pruning(
         alloc,
         S::NAME,

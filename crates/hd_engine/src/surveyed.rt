@@ -222,9 +222,11 @@ impl<G: Grid> Surveyed<G> {
         match command {
             Command::Dales => self.find_by_pool_or_links(SideName::Dales, Need::Regions),
             Command::Hills => self.find_by_pool_or_links(SideName::Hills, Need::Regions),
+            Command::Prune { side, percent } => {
+                self.find_by_pool_or_links(*side, Need::Pruning(*percent))
+            }
             Command::Tree { side }
             | Command::Saddle { side, .. }
-            | Command::Prune { side, .. }
             | Command::Lines { side, .. }
             | Command::Audit { side, .. }
             | Command::Fill { side, .. } => self.find_by_pool_or_links(*side, Need::Merges),

@@ -9,4 +9,6 @@ mod Rooted
 mod PitsOf
 mod Touched
 pub mod TileLinks
+pub mod TileBands
+pub mod TileDescents
 pub mod Following

@@ -128,7 +128,7 @@ module _ (m : Map) (side : SideName) where
     }
 
 -- maps that agree in a tile and beside it agree round each of its positions
-agree-round : (m n : Map) (t : ℕ) (p : Pos) → InGrid m.size p → Agree m n t (tile_of m.size t p) → AgreeRound m n p
+pub agree-round : (m n : Map) (t : ℕ) (p : Pos) → InGrid m.size p → Agree m n t (tile_of m.size t p) → AgreeRound m n p
 agree-round m n t p inside agree = record {
   size = agree.size;
   adjacency = agree.adjacency;

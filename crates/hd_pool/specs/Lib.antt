@@ -4,4 +4,6 @@ pub mod BetweenRoots
 pub mod PitsOf
 pub mod Choice
 pub mod TileLinks
+pub mod TileBands
+pub mod TileDescents
 pub mod Following

@@ -2,10 +2,12 @@
 //! of the grid is looked at. Of a grid in tiles the pool is kept from one report to the next, where that pays.
 #![tactic(auto)]
 
+mod bands;
 mod between;
 mod choice;
 mod pits;
 mod pool_view;
+mod side_descents;
 mod side_links;
 mod side_pool;
 mod told;

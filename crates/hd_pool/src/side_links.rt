@@ -67,8 +67,8 @@ fn all_links<S: Side, G: Grid>(alloc: Global, tiles: &Tiles<G>) -> Result<SideLi
     })
 }
 
-// The stamps of all tiles.
-fn stamps_of<G: Grid>(alloc: Global, tiles: &Tiles<G>) -> Result<Vec<u64>, Memory>
+/// The stamps of all tiles. `Memory` comes where the list is refused its memory.
+pub(crate) fn stamps_of<G: Grid>(alloc: Global, tiles: &Tiles<G>) -> Result<Vec<u64>, Memory>
     ensures { IfOk result (λ seen. seen.items ≡ tiles.now.stamps.items) }
 {
     let count = tiles.tiling().count();
@@ -107,6 +107,13 @@ impl SideLinks {
             renew_tile::<S, G>(&mut self.links, tiles, tile);
             self.seen[tile as usize] = stamp;
         }
+    }
+
+    /// The links of all points.
+    pub(crate) fn first_links(&self) -> &FirstLinks
+        ensures { result.now ≡ self.now.links }
+    {
+        &self.links
     }
 
     /// The regions of the side. The links are those of the grid. `Memory` comes where the regions are refused theirs.

@@ -1,27 +1,30 @@
-// The pool and the first links of a side of a grid in tiles.
+// The pool, the first links and the descents of a side of a grid in tiles.
 ghost use Rattle.std.specs.Prelude.{◌≡◌, IfOk, IsTrue, OnOk};
 ghost use Rattle.hd_basin.specs.InStep.{IsPoolOf};
-ghost use Rattle.hd_pool.specs.Following.{Follows, HasLinks, IsFollowing, IsReady, no_pool_nor_links};
+ghost use Rattle.hd_survey.specs.Findings.{ArePitMerges};
+ghost use Rattle.hd_pool.specs.Following.{Follows, HasDescents, HasLinks, IsFollowing, IsReady, no_pool_nor_links};
 
 use crate::PoolView;
 use crate::choice::{Choice, Question, is_by_pool, spent_at};
+use crate::side_descents::{SideDescents, descents_of};
 use crate::side_links::{SideLinks, links_of};
 use hd_basin::Basins;
 use hd_list::Memory;
 use hd_map::{Grid, Heights, Side};
-use hd_survey::GridView;
+use hd_survey::{GridView, PitMerges};
 use hd_tiles::{Steps, Tiles};
 use std::alloc::Global;
 use std::marker::{Brand, Model};
 use std::sync::ledger::{Blank, Ledger};
 
-/// The pool and the first links of a side of a grid in tiles, each of which is made and brought up to the grid where
-/// questions are answered by it. Contracts see it as the pool and the links, where they are kept.
+/// The pool, the first links and the descents of a side of a grid in tiles, each of which is made and brought up to the
+/// grid where questions are answered by it. Contracts see it as these, where they are kept.
 #[derive(Drop)]
 pub struct SidePool<S: Side> {
     choice: Choice,
     pool: Option<Basins<S>>,
     links: Option<SideLinks>,
+    descents: Option<SideDescents>,
     spent: u64,
     changes: u64,
     reported: Option<u64>,
@@ -32,7 +35,7 @@ impl<S: Side> Model for SidePool<S> {
 
     ghost Value = { PoolAndLinks };
 
-    ghost view = { λ s. record { pool = s.pool; links = s.links } };
+    ghost view = { λ s. record { pool = s.pool; links = s.links; descents = s.descents } };
 }
 
 impl<S: Side> SidePool<S> {
@@ -44,6 +47,7 @@ impl<S: Side> SidePool<S> {
             choice,
             pool: None,
             links: None,
+            descents: None,
             spent: 0,
             changes: 0,
             reported: None,
@@ -147,6 +151,38 @@ impl<S: Side> SidePool<S> {
             None => unreachable!(),
         };
         Ok(GridView::from_regions(alloc, grid, regions))
+    }
+
+    /// Brings the descents of the side up to the grid, and finds all of them first where none are kept.
+    ///
+    /// They take 8 bytes each and 8 a tile. `Memory` comes where these are refused, or what it takes to find them; none
+    /// are kept then.
+    pub fn bring_descents_up<G: Grid>(
+        &mut self,
+        alloc: Global,
+        tiles: &Tiles<G>,
+    ) -> Result<(), Memory>
+        requires { Follows (G.map tiles.now.grid) S.NAME tiles.now.tiling.side tiles.now.stamps.items self.old }
+        ensures follows { Follows (G.map tiles.now.grid) S.NAME tiles.now.tiling.side tiles.now.stamps.items self.new }
+        ensures links { self.new.links ≡ self.old.links }
+        ensures descents { OnOk result (HasDescents (G.map tiles.now.grid) S.NAME self.new) }
+    {
+        let descents = descents_of::<S, G>(alloc, self.descents.take(), tiles)?;
+        self.descents = Some(descents);
+        Ok(())
+    }
+
+    /// The pits of the side and their merges, by its links and descents, which are those of the grid. `Memory` comes where
+    /// the crossings, the pits or the merges are refused their memory.
+    pub fn merges_by_links<G: Heights>(&self, alloc: Global, grid: &G) -> Result<PitMerges, Memory>
+        requires links { HasLinks (G.map grid.now) S.NAME self.now }
+        requires descents { HasDescents (G.map grid.now) S.NAME self.now }
+        ensures { IfOk result (ArePitMerges (G.map grid.now) S.NAME) }
+    {
+        match (&self.links, &self.descents) {
+            (Some(links), Some(descents)) => descents.merges::<S, G>(alloc, grid, links),
+            _ => unreachable!(),
+        }
     }
 
     /// The side, by its pool. The pool is that of the grid.

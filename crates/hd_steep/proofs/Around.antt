@@ -1,5 +1,6 @@
 -- The points round a point, and those of them that are below it.
 use Rattle.std.proofs.Common.{◌≡◌, ◌<◌, ◌+◌, ◌++◌, ℕ, zero, suc, Bool, true, false, List, [], ◌∷◌, inl, inr, ap, ◌∙◌, sym, subst, refl, arith}
+use Rattle.std.specs.Prelude.{Contains}
 use Rattle.std.proofs.lemmas.Bool.{cases_eq, and_parts}
 use Rattle.hd_map.specs.declared.types.Pass.{Pass}
 use Rattle.hd_map.specs.declared.types.Adjacency.{Adjacency}
@@ -9,6 +10,7 @@ use Rattle.hd_map.specs.declared.types.Rank.{Rank}
 use Rattle.hd_map.specs.declared.types.SideName.{SideName}
 use Rattle.hd_map.specs.Map.{Map, IsMap, Present}
 use Rattle.hd_map.specs.Neighbour.{Neighbour, IsNear, AreBesideUnder}
+use Rattle.hd_map.specs.Order.{IsNotAbove}
 use Rattle.hd_map.specs.Path.{Leads}
 use Rattle.hd_map.specs.Rank.{rank, below_by, IsPoint}
 use Rattle.hd_map.specs.Region.{LowerNeighbour, IsRoot, IsNext}
@@ -23,8 +25,12 @@ use Rattle.hd_map.proofs.Order.{below-not_above}
 use Rattle.hd_steep.specs.Lowest.{missing, IsChosen, IsLow, IsAtPlace}
 use Rattle.hd_steep.specs.Rows.{rank_in, IsRowOf}
 use Rattle.hd_steep.specs.Ring.{ring_of, are_lower, is_marked, firsts_of, taken_of, marks_of, IsOneAtMost}
+use Rattle.hd_steep.specs.declared.descent.Descent.{Descent}
 use Rattle.hd_steep.specs.Crossed.{AreBeside, IsCrossed, IsServed}
+use Rattle.hd_steep.specs.Descended.{descent_to}
+use Rattle.hd_steep.specs.Descents.{IsReached}
 use Rattle.hd_steep.proofs.Lows.{low_missing, below_missing}
+use Rattle.hd_steep.proofs.Marks.{lowest_marked}
 use Rattle.hd_steep.proofs.Rows.{row_place}
 use Rattle.hd_steep.proofs.Taken.{StandsAt, taken_marked, taken_eight, taken_beside, beside_taken}
 use Rattle.hd_steep.proofs.Ring.{column_of, profile_of, are_close, AreClose, close_from_test, close_middle, leads_first}
@@ -246,12 +252,19 @@ module _ (m : Map) (side : SideName) where
             let is : rank_in ring k ≡ z = rank_at_place (y + profile_of k) (x + column_of k) (rank_in ring k) n.to (ring_low k found.1) found.2 n.neighbour.to ∙ sym n.to_rank in
             (k, beside_taken at n.to m.adjacency marks k found.1 (mark_of k found.1 ∙ ap (λ (r : Rank). below_by side r own) is ∙ low.below) (stands_at k n.to found.2) beside.beside, is)
 
+        -- y leads round the point to z
+        abbrev LeadsRound : Rank → Rank → Type 0
+        LeadsRound y z = (zs : List Rank) × Leads (AreBeside m side own) y zs z
+
+        round_on : (a b c : Rank) → LeadsRound a b → LeadsRound b c → LeadsRound a c
+        round_on a b c one other = (one.0 ++ other.0, leads_on own a b c one.0 other.0 one.1 other.1)
+
         -- a way from place to place
         abbrev Way : ℕ → ℕ → Type 0
-        Way i j = (zs : List Rank) × Leads (AreBeside m side own) (rank_in ring i) zs (rank_in ring j)
+        Way i j = LeadsRound (rank_in ring i) (rank_in ring j)
 
         way_on : (i j k : ℕ) → Way i j → Way j k → Way i k
-        way_on i j k one other = (one.0 ++ other.0, leads_on own (rank_in ring i) (rank_in ring j) (rank_in ring k) one.0 other.0 one.1 other.1)
+        way_on i j k one other = round_on (rank_in ring i) (rank_in ring j) (rank_in ring k) one other
 
         -- the places at which passes are gathered
         abbrev pub gathered : List Bool
@@ -292,33 +305,67 @@ module _ (m : Map) (side : SideName) where
         pub first_lower : (k : ℕ) → is_marked gathered k ≡ true → LowerNeighbour m side own (rank_in ring k)
         first_lower k h = marked_lower k (gathered_taken m.adjacency k h)
 
+        -- each lower neighbour leads round to one of the first ones
+        leads_to_first : (z : Rank) → LowerNeighbour m side own z → (k : ℕ) × (is_marked gathered k ≡ true) × LeadsRound z (rank_in ring k)
+        leads_to_first z low =
+            let at_z = lower_marked z low in
+            let found = to_first at_z.0 at_z.1 in
+            (found.0, found.1, subst (λ (r : Rank). LeadsRound r (rank_in ring found.0)) at_z.2 found.2)
+
+        -- and where there is one of these at most, to each other one
+        leads_to_each : IsOneAtMost gathered → (z w : Rank) → LowerNeighbour m side own z → LowerNeighbour m side own w → LeadsRound z w
+        leads_to_each alone z w low low' =
+            let one = leads_to_first z low in
+            let other = leads_to_first w low' in
+            let same : one.0 ≡ other.0 = alone one.0 other.0 one.1 other.1 in
+            let back = leads_back own w (rank_in ring other.0) other.2.0 other.2.1 in
+            round_on z (rank_in ring other.0) w (subst (λ i. LeadsRound z (rank_in ring i)) same one.2) back
+
+        -- where there is a lower neighbour, one of them is the next
+        next_round : (z : Rank) → LowerNeighbour m side own z → (q : Rank) × IsNext m side own q
+        next_round z low =
+            let one = lower_marked z low in
+            let found = lowest_marked (below_by side) (below_by-order side) (rank_in ring) taken 8 one.0 one.1 in (
+              rank_in ring found.0,
+              record {
+                lower = marked_lower found.0 found.1.marked;
+                lowest = λ r lower.
+                    let other = lower_marked r lower in
+                    let inside = mark_inside other.0 (taken_marked m.adjacency marks other.0 other.1) in
+                    subst (λ (q : Rank). IsNotAbove (below_by side) (rank_in ring found.0) q) other.2 (found.1.lowest other.0 inside other.1);
+              },
+            )
+
         -- where the first ones are crossed, all lower neighbours are served
         pub served_crossed : (passes : List Pass) → ((k : ℕ) → is_marked gathered k ≡ true → IsCrossed m side passes own (rank_in ring k))
             → (z : Rank) → LowerNeighbour m side own z → IsServed m side passes own z
         served_crossed passes crossed z low =
-            let at_z = lower_marked z low in
-            let found = to_first at_z.0 at_z.1 in
-            record {
-              last = rank_in ring found.0;
-              way = found.2.0;
-              along = subst (λ (r : Rank). Leads (AreBeside m side own) r found.2.0 (rank_in ring found.0)) at_z.2 found.2.1;
-              crossed = crossed found.0 found.1;
-            }
+            let found = leads_to_first z low in
+            record { last = rank_in ring found.0; way = found.2.0; along = found.2.1; crossed = crossed found.0 found.1 }
 
         -- and where there is one at most, since the next is one of them
-        pub served_alone : (passes : List Pass) (next root : Rank) → IsNext m side own next → IsRoot m side own root → IsOneAtMost gathered
+        pub served_alone : (passes : List Pass) (root : Rank) → IsRoot m side own root → IsOneAtMost gathered
             → (z : Rank) → LowerNeighbour m side own z → IsServed m side passes own z
-        served_alone passes next root is_next is_root alone z low =
-            let at_z = lower_marked z low in
-            let at_next = lower_marked next is_next.lower in
-            let one = to_first at_z.0 at_z.1 in
-            let other = to_first at_next.0 at_next.1 in
-            let same : one.0 ≡ other.0 = alone one.0 other.0 one.1 other.1 in
-            let back = leads_back own (rank_in ring at_next.0) (rank_in ring other.0) other.2.0 other.2.1 in
-            let onward : Way at_z.0 at_next.0 = way_on at_z.0 other.0 at_next.0 (subst (λ i. Way at_z.0 i) same one.2) back in
+        served_alone passes root is_root alone z low =
+            let next = next_round z low in
+            let onward = leads_to_each alone z next.0 low next.1.lower in
             record {
-              last = next;
+              last = next.0;
               way = onward.0;
-              along = subst (λ (r : Rank). Leads (AreBeside m side own) r onward.0 next) at_z.2 (subst (λ (r : Rank). Leads (AreBeside m side own) (rank_in ring at_z.0) onward.0 r) at_next.2 onward.1);
-              crossed = record { a = root; b = root; from = is_root; to = root-next m side own next root is_next is_root; by = inl refl };
+              along = onward.1;
+              crossed = record { a = root; b = root; from = is_root; to = root-next m side own next.0 root next.1 is_root; by = inl refl };
             }
+
+        -- where descents lead to the first ones, all lower neighbours are reached
+        pub reached_first : (descents : List Descent) → ((k : ℕ) → is_marked gathered k ≡ true → Contains descents (descent_to own (rank_in ring k)))
+            → (z : Rank) → LowerNeighbour m side own z → IsReached m side descents own z
+        reached_first descents listed z low =
+            let found = leads_to_first z low in
+            record { last = rank_in ring found.0; way = found.2.0; along = found.2.1; by = inr (listed found.0 found.1) }
+
+        -- and where there is one at most
+        pub reached_alone : (descents : List Descent) → IsOneAtMost gathered → (z : Rank) → LowerNeighbour m side own z → IsReached m side descents own z
+        reached_alone descents alone z low =
+            let next = next_round z low in
+            let onward = leads_to_each alone z next.0 low next.1.lower in
+            record { last = next.0; way = onward.0; along = onward.1; by = inl next.1 }

@@ -43,7 +43,7 @@ module _ (m : Map) (side : SideName) (regions : Numbering) (are : AreNumbered m 
       let beside : Neighbour m at near.to = subst (λ (p : Pos). Neighbour m p near.to) from n in
       let to_index : place_of m.size near.to ≡ z.index = ap (λ (r : Rank). r.index) (sym near.to_rank) in
       let same = same_number m.size regions.numbers at near.to one beside.columns beside.rows ∙ ap (λ k. slice_index regions.numbers k) to_index in
-      in_one-numbers m side regions are (rank m at) z (slice_index regions.numbers (place_of m.size at)) (slice_index regions.numbers z.index)
+      in_one-numbers m side regions.pits (rank m at) z (slice_index regions.numbers (place_of m.size at)) (slice_index regions.numbers z.index)
       (number-of_point m side regions are (rank m at) (point_at m at here)).0 (number-of_point m side regions are z (Near-to m (rank m at) z near)).0 same
 
   -- nothing is to be gathered at it

@@ -22,8 +22,12 @@ pub mod Around
 pub mod Heights
 pub mod Enough
 pub mod Crossed
+mod TracedNumbers
 mod NumberedCrossings
+pub mod TracedCrossings
+pub mod DescentsStay
 pub mod Served
+mod Descended
 mod Windows
 mod Taken
 mod Inside

@@ -1,9 +1,19 @@
--- How many places of a list are marked, where that is one at most.
-use Rattle.std.proofs.Common.{◌≡◌, ◌<◌, ◌≤◌, ◌+◌, ℕ, zero, suc, Bool, true, false, List, length, inl, inr, ap, refl, subst, arith}
+-- How many places of a list are marked, where that is one at most, and which of them is lowest.
+use Rattle.std.proofs.Common.{◌≡◌, ◌<◌, ◌≤◌, ◌+◌, ℕ, zero, suc, Bool, true, false, List, length, inl, inr, ap, refl, sym, subst, arith}
 use Rattle.std.specs.Int.{from_bool}
-use Rattle.std.proofs.lemmas.Bool.{cases_eq, cases_lt, both_ways}
+use Rattle.std.proofs.lemmas.Bool.{cases_Bool, cases_eq, cases_lt, both_ways}
 use Rattle.std.proofs.lemmas.List.{get_or_past}
-use Rattle.hd_steep.specs.Ring.{is_marked, IsOneAtMost}
+use Rattle.hd_map.specs.declared.types.Adjacency.{Adjacency}
+use Rattle.hd_map.specs.declared.types.Adjacency.TheVariants.{Four, Six, Eight}
+use Rattle.hd_map.specs.Order.{IsNotAbove, IsStrictOrder}
+use Rattle.hd_map.proofs.Order.{not_above-refl, not_above-trans, not_above-total}
+use Rattle.hd_steep.specs.Ring.{is_marked, marks_of, IsOneAtMost}
+
+-- places that are the first of their group are marked among eight
+pub eight_marks : (adjacency : Adjacency) (lower : List Bool) → length (marks_of adjacency lower) ≡ 8
+eight_marks Four lower = refl
+eight_marks Six lower = refl
+eight_marks Eight lower = refl
 
 module _ (marks : List Bool) where
   -- how many of the first n places are marked
@@ -58,5 +68,37 @@ module _ (marks : List Bool) where
         | inr other ↦ elim (cases_lt i j) [
           | inl less ↦ let two : 2 ≤ count_to 8 = two_counted 8 i j less (omega (arith, inside', long)) is is' in absurd (omega (arith, two, few, all))
           | inr more ↦ let two : 2 ≤ count_to 8 = two_counted 8 j i (omega (arith, more, other)) (omega (arith, inside, long)) is' is in absurd (omega (arith, two, few, all))
+        ]
+      ]
+
+module _ {V : Type 0} (below : V → V → Bool) (laws : IsStrictOrder below) (at : ℕ → V) (marks : List Bool) where
+  -- of what stands at a marked one of the first n places none is below what stands at k
+  pub record IsLowestTo (n k : ℕ) : Type 0 where
+    pub marked : is_marked marks k ≡ true
+    pub lowest : (j : ℕ) → j < n → is_marked marks j ≡ true → IsNotAbove below (at k) (at j)
+
+  -- and at one place more
+  lowest_more : (n k : ℕ) → IsLowestTo n k → (is_marked marks n ≡ true → IsNotAbove below (at k) (at n)) → IsLowestTo (suc n) k
+  lowest_more n k before last = record {
+    marked = before.marked;
+    lowest = λ j inside is. elim (cases_eq j n) [
+      | inl same ↦ subst (λ i. IsNotAbove below (at k) (at i)) (sym same) (last (subst (λ i. is_marked marks i ≡ true) same is))
+      | inr other ↦ before.lowest j (omega (arith, inside, other)) is
+    ];
+  }
+
+  -- where a place is marked, there is such a one
+  pub lowest_marked : (n i : ℕ) → is_marked marks i ≡ true → (k : ℕ) × IsLowestTo n k
+  lowest_marked zero i is = (i, record { marked = is; lowest = λ j inside. absurd (omega (arith, inside)) })
+  lowest_marked (suc n) i is =
+      let (k, before) = lowest_marked n i is in
+      elim (not_above-total below laws (at k) (at n)) [
+        | inl low ↦ (k, lowest_more n k before (λ marked. low))
+        | inr low ↦ elim (cases_Bool (is_marked marks n)) [
+          | inl marked ↦ (
+            n,
+            lowest_more n n (record { marked = marked; lowest = λ j inside is'. not_above-trans below laws (at n) (at k) (at j) low (before.lowest j inside is') }) (λ is'. not_above-refl below laws (at n)),
+          )
+          | inr not ↦ (k, lowest_more n k before (λ marked. absurd (both_ways (is_marked marks n) not marked)))
         ]
       ]

@@ -1,5 +1,5 @@
 -- Numbers of pits, as they take the places of the links.
-use Rattle.std.proofs.Common.{◌≡◌, ◌≢◌, ◌<◌, ◌≤◌, ◌+◌, ℕ, List, length, get_or, set, slice_index, Option, Some, None, inl, inr, sym, ap, ◌∙◌, subst, arith}
+use Rattle.std.proofs.Common.{◌≡◌, ◌≢◌, ◌<◌, ◌≤◌, ◌+◌, ℕ, List, length, get_or, set, slice_index, Option, Some, None, inl, inr, refl, sym, ap, ◌∙◌, subst, arith}
 use Rattle.std.specs.Option.{option_map}
 use Rattle.std.proofs.Math.ListN.{length-set}
 use Rattle.std.specs.Prelude.{nat_eq}
@@ -19,7 +19,7 @@ use Rattle.hd_map.specs.Region.{IsPit, IsRoot}
 use Rattle.hd_map.proofs.Nexts.{root-pit, root-is_pit, root-unique}
 use Rattle.hd_map.proofs.Points.{same_index, rank_position, point_inside}
 use Rattle.hd_steep.specs.Links.{no_link, NoPointAt, AreLinks, IsRootAt, IsRootLink, AreRootLinks}
-use Rattle.hd_steep.specs.Numbering.{root_of, AreNumbersOfPits, IsLabelOf, AreLabelledTo, NextIsFrom}
+use Rattle.hd_steep.specs.Numbering.{root_of, AreWrittenAtPits, AreNumbersOfPits, IsLabelOf, AreLabelledTo, NextIsFrom}
 use Rattle.hd_steep.proofs.Following.{index_inside, link_at}
 use Rattle.hd_steep.proofs.Pits.{rising_apart, pits_few}
 
@@ -87,7 +87,7 @@ module _ (m : Map) (side : SideName) where
   ]
 
   -- a pit has its own index as its link
-  own_stays : (links : List ℕ) (k : ℕ) → AreLinks m side links → IsRootAt m side k k → slice_index links k ≡ k
+  pub own_stays : (links : List ℕ) (k : ℕ) → AreLinks m side links → IsRootAt m side k k → slice_index links k ≡ k
   own_stays links k are own =
       let (p, pit, e) = own_pit k own in
       let l = link_at m side links are k p pit.point (sym e) in
@@ -116,59 +116,64 @@ module _ (m : Map) (side : SideName) where
   pub own_onward : (links : List ℕ) (k : ℕ) → AreLinks m side links → slice_index links (slice_index links k) ≢ slice_index links k → IsRootAt m side k k → ⊥
   own_onward links k are moves own = let stays = own_stays links k are own in moves (ap (λ i. slice_index links i) stays)
 
-  -- the pits of lesser number have their numbers, and the other indexes their links
-  pub record AreNumbersTo (i : ℕ) (pits : List Rank) (links : List ℕ) : Type 0 where
-    pub whole : length links ≡ cell_count m.size
-    pub before : (j : ℕ) (d : Rank) → j < i → j < length pits → root_of pits (slice_index links (get_or pits j d).index) ≡ Some (get_or pits j d).index
-    pub after : (k : ℕ) → k < length links → ((j : ℕ) (d : Rank) → j < i → j < length pits → (get_or pits j d).index ≢ k) → IsRootLink m side k (slice_index links k)
+  -- the pits of lesser number have their numbers, and what stood at the other indexes stays
+  pub record AreNumbersTo (i : ℕ) (pits : List Rank) (old new : List ℕ) : Type 0 where
+    pub whole : length new ≡ length old
+    pub before : (j : ℕ) (d : Rank) → j < i → j < length pits → root_of pits (slice_index new (get_or pits j d).index) ≡ Some (get_or pits j d).index
+    pub after : (k : ℕ) → ((j : ℕ) (d : Rank) → j < i → j < length pits → (get_or pits j d).index ≢ k) → slice_index new k ≡ slice_index old k
+
+  -- numbers that are written over the links to the roots
+  pub written_links : (pits : List Rank) (links numbers : List ℕ) → AreRootLinks m side links → AreWrittenAtPits m side pits links numbers → AreNumbersOfPits m side pits numbers
+  written_links pits links numbers of written = record {
+    whole = written.whole ∙ of.whole;
+    each = λ k inside. record {
+      own = λ own. written.own k own;
+      other = λ none. rw (written.other k none) (of.each k (rw (← written.whole) inside));
+    };
+  }
 
   module _ (pits : List Rank) (are : ArePits m side pits) where
     -- a pit by its number
     pub listed_pit : (j : ℕ) (d : Rank) → j < length pits → IsPit m side (get_or pits j d)
     listed_pit j d inside = (are.exactly (get_or pits j d)).0 (Contains-get_or pits j d inside)
 
-    pub numbers_none : (links : List ℕ) → AreRootLinks m side links → AreNumbersTo 0 pits links
-    numbers_none links of = record {
-      whole = of.whole;
-      before = λ j d below inside. absurd (omega arith);
-      after = λ k inside not. of.each k inside;
-    }
+    pub numbers_none : (old : List ℕ) → AreNumbersTo 0 pits old old
+    numbers_none old = record { whole = refl; before = λ j d below inside. absurd (omega arith); after = λ k not. refl }
 
     -- one more pit is numbered
-    pub numbers_more : (i : ℕ) (c : Rank) (links : List ℕ) → i < length pits → AreNumbersTo i pits links → AreNumbersTo (i + 1) pits (set links (get_or pits i c).index i)
-    numbers_more i c links here to =
+    pub numbers_more : (i : ℕ) (c : Rank) (old new : List ℕ) → i < length pits → length old ≡ cell_count m.size → AreNumbersTo i pits old new
+        → AreNumbersTo (i + 1) pits old (set new (get_or pits i c).index i)
+    numbers_more i c old new here long to =
         let at : ℕ = (get_or pits i c).index in
-        let there : at < length links = rw to.whole (point_inside m (get_or pits i c) (listed_pit i c here).point) in
+        let there : at < length new = rw (to.whole, long) (point_inside m (get_or pits i c) (listed_pit i c here).point) in
         record {
-          whole = length-set links at i ∙ to.whole;
+          whole = length-set new at i ∙ to.whole;
           before = λ j d below inside. elim (cases_eq (get_or pits j d).index at) [
             | inl same ↦
                 let e : j ≡ i = rising_apart pits are.in_order j i d inside here (same ∙ ap (λ (r : Rank). r.index) (get_or_default pits i c d here)) in
-                rw (same, get_or-set_same links at i 0 there) (root_at pits i c here)
+                rw (same, get_or-set_same new at i 0 there) (root_at pits i c here)
             | inr other ↦
                 let less : j < i = elim (cases_eq j i) [
                   | inl e ↦ absurd (other (ap (λ n. (get_or pits n d).index) e ∙ ap (λ (r : Rank). r.index) (get_or_default pits i d c here)))
                   | inr e ↦ omega (arith, e, below)
                 ] in
-                rw (get_or-set_other links at (get_or pits j d).index i 0 other) (to.before j d less inside)
+                rw (get_or-set_other new at (get_or pits j d).index i 0 other) (to.before j d less inside)
           ];
-          after = λ k within not.
+          after = λ k not.
               let other : k ≢ at = λ e. not i c (omega arith) here (sym e) in
-              rw (get_or-set_other links at k i 0 other) (to.after k (rw length-set at within) (λ j d below inside. not j d (omega (arith, below)) inside));
+              rw (get_or-set_other new at k i 0 other) (to.after k (λ j d below inside. not j d (omega (arith, below)) inside));
         }
 
     -- all pits are numbered
-    pub numbers_all : (i : ℕ) (links : List ℕ) → length pits ≤ i → AreNumbersTo i pits links → AreNumbersOfPits m side pits links
-    numbers_all i links last to = record {
+    pub numbers_all : (i : ℕ) (old new : List ℕ) → length pits ≤ i → AreNumbersTo i pits old new → AreWrittenAtPits m side pits old new
+    numbers_all i old new last to = record {
       whole = to.whole;
-      each = λ k inside. record {
-        own = λ own.
-            let (p, pit, e) = own_pit k own in
-            let (j, within, at) = (are.exactly p).1 pit in
-            let index : (get_or pits j p).index ≡ k = ap (λ (r : Rank). r.index) at ∙ e in
-            subst (λ n. root_of pits (slice_index links n) ≡ Some n) index (to.before j p (omega (arith, within, last)) within);
-        other = λ none. to.after k inside (λ j d below within e. none (pit_own k (get_or pits j d) (listed_pit j d within) e));
-      };
+      own = λ k own.
+          let (p, pit, e) = own_pit k own in
+          let (j, within, at) = (are.exactly p).1 pit in
+          let index : (get_or pits j p).index ≡ k = ap (λ (r : Rank). r.index) at ∙ e in
+          subst (λ n. root_of pits (slice_index new n) ≡ Some n) index (to.before j p (omega (arith, within, last)) within);
+      other = λ k none. to.after k (λ j d below within e. none (pit_own k (get_or pits j d) (listed_pit j d within) e));
     }
 
   module _ (pits : List Rank) (are : ArePits m side pits) (whole : IsMap m) where

@@ -7,6 +7,8 @@ use Rattle.hd_map.specs.declared.types.SideName.TheVariants.{Dales, Hills}
 use Rattle.hd_map.specs.Map.{Map}
 use Rattle.hd_steep.specs.declared.profile.Profile.{Profile}
 use Rattle.hd_steep.specs.declared.rolling.Profiles.{Profiles}
+use Rattle.hd_steep.specs.declared.rolling.Rows.{Rows}
+use Rattle.hd_steep.specs.Crossed.{AreRowsRound, AreRowsBefore}
 use Rattle.hd_steep.specs.Lowest.{missing, lower_of, IsAtPlace}
 use Rattle.hd_steep.specs.Rows.{rank_in, IsFramed, IsFilled, IsRowOf}
 use Rattle.hd_steep.specs.Profiles.{IsProfileOf, AreProfilesRound, AreProfilesBefore}
@@ -59,4 +61,12 @@ module _ (m : Map) (side : SideName) where
     spare = round.above.room;
     level = round.level;
     below = (let e : y + 2 ≡ y + 1 + 1 = omega arith in subst (λ i. IsProfileOf m side i profiles.below) e round.below);
+  }
+
+  -- and so are their rows
+  pub rows-next : (y : ℕ) (rows : Rows) → AreRowsRound m side y rows → AreRowsBefore m side (y + 1) rows
+  rows-next y rows round = record {
+    spare = round.above.framed;
+    level = round.level;
+    below = (let e : y + 2 ≡ y + 1 + 1 = omega arith in subst (λ i. IsRowOf m side i rows.below.items) e round.below);
   }

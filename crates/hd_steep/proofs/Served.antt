@@ -1,5 +1,5 @@
 -- The lower neighbours of a point that is looked at are served, whether its first ones are crossed or alone.
-use Rattle.std.proofs.Common.{◌≡◌, ◌+◌, ℕ, Bool, true, false, List, [], ◌∷◌, get_or, Option, inl, inr, ap, ◌∙◌, sym, subst, refl, arith}
+use Rattle.std.proofs.Common.{◌≡◌, ◌+◌, ℕ, Bool, true, false, List, get_or, Option, inl, inr, ap, ◌∙◌, sym, subst, refl, arith}
 use Rattle.std.specs.Prelude.{ℤ}
 use Rattle.std.specs.Ordering.{int_eq}
 use Rattle.std.proofs.lemmas.Int.{ints}
@@ -11,7 +11,7 @@ use Rattle.hd_map.specs.declared.types.Rank.{Rank}
 use Rattle.hd_map.specs.declared.types.SideName.{SideName}
 use Rattle.hd_map.specs.Map.{Map, IsMap, InGrid, Present}
 use Rattle.hd_map.specs.Rank.{rank, IsPoint}
-use Rattle.hd_map.specs.Region.{LowerNeighbour, IsNext, IsRoot, AreRegions}
+use Rattle.hd_map.specs.Region.{LowerNeighbour, IsRoot, AreRegions}
 use Rattle.hd_map.proofs.Gather.{same_pos}
 use Rattle.hd_steep.specs.Lowest.{missing}
 use Rattle.hd_steep.specs.Rows.{past_end, rank_in}
@@ -22,11 +22,6 @@ use Rattle.hd_steep.proofs.Lows.{point_apart}
 use Rattle.hd_steep.proofs.Around.{own_low, own_is, first_lower, served_crossed, served_alone}
 use Rattle.hd_steep.proofs.Heights.{heights_tell}
 use Rattle.hd_steep.proofs.Crossed.{gathers_none, extends_none}
-
--- a point with a lower neighbour has a next
-next_of : (m : Map) (side : SideName) (x z r : Rank) → LowerNeighbour m side x z → IsRoot m side x r → (q : Rank) × IsNext m side x q
-next_of m side x z r low ([], nexts) = absurd (nexts.1.alone z low)
-next_of m side x z r low ((q ∷ path), nexts) = (q, nexts.0)
 
 -- what the test of two heights tells
 heights_same : (h k : ℤ) → int_eq h k ≡ true → h ≡ k
@@ -55,11 +50,14 @@ module _ (m : Map) (side : SideName) (whole : IsMap m) (rows : Rows) (at : Pos) 
   pub read_middle : (own : Rank) → own ≡ get_or level (at.x + 1) own → own ≡ middle
   read_middle own is = is ∙ get_or_default level (at.x + 1) own past_end (let long = round.level.framed.whole in let column = inside.column in omega (arith, long, column))
 
-  -- where no point is present, nothing is to be gathered
+  -- where the height stands that marks an empty place, no point is present
+  pub absent_in_middle : (own : Rank) → own ≡ middle → int_eq own.height (missing side).height ≡ true → Present m at → ⊥
+  absent_in_middle own is test here =
+      point_apart m side whole middle at here (own_is m side whole above level below at.x at.y inside.column round.above round.level round.below at here refl refl) (ap (λ (r : Rank). r.height) (sym is) ∙ heights_same own.height (missing side).height test)
+
+  -- and nothing is to be gathered
   pub gathers_absent : (own : Rank) (passes : List Pass) → own ≡ middle → int_eq own.height (missing side).height ≡ true → Gathers m side (λ u. u ≡ at) passes passes
-  gathers_absent own passes is test = gathers_none m side (λ u. u ≡ at) passes (λ u same here.
-      let there : Present m at = subst (λ (p : Pos). Present m p) same here in
-      point_apart m side whole middle at there (own_is m side whole above level below at.x at.y inside.column round.above round.level round.below at there refl refl) (ap (λ (r : Rank). r.height) (sym is) ∙ heights_same own.height (missing side).height test))
+  gathers_absent own passes is test = gathers_none m side (λ u. u ≡ at) passes (λ u same here. absent_in_middle own is test (subst (λ (p : Pos). Present m p) same here))
 
   -- where one is, the rank is that of the point
   pub point_in_middle : (own : Rank) → own ≡ middle → Present m at → IsPoint m own
@@ -70,7 +68,7 @@ module _ (m : Map) (side : SideName) (whole : IsMap m) (rows : Rows) (at : Pos) 
   }
 
   -- where another height stands, one is present
-  pub present_in_middle : (own : Rank) → own ≡ middle → int_eq own.height (missing side).height ≡ false → Present m at
+  present_in_middle : (own : Rank) → own ≡ middle → int_eq own.height (missing side).height ≡ false → Present m at
   present_in_middle own is test =
       let low = own_low m side whole above level below at.x at.y inside.column round.above round.level round.below in
       elim low.origin [
@@ -82,7 +80,7 @@ module _ (m : Map) (side : SideName) (whole : IsMap m) (rows : Rows) (at : Pos) 
       ]
 
   -- the first ones of what is read
-  pub firsts_at : (own : Rank) (lower first : List Bool) → Present m at → own ≡ middle → lower ≡ are_lower_heights side own around → first ≡ marks_of m.adjacency lower → first ≡ marks_of m.adjacency (are_lower side middle around)
+  firsts_at : (own : Rank) (lower first : List Bool) → Present m at → own ≡ middle → lower ≡ are_lower_heights side own around → first ≡ marks_of m.adjacency lower → first ≡ marks_of m.adjacency (are_lower side middle around)
   firsts_at own lower first here read lower_is first_is =
       let is : middle ≡ rank m at = own_is m side whole above level below at.x at.y inside.column round.above round.level round.below at here refl refl in
       first_is ∙ ap (marks_of m.adjacency) (lower_is ∙ ap (λ (r : Rank). are_lower_heights side r around) (read ∙ is) ∙ heights_tell m side whole at here above level below round.above round.level round.below
@@ -95,6 +93,14 @@ module _ (m : Map) (side : SideName) (whole : IsMap m) (rows : Rows) (at : Pos) 
     pub ring_is : ring ≡ around
     pub first_is : first ≡ marks_of m.adjacency (are_lower side middle around)
 
+  -- it is so where a rank is read that doesn't mark an empty place
+  pub looked_at : (own : Rank) (lower first : List Bool) → own ≡ get_or level (at.x + 1) own → int_eq own.height (missing side).height ≡ false
+      → lower ≡ are_lower_heights side own around → first ≡ marks_of m.adjacency lower → IsLooked own around first
+  looked_at own lower first read test lower_is first_is =
+      let is = read_middle own read in
+      let present = present_in_middle own is test in
+      record { here = present; own_is = is; ring_is = refl; first_is = firsts_at own lower first present is lower_is first_is }
+
   module _ (own : Rank) (ring : List Rank) (first : List Bool) (looked : IsLooked own ring first) where
     -- its first ones are lower neighbours
     pub looked_lower : (k : ℕ) → is_marked first k ≡ true → LowerNeighbour m side own (rank_in ring k)
@@ -103,14 +109,19 @@ module _ (m : Map) (side : SideName) (whole : IsMap m) (rows : Rows) (at : Pos) 
         (subst (λ (f : List Bool). is_marked f k ≡ true) looked.first_is marked) in
         subst (λ (r : Rank). LowerNeighbour m side r (rank_in ring k)) (sym looked.own_is) (subst (λ (rs : List Rank). LowerNeighbour m side middle (rank_in rs k)) (sym looked.ring_is) of)
 
-    -- a point at the position is the one in the middle
+    -- what is read is the rank of the point
+    pub looked_own : own ≡ rank m at
+    looked_own = looked.own_is ∙ own_is m side whole above level below at.x at.y inside.column round.above round.level round.below at looked.here refl refl
+
+    -- what holds of all lower neighbours in the middle holds at a point at the position
+    pub at_point : (P : Rank → Rank → Type 0) → ((z : Rank) → LowerNeighbour m side middle z → P middle z)
+        → (u : Pos) → u ≡ at → Present m u → (z : Rank) → LowerNeighbour m side (rank m u) z → P (rank m u) z
+    at_point P holds u same here z low =
+        let is : middle ≡ rank m u = sym looked.own_is ∙ looked_own ∙ ap (rank m) (sym same) in
+        subst (λ (r : Rank). P r z) is (holds z (subst (λ (r : Rank). LowerNeighbour m side r z) (sym is) low))
+
     gathered : (old new : List Pass) → Extends m side old new → ((z : Rank) → LowerNeighbour m side middle z → IsServed m side new middle z) → Gathers m side (λ u. u ≡ at) old new
-    gathered old new extends served = record {
-      extends = extends;
-      served = λ u same here z low.
-          let is : middle ≡ rank m u = own_is m side whole above level below at.x at.y inside.column round.above round.level round.below at looked.here refl refl ∙ ap (rank m) (sym same) in
-          subst (λ (r : Rank). IsServed m side new r z) is (served z (subst (λ (r : Rank). LowerNeighbour m side r z) (sym is) low));
-    }
+    gathered old new extends served = record { extends = extends; served = at_point (IsServed m side new) served }
 
     -- where they are crossed
     pub gathers_crossed : (old new : List Pass) → Extends m side old new → ((k : ℕ) → is_marked first k ≡ true → IsCrossed m side new own (rank_in ring k)) → Gathers m side (λ u. u ≡ at) old new
@@ -125,6 +136,5 @@ module _ (m : Map) (side : SideName) (whole : IsMap m) (rows : Rows) (at : Pos) 
         let found = regions.present at looked.here in
         let is = own_is m side whole above level below at.x at.y inside.column round.above round.level round.below at looked.here refl refl in
         let root : IsRoot m side middle found.0 = subst (λ (r : Rank). IsRoot m side r found.0) (sym is) found.1 in
-        let next = next_of m side middle z found.0 low root in
-        served_alone m side whole above level below at.x at.y inside.column round.above round.level round.below at looked.here refl refl passes next.0 found.0 next.1 root
+        served_alone m side whole above level below at.x at.y inside.column round.above round.level round.below at looked.here refl refl passes found.0 root
         (subst (λ (f : List Bool). IsOneAtMost f) looked.first_is alone) z low)

@@ -9,3 +9,6 @@ pub mod Ring
 pub mod Crossed
 pub mod Crossings
 pub mod Numbering
+pub mod Descents
+pub mod Descended
+pub mod Tracing

@@ -27,6 +27,12 @@ pub record LeadsOnward (m : Map) (side : SideName) (p : Rank) (k : ℕ) : Type 0
 abbrev pub NoPointAt : Map → ℕ → Type 0
 NoPointAt m k = (p : Rank) → IsPoint m p → p.index ≡ k → ⊥
 
+-- a point has this index
+pub record HasPointAt (m : Map) (k : ℕ) : Type 0 where
+  pub at : Rank
+  pub point : IsPoint m at
+  pub index_is : k ≡ at.index
+
 -- the link of the point with this index leads onward; where no point has it, there is no link
 pub record IsLinkOf (m : Map) (side : SideName) (k link : ℕ) : Type 0 where
   pub point : (p : Rank) → IsPoint m p → p.index ≡ k → LeadsOnward m side p link

@@ -31,6 +31,12 @@ pub record IsNumberOfPit (m : Map) (side : SideName) (pits : List Rank) (k n : �
   pub own : IsRootAt m side k k → root_of pits n ≡ Some k
   pub other : (IsRootAt m side k k → ⊥) → IsRootLink m side k n
 
+-- at the index of each pit its number is written, and what stands at the others stays
+pub record AreWrittenAtPits (m : Map) (side : SideName) (pits : List Rank) (old new : List ℕ) : Type 0 where
+  pub whole : length new ≡ length old
+  pub own : (k : ℕ) → IsRootAt m side k k → root_of pits (slice_index new k) ≡ Some k
+  pub other : (k : ℕ) → (IsRootAt m side k k → ⊥) → slice_index new k ≡ slice_index old k
+
 -- at all indexes
 pub record AreNumbersOfPits (m : Map) (side : SideName) (pits : List Rank) (numbers : List ℕ) : Type 0 where
   pub whole : length numbers ≡ cell_count m.size

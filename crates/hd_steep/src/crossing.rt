@@ -86,7 +86,7 @@ fn gather<S: Side, G: Heights>(
     ensures gathers { IfOk result (λ xs. Gathers (G.map grid.now) S.NAME (λ u. u.y < (G.map grid.now).size.profiles) [] (passes_of S.NAME regions.now.pits xs.items)) }
     ensures pits { IfOk result (λ xs. All (HasPits regions.now.pits) xs.items) }
 {
-    let mut rows = Rows::new::<S, G>(alloc, grid)?;
+    let mut rows = Rows::before::<S, G>(alloc, grid, 0)?;
     let mut inner = vec![in alloc; false; grid.size().points as usize]?;
     // heights without any order have about one pass for three points
     let mut crossings = Vec::with_capacity(alloc, regions.len() / 3)?;

@@ -36,6 +36,14 @@ impl FirstLinks {
         Ok(FirstLinks { links })
     }
 
+    /// The links by index.
+    #[inline]
+    pub(crate) fn as_slice(&self) -> &[u32]
+        ensures { result.now ≡ self.now }
+    {
+        &self.links
+    }
+
     /// Finds the link at a position anew.
     pub fn renew<S: Side, G: Heights>(&mut self, grid: &G, at: Pos)
         requires at { InGrid (G.map grid.now).size at }

@@ -10,8 +10,8 @@ use hd_list::Memory;
 use hd_map::{Heights, Rank, Side, position_of, rank_of};
 use std::alloc::Global;
 
-// Heights without any order have about one pit for nine points: memory is reserved for as many.
-const POINTS_A_PIT: usize = 8;
+/// Heights without any order have about one pit for nine points: memory is reserved for as many.
+pub const POINTS_A_PIT: usize = 8;
 
 /// Leads links on along their ways, most of them to the roots.
 ///
@@ -88,8 +88,8 @@ pub fn lead_to_roots<S: Side, G: Heights>(
     Ok(pits)
 }
 
-// The pit of an index.
-fn pit_at<S: Side, G: Heights>(grid: &G, index: u32) -> Rank
+/// The pit of an index.
+pub fn pit_at<S: Side, G: Heights>(grid: &G, index: u32) -> Rank
     requires { IsRootAt (G.map grid.now) S.NAME index index }
     ensures pit { IsPit (G.map grid.now) S.NAME result }
     ensures index { result.index ≡ index }

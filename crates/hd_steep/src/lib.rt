@@ -4,6 +4,7 @@
 
 mod borders;
 mod crossing;
+mod descent;
 mod kept_links;
 mod laws;
 mod leading;
@@ -16,9 +17,11 @@ mod places;
 mod profile;
 mod rolling;
 mod steep;
+mod tracing;
 
 pub use borders::passes;
 pub use crossing::{crossings, passes_of};
+pub use descent::{Descent, descents};
 pub use kept_links::FirstLinks;
 pub use laws::{
     next_is_determined, pit_is_its_own_root, regions_are_determined, root_is_determined,
@@ -26,3 +29,4 @@ pub use laws::{
 pub use lowest::{is_missing, lower, missing_rank};
 pub use numbering::{Regions, find_regions};
 pub use steep::{next, regions, root};
+pub use tracing::Tracing;

@@ -1,20 +1,30 @@
 // Links to the roots made into the numbers of the pits, in place.
 ghost use Rattle.std.specs.Prelude.{◌≡◌, ◌≤◌, length};
+ghost use Rattle.hd_map.specs.Map.{cell_count};
 ghost use Rattle.hd_map.specs.Pruning.{ArePits};
 ghost use Rattle.hd_steep.specs.Links.{AreRootLinks};
-ghost use Rattle.hd_steep.specs.Numbering.{AreNumbersOfPits, AreLabelledTo, NextIsFrom, AreNumbers};
+ghost use Rattle.hd_steep.specs.Numbering.{AreNumbersOfPits, AreWrittenAtPits, AreLabelledTo, NextIsFrom, AreNumbers};
 
 use crate::links::NO_LINK;
 use hd_map::{Heights, Rank, Side};
 
 /// Writes its number in the place of the link of each pit.
-pub fn number_pits<S: Side, G: Heights>(_grid: &G, pits: &[Rank], links: &mut [u32])
+pub fn number_pits<S: Side, G: Heights>(grid: &G, pits: &[Rank], links: &mut [u32])
+    requires pits { ArePits (G.map grid.now) S.NAME pits.now }
+    requires links { AreRootLinks (G.map grid.now) S.NAME links.old }
+    ensures { AreNumbersOfPits (G.map grid.now) S.NAME pits.now links.new }
+{
+    write_at_pits::<S, G>(grid, pits, links);
+}
+
+/// Writes its number at the index of each pit.
+pub fn write_at_pits<S: Side, G: Heights>(_grid: &G, pits: &[Rank], numbers: &mut [u32])
     requires pits { ArePits (G.map _grid.now) S.NAME pits.now }
-    requires links { AreRootLinks (G.map _grid.now) S.NAME links.old }
-    ensures { AreNumbersOfPits (G.map _grid.now) S.NAME pits.now links.new }
+    requires whole { length numbers.old ≡ cell_count (G.map _grid.now).size }
+    ensures { AreWrittenAtPits (G.map _grid.now) S.NAME pits.now numbers.old numbers.new }
 {
     for number in 0..pits.len() {
-        links[pits[number].index as usize] = number as u32;
+        numbers[pits[number].index as usize] = number as u32;
     }
 }
 

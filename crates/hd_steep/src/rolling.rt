@@ -1,8 +1,8 @@
 // Three profiles, or their rows alone, which roll over the map.
-ghost use Rattle.std.specs.Prelude.{◌≡◌, ◌<◌, ◌+◌, IfOk};
+ghost use Rattle.std.specs.Prelude.{◌≡◌, ◌<◌, ◌≤◌, ◌+◌, IfOk};
 ghost use Rattle.hd_steep.specs.Crossed.{AreRowsRound, AreRowsBefore, AreWide, ring_round};
 ghost use Rattle.hd_steep.specs.Profiles.{AreProfilesRound, AreProfilesBefore};
-ghost use Rattle.hd_steep.specs.Rows.{rank_in};
+ghost use Rattle.hd_steep.specs.Rows.{rank_in, IsRowOf};
 
 use crate::lowest::missing_rank;
 use crate::profile::{Profile, fill_row};
@@ -20,16 +20,15 @@ pub struct Rows {
 }
 
 impl Rows {
-    /// The rows before those of the first profile. `Memory` comes where their 48 bytes a column are
-    /// refused.
-    pub fn new<S: Side, G: Heights>(alloc: Global, grid: &G) -> Result<Rows, Memory>
-        ensures { IfOk result (AreRowsBefore (G.map grid.now) S.NAME 0) }
+    /// The rows before those of a profile. `Memory` comes where their 48 bytes a column are refused.
+    pub fn before<S: Side, G: Heights>(alloc: Global, grid: &G, y: u32) -> Result<Rows, Memory>
+        requires { y ≤ (G.map grid.now).size.profiles }
+        ensures { IfOk result (AreRowsBefore (G.map grid.now) S.NAME y) }
     {
         let width = grid.size().points as usize + 2;
         let above = vec![in alloc; missing_rank::<S>(); width]?;
-        let level = vec![in alloc; missing_rank::<S>(); width]?;
-        let mut below = vec![in alloc; missing_rank::<S>(); width]?;
-        fill_row::<S, G>(grid, 0, &mut below);
+        let level = row_before::<S, G>(alloc, grid, y)?;
+        let below = row_before::<S, G>(alloc, grid, y + 1)?;
         Ok(Rows {
             above,
             level,
@@ -67,6 +66,19 @@ impl Rows {
             _ => self.above[x],
         }
     }
+}
+
+// The row of the profile before this one. Before the first no point is present.
+fn row_before<S: Side, G: Heights>(alloc: Global, grid: &G, y: u32) -> Result<Vec<Rank>, Memory>
+    requires { y ≤ (G.map grid.now).size.profiles + 1 }
+    ensures { IfOk result (λ row. IsRowOf (G.map grid.now) S.NAME y row.items) }
+{
+    let width = grid.size().points as usize + 2;
+    let mut row = vec![in alloc; missing_rank::<S>(); width]?;
+    if y > 0 {
+        fill_row::<S, G>(grid, y - 1, &mut row);
+    }
+    Ok(row)
 }
 
 /// Three profiles, one after the other.

@@ -10,10 +10,14 @@ use Rattle.hd_map.specs.Rank.{below_by}
 use Rattle.hd_map.specs.Region.{AreRegions}
 use Rattle.hd_map.specs.Saddle.{SaddleIs}
 use Rattle.hd_prune.specs.declared.step.Kept.{Kept}
+use Rattle.hd_prune.specs.Pruned.{leavings_of}
 use Rattle.hd_prune.specs.Staying.{AreKeptAlone, ranks_of}
 use Rattle.hd_steep.specs.Numbering.{AreNumbered, Numbering}
 use Rattle.hd_survey.specs.declared.kept.KeptPits.{KeptPits}
 use Rattle.hd_survey.specs.declared.merges.PitMerges.{PitMerges}
+use Rattle.hd_survey.specs.declared.pruned.PrunedRegions.{PrunedRegions}
+use Rattle.hd_survey.specs.Inside.{IsStepOn}
+use Rattle.hd_survey.specs.Owned.{ArePrunedRegions}
 use Rattle.hd_survey.specs.Regions.{AreRegionSizes}
 
 -- the pits of the map in position order, and their merges
@@ -40,12 +44,24 @@ abbrev pub AreKeptAt : ℕ → Option KeptPits → Type 0
 AreKeptAt thousandths None = ⊥
 AreKeptAt thousandths (Some x) = x.percent.thousandths ≡ thousandths
 
--- the regions with the numbers of their points, the merges of the pits, the pits that the last pruning keeps, and the
--- region of each point, each where it was found
+-- it tells the pruning of the map at a percent, by points of the map
+pub record TellsPruning (m : Map) (side : SideName) (thousandths : ℕ) (x : PrunedRegions) : Type 0 where
+  pub are : ArePrunedRegions m side thousandths (leavings_of x.steps) x.kept
+  pub steps : All (IsStepOn m.size) x.steps
+  pub kept : All (λ region. region.pit.index < cell_count m.size) x.kept
+
+-- a pruning was found, and is the one at this percent
+abbrev pub WasPrunedAt : ℕ → Option PrunedRegions → Type 0
+WasPrunedAt thousandths None = ⊥
+WasPrunedAt thousandths (Some x) = x.percent.thousandths ≡ thousandths
+
+-- the regions with the numbers of their points, the merges of the pits, the pits that were kept last, the pruning that
+-- was done last, and the region of each point, each where it was found
 pub record Found : Type 0 where
   pub sizes : Option (List RegionSize)
   pub merges : Option PitMerges
   pub kept : Option KeptPits
+  pub pruned : Option PrunedRegions
   pub regions : Option Numbering
 
 -- what was found is that of the map on the side
@@ -53,4 +69,5 @@ pub record AreFindings (m : Map) (side : SideName) (found : Found) : Type 0 wher
   pub sizes : ForSome found.sizes (AreSizes m side)
   pub merges : ForSome found.merges (ArePitMerges m side)
   pub kept : ForSome found.kept (λ x. AreKeptPits m side x.percent.thousandths x.pits)
+  pub pruned : ForSome found.pruned (λ x. TellsPruning m side x.percent.thousandths x)
   pub regions : ForSome found.regions (AreNumbered m side)

@@ -6,31 +6,34 @@ ghost use Rattle.hd_map.specs.Presence.{present_heights};
 ghost use Rattle.hd_map.specs.HeightRange.{range_of};
 ghost use Rattle.hd_map.specs.Rank.{rank};
 ghost use Rattle.hd_map.specs.Region.{IsRoot};
-ghost use Rattle.hd_survey.specs.Findings.{AreFindings, AreKeptAt};
+ghost use Rattle.hd_prune.specs.Answer.{IsPruned};
+ghost use Rattle.hd_survey.specs.Findings.{AreFindings, AreKeptAt, ArePitMerges, WasPrunedAt};
 
 use crate::grid_view::GridView;
 use crate::kept::{KeptPits, keep_pits};
 use crate::merges::PitMerges;
-use crate::pruned::cells_of;
+use crate::pruned::{PrunedRegions, cells_of, pruned_side, pruned_side_by, regions_left};
 use crate::roots::root_at;
 use crate::view::SideView;
 use crate::way::end_of_way;
 use hd_list::{List, Memory};
 use hd_map::{HeightRange, Heights, Pos, RegionSize, Side};
 use hd_num::Percent;
+use hd_prune::Pruned;
 use hd_steep::{Regions, find_regions};
 use std::alloc::Global;
 use std::marker::{Model, PhantomData};
 
 /// What reports found of a side of a map, for later ones on the same map under the same setting: the regions
-/// with the numbers of their points, the merges of the pits, the pits that the last pruning keeps, and the region of
-/// each point. It takes at most 112 bytes a pit, and 4 a point for these regions, which are found only where many
-/// points were asked. Contracts see it as what was found.
+/// with the numbers of their points, the merges of the pits, the pits that were kept last, the pruning that was done
+/// last, and the region of each point. It takes at most 168 bytes a pit, and 4 a point for these regions, which are
+/// found only where many points were asked. Contracts see it as what was found.
 #[derive(Drop)]
 pub struct Findings<S: Side> {
     sizes: Option<List<RegionSize>>,
     merges: Option<PitMerges>,
     kept: Option<KeptPits>,
+    pruned: Option<PrunedRegions>,
     regions: Option<Regions>,
     walked: u64,
     side: PhantomData<S>,
@@ -41,7 +44,7 @@ impl<S: Side> Model for Findings<S> {
 
     ghost Value = { Found };
 
-    ghost view = { λ f. record { sizes = f.sizes; merges = f.merges; kept = f.kept; regions = f.regions } };
+    ghost view = { λ f. record { sizes = f.sizes; merges = f.merges; kept = f.kept; pruned = f.pruned; regions = f.regions } };
 }
 
 impl<S: Side> Findings<S> {
@@ -53,6 +56,7 @@ impl<S: Side> Findings<S> {
             sizes: None,
             merges: None,
             kept: None,
+            pruned: None,
             regions: None,
             walked: 0,
             side: PhantomData,
@@ -113,7 +117,8 @@ impl<S: Side> Findings<S> {
     {
         if self.merges.is_none() {
             let view = GridView::<S, G>::new(alloc, grid)?;
-            self.find_merges_by(&view)?;
+            let merges = view.into_merges()?;
+            self.add_merges(grid, merges);
         }
         Ok(())
     }
@@ -128,6 +133,16 @@ impl<S: Side> Findings<S> {
             self.merges = Some(view.merges()?);
         }
         Ok(())
+    }
+
+    /// Adds the merges of the pits, which were found elsewhere.
+    pub fn add_merges<G: Heights>(&mut self, _grid: &G, merges: PitMerges)
+        requires findings { AreFindings (G.map _grid.now) S.NAME self.old }
+        requires merges { ArePitMerges (G.map _grid.now) S.NAME merges }
+        ensures findings { AreFindings (G.map _grid.now) S.NAME self.new }
+        ensures found { is_some self.new.merges ≡ true }
+    {
+        self.merges = Some(merges);
     }
 
     /// Whether the merges of the pits were found.
@@ -179,6 +194,87 @@ impl<S: Side> Findings<S> {
     {
         match &self.kept {
             Some(kept) => kept,
+            None => unreachable!(),
+        }
+    }
+
+    /// Finds the pruning at a percent (Wolf pruning of ISO 25178-2), where it is not the one that was done last, and for
+    /// it the merges of the pits and the regions. `Memory` comes where these or the pruning are refused their memory.
+    pub fn find_pruned<G: Heights>(
+        &mut self,
+        alloc: Global,
+        grid: &G,
+        percent: Percent,
+    ) -> Result<(), Memory>
+        requires { AreFindings (G.map grid.now) S.NAME self.old }
+        ensures findings { AreFindings (G.map grid.now) S.NAME self.new }
+        ensures found { OnOk result (WasPrunedAt percent.thousandths self.new.pruned) }
+    {
+        if self.has_pruned(percent) {
+            return Ok(());
+        }
+        self.pruned = None;
+        let pruned = pruned_side::<S, G>(alloc, grid, self, percent)?;
+        self.keep_pruned(alloc, grid, pruned, percent)
+    }
+
+    /// The same by a view of the side.
+    pub fn find_pruned_by<G: Heights, V: SideView<S>>(
+        &mut self,
+        alloc: Global,
+        grid: &G,
+        view: &V,
+        percent: Percent,
+    ) -> Result<(), Memory>
+        requires view { V.map view.now ≡ G.map grid.now }
+        requires findings { AreFindings (G.map grid.now) S.NAME self.old }
+        ensures findings { AreFindings (G.map grid.now) S.NAME self.new }
+        ensures found { OnOk result (WasPrunedAt percent.thousandths self.new.pruned) }
+    {
+        if self.has_pruned(percent) {
+            return Ok(());
+        }
+        self.pruned = None;
+        let pruned = pruned_side_by::<S, G, V>(alloc, grid, view, self, percent)?;
+        self.keep_pruned(alloc, grid, pruned, percent)
+    }
+
+    // Keeps a pruning with the regions that it leaves.
+    fn keep_pruned<G: Heights>(
+        &mut self,
+        alloc: Global,
+        grid: &G,
+        pruned: Pruned,
+        percent: Percent,
+    ) -> Result<(), Memory>
+        requires findings { AreFindings (G.map grid.now) S.NAME self.old }
+        requires sizes { is_some self.old.sizes ≡ true }
+        requires pruned { IsPruned (G.map grid.now) S.NAME percent.thousandths pruned.steps pruned.kept pruned.owners }
+        ensures findings { AreFindings (G.map grid.now) S.NAME self.new }
+        ensures found { OnOk result (WasPrunedAt percent.thousandths self.new.pruned) }
+    {
+        let left = regions_left::<S, G>(alloc, grid, pruned, self.sizes(), percent)?;
+        self.pruned = Some(left);
+        Ok(())
+    }
+
+    /// Whether the pruning that was done last is the one at a percent.
+    pub fn has_pruned(&self, percent: Percent) -> bool
+        ensures { IsTrue result ↔ WasPrunedAt percent.thousandths self.now.pruned }
+    {
+        match &self.pruned {
+            Some(pruned) => pruned.percent.thousandths == percent.thousandths,
+            None => false,
+        }
+    }
+
+    /// The pruning that was done last.
+    pub fn pruned(&self) -> &PrunedRegions
+        requires { is_some self.now.pruned ≡ true }
+        ensures { self.now.pruned ≡ Some result.now }
+    {
+        match &self.pruned {
+            Some(pruned) => pruned,
             None => unreachable!(),
         }
     }

@@ -1,9 +1,10 @@
 // A side of a grid, with its regions.
 ghost use Rattle.std.specs.Prelude.{◌≡◌, IfOk};
 ghost use Rattle.hd_steep.specs.Numbering.{AreNumbered};
+ghost use Rattle.hd_survey.specs.Findings.{ArePitMerges};
 ghost use Rattle.hd_survey.specs.Regions.{AreRegionSizes};
 
-use crate::merges::{PitMerges, merges_of_regions};
+use crate::merges::{PitMerges, into_merges, merges_of_regions};
 use crate::roots::root_at;
 use crate::sizes::{into_sizes, list_sizes};
 use crate::tallies::region_tallies;
@@ -71,6 +72,20 @@ impl<'a, S: Side, G: Heights> GridView<'a, S, G> {
     {
         let GridView { alloc, regions, .. } = self;
         into_sizes(alloc, regions)
+    }
+
+    /// The pits in position order, and their merges. The view is given up, and nothing by point is kept while the
+    /// merges are made. `Memory` comes where these, or the passes between the regions, are refused their memory.
+    pub fn into_merges(self) -> Result<PitMerges, Memory>
+        ensures { IfOk result (ArePitMerges (G.map self.entry) S.NAME) }
+    {
+        let GridView {
+            alloc,
+            grid,
+            regions,
+            ..
+        } = self;
+        into_merges::<S, G>(alloc, grid, regions)
     }
 }
 

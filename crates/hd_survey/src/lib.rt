@@ -34,8 +34,8 @@ pub use laws::{
     pruned_regions_are_determined, region_sizes_are_determined, values_are_determined,
 };
 pub use lines::pruned_lines;
-pub use merges::{PitMerges, merges_of_passes};
-pub use pruned::{PrunedRegions, pruned_regions};
+pub use merges::{PitMerges, merges_of_crossings, merges_of_passes};
+pub use pruned::PrunedRegions;
 pub use saddles::saddle_between;
 pub use survey::Survey;
 pub use tally::Tally;

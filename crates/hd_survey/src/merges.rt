@@ -1,7 +1,7 @@
 // The pits of a map with their merges.
-ghost use Rattle.std.specs.Prelude.{IfOk};
+ghost use Rattle.std.specs.Prelude.{All, IfOk};
 ghost use Rattle.hd_map.specs.Pruning.{ArePits};
-ghost use Rattle.hd_steep.specs.Crossings.{passes_of};
+ghost use Rattle.hd_steep.specs.Crossings.{HasPits, passes_of};
 ghost use Rattle.hd_steep.specs.Numbering.{AreNumbered};
 ghost use Rattle.hd_survey.specs.Findings.{ArePitMerges};
 ghost use Rattle.hd_survey.specs.PitLinks.{AreRegionCrossings};
@@ -12,7 +12,7 @@ use hd_graph::{
     merges_tell_the_saddles, passes_of_basins_are_a_graph, regions_are_basins,
 };
 use hd_list::{List, Memory};
-use hd_map::{Heights, Pass, Rank, Side};
+use hd_map::{Heights, Link, Pass, Rank, Side};
 use hd_steep::{Regions, crossings};
 use std::alloc::Global;
 
@@ -59,11 +59,42 @@ pub fn merges_of_regions<S: Side, G: Heights>(
 {
     let crossings = crossings::<S, G>(alloc, grid, regions)?;
     let links = crossings.into_vec();
-    let lows = lows_of(alloc, regions.pits())?;
+    merges_of_crossings::<S, G>(alloc, grid, regions.pits(), links)
+}
+
+/// The same, where the numbers of the points are given up once the crossings between the regions are found.
+pub fn into_merges<S: Side, G: Heights>(
+    alloc: Global,
+    grid: &G,
+    regions: Regions,
+) -> Result<PitMerges, Memory>
+    requires { AreNumbered (G.map grid.now) S.NAME regions }
+    ensures { IfOk result (ArePitMerges (G.map grid.now) S.NAME) }
+{
+    let crossings = crossings::<S, G>(alloc, grid, &regions)?;
+    let links = crossings.into_vec();
+    let pits = regions.into_pits();
+    merges_of_crossings::<S, G>(alloc, grid, pits.as_slice(), links)
+}
+
+/// The pits of a map, in position order, and their merges by the crossings between their regions, which name the pits
+/// by their places. `Memory` comes where the pits or the merges are refused their memory.
+pub fn merges_of_crossings<S: Side, G: Heights>(
+    alloc: Global,
+    _grid: &G,
+    pits: &[Rank],
+    crossings: Vec<Link>,
+) -> Result<PitMerges, Memory>
+    requires pits { ArePits (G.map _grid.now) S.NAME pits.now }
+    requires ends { All (HasPits pits.now) crossings.items }
+    requires passes { AreRegionCrossings (G.map _grid.now) S.NAME (passes_of S.NAME pits.now crossings.items) }
+    ensures { IfOk result (ArePitMerges (G.map _grid.now) S.NAME) }
+{
+    let lows = lows_of(alloc, pits)?;
     regions_are_basins();
     passes_of_basins_are_a_graph();
     merges_rest_on_the_passes();
     merges_tell_the_saddles();
-    let merges = merges_by_links::<S>(alloc, lows.as_slice(), links)?;
+    let merges = merges_by_links::<S>(alloc, lows.as_slice(), crossings)?;
     Ok(PitMerges { lows, merges })
 }

@@ -1,14 +1,11 @@
 // The pruning of a map.
-ghost use Rattle.std.specs.Prelude.{◌≡◌, ◌<◌, All, IfOk, OnOk, true};
+ghost use Rattle.std.specs.Prelude.{◌≡◌, IfOk, OnOk, true};
 ghost use Rattle.std.specs.Option.{is_some};
 ghost use Rattle.hd_map.specs.Map.{IsMap, Map, cell_count};
 ghost use Rattle.hd_map.specs.Presence.{present_heights};
 ghost use Rattle.hd_map.specs.HeightRange.{range_of};
 ghost use Rattle.hd_prune.specs.Answer.{IsPruned};
-ghost use Rattle.hd_prune.specs.Pruned.{leavings_of};
-ghost use Rattle.hd_survey.specs.Findings.{AreFindings, ArePitMerges};
-ghost use Rattle.hd_survey.specs.Inside.{IsStepOn};
-ghost use Rattle.hd_survey.specs.Owned.{ArePrunedRegions};
+ghost use Rattle.hd_survey.specs.Findings.{AreFindings, ArePitMerges, TellsPruning};
 ghost use Rattle.hd_survey.specs.Regions.{AreRegionSizes};
 
 use crate::falls::Falls;
@@ -26,33 +23,18 @@ use std::alloc::Global;
 /// What a pruning does, and the regions that it leaves.
 #[derive(Debug, Drop)]
 pub struct PrunedRegions {
+    /// The percent of the pruning.
+    pub percent: Percent,
     /// The steps, in order.
     pub steps: List<Step>,
     /// The regions of the kept pits in position order, with all points that these own.
     pub kept: List<RegionSize>,
 }
 
-/// The pruning of a grid on a side at a percent (Wolf pruning of ISO 25178-2), by what was found of the side,
-/// to which the merges of the pits and the regions are added. `Memory` comes where the regions or the pruning are
-/// refused their memory.
-pub fn pruned_regions<S: Side, G: Heights>(
-    alloc: Global,
-    grid: &G,
-    findings: &mut Findings<S>,
-    percent: Percent,
-) -> Result<PrunedRegions, Memory>
-    requires { AreFindings (G.map grid.now) S.NAME findings.old }
-    ensures are { IfOk result (λ pruned. ArePrunedRegions (G.map grid.now) S.NAME percent.thousandths (leavings_of pruned.steps) pruned.kept) }
-    ensures steps { IfOk result (λ pruned. All (IsStepOn (G.map grid.now).size) pruned.steps) }
-    ensures kept { IfOk result (λ pruned. All (λ region. region.pit.index < cell_count (G.map grid.now).size) pruned.kept) }
-    ensures findings { AreFindings (G.map grid.now) S.NAME findings.new }
-{
-    let pruned = pruned_side::<S, G>(alloc, grid, findings, percent)?;
-    regions_left::<S, G>(alloc, grid, pruned, findings.sizes(), percent)
-}
-
-// The pruning of a grid on a side. The region of each point, which it needs, is given up with it.
-fn pruned_side<S: Side, G: Heights>(
+/// The pruning of a grid on a side at a percent, by what was found of the side, to which the merges of the pits and
+/// the regions are added. The region of each point, which it needs, is given up with it. `Memory` comes where these or
+/// the pruning are refused their memory.
+pub fn pruned_side<S: Side, G: Heights>(
     alloc: Global,
     grid: &G,
     findings: &mut Findings<S>,
@@ -64,29 +46,47 @@ fn pruned_side<S: Side, G: Heights>(
     ensures findings { AreFindings (G.map grid.now) S.NAME findings.new }
 {
     let view = GridView::<S, G>::new(alloc, grid)?;
-    findings.find_merges_by(&view)?;
-    findings.find_sizes_by(&view)?;
-    let range = presence_of(grid).range;
-    let merges = findings.merges();
-    pruned_pits::<S, G, GridView<'_, S, G>>(alloc, grid, &view, merges, percent, range)
+    pruned_side_by::<S, G, GridView<'_, S, G>>(alloc, grid, &view, findings, percent)
 }
 
-// The steps of a pruning, and the regions that it leaves of these, which are those of the grid.
-fn regions_left<S: Side, G: Heights>(
+/// The same by a view of the side.
+pub fn pruned_side_by<S: Side, G: Heights, V: SideView<S>>(
+    alloc: Global,
+    grid: &G,
+    view: &V,
+    findings: &mut Findings<S>,
+    percent: Percent,
+) -> Result<Pruned, Memory>
+    requires view { V.map view.now ≡ G.map grid.now }
+    requires findings { AreFindings (G.map grid.now) S.NAME findings.old }
+    ensures pruned { IfOk result (λ pruned. IsPruned (G.map grid.now) S.NAME percent.thousandths pruned.steps pruned.kept pruned.owners) }
+    ensures sizes { OnOk result (is_some findings.new.sizes ≡ true) }
+    ensures findings { AreFindings (G.map grid.now) S.NAME findings.new }
+{
+    findings.find_merges_by(view)?;
+    findings.find_sizes_by(view)?;
+    let range = presence_of(grid).range;
+    let merges = findings.merges();
+    pruned_pits::<S, G, V>(alloc, grid, view, merges, percent, range)
+}
+
+/// A pruning of a grid on a side at a percent with the regions that it leaves of these, which are those of the grid.
+/// `Memory` comes where the list is refused its memory.
+pub fn regions_left<S: Side, G: Heights>(
     alloc: Global,
     grid: &G,
     pruned: Pruned,
     sizes: &[RegionSize],
-    _percent: Percent,
+    percent: Percent,
 ) -> Result<PrunedRegions, Memory>
-    requires pruned { IsPruned (G.map grid.now) S.NAME _percent.thousandths pruned.steps pruned.kept pruned.owners }
+    requires pruned { IsPruned (G.map grid.now) S.NAME percent.thousandths pruned.steps pruned.kept pruned.owners }
     requires sizes { AreRegionSizes (G.map grid.now) S.NAME sizes.now }
-    ensures are { IfOk result (λ pruned. ArePrunedRegions (G.map grid.now) S.NAME _percent.thousandths (leavings_of pruned.steps) pruned.kept) }
-    ensures steps { IfOk result (λ pruned. All (IsStepOn (G.map grid.now).size) pruned.steps) }
-    ensures kept { IfOk result (λ pruned. All (λ region. region.pit.index < cell_count (G.map grid.now).size) pruned.kept) }
+    ensures percent { IfOk result (λ left. left.percent ≡ percent) }
+    ensures left { IfOk result (TellsPruning (G.map grid.now) S.NAME percent.thousandths) }
 {
     let kept = owned_sizes(alloc, cells_of(grid), &pruned, sizes)?;
     Ok(PrunedRegions {
+        percent,
         steps: pruned.steps,
         kept,
     })

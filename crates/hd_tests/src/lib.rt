@@ -18,6 +18,8 @@ mod corridor;
 #[cfg(test)]
 mod decimals;
 #[cfg(test)]
+mod descents;
+#[cfg(test)]
 mod dot;
 #[cfg(test)]
 mod drawn_script;

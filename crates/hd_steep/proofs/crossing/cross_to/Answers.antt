@@ -16,7 +16,7 @@ returns-in_ok-push-clause-extends g c =
     let old = c.args.crossings.now.items in
     let x : Link = record { a = c.args.number; b = c.number_of-there.result; at = c.args.own } in
     let pushed = ap (passes_of side regions.pits) c.in_ok-push.ensures.items ∙ map_push (pass_of side regions.pits) old x in
-    let pass = pass-to m side regions c.requires.regions c.args.own c.args.other c.args.number c.number_of-there.result c.requires.number c.number_of-there.ensures c.if-number-there.true in
+    let pass = pass-to m side regions.pits c.args.own c.args.other c.args.number c.number_of-there.result c.requires.number c.number_of-there.ensures c.requires.regions.pits.in_order c.if-number-there.true in
     subst (λ (ps : List Pass). Extends m side (passes_of side regions.pits old) ps) (sym pushed) (extends_push m side (passes_of side regions.pits old) (pass_of side regions.pits x) c.args.own c.args.other c.requires.lower pass)
 
 pub returns-in_ok-push-clause-crossed : goal.returns-in_ok-push-clause-crossed
@@ -27,5 +27,5 @@ returns-in_ok-push-clause-crossed g c =
     let old = c.args.crossings.now.items in
     let x : Link = record { a = c.args.number; b = c.number_of-there.result; at = c.args.own } in
     let pushed = ap (passes_of side regions.pits) c.in_ok-push.ensures.items ∙ map_push (pass_of side regions.pits) old x in
-    let pass = pass-to m side regions c.requires.regions c.args.own c.args.other c.args.number c.number_of-there.result c.requires.number c.number_of-there.ensures c.if-number-there.true in
+    let pass = pass-to m side regions.pits c.args.own c.args.other c.args.number c.number_of-there.result c.requires.number c.number_of-there.ensures c.requires.regions.pits.in_order c.if-number-there.true in
     subst (λ (ps : List Pass). IsCrossed m side ps c.args.own c.args.other) (sym pushed) (crossed_push m side (passes_of side regions.pits old) (pass_of side regions.pits x) c.args.own c.args.other pass)

@@ -4,8 +4,8 @@ use Rattle.std.proofs.lemmas.List.{take_at}
 use Rattle.hd_map.specs.declared.types.Size.{Size}
 use Rattle.hd_steep.specs.Crossings.{passes_of}
 use Rattle.hd_steep.specs.Numbering.{AreInner}
-use Rattle.hd_steep.specs.Rows.{IsRowOf}
 use Rattle.hd_steep.proofs.Crossed.{gathers_less, gathers_join}
+use Rattle.hd_steep.proofs.ProfilesRound.{rows-next}
 use Rattle.hd_steep.proofs.crossing.gather.Goals as goal
 
 pub gather_profile-requires-clause-inner : goal.gather_profile-requires-clause-inner
@@ -20,7 +20,6 @@ profiles-preserved g c =
     let m = g.G.Heights.map c.args.grid.now in
     let side = g.S.Side.NAME in
     let y = c.profiles.y in
-    let round = c.advance.ensures in
     let pits = c.args.regions.now.pits in
     let new = passes_of side pits c.gather_profile.new.crossings.items in
     let marks = c.mark_profile.new.inner in
@@ -28,11 +27,7 @@ profiles-preserved g c =
     let long : length marks ≡ m.size.points = (let before = c.profiles.invariant.marks_sized in omega (arith, before)) in
     let written = take_at marks _ c.profiles.inner.len sized in
     record {
-      rows = record {
-        spare = round.above.framed;
-        level = round.level;
-        below = (let e : y + 2 ≡ y + 1 + 1 = omega arith in subst (λ i. IsRowOf m side i c.advance.new.self.below.items) e round.below);
-      };
+      rows = rows-next m side y c.advance.new.self c.advance.ensures;
       marks_sized = ap length written ∙ long;
       gathers = gathers_less m side (λ u. (u.y < y) ⊎ (u.y ≡ y)) (λ u. u.y < y + 1) [] new
           (λ u here less. elim (cases_lt u.y y) [

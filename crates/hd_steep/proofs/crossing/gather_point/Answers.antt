@@ -5,7 +5,7 @@ use Rattle.hd_steep.specs.Crossings.{passes_of}
 use Rattle.hd_steep.specs.Numbering.{roots_of}
 use Rattle.hd_steep.specs.Ring.{marks_of}
 use Rattle.hd_steep.proofs.Inside.{gathers_inside}
-use Rattle.hd_steep.proofs.Served.{IsLooked, read_middle, gathers_absent, present_in_middle, looked_lower, point_in_middle, gathers_crossed, gathers_alone, firsts_at}
+use Rattle.hd_steep.proofs.Served.{IsLooked, read_middle, gathers_absent, looked_lower, point_in_middle, gathers_crossed, gathers_alone, looked_at}
 use Rattle.hd_steep.proofs.crossing.gather_point.Given.{Over}
 use Rattle.hd_steep.proofs.crossing.gather_point.Goals as goal
 use Rattle.hd_steep.proofs.crossing.gather_point.Goals.{After-lower_at-lower}
@@ -14,20 +14,8 @@ use Rattle.hd_steep.proofs.crossing.gather_point.Goals.{After-lower_at-lower}
 looked : (g : Over) (c : After-lower_at-lower g) (first : List Bool) → first ≡ marks_of (g.G.Heights.map c.args.grid.now).adjacency c.lower_at-lower.result
     → IsLooked (g.G.Heights.map c.args.grid.now) g.S.Side.NAME (g.met.G.Heights.whole c.args.grid.now) c.args.rows.now c.args.at c.requires.inside c.requires.rows c.index-own.result.now (ring_round c.args.rows.now c.args.at.x) first
 looked g c first first_is =
-    let m = g.G.Heights.map c.args.grid.now in
-    let side = g.S.Side.NAME in
-    let whole = g.met.G.Heights.whole c.args.grid.now in
-    let rows = c.args.rows.now in
-    let own = c.index-own.result.now in
-    let own_is = read_middle m side whole rows c.args.at c.requires.inside c.requires.rows own c.index-own.ensures in
-    let here = present_in_middle m side whole rows c.args.at c.requires.inside c.requires.rows own own_is (sym c.is_missing.ensures ∙ c.if-is_missing.false) in
-    record {
-      here = here;
-      own_is = own_is;
-      ring_is = refl;
-      first_is = firsts_at m side whole rows c.args.at c.requires.inside c.requires.rows own c.lower_at-lower.result first here own_is
-          (rw (c.deref.ensures.value, c.deref-2.ensures.value, c.deref-3.ensures.value) at c.lower_at-lower.ensures) first_is;
-    }
+    looked_at (g.G.Heights.map c.args.grid.now) g.S.Side.NAME (g.met.G.Heights.whole c.args.grid.now) c.args.rows.now c.args.at c.requires.inside c.requires.rows c.index-own.result.now c.lower_at-lower.result first
+    c.index-own.ensures (sym c.is_missing.ensures ∙ c.if-is_missing.false) (rw (c.deref.ensures.value, c.deref-2.ensures.value, c.deref-3.ensures.value) at c.lower_at-lower.ensures) first_is
 
 pub returns-then-is_missing-clause-gathers : goal.returns-then-is_missing-clause-gathers
 returns-then-is_missing-clause-gathers g c =

@@ -1,27 +1,5 @@
-use Rattle.std.proofs.Common.{arith}
-use Rattle.hd_steep.specs.Rows.{past_end}
-use Rattle.hd_map.proofs.Points.{point_inside}
-use Rattle.hd_steep.proofs.Pits.{pits_few}
-use Rattle.hd_steep.proofs.PitNumbers.{listed_pit, numbers_none, numbers_more, numbers_all}
+use Rattle.hd_steep.proofs.PitNumbers.{written_links}
 use Rattle.hd_steep.proofs.numbers.number_pits.Goals as goal
 
-pub loop-number-init : goal.loop-number-init
-loop-number-init g c = numbers_none (g.G.Heights.map c.args._grid.now) g.S.Side.NAME c.args.pits.now c.requires.pits c.args.links.now c.requires.links
-
-pub overflow_cast-links : goal.overflow_cast-links
-overflow_cast-links g c =
-    let few = pits_few (g.G.Heights.map c.args._grid.now) g.S.Side.NAME c.args.pits.now c.requires.pits in
-    let cells = (g.met.G.Heights.whole c.args._grid.now).size.cells in
-    omega (arith, few, cells, c.loop-number-test.true)
-
-pub bounds-links-pits : goal.bounds-links-pits
-bounds-links-pits g c =
-    let m = g.G.Heights.map c.args._grid.now in
-    rw c.loop-number.invariant.whole (point_inside m _ (listed_pit m g.S.Side.NAME c.args.pits.now c.requires.pits c.loop-number.number past_end c.loop-number-test.true).point)
-
-pub loop-number-preserved : goal.loop-number-preserved
-loop-number-preserved g c =
-    numbers_more (g.G.Heights.map c.args._grid.now) g.S.Side.NAME c.args.pits.now c.requires.pits c.loop-number.number past_end c.loop-number.links c.loop-number-test.true c.loop-number.invariant
-
 pub returns : goal.returns
-returns g c = numbers_all (g.G.Heights.map c.args._grid.now) g.S.Side.NAME c.args.pits.now c.requires.pits c.loop-number.number c.loop-number.links c.loop-number-test.false c.loop-number.invariant
+returns g c = written_links (g.G.Heights.map c.args.grid.now) g.S.Side.NAME c.args.pits.now c.args.links.now c.write_at_pits.new.numbers c.requires.links c.write_at_pits.ensures

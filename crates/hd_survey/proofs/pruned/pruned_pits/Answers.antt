@@ -1,4 +1,4 @@
-use Rattle.std.proofs.Common.{List, sym, subst, rules, SFits, w64, ◌∙◌}
+use Rattle.std.proofs.Common.{List, sym, subst, rules, SFits, w64}
 use Rattle.std.proofs.lemmas.Int.{to_z-of_z}
 use Rattle.std.specs.Prelude.{IfOk}
 use Rattle.hd_graph.specs.declared.graph.Low.{Low}

@@ -8,7 +8,7 @@ pub returns-clause-findings : goal.returns-clause-findings
 returns-clause-findings g c =
     let m = g.G.Heights.map c.args.grid.now in
     let side = g.S.Side.NAME in
-    let before : Found = record { sizes = c.self-2.inside.sizes; merges = c.self-2.inside.merges; kept = c.self-2.inside.kept; regions = c.self-2.inside.regions } in
+    let before : Found = record { sizes = c.self-2.inside.sizes; merges = c.self-2.inside.merges; kept = c.self-2.inside.kept; pruned = c.self-2.inside.pruned; regions = c.self-2.inside.regions } in
     let were : AreFindings m side before = subst (AreFindings m side) (sym c.self-2.view_is) c.find_merges.ensures.findings in
     let kept = c.in_ok-kept.kept in
     with_kept m side before kept were (subst (λ (p : Percent). AreKeptPits m side p.thousandths kept.pits) (sym c.in_ok-kept.ensures.percent) c.in_ok-kept.ensures.pits)

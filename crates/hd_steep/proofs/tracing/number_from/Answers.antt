@@ -1,0 +1,35 @@
+use Rattle.hd_steep.specs.Links.{HasPointAt}
+use Rattle.hd_steep.proofs.Following.{way_more}
+use Rattle.hd_steep.proofs.TracedNumbers.{number_along, number_known, unknown_moves, way_from}
+use Rattle.hd_steep.proofs.tracing.number_from.Goals as goal
+
+pub walk-init : goal.walk-init
+walk-init g c = way_from (g.G.Heights.map c.args._grid.now) g.S.Side.NAME c.args.start c.requires.point
+
+pub returns-then-number : goal.returns-then-number
+returns-then-number g c =
+    let m = g.G.Heights.map c.args._grid.now in
+    let side = g.S.Side.NAME in
+    let pits = c.args._pits.now in
+    let here = c.walk.here in
+    let way = c.walk.invariant in
+    let has : HasPointAt m here = record { at = way.at; point = way.point; index_is = way.index_is } in
+    number_along m side pits c.args.start here _ way (number_known m side pits c.requires.pits c.args.numbers.now here c.requires.numbers has c.if-number.true)
+
+pub walk-smaller : goal.walk-smaller
+walk-smaller g c =
+    let m = g.G.Heights.map c.args._grid.now in
+    let side = g.S.Side.NAME in
+    let whole = g.met.G.Heights.whole c.args._grid.now in
+    let links = c.args.links.now in
+    let moves = unknown_moves m side links c.requires.links whole c.args._pits.now c.args.numbers.now c.args.start c.walk.here c.requires.numbers c.walk.invariant c.if-number.false in
+    (way_more m side links c.requires.links whole c.args.start c.walk.here c.walk.invariant moves).1
+
+pub walk-preserved : goal.walk-preserved
+walk-preserved g c =
+    let m = g.G.Heights.map c.args._grid.now in
+    let side = g.S.Side.NAME in
+    let whole = g.met.G.Heights.whole c.args._grid.now in
+    let links = c.args.links.now in
+    let moves = unknown_moves m side links c.requires.links whole c.args._pits.now c.args.numbers.now c.args.start c.walk.here c.requires.numbers c.walk.invariant c.if-number.false in
+    (way_more m side links c.requires.links whole c.args.start c.walk.here c.walk.invariant moves).0

@@ -1,0 +1,11 @@
+use Rattle.std.proofs.Common.{subst, sym}
+use Rattle.hd_survey.specs.Findings.{AreFindings, Found}
+use Rattle.hd_survey.proofs.Found.{without_pruned}
+use Rattle.hd_survey.proofs.findings.Findings.find_pruned_by.Goals as goal
+
+pub pruned_side_by-requires-clause-findings : goal.pruned_side_by-requires-clause-findings
+pruned_side_by-requires-clause-findings g c =
+    let m = g.G.Heights.map c.args.grid.now in
+    let side = g.S.Side.NAME in
+    let before : Found = record { sizes = c.self.inside.sizes; merges = c.self.inside.merges; kept = c.self.inside.kept; pruned = c.self.inside.pruned; regions = c.self.inside.regions } in
+    without_pruned m side before (subst (AreFindings m side) (sym c.self.view_is) c.requires.findings)
