@@ -6,17 +6,19 @@ use Rattle.hd_map.specs.declared.types.Pos.{Pos}
 use Rattle.hd_map.specs.declared.types.Size.{Size}
 use Rattle.hd_map.specs.Map.{InGrid, place_of, position_at}
 use Rattle.hd_map.proofs.Points.{position_at-place, position_at-inside}
-use Rattle.hd_morph.specs.Element.{ElementTable, IsElement, number_at, centre, most_entry}
+use Rattle.hd_morph.specs.Element.{ElementTable, IsElement, number_at, centre}
+use Rattle.hd_morph.specs.Encoding.{Encoding, values_of, most_between, most_filtered}
 use Rattle.hd_morph.specs.Greatest.{IsGreatest}
 use Rattle.hd_morph.specs.Filter.{IsRaised}
-use Rattle.hd_morph.specs.Plain.{relief, ArePlain, most_between, most_filtered}
+use Rattle.hd_morph.specs.Plain.{relief, ArePlain, HasNumbersWithin}
 use Rattle.hd_morph.specs.Raised.{IsFlat, AreFlatlyDilated, AreTopped, AreSettled, plus}
 use Rattle.hd_morph.specs.Round.{IsRound, AreRoundGreatests}
-use Rattle.hd_morph.proofs.PlainNumbers.{IsBounded-table_entry, some_inside}
+use Rattle.hd_morph.proofs.Encodings.{length_values}
+use Rattle.hd_morph.proofs.PlainNumbers.{IsBounded-value, some_inside}
 use Rattle.hd_morph.proofs.Settling.{settled_filtered}
 
 -- the heights round a position are those that the element leads from
-round_raised : (s : Size) (e : ElementTable) (across down : ℕ) (n : ℤ) (f : List ℤ) (p : Pos) (z : ℤ) → IsFlat e across down n → InGrid s p → IsRound s across down f p z → IsRaised s e (relief s f) p (z +ℤ n)
+round_raised : (s : Size) (e : ElementTable) (across down : ℕ) (n : ℤ) (f : List (Option ℤ)) (p : Pos) (z : ℤ) → IsFlat e across down n → InGrid s p → IsRound s across down f p z → IsRaised s e (relief s f) p (z +ℤ n)
 round_raised s e across down n f p z flat inside a =
     let u : Pos = record { x = p.x + across - a.at.x; y = p.y + down - a.at.y } in
     let column : u.x < e.width = omega (arith, flat.columns, a.columns.not_after, a.columns.not_before) in
@@ -36,7 +38,7 @@ round_raised s e across down n f p z flat inside a =
       sum = refl;
     }
 
-raised_round : (s : Size) (e : ElementTable) (across down : ℕ) (n : ℤ) (f : List ℤ) (p : Pos) (z : ℤ) → IsFlat e across down n → IsRaised s e (relief s f) p z → IsRound s across down f p (z -ℤ n)
+raised_round : (s : Size) (e : ElementTable) (across down : ℕ) (n : ℤ) (f : List (Option ℤ)) (p : Pos) (z : ℤ) → IsFlat e across down n → IsRaised s e (relief s f) p z → IsRound s across down f p (z -ℤ n)
 raised_round s e across down n f p z flat r =
     let o = r.links.is_offset in
     let number : number_at e r.links.offset ≡ Some n = flat.each r.links.offset o.column o.row in
@@ -66,30 +68,33 @@ raised_greatest P Q n (Some x) up down was = record {
       (x +ℤ n, refl, omega (arith, ints));
 }
 
--- a position with a height has a height round it, and so a top
-pub round_topped : (s : Size) (across down : ℕ) (f tops : List ℤ) → 1 ≤ s.points → ArePlain s most_between f → AreRoundGreatests s across down f tops → AreTopped most_filtered f tops
-round_topped s across down f tops some plain round = record {
-  whole = round.whole;
-  each = λ k z is.
-      let p : Pos = position_at s k in
-      let place : place_of s p ≡ k = position_at-place s k some in
-      let inside : InGrid s p = position_at-inside s k some (omega (arith, some_inside f k z is, plain.whole)) in
-      let itself : IsRound s across down f p z = record { at = p; inside = inside; columns = record { not_after = omega arith; not_before = omega arith }; rows = record { not_after = omega arith; not_before = omega arith }; is = rw place is } in
-      let top = (round.each p inside).reached z itself in
-      let from = (round.each p inside).attained top.0 top.1 in
-      let low = (plain.plain.each (place_of s from.at)).bounded.least top.0 from.is in
-      let high = (plain.plain.each (place_of s from.at)).bounded.greatest top.0 from.is in
-      record { number = top.0; is_number = rw place at top.1; least = omega (arith, ints); greatest = omega (arith, ints) };
-}
+module _ {L : Type 0} (code : Encoding L) where
+  -- a position with a height has a height round it, and so a top
+  pub round_topped : (s : Size) (across down : ℕ) (f : List L) (tops : List (Option ℤ)) → 1 ≤ s.points → ArePlain code s (most_between code) f → AreRoundGreatests s across down (values_of code f) tops
+      → AreTopped (most_filtered code) (values_of code f) tops
+  round_topped s across down f tops some plain round = record {
+    whole = round.whole;
+    each = λ k z is.
+        let p : Pos = position_at s k in
+        let place : place_of s p ≡ k = position_at-place s k some in
+        let inside : InGrid s p = position_at-inside s k some (omega (arith, some_inside (values_of code f) k z is, length_values code f, plain.whole)) in
+        let itself : IsRound s across down (values_of code f) p z = record { at = p; inside = inside; columns = record { not_after = omega arith; not_before = omega arith }; rows = record { not_after = omega arith; not_before = omega arith }; is = rw place is } in
+        let top = (round.each p inside).reached z itself in
+        let from = (round.each p inside).attained top.0 top.1 in
+        let within = IsBounded-value code s (most_between code) f plain (place_of s from.at) in
+        let low = within.least top.0 from.is in
+        let high = within.greatest top.0 from.is in
+        record { number = top.0; is_number = rw place at top.1; least = omega (arith, ints); greatest = omega (arith, ints) };
+  }
 
--- tops that are the greatest heights of rectangles, settled, are the dilation
-pub flatly_dilated : (s : Size) (across down : ℕ) (n : ℤ) (f tops d : List ℤ) → 1 ≤ s.points → ArePlain s most_between f → neg_ℤ (pos most_entry) ≤ℤ n → n ≤ℤ pos most_entry
-    → AreRoundGreatests s across down f tops → AreSettled f tops n d → AreFlatlyDilated s across down n f d
-flatly_dilated s across down n f tops d some plain least greatest round settled = record {
-  each = λ e flat. settled_filtered s e f tops d n some plain.whole (round_topped s across down f tops some plain round) least greatest settled
-      (λ p inside z is. raised_greatest (IsRound s across down f p) (IsRaised s e (relief s f) p) n (relief s tops p)
-      (λ y a. round_raised s e across down n f p y flat inside a) (λ y r. raised_round s e across down n f p y flat r) (round.each p inside));
-}
+  -- tops that are the greatest heights of rectangles, settled, are the dilation
+  pub flatly_dilated : (s : Size) (across down : ℕ) (n : ℤ) (f : List L) (tops : List (Option ℤ)) (d : List L) → 1 ≤ s.points → ArePlain code s (most_between code) f
+      → AreRoundGreatests s across down (values_of code f) tops → AreSettled code (values_of code f) tops n d → AreFlatlyDilated code s across down n f d
+  flatly_dilated s across down n f tops d some plain round settled = record {
+    each = λ e flat. settled_filtered code s e f tops d n plain.whole (round_topped s across down f tops some plain round) settled
+        (λ p inside z is. raised_greatest (IsRound s across down (values_of code f) p) (IsRaised s e (relief s (values_of code f)) p) n (relief s tops p)
+        (λ y a. round_raised s e across down n (values_of code f) p y flat inside a) (λ y r. raised_round s e across down n (values_of code f) p y flat r) (round.each p inside));
+  }
 
 -- an element of which each number is the same is flat
 pub all_flat : (e : ElementTable) (n : ℤ) → IsElement e → ((k : ℕ) → k < length e.table → slice_index_or e.table k None ≡ Some n) → IsFlat e (e.width / 2) (e.height / 2) n
@@ -100,8 +105,8 @@ all_flat e n is each = record {
 }
 
 -- the number of a flat element is within the limits
-pub flat_within : (e : ElementTable) (across down : ℕ) (n : ℤ) → IsElement e → IsFlat e across down n → (neg_ℤ (pos most_entry) ≤ℤ n) × (n ≤ℤ pos most_entry)
-flat_within e across down n is flat =
+pub flat_within : (e : ElementTable) (across down m : ℕ) (n : ℤ) → IsElement e → HasNumbersWithin m e → IsFlat e across down n → (neg_ℤ (pos m) ≤ℤ n) × (n ≤ℤ pos m)
+flat_within e across down m n is numbers flat =
     let number : number_at e (centre e) ≡ Some n = flat.each (centre e) (omega (arith, is.odd_width)) (omega (arith, is.odd_height)) in
-    let within = IsBounded-table_entry e.table is.entries ((centre e).y * e.width + (centre e).x) in
+    let within = numbers.each ((centre e).y * e.width + (centre e).x) in
     (within.least n number, within.greatest n number)

@@ -1,4 +1,6 @@
 pub mod Greatest
+pub mod Encodings
+pub mod Lanes
 pub mod PlainNumbers
 pub mod Windows
 pub mod Rectangles

@@ -1,215 +1,134 @@
--- Plain numbers, and the heights for which they stand.
-use Rattle.std.proofs.Common.{◌≡◌, ◌≢◌, ◌<◌, ◌≤◌, ◌+◌, ◌≤ℤ◌, ◌<ℤ◌, ◌+ℤ◌, ◌++◌, ℕ, ℤ, pos, neg_ℤ, Bool, true, false, List, length, take, drop, get_or, slice_index_or, slice_set, length-set, get_or-set_other, get_or-set_same, below_more, SFits, w64, to_z, of_z, Option, Some, None, ◌⊎◌, inl, inr, refl, ap, subst, sym, ◌∙◌, arith, rules}
-use Rattle.std.specs.Prelude.{int_lt, is_some, All}
-use Rattle.std.proofs.lemmas.Int.{ints, by_lt_z, to_z-of_z}
-use Rattle.std.proofs.lemmas.Bool.{cases_lt, true≢false}
-use Rattle.std.proofs.lemmas.List.{places, get_or_past, get_or_default}
-use Rattle.std.proofs.lemmas.List.Elements.{All-get_or}
+-- Heights by index, and plain numbers that stand for them.
+use Rattle.std.proofs.Common.{◌≡◌, ◌<◌, ◌≤◌, ◌+◌, ◌++◌, ℕ, ℤ, List, length, take, drop, get_or, slice_index_or, slice_set, length-set, get_or-set_other, get_or-set_same, below_more, Option, Some, None, ◌⊎◌, inl, inr, refl, ap, subst, sym, ◌∙◌, arith, rules}
+use Rattle.std.proofs.lemmas.Int.{ints}
+use Rattle.std.proofs.lemmas.Bool.{cases_lt}
+use Rattle.std.proofs.lemmas.List.{places, get_or_past}
 use Rattle.std.proofs.Math.Seq.{take-append_seam}
 use borrow.Rule.Slice.PartMut.{put_mid}
 use Rattle.hd_map.specs.declared.types.Pos.{Pos}
 use Rattle.hd_map.specs.declared.types.Size.{Size}
 use Rattle.hd_map.specs.Map.{InGrid, place_of}
-use Rattle.hd_morph.specs.Element.{IsEntry, most_entry}
-use Rattle.hd_morph.specs.Raised.{IsNumberWithin, IsSettled, AreTopped, plus}
-use Rattle.hd_morph.specs.Turned.{IsNegated, AreNegated}
-use Rattle.hd_morph.specs.Plain.{missing, floor, shown, plain_at, value_at, relief, ArePlain, IsPlainNumber, IsBounded, most_between, most_filtered}
-
--- a number above the floor is a height
-pub shown_above : (z : ℤ) → floor <ℤ z → shown z ≡ Some z
-shown_above z above = let test : int_lt floor z ≡ true = grind (arith, ints) in rw test
-
--- a number not above the floor is none
-pub shown_below : (z : ℤ) → z ≤ℤ floor → shown z ≡ None
-shown_below z below = let test : int_lt floor z ≡ false = grind (arith, ints) in rw test
-
--- a number that stands for a height is that height
-pub shown_is : (z height : ℤ) → shown z ≡ Some height → (z ≡ height) × (floor <ℤ z)
-shown_is z height is = by_lt_z floor z
-    (λ above. let e : Some z ≡ Some height = sym (shown_above z above) ∙ is in (cc, above))
-    (λ below. let e : None ≡ Some height = sym (shown_below z below) ∙ is in cc)
+use Rattle.hd_morph.specs.Element.{ElementTable}
+use Rattle.hd_morph.specs.Encoding.{Encoding, values_of, number_in}
+use Rattle.hd_morph.specs.Raised.{IsNumberWithin, IsSettled, AreTopped}
+use Rattle.hd_morph.specs.Turned.{IsNegated, AreNegated, minus}
+use Rattle.hd_morph.specs.Plain.{value_at, relief, ArePlain, IsPlainNumber, IsBounded, HasNumbersWithin}
+use Rattle.hd_morph.proofs.Encodings.{value_of_number, number_read}
 
 -- a value is some number, or none
 pub some_or_none : (v : Option ℤ) → ((z : ℤ) × (v ≡ Some z)) ⊎ (v ≡ None)
 some_or_none (Some z) = inl (z, refl)
 some_or_none None = inr refl
 
--- past the end nothing stands
-pub none_past : (xs : List ℤ) (i : ℕ) → length xs ≤ i → value_at xs i ≡ None
-none_past xs i past = rw (get_or_past xs i missing past)
-
 -- a number is a value inside the list
-pub some_inside : (xs : List ℤ) (i : ℕ) (z : ℤ) → value_at xs i ≡ Some z → i < length xs
+pub some_inside : (xs : List (Option ℤ)) (i : ℕ) (z : ℤ) → value_at xs i ≡ Some z → i < length xs
 some_inside xs i z is = elim (cases_lt i (length xs)) [
   | inl inside ↦ inside
-  | inr past ↦ let none : value_at xs i ≡ None = none_past xs i past in cc
+  | inr past ↦ let none : value_at xs i ≡ None = get_or_past xs i None past in cc
 ]
 
 -- a value of a list of which a stretch was written anew
-mid_number : (a k i : ℕ) (xs ys : List ℤ) → a + k ≤ length xs → length ys ≡ k → i < k → plain_at (put_mid a k xs ys) (a + i) ≡ plain_at ys i
-mid_number a k i xs ys room size below = search (rules, places)
+pub mid_inside : (a k i : ℕ) (xs ys : List (Option ℤ)) → a + k ≤ length xs → length ys ≡ k → i < k → value_at (put_mid a k xs ys) (a + i) ≡ value_at ys i
+mid_inside a k i xs ys room size below = search (rules, places)
 
-mid_first : (a k i : ℕ) (xs ys : List ℤ) → a + k ≤ length xs → length ys ≡ k → i < a → plain_at (put_mid a k xs ys) i ≡ plain_at xs i
-mid_first a k i xs ys room size below = search (rules, places)
+pub mid_before : (a k i : ℕ) (xs ys : List (Option ℤ)) → a + k ≤ length xs → length ys ≡ k → i < a → value_at (put_mid a k xs ys) i ≡ value_at xs i
+mid_before a k i xs ys room size below = search (rules, places)
 
-mid_last : (a k i : ℕ) (xs ys : List ℤ) → a + k ≤ length xs → length ys ≡ k → a + k ≤ i → plain_at (put_mid a k xs ys) i ≡ plain_at xs i
-mid_last a k i xs ys room size above = search (rules, places)
+pub mid_after : (a k i : ℕ) (xs ys : List (Option ℤ)) → a + k ≤ length xs → length ys ≡ k → a + k ≤ i → value_at (put_mid a k xs ys) i ≡ value_at xs i
+mid_after a k i xs ys room size above = search (rules, places)
 
-pub mid_inside : (a k i : ℕ) (xs ys : List ℤ) → a + k ≤ length xs → length ys ≡ k → i < k → value_at (put_mid a k xs ys) (a + i) ≡ value_at ys i
-mid_inside a k i xs ys room size below = ap shown (mid_number a k i xs ys room size below)
-
-pub mid_before : (a k i : ℕ) (xs ys : List ℤ) → a + k ≤ length xs → length ys ≡ k → i < a → value_at (put_mid a k xs ys) i ≡ value_at xs i
-mid_before a k i xs ys room size below = ap shown (mid_first a k i xs ys room size below)
-
-pub mid_after : (a k i : ℕ) (xs ys : List ℤ) → a + k ≤ length xs → length ys ≡ k → a + k ≤ i → value_at (put_mid a k xs ys) i ≡ value_at xs i
-mid_after a k i xs ys room size above = ap shown (mid_last a k i xs ys room size above)
-
-pub mid_length : (a k : ℕ) (xs ys : List ℤ) → a + k ≤ length xs → length ys ≡ k → length (put_mid a k xs ys) ≡ length xs
+pub mid_length : (a k : ℕ) (xs ys : List (Option ℤ)) → a + k ≤ length xs → length ys ≡ k → length (put_mid a k xs ys) ≡ length xs
 mid_length a k xs ys room size = search (rules, places)
 
-part_number : (a k i : ℕ) (xs : List ℤ) → i < k → plain_at (take k (drop a xs)) i ≡ plain_at xs (a + i)
-part_number a k i xs below = search (rules, places)
-
 -- a value of a stretch
-pub part_at : (a k i : ℕ) (xs : List ℤ) → i < k → value_at (take k (drop a xs)) i ≡ value_at xs (a + i)
-part_at a k i xs below = ap shown (part_number a k i xs below)
+pub part_at : (a k i : ℕ) (xs : List (Option ℤ)) → i < k → value_at (take k (drop a xs)) i ≡ value_at xs (a + i)
+part_at a k i xs below = search (rules, places)
 
-pub part_length : (a k : ℕ) (xs : List ℤ) → a + k ≤ length xs → length (take k (drop a xs)) ≡ k
+pub part_length : (a k : ℕ) (xs : List (Option ℤ)) → a + k ≤ length xs → length (take k (drop a xs)) ≡ k
 part_length a k xs room = search (rules, places)
 
--- a list with one number set
-pub set_same : (xs : List ℤ) (k : ℕ) (z : ℤ) → k < length xs → value_at (slice_set xs k z) k ≡ shown z
-set_same xs k z inside = ap shown (get_or-set_same xs k z missing inside)
+module _ {L : Type 0} (code : Encoding L) where
+  -- a number that stands for none, negated
+  missing_negated : IsNegated code code.missing code.missing
+  missing_negated = record { value = code.missing_none ∙ sym (ap minus code.missing_none); absent = λ _. refl }
 
-pub set_other : (xs : List ℤ) (k i : ℕ) (z : ℤ) → i ≢ k → value_at (slice_set xs k z) i ≡ value_at xs i
-set_other xs k i z other = ap shown (get_or-set_other xs k i z missing other)
+  -- the numbers before a place are negated
+  pub record NegatedBefore (old : List L) (place : ℕ) (now : List L) : Type 0 where
+    pub whole : length now ≡ length old
+    pub done : (k : ℕ) → k < place → IsNegated code (number_in code old k) (number_in code now k)
+    pub left : (k : ℕ) → place ≤ k → number_in code now k ≡ number_in code old k
 
--- a value that is read inside a list
-pub value_read : (xs : List ℤ) (k : ℕ) → k < length xs → shown (get_or xs k (pos 0)) ≡ value_at xs k
-value_read xs k inside = ap shown (get_or_default xs k (pos 0) missing inside)
+  pub negated_more : (old now : List L) (place : ℕ) (number new : L) → place < length old → number ≡ get_or now place number → IsNegated code number new
+      → NegatedBefore old place now → NegatedBefore old (place + 1) (slice_set now place new)
+  negated_more old now place number new inside read is was =
+      let room : place < length now = omega (arith, was.whole) in
+      let here : number ≡ number_in code old place = number_read code now place number room read ∙ was.left place (omega arith) in
+      record {
+        whole = length-set now place new ∙ was.whole;
+        done = below_more _ _
+            (λ k below. rw (get_or-set_other now place k new code.missing (omega arith)) (was.done k below))
+            (rw (get_or-set_same now place new code.missing room) (subst (λ (z : L). IsNegated code z new) here is));
+        left = λ k above. get_or-set_other now place k new code.missing (omega arith) ∙ was.left k (omega arith);
+      }
 
--- a number that was found to stand for a height
-pub floor-tested : (z : ℤ) (found : Bool) → SFits w64 z → found ≡ is_some (shown (to_z w64 (of_z w64 z))) → found ≡ true → floor <ℤ z
-floor-tested z found fits is found_it =
-    let some : is_some (shown z) ≡ true = sym (rw (to_z-of_z w64 z fits) at is) ∙ found_it in
-    by_lt_z floor z (λ above. above) (λ below. let none : is_some (shown z) ≡ false = rw (shown_below z below) in absurd (true≢false (sym some ∙ none)))
+  pub negated_all : (old now : List L) (place : ℕ) → length old ≤ place → NegatedBefore old place now → AreNegated code old now
+  negated_all old now place all was = record {
+    whole = was.whole;
+    each = λ k. elim (cases_lt k place) [
+      | inl below ↦ was.done k below
+      | inr above ↦
+          let past : number_in code old k ≡ code.missing = get_or_past old k code.missing (omega arith) in
+          let past' : number_in code now k ≡ code.missing = get_or_past now k code.missing (omega (arith, was.whole)) in
+          rw (past, past') missing_negated
+    ];
+  }
 
--- a number that was found to stand for none
-pub tested_none : (z : ℤ) (found : Bool) → SFits w64 z → found ≡ is_some (shown (to_z w64 (of_z w64 z))) → found ≡ false → shown z ≡ None
-tested_none z found fits is missed =
-    let none : is_some (shown z) ≡ false = sym (rw (to_z-of_z w64 z fits) at is) ∙ missed in
-    by_lt_z floor z (λ above. let some : is_some (shown z) ≡ true = rw (shown_above z above) in absurd (true≢false (sym some ∙ none))) (λ below. shown_below z below)
+  -- the places before one are settled
+  pub record SettledBefore (heights : List (Option ℤ)) (old : List L) (number : ℤ) (place : ℕ) (now : List L) : Type 0 where
+    pub whole : length now ≡ length old
+    pub done : (k : ℕ) → k < place → IsSettled code (value_at heights k) (value_at (values_of code old) k) number (number_in code now k)
+    pub left : (k : ℕ) → place ≤ k → number_in code now k ≡ number_in code old k
 
--- the negative of a height
-pub negated_height : (z new : ℤ) → floor <ℤ z → IsBounded most_filtered (shown z) → new ≡ neg_ℤ z → IsNegated z new
-negated_height z new above within is =
-    let some : shown z ≡ Some z = shown_above z above in
-    let most = within.greatest z some in
-    let new_above : floor <ℤ new = omega (arith, ints) in
-    record {
-      value = shown_above new new_above ∙ ap Some is ∙ sym (rw some);
-      absent = λ none. let e : None ≡ Some z = sym none ∙ some in cc;
-    }
+  -- the top that is read at the next place
+  top_read : (heights : List (Option ℤ)) (old now : List L) (number : ℤ) (place : ℕ) (top : L) → place < length old → top ≡ get_or now place top → SettledBefore heights old number place now
+      → code.shown top ≡ value_at (values_of code old) place
+  top_read heights old now number place top inside read was =
+      ap code.shown (number_read code now place top (omega (arith, was.whole)) read ∙ was.left place (omega arith)) ∙ sym (value_of_number code old place)
 
--- where no height stands, its negative is `missing`
-pub negated_none : (z : ℤ) → shown z ≡ None → IsNegated z missing
-negated_none z none = record { value = shown_below missing (omega (arith, ints)) ∙ sym (rw none); absent = λ _. refl }
+  pub settled_more : (heights : List (Option ℤ)) (old now : List L) (number : ℤ) (place : ℕ) (top new : L) → place < length old → top ≡ get_or now place top
+      → IsSettled code (value_at heights place) (code.shown top) number new
+      → SettledBefore heights old number place now → SettledBefore heights old number (place + 1) (slice_set now place new)
+  settled_more heights old now number place top new inside read is was =
+      let room : place < length now = omega (arith, was.whole) in
+      record {
+        whole = length-set now place new ∙ was.whole;
+        done = below_more _ _
+            (λ k below. rw (get_or-set_other now place k new code.missing (omega arith)) (was.done k below))
+            (rw (get_or-set_same now place new code.missing room) (rw (top_read heights old now number place top inside read was) at is));
+        left = λ k above. get_or-set_other now place k new code.missing (omega arith) ∙ was.left k (omega arith);
+      }
 
--- the numbers before a place are negated
-pub record NegatedBefore (old : List ℤ) (place : ℕ) (now : List ℤ) : Type 0 where
-  pub whole : length now ≡ length old
-  pub done : (k : ℕ) → k < place → IsNegated (plain_at old k) (plain_at now k)
-  pub left : (k : ℕ) → place ≤ k → plain_at now k ≡ plain_at old k
-
-pub negated_more : (old now : List ℤ) (place : ℕ) (new : ℤ) → place < length old → IsNegated (get_or now place (pos 0)) new → NegatedBefore old place now → NegatedBefore old (place + 1) (slice_set now place new)
-negated_more old now place new inside is was =
-    let room : place < length now = omega (arith, was.whole) in
-    let here : get_or now place (pos 0) ≡ plain_at old place = get_or_default now place (pos 0) missing room ∙ was.left place (omega arith) in
-    record {
-      whole = length-set now place new ∙ was.whole;
-      done = below_more _ _
-          (λ k below. rw (get_or-set_other now place k new missing (omega arith)) (was.done k below))
-          (rw (get_or-set_same now place new missing room) (subst (λ (z : ℤ). IsNegated z new) here is));
-      left = λ k above. get_or-set_other now place k new missing (omega arith) ∙ was.left k (omega arith);
-    }
-
-pub negated_all : (old now : List ℤ) (place : ℕ) → length old ≤ place → NegatedBefore old place now → AreNegated old now
-negated_all old now place all was = record {
-  whole = was.whole;
-  each = λ k. elim (cases_lt k place) [
-    | inl below ↦ was.done k below
-    | inr above ↦
-        let past : plain_at old k ≡ missing = get_or_past old k missing (omega arith) in
-        let past' : plain_at now k ≡ missing = get_or_past now k missing (omega (arith, was.whole)) in
-        rw (past, past') (negated_none missing (shown_below missing (omega (arith, ints))))
-  ];
-}
-
--- the places before one are settled
-pub record SettledBefore (heights old : List ℤ) (number : ℤ) (place : ℕ) (now : List ℤ) : Type 0 where
-  pub whole : length now ≡ length old
-  pub done : (k : ℕ) → k < place → IsSettled (value_at heights k) (plain_at old k) number (plain_at now k)
-  pub left : (k : ℕ) → place ≤ k → plain_at now k ≡ plain_at old k
-
-pub settled_more : (heights old now : List ℤ) (number : ℤ) (place : ℕ) (new : ℤ) → place < length old → length old ≡ length heights
-    → IsSettled (shown (get_or heights place (pos 0))) (get_or now place (pos 0)) number new
-    → SettledBefore heights old number place now → SettledBefore heights old number (place + 1) (slice_set now place new)
-settled_more heights old now number place new inside whole is was =
-    let room : place < length now = omega (arith, was.whole) in
-    let height : shown (get_or heights place (pos 0)) ≡ value_at heights place = value_read heights place (omega arith) in
-    let here : get_or now place (pos 0) ≡ plain_at old place = get_or_default now place (pos 0) missing room ∙ was.left place (omega arith) in
-    let new_is : IsSettled (value_at heights place) (plain_at old place) number new = rw (height, here) at is in
-    record {
-      whole = length-set now place new ∙ was.whole;
-      done = below_more _ _
-          (λ k below. rw (get_or-set_other now place k new missing (omega arith)) (was.done k below))
-          (rw (get_or-set_same now place new missing room) new_is);
-      left = λ k above. get_or-set_other now place k new missing (omega arith) ∙ was.left k (omega arith);
-    }
-
--- what is read where a height stands
-pub topped_read : (n : ℕ) (heights old now : List ℤ) (number : ℤ) (place : ℕ) (z : ℤ) → place < length old → AreTopped n heights old → SettledBefore heights old number place now
-    → shown (get_or heights place (pos 0)) ≡ Some z → IsNumberWithin n (shown (get_or now place (pos 0)))
-topped_read n heights old now number place z inside topped was is =
-    let height : shown (get_or heights place (pos 0)) ≡ value_at heights place = value_read heights place (omega (arith, topped.whole)) in
-    let top : shown (get_or now place (pos 0)) ≡ value_at old place = value_read now place (omega (arith, was.whole)) ∙ ap shown (was.left place (omega arith)) in
-    rw top (topped.each place z (sym height ∙ is))
-
--- a plain number lies between `missing` and its bound
-pub plain_bounds : (z : ℤ) → IsPlainNumber most_between z → (missing ≤ℤ z) × (z ≤ℤ pos most_between)
-plain_bounds z plain = by_lt_z floor z
-    (λ above. let most = plain.bounded.greatest z (shown_above z above) in (omega (arith, ints), most))
-    (λ below. let is : z ≡ missing = plain.absent (shown_below z below) in (omega (arith, ints), omega (arith, ints)))
-
--- a plain number plus a number of an element stands for the height plus that number
-pub raised_number : (z number new : ℤ) → IsPlainNumber most_between z → neg_ℤ (pos most_entry) ≤ℤ number → number ≤ℤ pos most_entry → new ≡ z +ℤ number → shown new ≡ plus number (shown z)
-raised_number z number new plain least greatest is = by_lt_z floor z
-    (λ above.
-    let low = plain.bounded.least z (shown_above z above) in
-    let new_above : floor <ℤ new = omega (arith, ints) in
-    shown_above new new_above ∙ ap Some is ∙ sym (rw (shown_above z above)))
-    (λ below.
-    let gone : z ≡ missing = plain.absent (shown_below z below) in
-    let new_below : new ≤ℤ floor = omega (arith, ints) in
-    shown_below new new_below ∙ sym (rw (shown_below z below)))
+  -- what is read where a height stands
+  pub topped_read : (n : ℕ) (heights : List (Option ℤ)) (old now : List L) (number : ℤ) (place : ℕ) (top : L) (z : ℤ) → place < length old → top ≡ get_or now place top
+      → AreTopped n heights (values_of code old) → SettledBefore heights old number place now → value_at heights place ≡ Some z → IsNumberWithin n (code.shown top)
+  topped_read n heights old now number place top z inside read topped was is = rw (top_read heights old now number place top inside read was) (topped.each place z is)
 
 -- where a slice of a whole vector is written, the vector is written
-pub all_written : (n : ℕ) (ys zs : List ℤ) → n ≡ length ys → take n (ys ++ zs) ≡ ys
+pub all_written : {X : Type 0} (n : ℕ) (ys zs : List X) → n ≡ length ys → take n (ys ++ zs) ≡ ys
 all_written n ys zs e = rw e (take-append_seam ys zs)
 
--- an entry of a table is within the limits
-IsBounded-entry : (v : Option ℤ) → IsEntry v → IsBounded most_entry v
-IsBounded-entry None entry = record { least = λ z is. let e : None ≡ Some z = is in cc; greatest = λ z is. let e : None ≡ Some z = is in cc }
-IsBounded-entry (Some y) entry = record {
-  least = λ z is. let same : y ≡ z = cc in let low = entry.0 in omega (arith, ints);
-  greatest = λ z is. let same : y ≡ z = cc in let high = entry.1 in omega (arith, ints);
-}
+-- none is within each bound
+pub none_bounded : (n : ℕ) → IsBounded n None
+none_bounded n = record { least = λ z is. let e : None ≡ Some z = is in cc; greatest = λ z is. let e : None ≡ Some z = is in cc }
 
-pub IsBounded-table_entry : (table : List (Option ℤ)) → All IsEntry table → (k : ℕ) → IsBounded most_entry (slice_index_or table k None)
-IsBounded-table_entry table entries k = elim (cases_lt k (length table)) [
-  | inl inside ↦ IsBounded-entry (slice_index_or table k None) (All-get_or IsEntry table k None inside entries)
-  | inr past ↦ rw (get_or_past table k None past) (IsBounded-entry None tt)
-]
+-- an element of which each number of the table is within a bound
+pub bounded_before : (n : ℕ) (e : ElementTable) (index : ℕ) → length e.table ≤ index → ((k : ℕ) → k < index → IsBounded n (slice_index_or e.table k None)) → HasNumbersWithin n e
+bounded_before n e index all before = record {
+  each = λ k. elim (cases_lt k index) [
+    | inl below ↦ before k below
+    | inr past ↦ rw (get_or_past e.table k None (omega arith)) (none_bounded n)
+  ];
+}
 
 -- a bound is one for each greater number
 pub IsBounded-more : (m n : ℕ) (v : Option ℤ) → m ≤ n → IsBounded m v → IsBounded n v
@@ -218,12 +137,22 @@ IsBounded-more m n v more within = record {
   greatest = λ z is. let h = within.greatest z is in omega (arith, ints);
 }
 
-pub plain_more : (s : Size) (m n : ℕ) (values : List ℤ) → m ≤ n → ArePlain s m values → ArePlain s n values
-plain_more s m n values more are = record {
-  whole = are.whole;
-  plain = record { each = λ k. record { bounded = IsBounded-more m n (value_at values k) more (are.plain.each k).bounded; absent = (are.plain.each k).absent } };
-}
+module _ {L : Type 0} (code : Encoding L) where
+  pub plain_more : (s : Size) (m n : ℕ) (numbers : List L) → m ≤ n → ArePlain code s m numbers → ArePlain code s n numbers
+  plain_more s m n numbers more are = record {
+    whole = are.whole;
+    plain = record { each = λ k. record { bounded = IsBounded-more m n (code.shown (number_in code numbers k)) more (are.plain.each k).bounded; absent = (are.plain.each k).absent } };
+  }
 
--- heights by position are bounded as the numbers are
-pub IsBounded-relief : (s : Size) (n : ℕ) (values : List ℤ) → ArePlain s n values → (p : Pos) → InGrid s p → IsBounded n (relief s values p)
-IsBounded-relief s n values are p inside = (are.plain.each (place_of s p)).bounded
+  -- heights are bounded as the numbers are
+  pub IsBounded-value : (s : Size) (n : ℕ) (numbers : List L) → ArePlain code s n numbers → (k : ℕ) → IsBounded n (value_at (values_of code numbers) k)
+  IsBounded-value s n numbers are k = rw (value_of_number code numbers k) ((are.plain.each k).bounded)
+
+  pub IsBounded-relief : (s : Size) (n : ℕ) (numbers : List L) → ArePlain code s n numbers → (p : Pos) → InGrid s p → IsBounded n (relief s (values_of code numbers) p)
+  IsBounded-relief s n numbers are p inside = IsBounded-value s n numbers are (place_of s p)
+
+  -- a number that is read inside a plain list is plain, within more
+  pub plain_read : (m n : ℕ) → m ≤ n → (numbers : List L) → ((k : ℕ) → IsPlainNumber code m (number_in code numbers k)) → (k : ℕ) (x : L) → k < length numbers → x ≡ get_or numbers k x → IsPlainNumber code n x
+  plain_read m n more numbers each k x inside read =
+      let here : x ≡ number_in code numbers k = number_read code numbers k x inside read in
+      rw here (record { bounded = IsBounded-more m n (code.shown (number_in code numbers k)) more (each k).bounded; absent = (each k).absent })

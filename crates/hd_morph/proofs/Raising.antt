@@ -1,9 +1,8 @@
 -- The greatest of the raised heights, offset by offset.
-use Rattle.std.proofs.Common.{◌≡◌, ◌<◌, ◌≤◌, ◌+◌, ◌-◌, ◌*◌, ◌/◌, ◌+ℤ◌, ℕ, ℤ, pos, List, length, take, drop, get_or, slice_set, replicate, length-set, below_more, Option, Some, None, inl, inr, refl, ap, subst, sym, ◌∙◌, arith}
+use Rattle.std.proofs.Common.{◌≡◌, ◌<◌, ◌≤◌, ◌+◌, ◌-◌, ◌*◌, ◌/◌, ◌+ℤ◌, ℕ, ℤ, pos, List, length, take, drop, slice_set, length-set, get_or-set_same, get_or-set_other, below_more, Option, Some, None, inl, inr, refl, ap, subst, sym, ◌∙◌, arith}
 use Rattle.std.proofs.lemmas.Int.{ints}
 use Rattle.std.proofs.lemmas.Bool.{cases_lt}
 use Rattle.std.proofs.lemmas.Nat.{mul-add-lt, same_from_place}
-use Rattle.std.proofs.lemmas.List.{get_or-replicate, length-replicate}
 use Rattle.std.proofs.Math.Nat.{mul-le-mul_right}
 use borrow.Rule.Slice.PartMut.{put_mid}
 use Rattle.hd_map.specs.declared.types.Pos.{Pos}
@@ -14,45 +13,46 @@ use Rattle.hd_map.proofs.Points.{position_at-place, position_at-inside}
 use Rattle.hd_morph.specs.Element.{ElementTable, IsElement, number_at}
 use Rattle.hd_morph.specs.Greatest.{IsGreatest, larger}
 use Rattle.hd_morph.specs.Filter.{Relief, Dilation, IsOffset, IsRaised}
-use Rattle.hd_morph.specs.Plain.{missing, shown, plain_at, value_at, relief, ArePlain, most_between, most_filtered}
+use Rattle.hd_morph.specs.Encoding.{Encoding, values_of, most_between, most_filtered}
+use Rattle.hd_morph.specs.Plain.{value_at, relief, ArePlain, HasNumbersWithin}
 use Rattle.hd_morph.specs.Raised.{ArePlainlyFiltered, AreTopped, AreSettled, plus, AreRaisedTo, AreRaisedAcross, IsRaisedBy, IsRowRaisedOnce, AreBlank, IsBlankRow, IsRowRaised, AreRaised}
 use Rattle.hd_morph.proofs.Greatest.{greatest_of, greatest_join, greatest_none, larger_none}
-use Rattle.hd_morph.proofs.PlainNumbers.{IsBounded-table_entry, shown_below, some_or_none, none_past, some_inside, value_read, set_same, set_other, mid_inside, mid_before, mid_after, mid_length, part_at, part_length, IsBounded-relief}
+use Rattle.hd_morph.proofs.Encodings.{length_values}
+use Rattle.hd_morph.proofs.PlainNumbers.{some_or_none, some_inside, mid_inside, mid_before, mid_after, mid_length, part_at, part_length, IsBounded-relief}
 use Rattle.hd_morph.proofs.Adjunction.{origin_of, centre_links}
 use Rattle.hd_morph.proofs.Settling.{settled_filtered}
 
 -- as many values of a stretch as there were steps are raised
-pub record RaisedBefore (heights : List ℤ) (from : ℕ) (number : ℤ) (to step : ℕ) (old now : List ℤ) : Type 0 where
+pub record RaisedBefore (heights : List (Option ℤ)) (from : ℕ) (number : ℤ) (to step : ℕ) (old now : List (Option ℤ)) : Type 0 where
   pub whole : length now ≡ length old
   pub inside : (k : ℕ) → k < step → value_at now (to + k) ≡ larger (value_at old (to + k)) (plus number (value_at heights (from + k)))
   pub below : (k : ℕ) → k < to → value_at now k ≡ value_at old k
   pub above : (k : ℕ) → to + step ≤ k → value_at now k ≡ value_at old k
 
-pub raised_none : (heights : List ℤ) (from : ℕ) (number : ℤ) (to : ℕ) (old : List ℤ) → RaisedBefore heights from number to 0 old old
+pub raised_none : (heights : List (Option ℤ)) (from : ℕ) (number : ℤ) (to : ℕ) (old : List (Option ℤ)) → RaisedBefore heights from number to 0 old old
 raised_none heights from number to old = record { whole = refl; inside = λ k less. absurd (omega arith); below = λ k less. refl; above = λ k past. refl }
 
-pub raised_more : (heights : List ℤ) (from : ℕ) (number : ℤ) (to step : ℕ) (old now : List ℤ) (new : ℤ) → to + step < length old → from + step < length heights
-    → shown new ≡ larger (shown (get_or now (to + step) (pos 0))) (plus number (shown (get_or heights (from + step) (pos 0))))
+pub raised_more : (heights : List (Option ℤ)) (from : ℕ) (number : ℤ) (to step : ℕ) (old now : List (Option ℤ)) (new : Option ℤ) → to + step < length old
+    → new ≡ larger (value_at now (to + step)) (plus number (value_at heights (from + step)))
     → RaisedBefore heights from number to step old now → RaisedBefore heights from number to (step + 1) old (slice_set now (to + step) new)
-raised_more heights from number to step old now new room room' is was =
+raised_more heights from number to step old now new room is was =
     let at : ℕ = to + step in
     let room_now : at < length now = omega (arith, was.whole) in
-    let here : shown (get_or now at (pos 0)) ≡ value_at old at = value_read now at room_now ∙ was.above at (omega arith) in
-    let there : shown (get_or heights (from + step) (pos 0)) ≡ value_at heights (from + step) = value_read heights (from + step) room' in
+    let here : value_at now at ≡ value_at old at = was.above at (omega arith) in
     record {
       whole = length-set now at new ∙ was.whole;
       inside = below_more _ _
-          (λ k less. set_other now at (to + k) new (omega arith) ∙ was.inside k less)
-          (set_same now at new room_now ∙ is ∙ rw (here, there));
-      below = λ k less. set_other now at k new (omega arith) ∙ was.below k less;
-      above = λ k past. set_other now at k new (omega arith) ∙ was.above k (omega arith);
+          (λ k less. get_or-set_other now at (to + k) new None (omega arith) ∙ was.inside k less)
+          (get_or-set_same now at new None room_now ∙ is ∙ rw here);
+      below = λ k less. get_or-set_other now at k new None (omega arith) ∙ was.below k less;
+      above = λ k past. get_or-set_other now at k new None (omega arith) ∙ was.above k (omega arith);
     }
 
-pub raised_all : (heights : List ℤ) (from : ℕ) (number : ℤ) (to step count : ℕ) (old now : List ℤ) → step ≡ count → RaisedBefore heights from number to step old now → AreRaisedTo heights from count number to old now
+pub raised_all : (heights : List (Option ℤ)) (from : ℕ) (number : ℤ) (to step count : ℕ) (old now : List (Option ℤ)) → step ≡ count → RaisedBefore heights from number to step old now → AreRaisedTo heights from count number to old now
 raised_all heights from number to step count old now all was = record { whole = was.whole; inside = λ k less. was.inside k (omega arith); below = was.below; above = λ k past. was.above k (omega arith) }
 
 -- a stretch of a row is the part that an offset leads to
-pub raised_across : (heights : List ℤ) (reach column ahead behind count : ℕ) (number : ℤ) (old new : List ℤ) → length heights ≡ length old → ahead ≡ reach - column → behind ≡ column - reach
+pub raised_across : (heights : List (Option ℤ)) (reach column ahead behind count : ℕ) (number : ℤ) (old new : List (Option ℤ)) → length heights ≡ length old → ahead ≡ reach - column → behind ≡ column - reach
     → ahead + behind < length heights → count ≡ length heights - ahead - behind → AreRaisedTo heights ahead count number behind old new → AreRaisedAcross heights reach column number old new
 raised_across heights reach column ahead behind count number old new whole ahead_is behind_is room count_is was = record {
   whole = was.whole;
@@ -72,7 +72,7 @@ raised_across heights reach column ahead behind count number old new whole ahead
 }
 
 -- where nothing overlaps, nothing is reached
-pub raised_nowhere : (heights : List ℤ) (reach column ahead behind : ℕ) (number : ℤ) (old : List ℤ) → length heights ≡ length old → ahead ≡ reach - column → behind ≡ column - reach
+pub raised_nowhere : (heights : List (Option ℤ)) (reach column ahead behind : ℕ) (number : ℤ) (old : List (Option ℤ)) → length heights ≡ length old → ahead ≡ reach - column → behind ≡ column - reach
     → length heights ≤ ahead + behind → AreRaisedAcross heights reach column number old old
 raised_nowhere heights reach column ahead behind number old whole ahead_is behind_is room = record {
   whole = refl;
@@ -141,16 +141,16 @@ module _ (s : Size) (e : ElementTable) (f : Relief) (p offset : Pos) where
   ]
 
 -- a row that an offset leads nowhere in stays
-pub row_kept : (s : Size) (e : ElementTable) (f : Relief) (y : ℕ) (offset : Pos) (old : List ℤ)
+pub row_kept : (s : Size) (e : ElementTable) (f : Relief) (y : ℕ) (offset : Pos) (old : List (Option ℤ))
     → ((x : ℕ) → x < s.points → IsGreatest (IsRaisedBy s e f (record { x = x; y = y }) (λ u. u ≡ offset)) None) → IsRowRaisedOnce s e f y offset old old
 row_kept s e f y offset old none = record { whole = refl; each = λ x inside. record { raised = None; greatest = none x inside; is = sym (larger_none (value_at old x)) } }
 
 -- no row of the grid leads to this one
-pub no_row : (s : Size) (e : ElementTable) (f : Relief) (y : ℕ) (offset : Pos) (old : List ℤ) → ((from : ℕ) → from < s.profiles → from + offset.y ≡ y + e.height / 2 → ⊥) → IsRowRaisedOnce s e f y offset old old
+pub no_row : (s : Size) (e : ElementTable) (f : Relief) (y : ℕ) (offset : Pos) (old : List (Option ℤ)) → ((from : ℕ) → from < s.profiles → from + offset.y ≡ y + e.height / 2 → ⊥) → IsRowRaisedOnce s e f y offset old old
 no_row s e f y offset old none = row_kept s e f y offset old (λ x inside. no_position s e f (record { x = x; y = y }) offset (λ from within leads. none from.y within.profile leads.down))
 
 -- a row of heights, raised across, raises a row once
-pub row_raised : (s : Size) (e : ElementTable) (heights : List ℤ) (y row start : ℕ) (offset : Pos) (number : ℤ) (old new : List ℤ) → length heights ≡ cell_count s → length old ≡ s.points → y < s.profiles
+pub row_raised : (s : Size) (e : ElementTable) (heights : List (Option ℤ)) (y row start : ℕ) (offset : Pos) (number : ℤ) (old new : List (Option ℤ)) → length heights ≡ cell_count s → length old ≡ s.points → y < s.profiles
     → row < s.profiles → row + offset.y ≡ y + e.height / 2 → offset.x < e.width → offset.y < e.height → number_at e offset ≡ Some number → start ≡ row * s.points
     → AreRaisedAcross (take s.points (drop start heights)) (e.width / 2) offset.x number old new → IsRowRaisedOnce s e (relief s heights) y offset old new
 row_raised s e heights y row start offset number old new whole width within row_within leads column table_row is_number start_is was =
@@ -192,14 +192,14 @@ abbrev place_in : ElementTable → Pos → ℕ
 place_in e u = u.y * e.width + u.x
 
 -- the values of a row are the greatest from the offsets before an index
-pub record RowRaisedBefore (s : Size) (e : ElementTable) (f : Relief) (y index : ℕ) (row : List ℤ) : Type 0 where
+pub record RowRaisedBefore (s : Size) (e : ElementTable) (f : Relief) (y index : ℕ) (row : List (Option ℤ)) : Type 0 where
   pub whole : length row ≡ s.points
   pub each : (x : ℕ) → x < s.points → IsGreatest (IsRaisedBy s e f (record { x = x; y = y }) (λ u. place_in e u < index)) (value_at row x)
 
-pub row_none : (s : Size) (e : ElementTable) (f : Relief) (y : ℕ) (row : List ℤ) → IsBlankRow s row → RowRaisedBefore s e f y 0 row
+pub row_none : (s : Size) (e : ElementTable) (f : Relief) (y : ℕ) (row : List (Option ℤ)) → IsBlankRow s row → RowRaisedBefore s e f y 0 row
 row_none s e f y row blank = record { whole = blank.whole; each = λ x inside. rw (blank.each x) (greatest_none _ (λ z r. omega (arith, r.chosen))) }
 
-pub row_more : (s : Size) (e : ElementTable) (f : Relief) (y index : ℕ) (offset : Pos) (old new : List ℤ) → offset.x < e.width → place_in e offset ≡ index
+pub row_more : (s : Size) (e : ElementTable) (f : Relief) (y index : ℕ) (offset : Pos) (old new : List (Option ℤ)) → offset.x < e.width → place_in e offset ≡ index
     → RowRaisedBefore s e f y index old → IsRowRaisedOnce s e f y offset old new → RowRaisedBefore s e f y (index + 1) new
 row_more s e f y index offset old new column place was once = record {
   whole = once.whole ∙ was.whole;
@@ -220,7 +220,7 @@ row_more s e f y index offset old new column place was once = record {
       (was.each x inside) one.greatest);
 }
 
-pub row_all : (s : Size) (e : ElementTable) (f : Relief) (y index : ℕ) (row : List ℤ) → e.width * e.height ≤ index → RowRaisedBefore s e f y index row → IsRowRaised s e f y row
+pub row_all : (s : Size) (e : ElementTable) (f : Relief) (y index : ℕ) (row : List (Option ℤ)) → e.width * e.height ≤ index → RowRaisedBefore s e f y index row → IsRowRaised s e f y row
 row_all s e f y index row all was = record {
   whole = was.whole;
   each = λ x inside. greatest_of (IsRaisedBy s e f (record { x = x; y = y }) (λ u. place_in e u < index)) (IsRaised s e f (record { x = x; y = y })) (value_at row x)
@@ -229,29 +229,17 @@ row_all s e f y index row all was = record {
       (was.each x inside);
 }
 
--- `missing` everywhere stands for no height
-pub blank_of : (s : Size) (n : ℕ) (tops : List ℤ) → n ≡ cell_count s → tops ≡ replicate n missing → AreBlank s tops
-blank_of s n tops whole is = record {
-  whole = ap length is ∙ length-replicate n missing ∙ whole;
-  each = λ k. elim (cases_lt k n) [
-    | inl below ↦
-        let there : plain_at tops k ≡ missing = ap (λ (t : List ℤ). plain_at t k) is ∙ get_or-replicate n k missing missing below in
-        ap shown there ∙ shown_below missing (omega (arith, ints))
-    | inr past ↦ none_past tops k (omega (arith, ap length is, length-replicate n missing))
-  ];
-}
-
 -- the rows before y are raised
-pub record RowsRaised (s : Size) (e : ElementTable) (f : Relief) (y : ℕ) (tops : List ℤ) : Type 0 where
+pub record RowsRaised (s : Size) (e : ElementTable) (f : Relief) (y : ℕ) (tops : List (Option ℤ)) : Type 0 where
   pub whole : length tops ≡ cell_count s
   pub done : (p : Pos) → InGrid s p → p.y < y → IsGreatest (IsRaised s e f p) (relief s tops p)
   pub left : (k : ℕ) → y * s.points ≤ k → value_at tops k ≡ None
 
-pub rows_none : (s : Size) (e : ElementTable) (f : Relief) (tops : List ℤ) → AreBlank s tops → RowsRaised s e f 0 tops
+pub rows_none : (s : Size) (e : ElementTable) (f : Relief) (tops : List (Option ℤ)) → AreBlank s tops → RowsRaised s e f 0 tops
 rows_none s e f tops blank = record { whole = blank.whole; done = λ p inside less. absurd (omega arith); left = λ k past. blank.each k }
 
 -- the next row stands for no height
-pub row_blank : (s : Size) (e : ElementTable) (f : Relief) (y k : ℕ) (tops : List ℤ) → y < s.profiles → k ≡ s.points → RowsRaised s e f y tops → IsBlankRow s (take k (drop (y * s.points) tops))
+pub row_blank : (s : Size) (e : ElementTable) (f : Relief) (y k : ℕ) (tops : List (Option ℤ)) → y < s.profiles → k ≡ s.points → RowsRaised s e f y tops → IsBlankRow s (take k (drop (y * s.points) tops))
 row_blank s e f y k tops row width was =
     let last : (y + 1) * s.points ≤ s.profiles * s.points = mul-le-mul_right s.points (let h : y + 1 ≤ s.profiles = omega arith in h) in
     let size : length (take k (drop (y * s.points) tops)) ≡ k = part_length (y * s.points) k tops (omega (arith, was.whole, last)) in
@@ -265,7 +253,7 @@ row_blank s e f y k tops row width was =
       ];
     }
 
-pub rows_more : (s : Size) (e : ElementTable) (f : Relief) (y k : ℕ) (tops part : List ℤ) → y < s.profiles → k ≡ s.points → RowsRaised s e f y tops → IsRowRaised s e f y part
+pub rows_more : (s : Size) (e : ElementTable) (f : Relief) (y k : ℕ) (tops part : List (Option ℤ)) → y < s.profiles → k ≡ s.points → RowsRaised s e f y tops → IsRowRaised s e f y part
     → RowsRaised s e f (y + 1) (put_mid (y * s.points) k tops part)
 rows_more s e f y k tops part row width was raised =
     let last : (y + 1) * s.points ≤ s.profiles * s.points = mul-le-mul_right s.points (let h : y + 1 ≤ s.profiles = omega arith in h) in
@@ -292,38 +280,40 @@ rows_more s e f y k tops part row width was raised =
           mid_after (y * s.points) k i tops part room size beyond ∙ was.left i (omega arith);
     }
 
-pub rows_all : (s : Size) (e : ElementTable) (f : Relief) (y : ℕ) (tops : List ℤ) → s.profiles ≤ y → RowsRaised s e f y tops → AreRaised s e f tops
+pub rows_all : (s : Size) (e : ElementTable) (f : Relief) (y : ℕ) (tops : List (Option ℤ)) → s.profiles ≤ y → RowsRaised s e f y tops → AreRaised s e f tops
 rows_all s e f y tops all was = record { whole = was.whole; each = λ p inside. was.done p inside (omega (arith, inside.profile)) }
-
--- a present point is raised at least from itself
-pub raised_topped : (s : Size) (e : ElementTable) (heights tops : List ℤ) → 1 ≤ s.points → IsElement e → ArePlain s most_between heights → AreRaised s e (relief s heights) tops → AreTopped most_filtered heights tops
-raised_topped s e heights tops some is plain raised = record {
-  whole = raised.whole ∙ sym plain.whole;
-  each = λ k z there.
-      let p : Pos = position_at s k in
-      let place : place_of s p ≡ k = position_at-place s k some in
-      let inside : InGrid s p = position_at-inside s k some (omega (arith, some_inside heights k z there, plain.whole)) in
-      let o = origin_of e is in
-      let height : relief s heights p ≡ Some z = rw place there in
-      let top = (raised.each p inside).reached (z +ℤ o.number) (record { from = p; height = z; number = o.number; links = centre_links s e o p inside; is_height = height; sum = refl }) in
-      let r = (raised.each p inside).attained top.0 top.1 in
-      let within = IsBounded-relief s most_between heights plain r.from r.links.from in
-      let low = within.least r.height r.is_height in
-      let high = within.greatest r.height r.is_height in
-      let numbers = IsBounded-table_entry e.table is.entries (r.links.offset.y * e.width + r.links.offset.x) in
-      let low' = numbers.least r.number r.links.is_number in
-      let high' = numbers.greatest r.number r.links.is_number in
-      let sum : top.0 ≡ r.height +ℤ r.number = r.sum in
-      record { number = top.0; is_number = rw place at top.1; least = omega (arith, ints); greatest = omega (arith, ints) };
-}
 
 plus_zero : (v : Option ℤ) → plus (pos 0) v ≡ v
 plus_zero (Some z) = ap Some (omega (arith, ints))
 plus_zero None = refl
 
--- raised tops, settled, are the dilation
-pub raised_settled : (s : Size) (e : ElementTable) (heights tops new : List ℤ) → 1 ≤ s.points → IsElement e → ArePlain s most_between heights → AreRaised s e (relief s heights) tops
-    → AreSettled heights tops (pos 0) new → ArePlainlyFiltered Dilation s e heights new
-raised_settled s e heights tops new some is plain raised settled =
-    settled_filtered s e heights tops new (pos 0) some plain.whole (raised_topped s e heights tops some is plain raised) (omega (arith, ints)) (omega (arith, ints)) settled
-    (λ p inside z there. rw (plus_zero (relief s tops p)) (raised.each p inside))
+module _ {L : Type 0} (code : Encoding L) where
+  -- a present point is raised at least from itself
+  pub raised_topped : (s : Size) (e : ElementTable) (heights : List L) (tops : List (Option ℤ)) → 1 ≤ s.points → IsElement e → HasNumbersWithin code.most_number e → ArePlain code s (most_between code) heights
+      → AreRaised s e (relief s (values_of code heights)) tops → AreTopped (most_filtered code) (values_of code heights) tops
+  raised_topped s e heights tops some is numbers plain raised = record {
+    whole = raised.whole ∙ sym plain.whole ∙ sym (length_values code heights);
+    each = λ k z there.
+        let p : Pos = position_at s k in
+        let place : place_of s p ≡ k = position_at-place s k some in
+        let inside : InGrid s p = position_at-inside s k some (omega (arith, some_inside (values_of code heights) k z there, length_values code heights, plain.whole)) in
+        let o = origin_of e is in
+        let height : relief s (values_of code heights) p ≡ Some z = rw place there in
+        let top = (raised.each p inside).reached (z +ℤ o.number) (record { from = p; height = z; number = o.number; links = centre_links s e o p inside; is_height = height; sum = refl }) in
+        let r = (raised.each p inside).attained top.0 top.1 in
+        let within = IsBounded-relief code s (most_between code) heights plain r.from r.links.from in
+        let low = within.least r.height r.is_height in
+        let high = within.greatest r.height r.is_height in
+        let entry = numbers.each (r.links.offset.y * e.width + r.links.offset.x) in
+        let low' = entry.least r.number r.links.is_number in
+        let high' = entry.greatest r.number r.links.is_number in
+        let sum : top.0 ≡ r.height +ℤ r.number = r.sum in
+        record { number = top.0; is_number = rw place at top.1; least = omega (arith, ints); greatest = omega (arith, ints) };
+  }
+
+  -- raised tops, settled, are the dilation
+  pub raised_settled : (s : Size) (e : ElementTable) (heights : List L) (tops : List (Option ℤ)) (new : List L) → 1 ≤ s.points → IsElement e → HasNumbersWithin code.most_number e → ArePlain code s (most_between code) heights
+      → AreRaised s e (relief s (values_of code heights)) tops → AreSettled code (values_of code heights) tops (pos 0) new → ArePlainlyFiltered code Dilation s e heights new
+  raised_settled s e heights tops new some is numbers plain raised settled =
+      settled_filtered code s e heights tops new (pos 0) plain.whole (raised_topped s e heights tops some is numbers plain raised) settled
+      (λ p inside z there. rw (plus_zero (relief s tops p)) (raised.each p inside))

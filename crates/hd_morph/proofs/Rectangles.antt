@@ -1,5 +1,5 @@
 -- The greatest of the heights of a rectangle, column by column and row by row.
-use Rattle.std.proofs.Common.{◌≡◌, ◌<◌, ◌≤◌, ◌+◌, ◌-◌, ◌*◌, ℕ, ℤ, List, length, take, drop, Some, inl, inr, refl, ap, sym, ◌∙◌, arith}
+use Rattle.std.proofs.Common.{◌≡◌, ◌<◌, ◌≤◌, ◌+◌, ◌-◌, ◌*◌, ℕ, ℤ, List, length, take, drop, Option, Some, inl, inr, refl, ap, sym, ◌∙◌, arith}
 use Rattle.std.proofs.lemmas.Bool.{cases_lt}
 use Rattle.std.proofs.Math.Nat.{mul-le-mul_right}
 use borrow.Rule.Slice.PartMut.{put_mid}
@@ -15,19 +15,19 @@ use Rattle.hd_morph.proofs.Greatest.{greatest_of, greatest_nested, IsOneOf}
 use Rattle.hd_morph.proofs.PlainNumbers.{some_inside, mid_inside, mid_before, mid_after, mid_length, part_at, part_length}
 
 -- the rows before y are done
-pub record RowsDone (s : Size) (reach : ℕ) (old : List ℤ) (y : ℕ) (now : List ℤ) : Type 0 where
+pub record RowsDone (s : Size) (reach : ℕ) (old : List (Option ℤ)) (y : ℕ) (now : List (Option ℤ)) : Type 0 where
   pub whole : length now ≡ length old
   pub done : (p : Pos) → InGrid s p → p.y < y → IsGreatest (IsInRow s reach old p) (relief s now p)
   pub left : (k : ℕ) → y * s.points ≤ k → value_at now k ≡ value_at old k
 
-pub rows_none : (s : Size) (reach : ℕ) (old : List ℤ) → RowsDone s reach old 0 old
+pub rows_none : (s : Size) (reach : ℕ) (old : List (Option ℤ)) → RowsDone s reach old 0 old
 rows_none s reach old = record { whole = refl; done = λ p inside below. absurd (omega arith); left = λ k above. refl }
 
-pub rows_all : (s : Size) (reach y : ℕ) (old now : List ℤ) → s.profiles ≤ y → RowsDone s reach old y now → AreRowGreatests s reach old now
+pub rows_all : (s : Size) (reach y : ℕ) (old now : List (Option ℤ)) → s.profiles ≤ y → RowsDone s reach old y now → AreRowGreatests s reach old now
 rows_all s reach y old now all rows = record { whole = rows.whole; each = λ p inside. rows.done p inside (omega (arith, inside.profile)) }
 
 -- one row more
-pub rows_more : (s : Size) (reach y k : ℕ) (old now part : List ℤ) → y < s.profiles → length old ≡ cell_count s → k ≡ s.points
+pub rows_more : (s : Size) (reach y k : ℕ) (old now part : List (Option ℤ)) → y < s.profiles → length old ≡ cell_count s → k ≡ s.points
     → RowsDone s reach old y now → AreWindowGreatests (take k (drop (y * s.points) now)) reach part → RowsDone s reach old (y + 1) (put_mid (y * s.points) k now part)
 rows_more s reach y k old now part row whole width rows window =
     let row_room : (y + 1) * s.points ≤ s.profiles * s.points = mul-le-mul_right s.points (let h : y + 1 ≤ s.profiles = omega arith in h) in
@@ -71,7 +71,7 @@ record IsBeside (s : Size) (reach : ℕ) (p q : Pos) : Type 0 where
   near : IsNear reach p.x q.x
 
 -- z is a height of the same column, at most down rows off
-record IsInColumn (s : Size) (down : ℕ) (heights : List ℤ) (p : Pos) (z : ℤ) : Type 0 where
+record IsInColumn (s : Size) (down : ℕ) (heights : List (Option ℤ)) (p : Pos) (z : ℤ) : Type 0 where
   y : ℕ
   near : IsNear down p.y y
   is : value_at heights (y * s.points + p.x) ≡ Some z
@@ -90,7 +90,7 @@ rows_apart w x y n at inside e =
     split a b c w e = rw (← e) (omega arith)
 
 -- strides of one row are a column
-column_strides : (s : Size) (down : ℕ) (old new : List ℤ) → length old ≡ cell_count s → AreStrideGreatests old s.points down new
+column_strides : (s : Size) (down : ℕ) (old new : List (Option ℤ)) → length old ≡ cell_count s → AreStrideGreatests old s.points down new
     → (p : Pos) → InGrid s p → IsGreatest (IsInColumn s down old p) (relief s new p)
 column_strides s down old new whole was p inside = greatest_of (IsStridesOff old s.points down (place_of s p)) (IsInColumn s down old p) (relief s new p)
     (λ z a. elim a.side [
@@ -127,7 +127,7 @@ column_strides s down old new whole was p inside = greatest_of (IsStridesOff old
     sum_of a b c w x e = rw (← e) (omega arith)
 
 -- the greatest over the columns, and then over the rows, is the greatest of the rectangle
-pub round_join : (s : Size) (across down : ℕ) (old mid new : List ℤ) → length old ≡ cell_count s
+pub round_join : (s : Size) (across down : ℕ) (old mid new : List (Option ℤ)) → length old ≡ cell_count s
     → AreStrideGreatests old s.points down mid → AreRowGreatests s across mid new → AreRoundGreatests s across down old new
 round_join s across down old mid new whole columns rows = record {
   whole = rows.whole ∙ columns.whole;

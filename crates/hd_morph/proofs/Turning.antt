@@ -1,18 +1,22 @@
 -- Erosions as dilations of heights that are turned upside down.
-use Rattle.std.proofs.Common.{◌≡◌, ◌<◌, ◌+◌, ◌-◌, ◌*◌, ◌≤ℤ◌, ◌+ℤ◌, ◌-ℤ◌, ℕ, ℤ, neg_ℤ, List, length, reverse, slice_index_or, Option, Some, None, IsSome, refl, ap, subst, sym, ◌∙◌, arith}
+use Rattle.std.proofs.Common.{◌≡◌, ◌<◌, ◌+◌, ◌-◌, ◌*◌, ◌≤ℤ◌, ◌+ℤ◌, ◌-ℤ◌, ℕ, ℤ, neg_ℤ, List, length, reverse, slice_index_or, Option, Some, None, IsSome, inl, inr, refl, ap, subst, sym, ◌∙◌, arith}
 use Rattle.std.proofs.lemmas.Int.{ints}
 use Rattle.std.proofs.lemmas.Nat.{mul-add-lt}
 use Rattle.std.proofs.lemmas.List.Elements.{All-get_or, All-from_get_or}
-use Rattle.std.proofs.lemmas.List.{get_or-reverse, length-reverse}
+use Rattle.std.proofs.lemmas.List.{get_or-reverse, get_or_past, length-reverse}
+use Rattle.std.proofs.lemmas.Bool.{cases_lt}
 use Rattle.hd_map.specs.declared.types.Pos.{Pos}
 use Rattle.hd_map.specs.declared.types.Size.{Size}
 use Rattle.hd_map.specs.Map.{place_of}
 use Rattle.hd_map.proofs.Gather.{same_pos}
 use Rattle.hd_morph.specs.Element.{ElementTable, IsEntry, IsElement, number_at, centre}
 use Rattle.hd_morph.specs.Filter.{Relief, Erosion, IsOffset, IsRaised, IsDilation, IsErosion}
-use Rattle.hd_morph.specs.Plain.{value_at, relief, ArePlain, most_filtered}
+use Rattle.hd_morph.specs.Encoding.{Encoding, values_of, number_in}
+use Rattle.hd_morph.specs.Plain.{relief, ArePlain, HasNumbersWithin}
 use Rattle.hd_morph.specs.Raised.{ArePlainlyFiltered}
 use Rattle.hd_morph.specs.Turned.{minus, AreNegated, turned_table}
+use Rattle.hd_morph.proofs.Encodings.{value_of_number}
+use Rattle.hd_morph.proofs.PlainNumbers.{none_bounded}
 
 -- the entry of a table at a place
 abbrev entry_at : List (Option ℤ) → ℕ → Option ℤ
@@ -143,33 +147,46 @@ renamed_element e name table same is =
     subst (λ (t : List (Option ℤ)). IsElement (record { name = name; width = e.width; height = e.height; table = t })) (sym same)
     (record { odd_width = is.odd_width; odd_height = is.odd_height; width = is.width; height = is.height; whole = is.whole; entries = is.entries; origin = is.origin })
 
--- negated numbers stand for the negative
-pub negative_relief : (s : Size) (old new : List ℤ) → AreNegated old new → IsNegative (relief s old) (relief s new)
-negative_relief s old new negated = record { each = λ p. (negated.each (place_of s p)).value }
+-- the numbers of a turned element are within the limits of the element's
+pub turned_within : (n : ℕ) (e : ElementTable) → HasNumbersWithin n e → HasNumbersWithin n (turned_table e)
+turned_within n e numbers = record {
+  each = λ k. elim (cases_lt k (length e.table)) [
+    | inl inside ↦ rw (get_or-reverse e.table k None inside) (numbers.each (length e.table - 1 - k))
+    | inr past ↦
+        let none : slice_index_or (reverse e.table) k None ≡ None = get_or_past (reverse e.table) k None (omega (arith, length-reverse e.table)) in
+        rw none (none_bounded n)
+  ];
+}
 
--- negated numbers are plain as the numbers are
-pub negated_plain : (s : Size) (n : ℕ) (old new : List ℤ) → AreNegated old new → ArePlain s n old → ArePlain s n new
-negated_plain s n old new negated are = record {
-  whole = negated.whole ∙ are.whole;
-  plain = record {
-    each = λ k.
-        let is = negated.each k in
-        let within = (are.plain.each k).bounded in
-        record {
-          bounded = record {
-            least = λ z there. let h = within.greatest (neg_ℤ z) (minus_some (value_at old k) z (sym is.value ∙ there)) in omega (arith, ints);
-            greatest = λ z there. let h = within.least (neg_ℤ z) (minus_some (value_at old k) z (sym is.value ∙ there)) in omega (arith, ints);
+module _ {L : Type 0} (code : Encoding L) where
+  -- negated numbers stand for the negative
+  pub negative_relief : (s : Size) (old new : List L) → AreNegated code old new → IsNegative (relief s (values_of code old)) (relief s (values_of code new))
+  negative_relief s old new negated = record { each = λ p. rw (value_of_number code new (place_of s p), value_of_number code old (place_of s p)) ((negated.each (place_of s p)).value) }
+
+  -- negated numbers are plain as the numbers are
+  pub negated_plain : (s : Size) (n : ℕ) (old new : List L) → AreNegated code old new → ArePlain code s n old → ArePlain code s n new
+  negated_plain s n old new negated are = record {
+    whole = negated.whole ∙ are.whole;
+    plain = record {
+      each = λ k.
+          let is = negated.each k in
+          let within = (are.plain.each k).bounded in
+          record {
+            bounded = record {
+              least = λ z there. let h = within.greatest (neg_ℤ z) (minus_some (code.shown (number_in code old k)) z (sym is.value ∙ there)) in omega (arith, ints);
+              greatest = λ z there. let h = within.least (neg_ℤ z) (minus_some (code.shown (number_in code old k)) z (sym is.value ∙ there)) in omega (arith, ints);
+            };
+            absent = λ none. is.absent (minus_gone (code.shown (number_in code old k)) (sym is.value ∙ none));
           };
-          absent = λ none. is.absent (minus_gone (value_at old k) (sym is.value ∙ none));
-        };
-  };
-}
+    };
+  }
 
--- the negated dilation of negated numbers by the turned element is the erosion
-pub eroded_of : (s : Size) (e : ElementTable) (old negatives lowered new : List ℤ) → IsElement e → AreNegated old negatives
-    → IsDilation s (turned_table e) (relief s negatives) (relief s lowered) → ArePlain s most_filtered lowered → AreNegated lowered new → ArePlainlyFiltered Erosion s e old new
-eroded_of s e old negatives lowered new is first dilation plain second = record {
-  whole = second.whole ∙ plain.whole;
-  filtered = erosion_turned s e (relief s old) (relief s negatives) (relief s lowered) (relief s new) is (negative_relief s old negatives first) dilation (negative_relief s lowered new second);
-  absent = λ k none. (second.each k).absent (minus_gone (value_at lowered k) (sym (second.each k).value ∙ none));
-}
+  -- the negated dilation of negated numbers by the turned element is the erosion
+  pub eroded_of : (s : Size) (e : ElementTable) (n : ℕ) (old negatives lowered new : List L) → IsElement e → AreNegated code old negatives
+      → IsDilation s (turned_table e) (relief s (values_of code negatives)) (relief s (values_of code lowered)) → ArePlain code s n lowered → AreNegated code lowered new → ArePlainlyFiltered code Erosion s e old new
+  eroded_of s e n old negatives lowered new is first dilation plain second = record {
+    whole = second.whole ∙ plain.whole;
+    filtered = erosion_turned s e (relief s (values_of code old)) (relief s (values_of code negatives)) (relief s (values_of code lowered)) (relief s (values_of code new)) is (negative_relief s old negatives first) dilation
+        (negative_relief s lowered new second);
+    absent = λ k none. (second.each k).absent (minus_gone (code.shown (number_in code lowered k)) (sym (second.each k).value ∙ none));
+  }

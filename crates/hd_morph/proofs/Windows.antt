@@ -1,16 +1,15 @@
 -- The greatest of the values near a place, by strides.
-use Rattle.std.proofs.Common.{◌≡◌, ◌<◌, ◌≤◌, ◌+◌, ◌-◌, ◌*◌, ◌/◌, ◌%◌, ℕ, ℤ, pos, List, length, get_or, slice_set, length-set, below_more, inl, inr, refl, ap, subst, sym, ◌∙◌, arith}
+use Rattle.std.proofs.Common.{◌≡◌, ◌<◌, ◌≤◌, ◌+◌, ◌-◌, ◌*◌, ◌/◌, ◌%◌, ℕ, ℤ, List, length, slice_set, length-set, get_or-set_same, get_or-set_other, Option, None, inl, inr, refl, ap, subst, sym, ◌∙◌, arith}
 use Rattle.std.proofs.lemmas.Int.{ints}
 use Rattle.std.proofs.lemmas.Bool.{cases_lt}
 use Rattle.std.proofs.Math.Nat.{mul-le-mul_right}
 use Rattle.hd_morph.specs.Greatest.{larger}
-use Rattle.hd_morph.specs.Plain.{shown, value_at}
-use Rattle.hd_morph.specs.Window.{IsNearby, AreWindowGreatests, IsStridesOff, AreStrideGreatests, IsAhead, AreAheadGreatests, IsWidened, IsBehind, IsLookedBackAt, IsLookedBack}
-use Rattle.hd_morph.proofs.Greatest.{greatest_of, greatest_join, larger_none}
-use Rattle.hd_morph.proofs.PlainNumbers.{value_read, none_past, set_same, set_other}
+use Rattle.hd_morph.specs.Plain.{value_at}
+use Rattle.hd_morph.specs.Window.{IsNearby, AreWindowGreatests, IsStridesOff, AreStrideGreatests, IsAhead, AreAheadGreatests, IsWidened, AreWidened, IsBehind, IsLookedBackAt, IsLookedBack, AreLookedBack}
+use Rattle.hd_morph.proofs.Greatest.{greatest_of, greatest_join}
 
 -- one value ahead is that of the place itself
-pub ahead_one : (values : List ℤ) (stride : ℕ) → AreAheadGreatests values stride 1 values
+pub ahead_one : (values : List (Option ℤ)) (stride : ℕ) → AreAheadGreatests values stride 1 values
 ahead_one values stride = record {
   whole = refl;
   each = λ place. record {
@@ -37,7 +36,7 @@ back_steps stride reach place from at steps b near back = elim (cases_lt b.steps
 ]
 
 -- two stretches that leave no value between them out are one
-pub ahead_join : (values old new : List ℤ) (stride seen step : ℕ) → step ≤ seen → AreAheadGreatests values stride seen old → IsWidened old (step * stride) new → AreAheadGreatests values stride (seen + step) new
+pub ahead_join : (values old new : List (Option ℤ)) (stride seen step : ℕ) → step ≤ seen → AreAheadGreatests values stride seen old → IsWidened old (step * stride) new → AreAheadGreatests values stride (seen + step) new
 ahead_join values old new stride seen step joined before now = record {
   whole = omega (arith, before.whole, now.whole);
   each = λ place. rw (now.each place) (greatest_join (IsAhead values stride seen place) (IsAhead values stride seen (place + step * stride)) (IsAhead values stride (seen + step) place)
@@ -52,7 +51,7 @@ ahead_join values old new stride seen step joined before now = record {
 }
 
 -- the values ahead of a place, and ahead of one that is reach strides behind it, are those near it
-pub back_join : (values old new : List ℤ) (stride reach : ℕ) → AreAheadGreatests values stride (reach + 1) old → IsLookedBack old stride reach new → AreStrideGreatests values stride reach new
+pub back_join : (values old new : List (Option ℤ)) (stride reach : ℕ) → AreAheadGreatests values stride (reach + 1) old → IsLookedBack old stride reach new → AreStrideGreatests values stride reach new
 back_join values old new stride reach before now = record {
   whole = omega (arith, before.whole, now.whole);
   each = λ place inside.
@@ -100,7 +99,7 @@ behind_first stride reach place some few = record {
 }
 
 -- strides of one step are places
-pub near_strides : (values tops : List ℤ) (reach : ℕ) → AreStrideGreatests values 1 reach tops → AreWindowGreatests values reach tops
+pub near_strides : (values tops : List (Option ℤ)) (reach : ℕ) → AreStrideGreatests values 1 reach tops → AreWindowGreatests values reach tops
 near_strides values tops reach was = record {
   whole = was.whole;
   each = λ place inside. greatest_of (IsStridesOff values 1 reach place) (IsNearby values reach place) (value_at tops place)
@@ -115,61 +114,108 @@ near_strides values tops reach was = record {
       (was.each place inside);
 }
 
--- the values before a place are widened
-pub record WidenedBefore (old : List ℤ) (step place : ℕ) (now : List ℤ) : Type 0 where
-  pub whole : length now ≡ length old
-  pub done : (k : ℕ) → k < place → value_at now k ≡ larger (value_at old k) (value_at old (k + step))
-  pub left : (k : ℕ) → place ≤ k → value_at now k ≡ value_at old k
+-- nothing is widened at first
+pub widened_none : (old : List (Option ℤ)) (step from to : ℕ) → to ≤ from → AreWidened old step from to old
+widened_none old step from to none = record { whole = refl; inside = λ k after before. absurd (omega arith); below = λ k before. refl; above = λ k after. refl }
 
-pub widened_none : (old : List ℤ) (step : ℕ) → WidenedBefore old step 0 old
-widened_none old step = record { whole = refl; done = λ k below. absurd (omega arith); left = λ k above. refl }
-
-pub widened_more : (old now : List ℤ) (step place : ℕ) (new : ℤ) → place + step < length old
-    → shown new ≡ larger (shown (get_or now place (pos 0))) (shown (get_or now (place + step) (pos 0)))
-    → WidenedBefore old step place now → WidenedBefore old step (place + 1) (slice_set now place new)
-widened_more old now step place new inside is was =
-    let room : place + step < length now = omega (arith, was.whole) in
-    let here : shown (get_or now place (pos 0)) ≡ value_at old place = value_read now place (omega arith) ∙ was.left place (omega arith) in
-    let there : shown (get_or now (place + step) (pos 0)) ≡ value_at old (place + step) = value_read now (place + step) room ∙ was.left (place + step) (omega arith) in
-    record {
-      whole = length-set now place new ∙ was.whole;
-      done = below_more _ _
-          (λ k below. set_other now place k new (omega arith) ∙ was.done k below)
-          (set_same now place new (omega arith) ∙ is ∙ rw (here, there));
-      left = λ k above. set_other now place k new (omega arith) ∙ was.left k (omega arith);
-    }
-
-pub widened_all : (old now : List ℤ) (step place : ℕ) → length old ≤ place + step → WidenedBefore old step place now → IsWidened old step now
-widened_all old now step place all was = record {
-  whole = was.whole;
-  each = λ k. elim (cases_lt k place) [
-    | inl below ↦ was.done k below
-    | inr above ↦ was.left k above ∙ sym (rw (none_past old (k + step) (omega arith)) (larger_none (value_at old k)))
+-- one place more is widened
+pub widened_more : (old now : List (Option ℤ)) (step from place : ℕ) (new : Option ℤ) → from ≤ place → place < length old → new ≡ larger (value_at now place) (value_at now (place + step))
+    → AreWidened old step from place now → AreWidened old step from (place + 1) (slice_set now place new)
+widened_more old now step from place new after room is was = record {
+  whole = length-set now place new ∙ was.whole;
+  inside = λ k more less. elim (cases_lt k place) [
+    | inl before ↦ get_or-set_other now place k new None (omega arith) ∙ was.inside k more before
+    | inr not ↦
+        let same : place ≡ k = omega arith in
+        let now_is : value_at (slice_set now place new) place ≡ larger (value_at old place) (value_at old (place + step)) =
+        get_or-set_same now place new None (omega (arith, was.whole)) ∙ is ∙ rw (was.above place (omega arith), was.above (place + step) (omega arith)) in
+        subst (λ (i : ℕ). value_at (slice_set now place new) i ≡ larger (value_at old i) (value_at old (i + step))) same now_is
   ];
+  below = λ k before. get_or-set_other now place k new None (omega arith) ∙ was.below k before;
+  above = λ k past. get_or-set_other now place k new None (omega arith) ∙ was.above k (omega arith);
 }
 
--- the values from a place on are looked back from
-pub record LookedBackFrom (old : List ℤ) (stride reach place : ℕ) (now : List ℤ) : Type 0 where
+-- a further run is widened
+pub widened_join : (old now new : List (Option ℤ)) (step from mid to : ℕ) → from ≤ mid → mid ≤ to → AreWidened old step from mid now → AreWidened now step mid to new → AreWidened old step from to new
+widened_join old now new step from mid to low high was is = record {
+  whole = is.whole ∙ was.whole;
+  inside = λ k more less. elim (cases_lt k mid) [
+    | inl before ↦ is.below k before ∙ was.inside k more before
+    | inr after ↦ is.inside k after less ∙ rw (was.above k after, was.above (k + step) (omega arith))
+  ];
+  below = λ k before. is.below k (omega arith) ∙ was.below k before;
+  above = λ k past. is.above k past ∙ was.above k (omega arith);
+}
+
+-- nothing is looked back from at first
+pub looked_back_none : (old : List (Option ℤ)) (step from to : ℕ) → to ≤ from → AreLookedBack old step from to old
+looked_back_none old step from to none = record { whole = refl; inside = λ k after before. absurd (omega arith); below = λ k before. refl; above = λ k after. refl }
+
+-- one place more is looked back from
+pub looked_back_more : (old now : List (Option ℤ)) (step place next to : ℕ) (new : Option ℤ) → next ≡ place + 1 → step ≤ place → place < to → place < length old
+    → new ≡ larger (value_at now place) (value_at now (place - step)) → AreLookedBack old step next to now → AreLookedBack old step place to (slice_set now place new)
+looked_back_more old now step place next to new onward far before room is was = record {
+  whole = length-set now place new ∙ was.whole;
+  inside = λ k more less. elim (cases_lt place k) [
+    | inl after ↦ get_or-set_other now place k new None (omega arith) ∙ was.inside k (omega arith) less
+    | inr not ↦
+        let same : place ≡ k = omega arith in
+        let now_is : value_at (slice_set now place new) place ≡ larger (value_at old place) (value_at old (place - step)) =
+        get_or-set_same now place new None (omega (arith, was.whole)) ∙ is ∙ rw (was.below place (omega arith), was.below (place - step) (omega arith)) in
+        subst (λ (i : ℕ). value_at (slice_set now place new) i ≡ larger (value_at old i) (value_at old (i - step))) same now_is
+  ];
+  below = λ k less. get_or-set_other now place k new None (omega arith) ∙ was.below k (omega arith);
+  above = λ k past. get_or-set_other now place k new None (omega arith) ∙ was.above k past;
+}
+
+-- a further run of at most a step is looked back from
+pub looked_back_join : (old now new : List (Option ℤ)) (step from mid to : ℕ) → step ≤ from → from ≤ mid → mid ≤ to → mid ≤ from + step → 0 < step → AreLookedBack old step mid to now → AreLookedBack now step from mid new
+    → AreLookedBack old step from to new
+looked_back_join old now new step from mid to far low high run some was is = record {
+  whole = is.whole ∙ was.whole;
+  inside = λ k more less. elim (cases_lt k mid) [
+    | inl before ↦ is.inside k more before ∙ rw (was.below k before, was.below (k - step) (omega arith))
+    | inr after ↦ is.above k after ∙ was.inside k after less
+  ];
+  below = λ k before. is.below k before ∙ was.below k (omega arith);
+  above = λ k past. is.above k (omega arith) ∙ was.above k past;
+}
+
+-- the values from a place on are looked back from by strides
+pub record LookedBackFrom (old : List (Option ℤ)) (stride reach place : ℕ) (now : List (Option ℤ)) : Type 0 where
   pub whole : length now ≡ length old
   pub done : (k : ℕ) → place ≤ k → k < length old → IsLookedBackAt old stride reach k (value_at now k)
   pub left : (k : ℕ) → k < place → value_at now k ≡ value_at old k
 
-pub looked_back_more : (old now : List ℤ) (stride reach place from : ℕ) (new : ℤ) → 0 < place → place ≤ length old → from ≤ place - 1 → IsBehind stride reach (place - 1) from
-    → shown new ≡ larger (shown (get_or now (place - 1) (pos 0))) (shown (get_or now from (pos 0)))
+-- those that have as many strides behind them are looked back from
+pub far_looked_back : (old now : List (Option ℤ)) (stride reach place : ℕ) → place ≤ reach * stride → ((k : ℕ) → place ≤ k → k < length old → reach * stride ≤ k) → AreLookedBack old (reach * stride) (reach * stride) (length old) now
+    → LookedBackFrom old stride reach place now
+far_looked_back old now stride reach place low far was = record {
+  whole = was.whole;
+  done = λ k more less.
+      let room : reach * stride ≤ k = far k more less in
+      record { from = k - reach * stride; behind = record { steps = reach; near = omega arith; back = omega arith; far = inl refl }; is = was.inside k room less };
+  left = λ k before. was.below k (omega arith);
+}
+
+-- one place more is looked back from, to the first stretch
+pub looked_near_more : (old now : List (Option ℤ)) (stride reach place : ℕ) (new : Option ℤ) → 0 < stride → 0 < place → place - 1 < length old → place - 1 < reach * stride
+    → new ≡ larger (value_at now (place - 1)) (value_at now ((place - 1) % stride))
     → LookedBackFrom old stride reach place now → LookedBackFrom old stride reach (place - 1) (slice_set now (place - 1) new)
-looked_back_more old now stride reach place from new some inside below behind is was =
+looked_near_more old now stride reach place new some more inside near is was =
     let at : ℕ = place - 1 in
     let room : at < length now = omega (arith, was.whole) in
-    let here : shown (get_or now at (pos 0)) ≡ value_at old at = value_read now at room ∙ was.left at (omega arith) in
-    let there : shown (get_or now from (pos 0)) ≡ value_at old from = value_read now from (omega arith) ∙ was.left from (omega arith) in
+    let here : value_at now at ≡ value_at old at = was.left at (omega arith) in
+    let there : value_at now (at % stride) ≡ value_at old (at % stride) = was.left (at % stride) (omega arith) in
     record {
       whole = length-set now at new ∙ was.whole;
       done = λ k above within. elim (cases_lt at k) [
-        | inl later ↦ rw (set_other now at k new (omega arith)) (was.done k (omega arith) within)
+        | inl later ↦ rw (get_or-set_other now at k new None (omega arith)) (was.done k (omega arith) within)
         | inr not ↦
             let same : at ≡ k = omega arith in
-            let new_is : value_at (slice_set now at new) k ≡ larger (value_at old k) (value_at old from) = subst (λ (i : ℕ). value_at (slice_set now at new) i ≡ larger (value_at old i) (value_at old from)) same (set_same now at new room ∙ is ∙ rw (here, there)) in
-            record { from = from; behind = subst (λ (i : ℕ). IsBehind stride reach i from) same behind; is = new_is }
+            let is_at : IsLookedBackAt old stride reach at (value_at (slice_set now at new) at) =
+            record { from = at % stride; behind = behind_first stride reach at some near; is = get_or-set_same now at new None room ∙ is ∙ rw (here, there) } in
+            subst (λ (i : ℕ). IsLookedBackAt old stride reach i (value_at (slice_set now at new) i)) same is_at
       ];
-      left = λ k less. set_other now at k new (omega arith) ∙ was.left k (omega arith);
+      left = λ k less. get_or-set_other now at k new None (omega arith) ∙ was.left k (omega arith);
     }

@@ -7,14 +7,15 @@ use Rattle.hd_map.specs.Map.{InGrid, cell_count}
 use Rattle.hd_morph.specs.Element.{ElementTable, number_at}
 use Rattle.hd_morph.specs.Greatest.{IsGreatest, larger}
 use Rattle.hd_morph.specs.Filter.{Relief, IsRaised, Filter, Dilation, IsFiltered}
-use Rattle.hd_morph.specs.Plain.{missing, plain_at, value_at, relief}
+use Rattle.hd_morph.specs.Encoding.{Encoding, values_of, number_in}
+use Rattle.hd_morph.specs.Plain.{value_at, relief}
 
 -- the plain numbers are what a filter makes of others, and each that stands for none is `missing`
-pub record ArePlainlyFiltered (filter : Filter) (s : Size) (e : ElementTable) (old new : List ℤ)
-    : Type 0 where
+pub record ArePlainlyFiltered {L : Type 0} (code : Encoding L) (filter : Filter) (s : Size) (e : ElementTable)
+    (old new : List L) : Type 0 where
   pub whole : length new ≡ cell_count s
-  pub filtered : IsFiltered filter s e (relief s old) (relief s new)
-  pub absent : (k : ℕ) → value_at new k ≡ None → plain_at new k ≡ missing
+  pub filtered : IsFiltered filter s e (relief s (values_of code old)) (relief s (values_of code new))
+  pub absent : (k : ℕ) → code.shown (number_in code new k) ≡ None → number_in code new k ≡ code.missing
 
 -- one and the same number everywhere
 pub record IsFlat (e : ElementTable) (across down : ℕ) (number : ℤ) : Type 0 where
@@ -23,8 +24,9 @@ pub record IsFlat (e : ElementTable) (across down : ℕ) (number : ℤ) : Type 0
   pub each : (u : Pos) → u.x < e.width → u.y < e.height → number_at e u ≡ Some number
 
 -- the dilation by each element that is flat with this reach and number
-pub record AreFlatlyDilated (s : Size) (across down : ℕ) (number : ℤ) (old new : List ℤ) : Type 0 where
-  pub each : (e : ElementTable) → IsFlat e across down number → ArePlainlyFiltered Dilation s e old new
+pub record AreFlatlyDilated {L : Type 0} (code : Encoding L) (s : Size) (across down : ℕ) (number : ℤ)
+    (old new : List L) : Type 0 where
+  pub each : (e : ElementTable) → IsFlat e across down number → ArePlainlyFiltered code Dilation s e old new
 
 -- the value is a number at most n from zero
 pub record IsNumberWithin (n : ℕ) (value : Option ℤ) : Type 0 where
@@ -34,28 +36,29 @@ pub record IsNumberWithin (n : ℕ) (value : Option ℤ) : Type 0 where
   pub greatest : number ≤ℤ pos n
 
 -- where a height stands, a top at most n from zero stands too
-pub record AreTopped (n : ℕ) (heights tops : List ℤ) : Type 0 where
+pub record AreTopped (n : ℕ) (heights tops : List (Option ℤ)) : Type 0 where
   pub whole : length tops ≡ length heights
   pub each : (k : ℕ) (z : ℤ) → value_at heights k ≡ Some z → IsNumberWithin n (value_at tops k)
-
--- what a place becomes: its top plus a number where a height stands, and else `missing`
-pub record IsSettled (height : Option ℤ) (top number new : ℤ) : Type 0 where
-  pub present : (z : ℤ) → height ≡ Some z → new ≡ top +ℤ number
-  pub absent : height ≡ None → new ≡ missing
-
--- each place is settled
-pub record AreSettled (heights old : List ℤ) (number : ℤ) (new : List ℤ) : Type 0 where
-  pub whole : length new ≡ length old
-  pub each : (k : ℕ) → k < length old
-      → IsSettled (value_at heights k) (plain_at old k) number (plain_at new k)
 
 -- the value, if there is one, plus a number
 abbrev pub plus : ℤ → Option ℤ → Option ℤ
 plus number (Some z) = Some (z +ℤ number)
 plus number None = None
 
+-- what a place becomes: its top plus a number where a height stands, and else `missing`
+pub record IsSettled {L : Type 0} (code : Encoding L) (height top : Option ℤ) (number : ℤ) (new : L) : Type 0 where
+  pub present : (z : ℤ) → height ≡ Some z → code.shown new ≡ plus number top
+  pub absent : height ≡ None → new ≡ code.missing
+
+-- each place is settled
+pub record AreSettled {L : Type 0} (code : Encoding L) (heights old : List (Option ℤ)) (number : ℤ) (new : List L)
+    : Type 0 where
+  pub whole : length new ≡ length old
+  pub each : (k : ℕ) → k < length old
+      → IsSettled code (value_at heights k) (value_at old k) number (number_in code new k)
+
 -- each value of a stretch is the larger of itself and of a height of another stretch, raised
-pub record AreRaisedTo (heights : List ℤ) (from count : ℕ) (number : ℤ) (to : ℕ) (old new : List ℤ)
+pub record AreRaisedTo (heights : List (Option ℤ)) (from count : ℕ) (number : ℤ) (to : ℕ) (old new : List (Option ℤ))
     : Type 0 where
   pub whole : length new ≡ length old
   pub inside : (k : ℕ) → k < count
@@ -77,7 +80,7 @@ pub record IsRaisedOnce (s : Size) (e : ElementTable) (f : Relief) (p offset : P
   pub is : new ≡ larger old raised
 
 -- each value of a row is raised once
-pub record IsRowRaisedOnce (s : Size) (e : ElementTable) (f : Relief) (y : ℕ) (offset : Pos) (old new : List ℤ)
+pub record IsRowRaisedOnce (s : Size) (e : ElementTable) (f : Relief) (y : ℕ) (offset : Pos) (old new : List (Option ℤ))
     : Type 0 where
   pub whole : length new ≡ length old
   pub each : (x : ℕ) → x < s.points
@@ -85,7 +88,7 @@ pub record IsRowRaisedOnce (s : Size) (e : ElementTable) (f : Relief) (y : ℕ) 
 
 -- each value of a row that an offset of this column of the element leads to is raised by the height
 -- that it leads from, and the others stay
-pub record AreRaisedAcross (heights : List ℤ) (reach column : ℕ) (number : ℤ) (old new : List ℤ)
+pub record AreRaisedAcross (heights : List (Option ℤ)) (reach column : ℕ) (number : ℤ) (old new : List (Option ℤ))
     : Type 0 where
   pub whole : length new ≡ length old
   pub reached : (x from : ℕ) → x < length old → from < length heights → from + column ≡ x + reach
@@ -94,21 +97,21 @@ pub record AreRaisedAcross (heights : List ℤ) (reach column : ℕ) (number : �
       → value_at new x ≡ value_at old x
 
 -- no number stands for a height
-pub record AreBlank (s : Size) (tops : List ℤ) : Type 0 where
+pub record AreBlank (s : Size) (tops : List (Option ℤ)) : Type 0 where
   pub whole : length tops ≡ cell_count s
   pub each : (k : ℕ) → value_at tops k ≡ None
 
 -- no number of a row stands for a height
-pub record IsBlankRow (s : Size) (row : List ℤ) : Type 0 where
+pub record IsBlankRow (s : Size) (row : List (Option ℤ)) : Type 0 where
   pub whole : length row ≡ s.points
   pub each : (x : ℕ) → value_at row x ≡ None
 
 -- each value of a row is the greatest of the raised heights at its position
-pub record IsRowRaised (s : Size) (e : ElementTable) (f : Relief) (y : ℕ) (row : List ℤ) : Type 0 where
+pub record IsRowRaised (s : Size) (e : ElementTable) (f : Relief) (y : ℕ) (row : List (Option ℤ)) : Type 0 where
   pub whole : length row ≡ s.points
   pub each : (x : ℕ) → x < s.points → IsGreatest (IsRaised s e f (record { x = x; y = y })) (value_at row x)
 
 -- each value is the greatest of the raised heights at its position
-pub record AreRaised (s : Size) (e : ElementTable) (f : Relief) (tops : List ℤ) : Type 0 where
+pub record AreRaised (s : Size) (e : ElementTable) (f : Relief) (tops : List (Option ℤ)) : Type 0 where
   pub whole : length tops ≡ cell_count s
   pub each : (p : Pos) → InGrid s p → IsGreatest (IsRaised s e f p) (relief s tops p)

@@ -2,32 +2,58 @@
 ghost use Rattle.std.specs.Prelude.{◌≡◌, ◌/◌, IfOk, IfSome};
 ghost use Rattle.hd_map.specs.Map.{IsSize};
 ghost use Rattle.hd_morph.specs.Element.{IsElement};
+ghost use Rattle.hd_morph.specs.Encoding.{most_between, most_filtered};
 ghost use Rattle.hd_morph.specs.Filter.{Dilation, Erosion, Opening, Closing};
-ghost use Rattle.hd_morph.specs.Plain.{ArePlain, IsPlain, most_height, most_between, most_filtered};
+ghost use Rattle.hd_morph.specs.Kind.{filter_of};
+ghost use Rattle.hd_morph.specs.Plain.{ArePlain, IsPlain, HasNumbersWithin};
 ghost use Rattle.hd_morph.specs.Raised.{ArePlainlyFiltered, IsFlat};
 ghost use Rattle.hd_morph.specs.Turned.{AreNegated};
 
 use crate::Element;
 use crate::element::turned;
 use crate::flat::dilate_flat;
+use crate::kind::Kind;
+use crate::lane::Lane;
 use crate::offsets::dilate_by_offsets;
 use crate::plain::negate;
 use hd_list::Memory;
 use hd_map::Size;
 use std::alloc::Global;
 
-/// The dilation of heights, in the memory of `room` where that suffices. An element that has one and
-/// the same number everywhere takes time in proportion to the points, times the logarithm of its
-/// size.
-pub fn dilated(
-    room: Vec<i64>,
-    heights: &[i64],
+/// A filter of heights.
+pub fn filtered<L: Lane>(
+    alloc: Global,
+    heights: Vec<L>,
     size: Size,
     element: &Element,
-) -> Result<Vec<i64>, Memory>
+    kind: Kind,
+) -> Result<Vec<L>, Memory>
     requires size { IsSize size }
-    requires heights { ArePlain size most_between heights.now }
-    ensures dilation { IfOk result (λ d. ArePlainlyFiltered Dilation size element.now heights.now d.items) }
+    requires heights { ArePlain L.code size L.code.most_height heights.items }
+    requires numbers { HasNumbersWithin L.code.most_number element.now }
+    ensures { IfOk result (λ g. ArePlainlyFiltered L.code (filter_of kind) size element.now heights.items g.items) }
+{
+    match kind {
+        Kind::Dilation => dilated(Vec::new(alloc), &heights, size, element),
+        Kind::Erosion => eroded_once(alloc, heights, size, element),
+        Kind::Opening => opened(alloc, heights, size, element),
+        Kind::Closing => closed(alloc, heights, size, element),
+    }
+}
+
+// The dilation of heights, in the memory of `room` where that suffices. An element that has one and
+// the same number everywhere takes time in proportion to the points, times the logarithm of its
+// size.
+fn dilated<L: Lane>(
+    room: Vec<L>,
+    heights: &[L],
+    size: Size,
+    element: &Element,
+) -> Result<Vec<L>, Memory>
+    requires size { IsSize size }
+    requires heights { ArePlain L.code size (most_between L.code) heights.now }
+    requires numbers { HasNumbersWithin L.code.most_number element.now }
+    ensures dilation { IfOk result (λ d. ArePlainlyFiltered L.code Dilation size element.now heights.now d.items) }
     ensures element { IsElement element.now }
 {
     let Some(number) = flat_number(element) else {
@@ -57,18 +83,36 @@ fn flat_number(element: &Element) -> Option<i64>
     Some(first)
 }
 
-/// The erosion of heights, in the memory of `room` where that suffices: the negative of the dilation
-/// of the negatives by the turned element. The heights are left negated.
-pub fn eroded(
+// The erosion of heights.
+fn eroded_once<L: Lane>(
     alloc: Global,
-    room: Vec<i64>,
-    heights: &mut [i64],
+    heights: Vec<L>,
     size: Size,
     element: &Element,
-) -> Result<Vec<i64>, Memory>
+) -> Result<Vec<L>, Memory>
     requires size { IsSize size }
-    requires heights { ArePlain size most_between heights.old }
-    ensures erosion { IfOk result (λ w. ArePlainlyFiltered Erosion size element.now heights.old w.items) }
+    requires heights { ArePlain L.code size L.code.most_height heights.items }
+    requires numbers { HasNumbersWithin L.code.most_number element.now }
+    ensures { IfOk result (λ w. ArePlainlyFiltered L.code Erosion size element.now heights.items w.items) }
+{
+    let mut heights = heights;
+    let eroded = eroded(alloc, Vec::new(alloc), &mut heights, size, element)?;
+    Ok(eroded)
+}
+
+// The erosion of heights, in the memory of `room` where that suffices: the negative of the dilation
+// of the negatives by the turned element. The heights are left negated.
+fn eroded<L: Lane>(
+    alloc: Global,
+    room: Vec<L>,
+    heights: &mut [L],
+    size: Size,
+    element: &Element,
+) -> Result<Vec<L>, Memory>
+    requires size { IsSize size }
+    requires heights { ArePlain L.code size (most_between L.code) heights.old }
+    requires numbers { HasNumbersWithin L.code.most_number element.now }
+    ensures erosion { IfOk result (λ w. ArePlainlyFiltered L.code Erosion size element.now heights.old w.items) }
     ensures element { IsElement element.now }
 {
     let turned = turned(alloc, element)?;
@@ -78,41 +122,43 @@ pub fn eroded(
 }
 
 // The heights, each negated.
-fn all_negated(heights: Vec<i64>) -> Vec<i64>
-    requires { IsPlain most_filtered heights.items }
-    ensures { AreNegated heights.items result.items }
+fn all_negated<L: Lane>(heights: Vec<L>) -> Vec<L>
+    requires { IsPlain L.code (most_filtered L.code) heights.items }
+    ensures { AreNegated L.code heights.items result.items }
 {
     let mut heights = heights;
     negate(&mut heights);
     heights
 }
 
-/// The opening of heights: an erosion, and then a dilation. It takes the memory of one more list.
-pub fn opened(
+// The opening of heights: an erosion, and then a dilation. It takes the memory of one more list.
+fn opened<L: Lane>(
     alloc: Global,
-    heights: Vec<i64>,
+    heights: Vec<L>,
     size: Size,
     element: &Element,
-) -> Result<Vec<i64>, Memory>
+) -> Result<Vec<L>, Memory>
     requires size { IsSize size }
-    requires heights { ArePlain size most_height heights.items }
-    ensures { IfOk result (λ g. ArePlainlyFiltered Opening size element.now heights.items g.items) }
+    requires heights { ArePlain L.code size L.code.most_height heights.items }
+    requires numbers { HasNumbersWithin L.code.most_number element.now }
+    ensures { IfOk result (λ g. ArePlainlyFiltered L.code Opening size element.now heights.items g.items) }
 {
     let mut room = heights;
     let between = eroded(alloc, Vec::new(alloc), &mut room, size, element)?;
     dilated(room, &between, size, element)
 }
 
-/// The closing of heights: a dilation, and then an erosion. It takes the memory of one more list.
-pub fn closed(
+// The closing of heights: a dilation, and then an erosion. It takes the memory of one more list.
+fn closed<L: Lane>(
     alloc: Global,
-    heights: Vec<i64>,
+    heights: Vec<L>,
     size: Size,
     element: &Element,
-) -> Result<Vec<i64>, Memory>
+) -> Result<Vec<L>, Memory>
     requires size { IsSize size }
-    requires heights { ArePlain size most_height heights.items }
-    ensures { IfOk result (λ g. ArePlainlyFiltered Closing size element.now heights.items g.items) }
+    requires heights { ArePlain L.code size L.code.most_height heights.items }
+    requires numbers { HasNumbersWithin L.code.most_number element.now }
+    ensures { IfOk result (λ g. ArePlainlyFiltered L.code Closing size element.now heights.items g.items) }
 {
     let mut between = dilated(Vec::new(alloc), &heights, size, element)?;
     eroded(alloc, heights, &mut between, size, element)

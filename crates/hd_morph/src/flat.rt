@@ -1,10 +1,11 @@
 // Dilations by elements that have one and the same number everywhere.
 ghost use Rattle.std.specs.Prelude.{◌≡◌, ◌<◌, ◌≤ℤ◌, ◌^◌, IfOk, pos, neg_ℤ, length};
 ghost use Rattle.hd_map.specs.Map.{IsSize};
-ghost use Rattle.hd_morph.specs.Element.{most_entry};
-ghost use Rattle.hd_morph.specs.Plain.{ArePlain, most_between};
+ghost use Rattle.hd_morph.specs.Encoding.{most_between};
+ghost use Rattle.hd_morph.specs.Plain.{ArePlain};
 ghost use Rattle.hd_morph.specs.Raised.{AreFlatlyDilated};
 
+use crate::lane::Lane;
 use crate::plain::settle;
 use crate::round::spread_round;
 use hd_list::Memory;
@@ -12,21 +13,21 @@ use hd_map::Size;
 
 /// The dilation by each element of `2 * across + 1` columns and `2 * down + 1` rows that has this
 /// number everywhere, in the memory of `room` where that suffices.
-pub fn dilate_flat(
-    room: Vec<i64>,
-    heights: &[i64],
+pub fn dilate_flat<L: Lane>(
+    room: Vec<L>,
+    heights: &[L],
     size: Size,
     across: usize,
     down: usize,
     number: i64,
-) -> Result<Vec<i64>, Memory>
+) -> Result<Vec<L>, Memory>
     requires size { IsSize size }
-    requires heights { ArePlain size most_between heights.now }
+    requires heights { ArePlain L.code size (most_between L.code) heights.now }
     requires across { across < 2 ^ 31 }
     requires down { down < 2 ^ 31 }
-    requires least { neg_ℤ (pos most_entry) ≤ℤ number }
-    requires greatest { number ≤ℤ pos most_entry }
-    ensures { IfOk result (λ d. AreFlatlyDilated size across down number heights.now d.items) }
+    requires least { neg_ℤ (pos L.code.most_number) ≤ℤ number }
+    requires greatest { number ≤ℤ pos L.code.most_number }
+    ensures { IfOk result (λ d. AreFlatlyDilated L.code size across down number heights.now d.items) }
 {
     let mut tops = room;
     tops.clear();
@@ -36,22 +37,22 @@ pub fn dilate_flat(
 }
 
 // The tops are the heights at the call, and the dilation at the return.
-fn raise_flat(
-    tops: &mut [i64],
-    heights: &[i64],
+fn raise_flat<L: Lane>(
+    tops: &mut [L],
+    heights: &[L],
     size: Size,
     across: usize,
     down: usize,
     number: i64,
 )
     requires size { IsSize size }
-    requires heights { ArePlain size most_between heights.now }
+    requires heights { ArePlain L.code size (most_between L.code) heights.now }
     requires same { tops.old ≡ heights.now }
     requires across { across < 2 ^ 31 }
     requires down { down < 2 ^ 31 }
-    requires least { neg_ℤ (pos most_entry) ≤ℤ number }
-    requires greatest { number ≤ℤ pos most_entry }
-    ensures { AreFlatlyDilated size across down number heights.now tops.new }
+    requires least { neg_ℤ (pos L.code.most_number) ≤ℤ number }
+    requires greatest { number ≤ℤ pos L.code.most_number }
+    ensures { AreFlatlyDilated L.code size across down number heights.now tops.new }
 {
     spread_round(tops, size, across, down);
     settle(tops, heights, number);

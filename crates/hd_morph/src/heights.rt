@@ -1,53 +1,23 @@
 // The heights of a map, filtered.
-ghost use Rattle.std.specs.Prelude.{◌≡◌, ◌<◌, ◌≤ℤ◌, ◌↔◌, ℤ, IsTrue, IfOk, MatchOption, Some, None, length, slice_index_or};
-ghost use Rattle.hd_map.specs.Map.{InGrid, cell_count};
+ghost use Rattle.std.specs.Prelude.{◌≡◌, ◌≤ℤ◌, ◌↔◌, ℤ, IsTrue, IfOk, MatchOption, MatchResult, Some, length};
+ghost use Rattle.hd_map.specs.Map.{cell_count};
+ghost use Rattle.hd_morph.specs.Element.{IsElement};
+ghost use Rattle.hd_morph.specs.Encoding.{narrow, values_of};
 ghost use Rattle.hd_morph.specs.Filter.{Dilation, Erosion, Opening, Closing};
-ghost use Rattle.hd_morph.specs.Answer.{IsFirstOutside};
-ghost use Rattle.hd_morph.specs.NewHeights.{cell_with, MakesNewHeights};
-ghost use Rattle.hd_morph.specs.Plain.{relief, shown};
-ghost use Rattle.hd_morph.specs.Listed.{AreHeightsOf, AreOfType, IsPlainHeight, MakesHeights};
+ghost use Rattle.hd_morph.specs.Kind.{filter_of};
+ghost use Rattle.hd_morph.specs.Answer.{IsFirstOutside, IsFilterRefusal};
+ghost use Rattle.hd_morph.specs.NewHeights.{AreNewHeights, MakesNewHeights};
+ghost use Rattle.hd_morph.specs.Plain.{HasNumbersWithin, relief};
+ghost use Rattle.hd_morph.specs.Listed.{AreHeightsOf, AreOfType, IsBeyond};
 
-use crate::filter::{closed, dilated, eroded, opened};
-use crate::plain::{MISSING, is_shown};
+use crate::filter::filtered;
+use crate::kind::Kind;
+use crate::lane::{Lane, MOST_NARROW_NUMBER};
+use crate::new_heights::{NewHeights, Numbers};
 use crate::{Element, MorphError};
 use hd_list::Memory;
-use hd_map::{Cell, Grid, Pos, greatest_of, height, least_of, position_after, position_of};
+use hd_map::{Grid, Pos, greatest_of, height, least_of, position_after, position_of};
 use std::alloc::Global;
-use std::marker::Model;
-
-/// The new heights of a filtered map. Contracts see the list of them by index, with none where a
-/// point keeps its cell. The type promises neither how many they are nor their range: by
-/// [`dilated_heights`] and the calls beside it there is one entry for each point of their map, and
-/// each height is in the range of its data type.
-#[derive(Debug, Drop)]
-pub struct NewHeights {
-    numbers: Vec<i64>,
-}
-
-impl Model for NewHeights {
-    ghost use Rattle.std.specs.Prelude.{ℤ, List, Option, map};
-    ghost use Rattle.hd_morph.specs.Plain.{shown};
-
-    ghost Value = { List (Option ℤ) };
-
-    ghost view = { λ h. map shown h.numbers.items };
-}
-
-impl NewHeights {
-    /// The cell of a point with its new height. Where it has none, it keeps this old cell.
-    #[inline]
-    pub fn cell(&self, index: u32, old: Cell) -> Cell
-        requires { index < length self.now }
-        ensures { result ≡ cell_with (slice_index_or self.now index None) old }
-    {
-        let number = self.numbers[index as usize];
-        if is_shown(number) {
-            Cell::Height(number)
-        } else {
-            old
-        }
-    }
-}
 
 /// The dilation of a map by an element: its new heights by index.
 ///
@@ -58,7 +28,9 @@ impl NewHeights {
 ///
 /// `HeightRange` comes exactly where a new height is not in the range of the data type, with the
 /// first such position by index. `Memory` may come in place of any other answer. Measured, it takes
-/// 16 bytes a point, the 8 of the new heights among them.
+/// 8 bytes a point, the 4 of the new heights among them, where no height is more than 2 ^ 29 steps
+/// from zero and no number of the element more than 2 ^ 27, and else 16, the 8 of the new heights
+/// among them.
 pub fn dilated_heights<G: Grid>(
     alloc: Global,
     grid: &G,
@@ -66,10 +38,7 @@ pub fn dilated_heights<G: Grid>(
 ) -> Result<NewHeights, MorphError>
     ensures { MakesNewHeights Dilation (G.map grid.now) element.now result }
 {
-    let heights = heights_of(alloc, grid)?;
-    let room = Vec::new(alloc);
-    let dilated = dilated(room, &heights, grid.size(), element)?;
-    checked(grid, dilated)
+    filtered_heights(alloc, grid, element, Kind::Dilation)
 }
 
 /// The erosion of a map by an element: its new heights by index.
@@ -84,10 +53,7 @@ pub fn eroded_heights<G: Grid>(
 ) -> Result<NewHeights, MorphError>
     ensures { MakesNewHeights Erosion (G.map grid.now) element.now result }
 {
-    let mut heights = heights_of(alloc, grid)?;
-    let room = Vec::new(alloc);
-    let eroded = eroded(alloc, room, &mut heights, grid.size(), element)?;
-    checked(grid, eroded)
+    filtered_heights(alloc, grid, element, Kind::Erosion)
 }
 
 /// The opening of a map by an element, an erosion and then a dilation: its new heights by index.
@@ -101,9 +67,7 @@ pub fn opened_heights<G: Grid>(
 ) -> Result<NewHeights, MorphError>
     ensures { MakesNewHeights Opening (G.map grid.now) element.now result }
 {
-    let heights = heights_of(alloc, grid)?;
-    let opened = opened(alloc, heights, grid.size(), element)?;
-    checked(grid, opened)
+    filtered_heights(alloc, grid, element, Kind::Opening)
 }
 
 /// The closing of a map by an element, a dilation and then an erosion: its new heights by index.
@@ -117,70 +81,109 @@ pub fn closed_heights<G: Grid>(
 ) -> Result<NewHeights, MorphError>
     ensures { MakesNewHeights Closing (G.map grid.now) element.now result }
 {
-    let heights = heights_of(alloc, grid)?;
-    let closed = closed(alloc, heights, grid.size(), element)?;
-    checked(grid, closed)
+    filtered_heights(alloc, grid, element, Kind::Closing)
 }
 
-// The heights of a map by index.
-fn heights_of<G: Grid>(alloc: Global, grid: &G) -> Result<Vec<i64>, Memory>
-    ensures { IfOk result (λ heights. AreHeightsOf (G.map grid.now) heights.items) }
+// The new heights of a filtered map, in 32 bits each where they fit.
+fn filtered_heights<G: Grid>(
+    alloc: Global,
+    grid: &G,
+    element: &Element,
+    kind: Kind,
+) -> Result<NewHeights, MorphError>
+    ensures { MakesNewHeights (filter_of kind) (G.map grid.now) element.now result }
+{
+    if has_narrow_numbers(element) {
+        if let Some(numbers) = filtered_numbers::<i32, G>(alloc, grid, element, kind)? {
+            return Ok(NewHeights::new(Numbers::Narrow(numbers)));
+        }
+    }
+    match filtered_numbers::<i64, G>(alloc, grid, element, kind)? {
+        Some(numbers) => Ok(NewHeights::new(Numbers::Wide(numbers))),
+        None => unreachable!(),
+    }
+}
+
+// Whether numbers of 32 bits do for the numbers of an element.
+fn has_narrow_numbers(element: &Element) -> bool
+    ensures narrow { IsTrue result ↔ HasNumbersWithin narrow.most_number element.now }
+    ensures element { IsElement element.now }
+{
+    let table = element.table();
+    for index in 0..table.len() {
+        if !is_between(-MOST_NARROW_NUMBER, MOST_NARROW_NUMBER, table[index]) {
+            return false;
+        }
+    }
+    true
+}
+
+// The new heights of a filtered map as plain numbers of one type, unless a height is beyond it.
+fn filtered_numbers<L: Lane, G: Grid>(
+    alloc: Global,
+    grid: &G,
+    element: &Element,
+    kind: Kind,
+) -> Result<Option<Vec<L>>, MorphError>
+    requires { HasNumbersWithin L.code.most_number element.now }
+    ensures { let m = G.map grid.now in MatchResult result
+        (λ found. MatchOption found (IsBeyond L.code m)
+        (λ g. AreNewHeights (filter_of kind) m element.now (values_of L.code g.items)))
+        (IsFilterRefusal (filter_of kind) m element.now) }
+{
+    let Some(heights) = heights_of::<L, G>(alloc, grid)? else {
+        return Ok(None);
+    };
+    let filtered = filtered(alloc, heights, grid.size(), element, kind)?;
+    if let Some(at) = first_outside(grid, &filtered) {
+        return Err(MorphError::HeightRange(at));
+    }
+    Ok(Some(filtered))
+}
+
+// The heights of a map by index, unless one is too far from zero.
+fn heights_of<L: Lane, G: Grid>(alloc: Global, grid: &G) -> Result<Option<Vec<L>>, Memory>
+    ensures { let m = G.map grid.now in IfOk result (λ found. MatchOption found (IsBeyond L.code m)
+        (λ heights. AreHeightsOf L.code m heights.items)) }
 {
     let size = grid.size();
     let count = size.profiles * size.points;
-    let mut heights = vec![in alloc; MISSING; count as usize]?;
+    let mut heights = vec![in alloc; L::missing(); count as usize]?;
     let mut at = Pos { x: 0, y: 0 };
     for index in 0..count {
-        heights[index as usize] = plain_height(grid, at);
+        let Some(number) = L::of_height(height(grid, at)) else {
+            return Ok(None);
+        };
+        heights[index as usize] = number;
         at = position_after(size, at);
     }
-    Ok(heights)
-}
-
-// The height of a point as a plain number.
-#[inline]
-fn plain_height<G: Grid>(grid: &G, at: Pos) -> i64
-    requires { InGrid (G.map grid.now).size at }
-    ensures { IsPlainHeight (G.map grid.now) at result }
-{
-    match height(grid, at) {
-        Some(height) => height,
-        None => MISSING,
-    }
-}
-
-// Numbers as the new heights of a map, where all are in the range of its data type.
-fn checked<G: Grid>(grid: &G, numbers: Vec<i64>) -> Result<NewHeights, MorphError>
-    requires { length numbers.items ≡ cell_count (G.map grid.now).size }
-    ensures { MakesHeights (G.map grid.now) numbers.items result }
-{
-    match first_outside(grid, &numbers) {
-        Some(at) => Err(MorphError::HeightRange(at)),
-        None => Ok(NewHeights { numbers }),
-    }
+    Ok(Some(heights))
 }
 
 // The first position whose height is outside the range of the data type.
-fn first_outside<G: Grid>(grid: &G, numbers: &[i64]) -> Option<Pos>
+fn first_outside<L: Lane, G: Grid>(grid: &G, numbers: &[L]) -> Option<Pos>
     requires { length numbers.now ≡ cell_count (G.map grid.now).size }
-    ensures { let m = G.map grid.now in let heights = relief m.size numbers.now in
+    ensures { let m = G.map grid.now in let heights = relief m.size (values_of L.code numbers.now) in
         MatchOption result (AreOfType m heights) (IsFirstOutside m heights) }
 {
     let data_type = grid.data_type();
     let least = least_of(data_type);
     let greatest = greatest_of(data_type);
     for index in 0..numbers.len() {
-        if !is_between(least, greatest, numbers[index]) {
+        if !is_between(least, greatest, numbers[index].height()) {
             return Some(position_of(grid.size(), index as u32));
         }
     }
     None
 }
 
-// Whether a number stands for a height from a least to a greatest one, or for none.
+// Whether a height, if there is one, is from a least to a greatest one.
 #[inline]
-fn is_between(least: i64, greatest: i64, number: i64) -> bool
-    ensures { IsTrue result ↔ ((z : ℤ) → shown number ≡ Some z → (least ≤ℤ z) × (z ≤ℤ greatest)) }
+fn is_between(least: i64, greatest: i64, height: Option<i64>) -> bool
+    ensures { IsTrue result ↔ ((z : ℤ) → height ≡ Some z → (least ≤ℤ z) × (z ≤ℤ greatest)) }
 {
-    !is_shown(number) || least <= number && number <= greatest
+    match height {
+        Some(height) => least <= height && height <= greatest,
+        None => true,
+    }
 }

@@ -1,9 +1,9 @@
 //! Dilation, erosion, opening and closing of a measured surface by an element, with the laws that
 //! their definitions keep.
 //!
-//! Heights are worked on as plain numbers by index, so that each pass is over whole rows without a
-//! test for missing points. Measured, the time that an element with one and the same number
-//! everywhere takes hardly grows with its size.
+//! Heights are worked on as plain numbers by index, of 32 bits where they fit and else of 64, so that
+//! each pass is over whole rows without a test for missing points. Measured, the time that an element
+//! with one and the same number everywhere takes hardly grows with its size.
 #![tactic(auto)]
 
 mod cells;
@@ -12,7 +12,10 @@ mod errors;
 mod filter;
 mod flat;
 mod heights;
+mod kind;
+mod lane;
 mod laws;
+mod new_heights;
 mod offsets;
 mod plain;
 mod round;
@@ -21,8 +24,9 @@ mod window;
 pub use cells::{close, dilate, erode, open};
 pub use element::Element;
 pub use errors::{ElementError, MorphError};
-pub use heights::{NewHeights, closed_heights, dilated_heights, eroded_heights, opened_heights};
+pub use heights::{closed_heights, dilated_heights, eroded_heights, opened_heights};
 pub use laws::{
     accepted_cells_make_a_map, dilation_and_erosion_are_adjoint, filter_is_determined,
     filtered_again_is_the_same,
 };
+pub use new_heights::NewHeights;

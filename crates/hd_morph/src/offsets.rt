@@ -1,55 +1,70 @@
 // Dilations by any element, offset by offset, each over whole rows.
-ghost use Rattle.std.specs.Prelude.{◌≡◌, ◌<◌, ◌≤◌, ◌+◌, ◌/◌, ◌≤ℤ◌, IfOk, IfSome, IfNone, ℕ, pos, neg_ℤ, length};
-ghost use Rattle.hd_map.specs.Map.{IsSize};
-ghost use Rattle.hd_morph.specs.Element.{IsElement, number_at, most_entry};
+ghost use Rattle.std.specs.Prelude.{◌≡◌, ◌<◌, ◌≤◌, ◌+◌, ◌/◌, ◌≤ℤ◌, IfOk, IfSome, IfNone, ℕ, None, pos, neg_ℤ, length};
+ghost use Rattle.hd_map.specs.Map.{IsSize, cell_count};
+ghost use Rattle.hd_morph.specs.Element.{IsElement, number_at};
+ghost use Rattle.hd_morph.specs.Encoding.{most_between, values_of};
 ghost use Rattle.hd_morph.specs.Filter.{Dilation};
-ghost use Rattle.hd_morph.specs.Plain.{ArePlain, IsPlain, IsPlainNumber, relief, shown, IsBounded, most_between};
-ghost use Rattle.hd_morph.specs.Raised.{ArePlainlyFiltered, AreRaisedTo, AreRaisedAcross, IsRowRaisedOnce, AreBlank, IsBlankRow, IsRowRaised, AreRaised, plus};
+ghost use Rattle.hd_morph.specs.Plain.{ArePlain, IsPlain, HasNumbersWithin, value_at, relief};
+ghost use Rattle.hd_morph.specs.Raised.{ArePlainlyFiltered, AreRaisedTo, AreRaisedAcross, IsRowRaisedOnce, AreBlank, IsBlankRow, IsRowRaised, AreRaised};
 
 use crate::Element;
-use crate::plain::{MISSING, larger_of, settle};
+use crate::lane::Lane;
+use crate::plain::settle;
 use hd_list::Memory;
 use hd_map::{Pos, Size};
 
 /// The dilation of heights by an element, in the memory of `room` where that suffices. It takes time
 /// in proportion to the places times the numbers of the element.
-pub fn dilate_by_offsets(
-    room: Vec<i64>,
-    heights: &[i64],
+pub fn dilate_by_offsets<L: Lane>(
+    room: Vec<L>,
+    heights: &[L],
     size: Size,
     element: &Element,
-) -> Result<Vec<i64>, Memory>
+) -> Result<Vec<L>, Memory>
     requires size { IsSize size }
-    requires heights { ArePlain size most_between heights.now }
+    requires heights { ArePlain L.code size (most_between L.code) heights.now }
+    requires numbers { HasNumbersWithin L.code.most_number element.now }
     requires element { IsElement element.now }
-    ensures { IfOk result (λ d. ArePlainlyFiltered Dilation size element.now heights.now d.items) }
+    ensures { IfOk result (λ d. ArePlainlyFiltered L.code Dilation size element.now heights.now d.items) }
 {
     let mut tops = room;
     tops.clear();
     tops.extend_from_slice(heights)?;
-    tops.fill(MISSING);
     raise_and_settle(&mut tops, heights, size, element);
     Ok(tops)
 }
 
-// No top stands for a height at the call, and at the return they are the dilation.
-fn raise_and_settle(tops: &mut [i64], heights: &[i64], size: Size, element: &Element)
+// The tops are the dilation at the return.
+fn raise_and_settle<L: Lane>(tops: &mut [L], heights: &[L], size: Size, element: &Element)
     requires size { IsSize size }
-    requires heights { ArePlain size most_between heights.now }
+    requires heights { ArePlain L.code size (most_between L.code) heights.now }
+    requires numbers { HasNumbersWithin L.code.most_number element.now }
     requires element { IsElement element.now }
-    requires blank { AreBlank size tops.old }
-    ensures { ArePlainlyFiltered Dilation size element.now heights.now tops.new }
+    requires whole { length tops.old ≡ cell_count size }
+    ensures { ArePlainlyFiltered L.code Dilation size element.now heights.now tops.new }
 {
+    leave_out(tops);
     raise_rows(tops, heights, size, element);
     settle(tops, heights, 0);
 }
 
+// Puts at each place a number that stands for no height.
+fn leave_out<L: Lane>(tops: &mut [L])
+    ensures whole { length tops.new ≡ length tops.old }
+    ensures blank { (k : ℕ) → value_at (values_of L.code tops.new) k ≡ None }
+{
+    for place in 0..tops.len() {
+        tops[place] = L::missing();
+    }
+}
+
 // Puts at each position the greatest of the raised heights.
-fn raise_rows(tops: &mut [i64], heights: &[i64], size: Size, element: &Element)
+fn raise_rows<L: Lane>(tops: &mut [L], heights: &[L], size: Size, element: &Element)
     requires size { IsSize size }
-    requires heights { ArePlain size most_between heights.now }
-    requires blank { AreBlank size tops.old }
-    ensures { AreRaised size element.now (relief size heights.now) tops.new }
+    requires heights { ArePlain L.code size (most_between L.code) heights.now }
+    requires numbers { HasNumbersWithin L.code.most_number element.now }
+    requires blank { AreBlank size (values_of L.code tops.old) }
+    ensures { AreRaised size element.now (relief size (values_of L.code heights.now)) (values_of L.code tops.new) }
 {
     let points = size.points as usize;
     for y in 0..size.profiles {
@@ -59,12 +74,13 @@ fn raise_rows(tops: &mut [i64], heights: &[i64], size: Size, element: &Element)
 }
 
 // Puts at each position of a row the greatest of the raised heights.
-fn raise_row(tops: &mut [i64], heights: &[i64], size: Size, element: &Element, y: u32)
+fn raise_row<L: Lane>(tops: &mut [L], heights: &[L], size: Size, element: &Element, y: u32)
     requires size { IsSize size }
-    requires heights { ArePlain size most_between heights.now }
+    requires heights { ArePlain L.code size (most_between L.code) heights.now }
+    requires numbers { HasNumbersWithin L.code.most_number element.now }
     requires row { y < size.profiles }
-    requires blank { IsBlankRow size tops.old }
-    ensures { IsRowRaised size element.now (relief size heights.now) y tops.new }
+    requires blank { IsBlankRow size (values_of L.code tops.old) }
+    ensures { IsRowRaised size element.now (relief size (values_of L.code heights.now)) y (values_of L.code tops.new) }
 {
     let table = element.table();
     let width = element.width();
@@ -78,14 +94,22 @@ fn raise_row(tops: &mut [i64], heights: &[i64], size: Size, element: &Element, y
 }
 
 // Raises the tops of a row by the heights that come from one offset of the element.
-fn raise_by(tops: &mut [i64], heights: &[i64], size: Size, element: &Element, y: u32, offset: Pos)
+fn raise_by<L: Lane>(
+    tops: &mut [L],
+    heights: &[L],
+    size: Size,
+    element: &Element,
+    y: u32,
+    offset: Pos,
+)
     requires size { IsSize size }
-    requires heights { ArePlain size most_between heights.now }
+    requires heights { ArePlain L.code size (most_between L.code) heights.now }
+    requires numbers { HasNumbersWithin L.code.most_number element.now }
     requires row { y < size.profiles }
     requires whole { length tops.old ≡ size.points }
     requires column { offset.x < element.now.width }
     requires table_row { offset.y < element.now.height }
-    ensures { IsRowRaisedOnce size element.now (relief size heights.now) y offset tops.old tops.new }
+    ensures { IsRowRaisedOnce size element.now (relief size (values_of L.code heights.now)) y offset (values_of L.code tops.old) (values_of L.code tops.new) }
 {
     let Some(number) = number_of(element, offset) else {
         return;
@@ -107,12 +131,12 @@ fn raise_by(tops: &mut [i64], heights: &[i64], size: Size, element: &Element, y:
 
 // Raises the tops of a row by a row of heights that an offset leads from: those of this column of
 // the element, which has `reach` columns on either side of its centre.
-fn raise_from_row(tops: &mut [i64], heights: &[i64], reach: usize, column: usize, number: i64)
+fn raise_from_row<L: Lane>(tops: &mut [L], heights: &[L], reach: usize, column: usize, number: i64)
     requires whole { length heights.now ≡ length tops.old }
-    requires heights { IsPlain most_between heights.now }
-    requires least { neg_ℤ (pos most_entry) ≤ℤ number }
-    requires greatest { number ≤ℤ pos most_entry }
-    ensures { AreRaisedAcross heights.now reach column number tops.old tops.new }
+    requires heights { IsPlain L.code (most_between L.code) heights.now }
+    requires least { neg_ℤ (pos L.code.most_number) ≤ℤ number }
+    requires greatest { number ≤ℤ pos L.code.most_number }
+    ensures { AreRaisedAcross (values_of L.code heights.now) reach column number (values_of L.code tops.old) (values_of L.code tops.new) }
 {
     let ahead = reach.saturating_sub(column);
     let behind = column.saturating_sub(reach);
@@ -124,44 +148,32 @@ fn raise_from_row(tops: &mut [i64], heights: &[i64], reach: usize, column: usize
 }
 
 // Raises a stretch of the tops by a stretch of the heights.
-fn raise_stretch(
-    tops: &mut [i64],
+fn raise_stretch<L: Lane>(
+    tops: &mut [L],
     to: usize,
-    heights: &[i64],
+    heights: &[L],
     from: usize,
     count: usize,
     number: i64,
 )
     requires to { to + count ≤ length tops.old }
     requires from { from + count ≤ length heights.now }
-    requires heights { IsPlain most_between heights.now }
-    requires least { neg_ℤ (pos most_entry) ≤ℤ number }
-    requires greatest { number ≤ℤ pos most_entry }
-    ensures { AreRaisedTo heights.now from count number to tops.old tops.new }
+    requires heights { IsPlain L.code (most_between L.code) heights.now }
+    requires least { neg_ℤ (pos L.code.most_number) ≤ℤ number }
+    requires greatest { number ≤ℤ pos L.code.most_number }
+    ensures { AreRaisedTo (values_of L.code heights.now) from count number to (values_of L.code tops.old) (values_of L.code tops.new) }
 {
     for step in 0..count {
-        let raised = raised_by(heights[from + step], number);
-        tops[to + step] = larger_of(tops[to + step], raised);
+        let raised = heights[from + step].raised_by(number);
+        tops[to + step] = tops[to + step].larger_of(raised);
     }
-}
-
-// A height plus a number, and a number far below every height where there is none.
-#[inline]
-fn raised_by(height: i64, number: i64) -> i64
-    requires plain { IsPlainNumber most_between height }
-    requires least { neg_ℤ (pos most_entry) ≤ℤ number }
-    requires greatest { number ≤ℤ pos most_entry }
-    ensures { shown result ≡ plus number (shown height) }
-{
-    height + number
 }
 
 // The number of the element at an offset.
 fn number_of(element: &Element, offset: Pos) -> Option<i64>
     requires column { offset.x < element.now.width }
     requires row { offset.y < element.now.height }
-    ensures number { result ≡ number_at element.now offset }
-    ensures within { IsBounded most_entry result }
+    ensures { result ≡ number_at element.now offset }
 {
     element.table()[(offset.y * element.width() + offset.x) as usize]
 }

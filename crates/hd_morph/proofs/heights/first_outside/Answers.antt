@@ -1,26 +1,31 @@
-use Rattle.std.proofs.Common.{arith, pos, get_or, refl, rules, SFits, w64}
+use Rattle.std.proofs.Common.{refl, ◌∙◌, arith, rules, SFits, w64}
 use Rattle.std.proofs.lemmas.Bool.{false≢true}
 use Rattle.std.proofs.lemmas.Int.{to_z-of_z}
-use Rattle.hd_morph.proofs.PlainNumbers.{value_read}
+use Rattle.hd_morph.specs.Encoding.{values_of}
+use Rattle.hd_morph.proofs.Encodings.{value_read}
 use Rattle.hd_morph.proofs.Listed.{between_more, between_all, outside_first}
 use Rattle.hd_morph.proofs.heights.first_outside.Goals as goal
 
 pub returns-then-not-is_between : goal.returns-then-not-is_between
 returns-then-not-is_between g c =
     let m = g.G.Heights.map c.args.grid.now in
+    let code = g.L.Lane.code in
     let index = c.loop-index.index in
-    let number : SFits w64 (get_or c.args.numbers.now index (pos 0)) = search rules in
     let least : SFits w64 c.least_of-least.result = search rules in
     let greatest : SFits w64 c.greatest_of-greatest.result = search rules in
-    let tested = rw (to_z-of_z w64 _ number, to_z-of_z w64 _ least, to_z-of_z w64 _ greatest, value_read c.args.numbers.now index c.loop-index-test.true, c.least_of-least.ensures, c.greatest_of-greatest.ensures, c.data_type-data_type.ensures) at c.if-not-is_between.ensures in
+    let height = c.height.ensures ∙ value_read code c.args.numbers.now index c.index-numbers-index.result c.loop-index-test.true c.index-numbers-index.is in
+    let tested = rw (height, to_z-of_z w64 _ least, to_z-of_z w64 _ greatest, c.least_of-least.ensures, c.greatest_of-greatest.ensures, c.data_type-data_type.ensures) at c.if-not-is_between.ensures in
     let before = rw (to_z-of_z w64 _ least, to_z-of_z w64 _ greatest, c.least_of-least.ensures, c.greatest_of-greatest.ensures, c.data_type-data_type.ensures) at c.loop-index.invariant in
-    outside_first m c.args.numbers.now index c.position_of.result (rw c.size.ensures at c.position_of.ensures.in_grid) (rw c.size.ensures at c.position_of.ensures.place) (λ between. false≢true (tested.1 between)) before
+    outside_first m (values_of code c.args.numbers.now) index c.position_of.result (rw c.size.ensures at c.position_of.ensures.in_grid) (rw c.size.ensures at c.position_of.ensures.place)
+    (λ between. false≢true (tested.1 between)) before
 
 pub loop-index-preserved : goal.loop-index-preserved
 loop-index-preserved g c =
-    let number : SFits w64 (get_or c.args.numbers.now c.loop-index.index (pos 0)) = search rules in
-    let tested = rw (to_z-of_z w64 _ number, value_read c.args.numbers.now c.loop-index.index c.loop-index-test.true) at c.if-not-is_between.ensures in
-    between_more _ _ c.args.numbers.now c.loop-index.index (tested.0 refl) c.loop-index.invariant
+    let code = g.L.Lane.code in
+    let index = c.loop-index.index in
+    let height = c.height.ensures ∙ value_read code c.args.numbers.now index c.index-numbers-index.result c.loop-index-test.true c.index-numbers-index.is in
+    let tested = rw height at c.if-not-is_between.ensures in
+    between_more _ _ (values_of code c.args.numbers.now) index (tested.0 refl) c.loop-index.invariant
 
 pub returns : goal.returns
 returns g c =
@@ -28,7 +33,7 @@ returns g c =
     let least : SFits w64 c.least_of-least.result = search rules in
     let greatest : SFits w64 c.greatest_of-greatest.result = search rules in
     let before = rw (to_z-of_z w64 _ least, to_z-of_z w64 _ greatest, c.least_of-least.ensures, c.greatest_of-greatest.ensures, c.data_type-data_type.ensures) at c.loop-index.invariant in
-    between_all m c.args.numbers.now c.loop-index.index (rw c.requires at c.loop-index-test.false) before
+    between_all m (values_of g.L.Lane.code c.args.numbers.now) c.loop-index.index (rw c.requires at c.loop-index-test.false) before
 
 pub position_of-requires : goal.position_of-requires
 position_of-requires g c =

@@ -1,5 +1,6 @@
+use Rattle.hd_morph.specs.Encoding.{values_of}
 use Rattle.hd_morph.proofs.Listed.{BetweenBefore}
 use Rattle.hd_morph.proofs.heights.first_outside.Given as goal
 
 abbrev pub invariant-loop-index : goal.invariant-loop-index
-invariant-loop-index g l = BetweenBefore l.least l.greatest l.numbers l.index
+invariant-loop-index g l = BetweenBefore l.least l.greatest (values_of g.L.Lane.code l.numbers) l.index

@@ -1,5 +1,6 @@
+use Rattle.hd_morph.specs.Encoding.{values_of}
 use Rattle.hd_morph.proofs.Rectangles.{RowsDone}
 use Rattle.hd_morph.proofs.round.spread_rows.Given as goal
 
 abbrev pub invariant-loop-y : goal.invariant-loop-y
-invariant-loop-y l = RowsDone l.fn.size l.reach l.fn.tops l.y l.tops
+invariant-loop-y g l = RowsDone l.fn.size l.reach (values_of g.L.Lane.code l.fn.tops) l.y (values_of g.L.Lane.code l.tops)

@@ -1,19 +1,24 @@
-use Rattle.std.proofs.Common.{◌-◌, pos, get_or, refl, arith, rules, SFits, w64}
-use Rattle.std.proofs.lemmas.Int.{to_z-of_z}
-use Rattle.hd_morph.proofs.Windows.{looked_back_more}
+use Rattle.std.proofs.Common.{◌-◌, ◌%◌, arith}
+use Rattle.std.proofs.lemmas.List.{map-set}
+use Rattle.hd_morph.specs.Encoding.{values_of}
+use Rattle.hd_morph.proofs.Encodings.{length_values, value_read}
+use Rattle.hd_morph.proofs.Windows.{far_looked_back, looked_near_more}
 use Rattle.hd_morph.proofs.window.look_back.Goals as goal
 
 pub loop-place-init : goal.loop-place-init
-loop-place-init c = record { whole = refl; done = λ k above inside. absurd (omega arith); left = λ k below. refl }
+loop-place-init g c =
+    let code = g.L.Lane.code in
+    let size = length_values code c.args.tops.now in
+    far_looked_back (values_of code c.args.tops.now) (values_of code c.look_far_back.new.tops) c.args.stride c.args.reach c.min-place.result (omega arith) (λ k more less. omega (arith, size))
+    (rw (← size) at c.look_far_back.ensures)
 
 pub loop-place-preserved : goal.loop-place-preserved
-loop-place-preserved c =
-    let here : SFits w64 (get_or c.loop-place.tops (c.loop-place.place - 1) (pos 0)) = search rules in
-    let there : SFits w64 (get_or c.loop-place.tops c.place_behind-from.result (pos 0)) = search rules in
-    let fits : SFits w64 c.larger_of.result = search rules in
-    rw (to_z-of_z w64 c.larger_of.result fits)
-    (looked_back_more c.args.tops.now c.loop-place.tops c.args.stride c.args.reach c.loop-place.place c.place_behind-from.result c.larger_of.result (omega arith) (omega arith)
-    c.place_behind-from.ensures.below c.place_behind-from.ensures.behind (rw (to_z-of_z w64 _ here, to_z-of_z w64 _ there) at c.larger_of.ensures) c.loop-place.invariant)
-
-pub returns : goal.returns
-returns c = record { whole = c.loop-place.invariant.whole; each = λ k inside. c.loop-place.invariant.done k (omega arith) inside }
+loop-place-preserved g c =
+    let code = g.L.Lane.code in
+    let tops = c.loop-place.tops in
+    let at = c.loop-place.place - 1 in
+    let here = value_read code tops at c.index-tops-place.result (omega arith) c.index-tops-place.is in
+    let there = value_read code tops ((c.loop-place.place - 1) % c.args.stride) c.index-tops-place-in-loop-place.result (omega arith) c.index-tops-place-in-loop-place.is in
+    rw (map-set code.shown tops at c.larger_of.result)
+    (looked_near_more (values_of code c.args.tops.now) (values_of code tops) c.args.stride c.args.reach c.loop-place.place (code.shown c.larger_of.result) c.requires.some (omega arith)
+    (omega (arith, length_values code c.args.tops.now)) (omega arith) (rw (here, there) at c.larger_of.ensures) c.loop-place.invariant)

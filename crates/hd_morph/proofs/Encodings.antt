@@ -1,0 +1,46 @@
+-- Numbers that stand for heights.
+use Rattle.std.proofs.Common.{◌≡◌, ◌<◌, ◌≤ℤ◌, ◌<ℤ◌, ◌++◌, ℕ, ℤ, true, false, List, length, take, drop, get_or, Some, None, inl, inr, ap, sym, ◌∙◌, arith}
+use Rattle.std.specs.Prelude.{int_lt}
+use Rattle.std.proofs.lemmas.Int.{ints}
+use Rattle.std.proofs.lemmas.Bool.{cases_lt}
+use Rattle.std.proofs.lemmas.List.{get_or-map, get_or_past, get_or_read, length-map, map-append, take-map, drop-map}
+use borrow.Rule.Slice.PartMut.{put_mid}
+use Rattle.hd_morph.specs.Encoding.{Encoding, shown_over, values_of, number_in}
+use Rattle.hd_morph.specs.Plain.{value_at}
+
+-- a number above the floor is a height
+pub shown_above : (floor z : ℤ) → floor <ℤ z → shown_over floor z ≡ Some z
+shown_above floor z above = let test : int_lt floor z ≡ true = grind (arith, ints) in rw test
+
+-- a number not above the floor is none
+pub shown_below : (floor z : ℤ) → z ≤ℤ floor → shown_over floor z ≡ None
+shown_below floor z below = let test : int_lt floor z ≡ false = grind (arith, ints) in rw test
+
+module _ {L : Type 0} (code : Encoding L) where
+  -- what a number stands for is the value at its place
+  pub value_of_number : (xs : List L) (k : ℕ) → value_at (values_of code xs) k ≡ code.shown (number_in code xs k)
+  value_of_number xs k = elim (cases_lt k (length xs)) [
+    | inl inside ↦ get_or-map code.shown xs k code.missing None inside
+    | inr past ↦
+        let gone : number_in code xs k ≡ code.missing = get_or_past xs k code.missing past in
+        get_or_past (values_of code xs) k None (omega (arith, length-map xs code.shown)) ∙ sym (ap code.shown gone ∙ code.missing_none)
+  ]
+
+  -- a number that is read inside a list
+  pub number_read : (xs : List L) (k : ℕ) (x : L) → k < length xs → x ≡ get_or xs k x → x ≡ number_in code xs k
+  number_read xs k x inside is = get_or_read xs k x inside is code.missing
+
+  pub value_read : (xs : List L) (k : ℕ) (x : L) → k < length xs → x ≡ get_or xs k x → code.shown x ≡ value_at (values_of code xs) k
+  value_read xs k x inside is = ap code.shown (number_read xs k x inside is) ∙ sym (value_of_number xs k)
+
+  -- how many heights there are
+  pub length_values : (xs : List L) → length (values_of code xs) ≡ length xs
+  length_values xs = length-map xs code.shown
+
+  -- the heights of a stretch
+  pub values_part : (a k : ℕ) (xs : List L) → values_of code (take k (drop a xs)) ≡ take k (drop a (values_of code xs))
+  values_part a k xs = sym (take-map code.shown k (drop a xs)) ∙ ap (take k) (sym (drop-map code.shown a xs))
+
+  -- the heights of a list of which a stretch was written anew
+  pub values_mid : (a k : ℕ) (xs ys : List L) → values_of code (put_mid a k xs ys) ≡ put_mid a k (values_of code xs) (values_of code ys)
+  values_mid a k xs ys = rw (map-append code.shown (take a xs) (ys ++ drop k (drop a xs)), map-append code.shown ys (drop k (drop a xs)), take-map code.shown a xs, drop-map code.shown a xs, drop-map code.shown k (drop a xs))

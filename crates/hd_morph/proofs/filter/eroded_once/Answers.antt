@@ -1,0 +1,12 @@
+use Rattle.std.proofs.Common.{arith}
+use Rattle.hd_morph.specs.Encoding.{most_between}
+use Rattle.hd_morph.proofs.PlainNumbers.{plain_more}
+use Rattle.hd_morph.proofs.filter.eroded_once.Goals as goal
+
+pub eroded-requires-clause-heights : goal.eroded-requires-clause-heights
+eroded-requires-clause-heights g c =
+    let code = g.L.Lane.code in
+    rw c.deref_mut.ensures.value (plain_more code c.args.size code.most_height (most_between code) c.args.heights.items (omega arith) c.requires.heights)
+
+pub returns : goal.returns
+returns g c = rw c.deref_mut.ensures.value at c.in_ok-eroded.ensures.erosion

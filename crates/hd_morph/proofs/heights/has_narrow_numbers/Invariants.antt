@@ -1,0 +1,7 @@
+use Rattle.std.proofs.Common.{◌<◌, ℕ, slice_index_or, None}
+use Rattle.hd_morph.specs.Encoding.{narrow}
+use Rattle.hd_morph.specs.Plain.{IsBounded}
+use Rattle.hd_morph.proofs.heights.has_narrow_numbers.Given as goal
+
+abbrev pub invariant-loop-index : goal.invariant-loop-index
+invariant-loop-index l = (k : ℕ) → k < l.index → IsBounded narrow.most_number (slice_index_or l.element.table k None)

@@ -1,0 +1,10 @@
+-- Lists of plain numbers of either type.
+use Rattle.std.specs.Prelude.{ℤ, List, Option}
+use Rattle.hd_morph.specs.declared.new_heights.Numbers.{Numbers}
+use Rattle.hd_morph.specs.declared.new_heights.Numbers.TheVariants.{Narrow, Wide}
+use Rattle.hd_morph.specs.Encoding.{narrow, wide, values_of}
+
+-- the heights for which the numbers stand
+abbrev pub heights_in : Numbers → List (Option ℤ)
+heights_in (Narrow numbers) = values_of narrow numbers.items
+heights_in (Wide numbers) = values_of wide numbers.items

@@ -1,0 +1,59 @@
+// The new heights of a filtered map.
+ghost use Rattle.std.specs.Prelude.{◌≡◌, ◌<◌, None, length, slice_index_or};
+ghost use Rattle.hd_morph.specs.NewHeights.{cell_with};
+
+use crate::lane::Lane;
+use hd_map::Cell;
+use std::marker::Model;
+
+/// Heights as plain numbers of either type.
+#[derive(Debug, Drop)]
+pub enum Numbers {
+    Narrow(Vec<i32>),
+    Wide(Vec<i64>),
+}
+
+/// The new heights of a filtered map. Contracts see the list of them by index, with none where a
+/// point keeps its cell. The type promises neither how many they are nor their range: by
+/// [`dilated_heights`](crate::dilated_heights) and the calls beside it there is one entry for each point of their map, and
+/// each height is in the range of its data type.
+#[derive(Debug, Drop)]
+pub struct NewHeights {
+    numbers: Numbers,
+}
+
+impl Model for NewHeights {
+    ghost use Rattle.std.specs.Prelude.{ℤ, List, Option};
+    ghost use Rattle.hd_morph.specs.Numbers.{heights_in};
+
+    ghost Value = { List (Option ℤ) };
+
+    ghost view = { λ h. heights_in h.numbers };
+}
+
+impl NewHeights {
+    ghost use Rattle.hd_morph.specs.Numbers.{heights_in};
+
+    /// The heights for which the numbers stand.
+    pub(crate) fn new(numbers: Numbers) -> NewHeights
+        ensures { result ≡ heights_in numbers }
+    {
+        NewHeights { numbers }
+    }
+
+    /// The cell of a point with its new height. Where it has none, it keeps this old cell.
+    #[inline]
+    pub fn cell(&self, index: u32, old: Cell) -> Cell
+        requires { index < length self.now }
+        ensures { result ≡ cell_with (slice_index_or self.now index None) old }
+    {
+        let height = match &self.numbers {
+            Numbers::Narrow(numbers) => numbers[index as usize].height(),
+            Numbers::Wide(numbers) => numbers[index as usize].height(),
+        };
+        match height {
+            Some(height) => Cell::Height(height),
+            None => old,
+        }
+    }
+}
