@@ -70,16 +70,6 @@ module _ (m : Map) (heights : List (Option ℤ)) where
     pub notes_are : All (IsChange m) notes
     pub len_is : length notes ≡ count_below (becomes_other m heights) n
 
-  -- a point that becomes another cell is counted
-  pub counted_next : (n : ℕ) (at : Pos) (old new : Cell) (same : Bool) (count : ℕ) → place_of m.size at ≡ n → old ≡ cell_at m at → new ≡ cell_with (slice_index_or heights n None) old → same ≡ same_cell old new
-      → count ≡ count_below (becomes_other m heights) n → count + (if not same then 1 else 0) ≡ count_below (becomes_other m heights) (n + 1)
-  counted_next n at old new same count place here is tests so =
-      let stood : old ≡ get_or m.cells n Bad = here ∙ ap (λ (k : ℕ). get_or m.cells k Bad) place in
-      let other : not same ≡ becomes_other m heights n = ap not (tests ∙ ap (same_cell old) is ∙ ap (λ (c : Cell). same_cell c (cell_with (slice_index_or heights n None) c)) stood) in
-      ap (λ (b : Bool). count + (if b then 1 else 0)) other
-      ∙ ap (λ (k : ℕ). k + (if becomes_other m heights n then 1 else 0)) so
-      ∙ sym (count-more (becomes_other m heights) n)
-
   -- at first nothing is
   pub noted_first : IsMap m → Noted 0 m []
   noted_first whole = record {

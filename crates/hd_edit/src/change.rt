@@ -56,7 +56,7 @@ fn cell_over(data_type: DataType, over: OverLeast) -> Cell
 }
 
 // Sets a cell that the grid can have.
-#[inline]
+#[inline(always)]
 pub fn put_cell<G: Grid>(grid: &mut G, at: Pos, cell: Cell)
     requires in_grid { InGrid (G.map grid.old).size at }
     requires in_range { IsCellOf (G.map grid.old).data_type cell }

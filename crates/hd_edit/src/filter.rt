@@ -6,7 +6,7 @@ ghost use Rattle.hd_morph.specs.Answer.{with_cells};
 ghost use Rattle.hd_morph.specs.NewHeights.{cell_after, cells_after};
 ghost use Rattle.hd_edit.specs.Board.{IsEdited, IsRefusalBy, RisesUpTo};
 ghost use Rattle.hd_edit.specs.Change.{IsChange, AreChanges, before_changes};
-ghost use Rattle.hd_edit.specs.Filtered.{AreEditHeights, changed_cells, one_if_other};
+ghost use Rattle.hd_edit.specs.Filtered.{AreEditHeights, one_if_other};
 ghost use Rattle.hd_edit.specs.Stroke.{same_cell, stroke_parts};
 
 use crate::change::change_cell;
@@ -66,24 +66,6 @@ fn is_same(old: Cell, new: Cell) -> bool
     old == new
 }
 
-// How many cells become others: there are as many changes to note.
-fn count_changed<G: Grid>(grid: &G, heights: &NewHeights) -> u32
-    requires { length heights.now ≡ cell_count (G.map grid.now).size }
-    ensures { result ≡ changed_cells (G.map grid.now) heights.now }
-{
-    let size = grid.size();
-    let mut count = 0;
-    let mut at = Pos { x: 0, y: 0 };
-    for index in 0..size.profiles * size.points {
-        let old = grid.cell(at);
-        if !is_same(old, heights.cell(index, old)) {
-            count += 1;
-        }
-        at = position_after(size, at);
-    }
-    count
-}
-
 // Puts the new height of a point in, and notes what stood there where that makes another cell.
 #[inline]
 fn put_height<G: Grid>(grid: &mut G, at: Pos, heights: &NewHeights, notes: &mut NewNotes)
@@ -132,10 +114,11 @@ pub fn put_heights<G: Grid>(
     ensures count { RisesUpTo (cell_count (G.map grid.old).size) (G.changes grid.old) (G.changes grid.new) }
 {
     let size = grid.size();
-    let count = count_changed(grid, heights);
+    let count = size.profiles * size.points;
+    // Room that is not written takes no memory, so the changes need not be counted first.
     let mut notes = NewNotes::with_room(alloc, count)?;
     let mut at = Pos { x: 0, y: 0 };
-    for _index in 0..size.profiles * size.points {
+    for _index in 0..count {
         put_height(grid, at, heights, &mut notes);
         at = position_after(size, at);
     }

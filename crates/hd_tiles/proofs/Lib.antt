@@ -1,3 +1,4 @@
+pub mod Inverses
 pub mod TilesAlong
 pub mod Corners
 pub mod Stamping

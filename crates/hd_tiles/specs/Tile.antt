@@ -10,6 +10,11 @@ pub record IsTileSide (t : ℕ) : Type 0 where
   pub least : 8 ≤ t
   pub greatest : t ≤ 256
 
+-- the number by which a place below 2 ^ 16 is divided by the side t: multiplied with it and divided by 2 ^ 25, the place
+-- is the one divided by t
+unfoldable pub inverse_of : ℕ → ℕ
+inverse_of t = (33554432 + t - 1) / t
+
 -- how many tiles of this side lie along so many points. The last of them may be cut
 abbrev pub tiles_along : ℕ → ℕ → ℕ
 tiles_along points t = (points + t - 1) / t

@@ -1,7 +1,7 @@
 // How a grid is cut into tiles.
-ghost use Rattle.std.specs.Prelude.{◌≡◌, ◌<◌};
+ghost use Rattle.std.specs.Prelude.{◌≡◌, ◌<◌, ◌/◌};
 ghost use Rattle.hd_map.specs.Map.{IsSize, InGrid};
-ghost use Rattle.hd_tiles.specs.Tile.{IsTileSide, tiles_across, tile_count, tile_of};
+ghost use Rattle.hd_tiles.specs.Tile.{IsTileSide, inverse_of, tiles_across, tile_count, tile_of};
 
 use hd_map::{Pos, Size};
 
@@ -12,13 +12,17 @@ pub struct Tiling {
     size: Size,
     side: u32,
     across: u32,
+    // By it places are divided by the side: a division takes several times as long as a product.
+    inverse: u32,
     ghost limits: { IsSize size },
     ghost tile_side: { IsTileSide side },
     ghost row: { across ≡ tiles_across size side },
+    ghost is_inverse: { inverse ≡ inverse_of side },
 }
 
 impl Tiling {
     /// The tiling of a grid of this size by tiles of this side, from 8 to 256 points.
+    #[tactic(auto, unfolding(crate::specs::Tile::inverse_of))]
     pub fn new(size: Size, side: u32) -> Tiling
         requires limits { IsSize size }
         requires side { IsTileSide side }
@@ -29,6 +33,7 @@ impl Tiling {
             size,
             side,
             across: (size.points + side - 1) / side,
+            inverse: (33_554_432 + side - 1) / side,
         }
     }
 
@@ -53,6 +58,16 @@ impl Tiling {
         self.across
     }
 
+    // Which part of a line, cut into parts of a tile's side, a place lies in.
+    #[inline]
+    #[tactic(auto, using(crate::proofs::Inverses::divided_by_inverse))]
+    pub(crate) fn part_of(self, place: u32) -> u32
+        requires { place < 65536 }
+        ensures { result ≡ place / self.side }
+    {
+        (u64::from(place) * u64::from(self.inverse) / 33_554_432) as u32
+    }
+
     /// How many tiles there are.
     pub fn count(self) -> u32
         ensures { result ≡ tile_count self.size self.side }
@@ -67,6 +82,6 @@ impl Tiling {
         ensures value { result ≡ tile_of self.size self.side at }
         ensures tile { result < tile_count self.size self.side }
     {
-        at.y / self.side * self.across + at.x / self.side
+        self.part_of(at.y) * self.across + self.part_of(at.x)
     }
 }

@@ -7,15 +7,15 @@ ghost use Rattle.hd_tiles.specs.Stamps.{AreStamped};
 use crate::Tiling;
 use hd_map::Pos;
 
-// Of parts of this side along a line, the one that holds the place before this one, or this one where it
-// is the first.
+// Of parts of this side along a line, the one that holds the place before this one, which lies in the
+// given part, or this one where it is the first.
 #[inline]
-fn part_before(place: u32, side: u32) -> u32
-    requires { IsTileSide side }
+fn part_before(place: u32, part: u32, side: u32) -> u32
+    requires side { IsTileSide side }
+    requires part { part ≡ place / side }
     ensures { result ≡ (place - 1) / side }
 {
-    let part = place / side;
-    if place % side == 0 {
+    if place == part * side {
         part.saturating_sub(1)
     } else {
         part
@@ -24,17 +24,17 @@ fn part_before(place: u32, side: u32) -> u32
 
 // The part that holds the place after this one, or this one where it is the last of the line.
 #[inline]
-fn part_after(place: u32, length: u32, side: u32) -> u32
+fn part_after(place: u32, length: u32, part: u32, side: u32) -> u32
     requires side { IsTileSide side }
+    requires part { part ≡ place / side }
     requires place { place < length }
     requires length { length ≤ 65535 }
     ensures { result ≡ min (place + 1) (length - 1) / side }
 {
-    let part = place / side;
     if place + 1 == length {
         return part;
     }
-    if place % side + 1 == side {
+    if place + 1 == part * side + side {
         part + 1
     } else {
         part
@@ -52,10 +52,12 @@ pub fn touch_round(stamps: &mut Vec<u64>, tiling: Tiling, at: Pos, stamp: u64)
     let size = tiling.size();
     let side = tiling.side();
     let across = tiling.across();
-    let left = part_before(at.x, side);
-    let right = part_after(at.x, size.points, side);
-    let top = part_before(at.y, side) * across;
-    let bottom = part_after(at.y, size.profiles, side) * across;
+    let column = tiling.part_of(at.x);
+    let row = tiling.part_of(at.y);
+    let left = part_before(at.x, column, side);
+    let right = part_after(at.x, size.points, column, side);
+    let top = part_before(at.y, row, side) * across;
+    let bottom = part_after(at.y, size.profiles, row, side) * across;
     stamps[(top + left) as usize] = stamp;
     stamps[(top + right) as usize] = stamp;
     stamps[(bottom + left) as usize] = stamp;

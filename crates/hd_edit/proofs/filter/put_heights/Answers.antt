@@ -56,7 +56,9 @@ put_height-requires-clause-room g c =
     let m = g.G.Heights.map c.args.grid.now in
     let n = c.loop-index._index in
     let inside : n < cell_count m.size = subst (λ (s : Size). n < cell_count s) c.size-size.ensures c.loop-index-test.true in
-    rw (c.loop-index.invariant.room, c.count_changed-count.ensures) (noted_room m c.args.heights.now n c.loop-index.at c.loop-index.invariant.at.place inside (g.G.Heights.map c.loop-index.grid) c.loop-index.notes.changes c.loop-index.invariant.noted)
+    let changes = noted_room m c.args.heights.now n c.loop-index.at c.loop-index.invariant.at.place inside (g.G.Heights.map c.loop-index.grid) c.loop-index.notes.changes c.loop-index.invariant.noted in
+    let few = count-few (becomes_other m c.args.heights.now) (cell_count m.size) in
+    rw (c.loop-index.invariant.room, c.size-size.ensures) (omega (arith, changes, few))
 
 pub put_height-requires-clause-notes : goal.put_height-requires-clause-notes
 put_height-requires-clause-notes g c =

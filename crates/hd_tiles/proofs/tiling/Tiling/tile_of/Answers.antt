@@ -1,4 +1,4 @@
-use Rattle.std.proofs.Common.{◌<◌, ◌*◌, ◌+◌, ◌/◌, arith}
+use Rattle.std.proofs.Common.{◌<◌, ◌*◌, ◌+◌, arith}
 use Rattle.hd_tiles.specs.Tile.{tile_count}
 use Rattle.hd_tiles.proofs.Corners.{tile_inside, few_tiles}
 use Rattle.hd_tiles.proofs.tiling.Tiling.tile_of.Goals as goal
@@ -7,12 +7,12 @@ pub returns-clause-tile : goal.returns-clause-tile
 returns-clause-tile c =
     let tiling = c.args.self in
     let side = tiling.tile_side.least in
-    rw tiling.row (tile_inside tiling.size tiling.side c.args.at (omega (arith, side)) c.requires)
+    rw (c.part_of.ensures, c.part_of-2.ensures, tiling.row) (tile_inside tiling.size tiling.side c.args.at (omega (arith, side)) c.requires)
 
 pub overflow_add-result : goal.overflow_add-result
 overflow_add-result c =
     let tiling = c.args.self in
     let side = tiling.tile_side.least in
-    let below : c.args.at.y / tiling.side * tiling.across + c.args.at.x / tiling.side < tile_count tiling.size tiling.side = rw tiling.row (tile_inside tiling.size tiling.side c.args.at (omega (arith, side)) c.requires) in
+    let below : c.part_of.result * tiling.across + c.part_of-2.result < tile_count tiling.size tiling.side = rw (c.part_of.ensures, c.part_of-2.ensures, tiling.row) (tile_inside tiling.size tiling.side c.args.at (omega (arith, side)) c.requires) in
     let few = few_tiles tiling.size tiling.side side tiling.limits in
     omega (arith, below, few)
