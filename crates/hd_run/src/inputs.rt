@@ -57,7 +57,7 @@ fn feed_all<S: Source>(alloc: Global, source: &mut S, reader: &mut SdfReader) ->
     ensures few { (bytes : Items ℕ) → S.left source.old ≡ Some bytes → TakesFew bytes surface_limit (S.left source.new) }
     ensures cause { HasReadStop (S.faults source.old) (S.faults source.new) result }
 {
-    let mut piece = [0u8; 8192];
+    let mut piece = [0u8; 65536];
     let mut count = 0usize;
     'pieces: loop {
         let room = (SURFACE_LIMIT + 1 - count).min(piece.len());

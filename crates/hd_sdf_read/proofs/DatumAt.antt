@@ -1,5 +1,5 @@
 -- The datum at the front of a text, by its token, and that its cell is of the type.
-use Rattle.std.proofs.Common.{◌≡◌, ◌+◌, ◌-◌, ◌≤◌, ℕ, ℤ, ◌≤ℤ◌, ◌&&◌, ◌||◌, eqb, length, true, false, inl, inr, List, Ok, Err, refl, sym, arith, ◌∙◌}
+use Rattle.std.proofs.Common.{◌≡◌, ◌+◌, ℕ, ℤ, ◌≤ℤ◌, ◌&&◌, ◌||◌, eqb, length, true, false, inl, inr, List, Ok, Err, refl, sym, arith, ◌∙◌}
 use Rattle.std.proofs.lemmas.Bool.{and_parts, cases_Bool}
 use Rattle.std.proofs.lemmas.Int.{ints}
 use Rattle.std.specs.Prelude.{bytes_eq, codes, int_le}

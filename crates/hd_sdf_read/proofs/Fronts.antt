@@ -1,14 +1,15 @@
 -- A text in front of others.
-use Rattle.std.proofs.Common.{◌≡◌, ◌+◌, ◌-◌, ◌<◌, ℕ, suc, Bool, true, false, List, [], ◌∷◌, ◌++◌, length, take, drop, get_or, refl, sym, ap, ap₂, arith, ◌∙◌, length-append, append-nil}
+use Rattle.std.proofs.Common.{◌≡◌, ◌+◌, ◌-◌, ◌<◌, ◌≤◌, ℕ, zero, suc, Bool, true, false, List, [], ◌∷◌, ◌++◌, length, take, drop, get_or, eqb, refl, sym, ap, ap₂, arith, ◌∙◌, length-append, append-nil}
 use Rattle.std.specs.List.{after_first, before_first, list_all, list_any, position_or_len, prefix_len, suffix_len, slice_split}
 use Rattle.std.proofs.Math.Seq.{take-append_seam, drop-append_seam, drop-append-add}
-use Rattle.std.proofs.lemmas.Bool.{and_parts, or_parts}
+use Rattle.std.proofs.lemmas.Bool.{and_parts, not-false, or_parts}
 use Rattle.std.proofs.lemmas.List.{get_or-append_right, get_or_append_left}
 use Rattle.std.proofs.lemmas.List.Elements.{All-get_or}
 use Rattle.std.proofs.lemmas.List.Splits.{length-slice_split, slice_split_first}
+use Rattle.std.proofs.lemmas.Simd.{run_in_chunk_fails, run_in_chunk_le}
 use Rattle.std.proofs.lemmas.List.Sums.{AllPass-from_list_all, suffix_len_is}
 use Rattle.hd_num.specs.Lines.{after_line, is_line_feed, lines_of, trimmed_by, without_empty_last, without_end, without_start}
-use Rattle.hd_sdf_read.specs.Tokens.{is_gap, after_token, token_of}
+use Rattle.hd_sdf_read.specs.Tokens.{is_gap, is_not_space, after_token, token_of}
 use Rattle.hd_sdf_read.proofs.Trims.{IsTrimmed}
 
 module _ (test : ℕ → Bool) where
@@ -33,6 +34,21 @@ module _ (test : ℕ → Bool) where
       let parts = and_parts (test x) (list_all test xs) all in
       let one : 1 + prefix_len test (xs ++ rest) ≡ suc (prefix_len test (xs ++ rest)) = omega arith in
       rw (parts.0, one) (start_front xs rest parts.1)
+
+  pub start_behind : (n : ℕ) (text : List ℕ) → n ≤ length text → ((k : ℕ) → k < n → test (get_or text k 0) ≡ true) → without_start test (drop n text) ≡ without_start test text
+  start_behind zero text within passes = refl
+  start_behind (suc n) [] within passes = absurd (omega arith)
+  start_behind (suc n) (x ∷ xs) within passes =
+      let one : 1 + prefix_len test xs ≡ suc (prefix_len test xs) = omega arith in
+      rw (passes 0 (omega arith), one) (start_behind n xs (omega arith) (λ k less. passes (suc k) (omega arith)))
+
+  -- so are those that are counted in a block
+  start_block : (other : ℕ → Bool) → ((byte : ℕ) → other byte ≡ false → test byte ≡ true) → (block count : ℕ) (text : List ℕ) → block ≤ length text → count ≡ position_or_len other (take block text)
+      → without_start test (drop count text) ≡ without_start test text
+  start_block other passes block count text room counted =
+      let inside : 0 + block ≤ length text = omega (arith, room) in
+      let few = run_in_chunk_le other text 0 block count 0 inside counted in
+      start_behind count text (omega (arith, few, room)) (λ k less. passes (get_or text k 0) (run_in_chunk_fails other text 0 block count 0 inside counted k (omega arith) (omega (arith, less))))
 
   -- a text whose first byte does not pass stays
   pub start_stays : (text rest : List ℕ) → 0 < length text → test (get_or text 0 0) ≡ false → without_start test (text ++ rest) ≡ text ++ rest
@@ -59,6 +75,14 @@ module _ (test : ℕ → Bool) where
   trim_around front (x ∷ xs) back before after is =
       ap (without_end test) (start_front front ((x ∷ xs) ++ back) before ∙ start_stays (x ∷ xs) back (omega arith) (is.first (omega arith)))
       ∙ end_front (x ∷ xs) back (omega arith) (is.last (omega arith)) after
+
+-- a space is a gap
+space_is_gap : (byte : ℕ) → is_not_space byte ≡ false → is_gap byte ≡ true
+space_is_gap byte space = rw (not-false (eqb byte 32) space) refl
+
+-- the spaces at the front of a block are left out
+pub start_spaces : (block count : ℕ) (text : List ℕ) → block ≤ length text → count ≡ position_or_len is_not_space (take block text) → without_start is_gap (drop count text) ≡ without_start is_gap text
+start_spaces block count text room counted = start_block is_gap is_not_space space_is_gap block count text room counted
 
 -- there is a piece after the first
 last_front : (text : List ℕ) (pieces : List (List ℕ)) (n : ℕ) → length pieces ≡ n + 1 → without_empty_last (text ∷ pieces) ≡ text ∷ without_empty_last pieces

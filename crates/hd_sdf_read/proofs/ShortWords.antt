@@ -48,13 +48,18 @@ ends_at_gap word rest height takes left =
     let place : end + 0 ≡ end = omega arith in
     ap (λ (t : List ℕ). is_gap (get_or t 0 0)) (sym takes.after) ∙ ap is_gap (get_or-drop end word 0 0 ∙ ap (λ k. get_or word k 0) place) ∙ here
 
+pub short_behind : (least greatest : ℤ) (text rest : List ℕ) (cell : Cell) → TakesCell least greatest (without_start is_gap text) rest cell → 0 < length rest → IsShort least greatest text rest cell
+short_behind least greatest text rest cell takes left = record {
+  takes = takes;
+  left = left;
+  begins = ends_at_gap (without_start is_gap text) rest takes.height takes.takes left;
+}
+
+-- behind one gap
 pub short_word : (least greatest : ℤ) (text rest : List ℕ) (cell : Cell) → 0 < length text → is_gap (get_or text 0 0) ≡ true → TakesCell least greatest (drop 1 text) rest cell → 0 < length rest → IsShort least greatest text rest cell
 short_word least greatest [] rest cell some is takes left = absurd (omega (arith, some))
-short_word least greatest (gap ∷ word) rest cell some is takes left = record {
-  takes = subst (λ (t : List ℕ). TakesCell least greatest t rest cell) (sym (word_front gap word rest takes.height is takes.takes)) takes;
-  left = left;
-  begins = ends_at_gap word rest takes.height takes.takes left;
-}
+short_word least greatest (gap ∷ word) rest cell some is takes left =
+    short_behind least greatest (gap ∷ word) rest cell (subst (λ (t : List ℕ). TakesCell least greatest t rest cell) (sym (word_front gap word rest takes.height is takes.takes)) takes) left
 
 -- the next datum, whatever follows the text
 pub short_given : (least greatest : ℤ) (read : ℕ) (text rest : List ℕ) (cell : Cell) → IsShort least greatest text rest cell

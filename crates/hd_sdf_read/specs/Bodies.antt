@@ -1,5 +1,5 @@
 -- What a text behind a header can still become whose front is read.
-use Rattle.std.specs.Prelude.{◌-◌, ◌++◌, ℕ, List, length, map, Result, Ok, Err}
+use Rattle.std.specs.Prelude.{◌-◌, ◌++◌, ℕ, List, length, Result, Ok, Err}
 use Rattle.hd_map.specs.declared.types.Cell.{Cell}
 use Rattle.hd_sdf_read.specs.declared.scaled.Datum.{Datum}
 use Rattle.hd_sdf_read.specs.Decimals.{decimals_from}

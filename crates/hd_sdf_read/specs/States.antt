@@ -1,8 +1,7 @@
 -- What a text can still become whose front is read.
-use Rattle.std.specs.Prelude.{◌≡◌, ◌+◌, ◌++◌, ℕ, List, Option, Some, None, Result, Ok, Err}
+use Rattle.std.specs.Prelude.{◌≡◌, ◌++◌, ℕ, List, Option, Some, None, Result, Ok, Err}
 use Rattle.hd_sdf_read.specs.declared.error.SdfError.{SdfError}
 use Rattle.hd_sdf_read.specs.declared.error.SdfError.TheVariants.{Memory}
-use Rattle.hd_sdf_read.specs.declared.file.Version.{Version}
 use Rattle.hd_sdf_read.specs.declared.body.Body.{Body}
 use Rattle.hd_sdf_read.specs.declared.header.Header as declared
 use Rattle.hd_sdf_read.specs.declared.heading.Heading.{Heading}

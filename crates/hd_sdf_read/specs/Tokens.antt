@@ -1,11 +1,15 @@
 -- The tokens of a text.
-use Rattle.std.specs.Prelude.{◌==◌, ℕ, Bool, List, length, drop, bytes_eq, codes, ◌||◌}
+use Rattle.std.specs.Prelude.{◌==◌, ℕ, Bool, not, List, length, drop, bytes_eq, codes, ◌||◌}
 use Rattle.std.specs.List.{before_first}
 use Rattle.hd_num.specs.Lines.{without_start, is_blank, is_line_feed}
 
 -- a blank or an LF, which parts tokens
 abbrev pub is_gap : ℕ → Bool
 is_gap byte = is_blank byte || is_line_feed byte
+
+-- any byte but a space
+abbrev pub is_not_space : ℕ → Bool
+is_not_space byte = not (byte == 32)
 
 -- the first token of a text: the first longest run of bytes that are neither blanks nor LFs, or nothing
 unfoldable pub token_of : List ℕ → List ℕ

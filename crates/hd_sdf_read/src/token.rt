@@ -1,8 +1,10 @@
 // The tokens of the data.
-ghost use Rattle.std.specs.Prelude.{◌≡◌};
+ghost use Rattle.std.specs.Prelude.{◌≡◌, ◌≤◌, length, take};
 ghost use Rattle.std.specs.List.{position_or_len};
 ghost use Rattle.hd_num.specs.Lines.{without_end, without_start};
-ghost use Rattle.hd_sdf_read.specs.Tokens.{is_gap, after_token, token_of};
+ghost use Rattle.hd_sdf_read.specs.Tokens.{is_gap, is_not_space, after_token, token_of};
+
+use std::simd::prelude::*;
 
 /// The first token of a text, or nothing, and the text after it.
 #[tactic(auto, unfolding(crate::specs::Tokens::token_of, crate::specs::Tokens::after_token))]
@@ -18,12 +20,58 @@ pub fn next_token(text: &[u8]) -> (&[u8], &[u8])
 pub fn skip_gaps(text: &[u8]) -> &[u8]
     ensures { result.now ≡ without_start is_gap text.now }
 {
-    'bytes: for (place, byte) in text.iter().enumerate() {
+    let mut rest = text;
+    'gaps: while let Some(byte) = rest.first() {
         if !is_gap(*byte) {
-            return &text[place..];
+            return rest;
         }
+        rest = skip_spaces(&rest[1..]);
     }
-    &[]
+    rest
+}
+
+// A text without the spaces at its front; those among its last 15 bytes may stay.
+#[inline(always)]
+fn skip_spaces(text: &[u8]) -> &[u8]
+    ensures same { without_start is_gap result.now ≡ without_start is_gap text.now }
+    ensures few { length result.now ≤ length text.now }
+{
+    match text.first() {
+        Some(b' ') => skip_blocks(text),
+        _ => text,
+    }
+}
+
+// The same, 16 bytes at a time.
+fn skip_blocks(text: &[u8]) -> &[u8]
+    ensures same { without_start is_gap result.now ≡ without_start is_gap text.now }
+    ensures few { length result.now ≤ length text.now }
+{
+    let mut rest = text;
+    'spaces: while rest.len() >= 16 {
+        let count = leading_spaces(rest);
+        if count < 16 {
+            return &rest[count..];
+        }
+        rest = &rest[16..];
+    }
+    rest
+}
+
+// How many spaces stand before the first other byte of the first 16 bytes of a text.
+#[inline(always)]
+fn leading_spaces(text: &[u8]) -> usize
+    requires { 16 ≤ length text.now }
+    ensures { result ≡ position_or_len is_not_space (take 16 text.now) }
+{
+    let others = u8x16::from_slice(text)
+        .simd_ne(u8x16::splat(b' '))
+        .to_bitmask();
+    if others == 0 {
+        16
+    } else {
+        others.trailing_zeros() as usize
+    }
 }
 
 /// A text without the blanks and LFs at its end.

@@ -10,7 +10,7 @@ ghost use Rattle.hd_sdf_read.specs.ShortWords.{IsShort, ReadsShort};
 
 use crate::SdfError;
 use crate::datum::{cell_of, ends_token, leading_cell};
-use crate::token::next_token;
+use crate::token::{next_token, skip_gaps};
 use hd_list::Memory;
 use hd_map::{Cell, Cells, Size, greatest_of, least_of};
 
@@ -44,7 +44,7 @@ pub fn read_on(mut cells: Cells, size: Size, text: &[u8]) -> Result<(Cells, &[u8
     Ok((cells, rest))
 }
 
-// Adds the cells of the numbers of few digits at the front of a text, each behind one blank or LF, as
+// Adds the cells of the numbers of few digits at the front of a text, each behind a blank or an LF, as
 // far as the size has any, and tells the text after them.
 fn read_short<'a>(cells: &mut Cells, size: Size, text: &'a [u8]) -> Result<&'a [u8], Memory>
     requires count { length (cells_in cells.old) ≤ cell_count size }
@@ -68,15 +68,33 @@ fn read_short<'a>(cells: &mut Cells, size: Size, text: &'a [u8]) -> Result<&'a [
     Ok(rest)
 }
 
-// The cell of a number of few digits behind the blank or LF that a text begins with, and the text from
-// the next one on, which ends it.
+// The cell of a number of few digits behind the blanks and LFs that a text begins with, and the text from
+// the next one on, which ends it. Most often one stands before it.
 #[inline(always)]
 fn short_cell(least: i64, greatest: i64, text: &[u8]) -> Option<(Cell, &[u8])>
     requires some { 0 < length text.now }
     requires begins { is_gap (slice_index text.now 0) ≡ true }
     ensures { IfSome result (λ parts. IsShort least greatest text.now parts.1.now parts.0) }
 {
-    let (cell, rest) = leading_cell(least, greatest, &text[1..])?;
+    let Some((cell, rest)) = leading_cell(least, greatest, &text[1..]) else {
+        return padded_cell(least, greatest, text);
+    };
+    if rest.is_empty() {
+        return None;
+    }
+    Some((cell, rest))
+}
+
+// The same, where more than one stands before it.
+#[inline(always)]
+fn padded_cell(least: i64, greatest: i64, text: &[u8]) -> Option<(Cell, &[u8])>
+    requires { 0 < length text.now }
+    ensures { IfSome result (λ parts. IsShort least greatest text.now parts.1.now parts.0) }
+{
+    if !ends_token(&text[1..]) {
+        return None;
+    }
+    let (cell, rest) = leading_cell(least, greatest, skip_gaps(text))?;
     if rest.is_empty() {
         return None;
     }
