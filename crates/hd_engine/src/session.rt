@@ -1,11 +1,13 @@
 // A session on one surface.
-ghost use Rattle.std.specs.Prelude.{◌≡◌, ◌≤◌, ◌<◌, ◌+◌, IfOk, OnErr};
+ghost use Rattle.std.specs.Prelude.{◌≡◌, ◌≤◌, ◌<◌, ◌+◌, [], IfOk, OnErr};
 ghost use Rattle.hd_sdf_read.specs.FileOf.{file_of};
 ghost use Rattle.hd_engine.specs.Answers.{IsAnswer};
 ghost use Rattle.hd_engine.specs.Reply.{reply_of};
 ghost use Rattle.hd_engine.specs.State.{first_state, saved_file};
+ghost use Rattle.hd_sdf_write.specs.Canonical.{canonical};
 
 use crate::Answer;
+use crate::file_pieces::{FilePieces, narrow_pieces, wide_pieces};
 use crate::parts::{joined, parted};
 use crate::surveyed::Surveyed;
 use hd_list::Memory;
@@ -92,6 +94,20 @@ impl Session {
                 let surface = surveyed.grid().without_masks(alloc)?;
                 joined(alloc, surveyed.texts(), Surface::Wide(surface))
             }
+        }
+    }
+
+    /// The canonical text of that file, piece by piece, without a copy of the surface. All memory is taken here:
+    /// `Memory` comes where it is refused.
+    pub fn file_pieces(&self) -> Result<FilePieces<'_>, Memory>
+        ensures { IfOk result (λ pieces. pieces ≡ record {
+          piece = [];
+          left = canonical (saved_file self.now.state);
+        }) }
+    {
+        match &self.layout {
+            Layout::Narrow(surveyed) => narrow_pieces(surveyed),
+            Layout::Wide(surveyed) => wide_pieces(surveyed),
         }
     }
 

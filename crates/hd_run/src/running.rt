@@ -113,7 +113,7 @@ fn answer_all<W: Sink, V: Sink>(
     let Ok(mut session) = Session::new(alloc, file, job.tile) else {
         return Err(Stop::Memory);
     };
-    let answered = answer_and_save(alloc, &mut session, job, script, out, saved);
+    let answered = answer_and_save(&mut session, job, script, out, saved);
     drop(session);
     answered
 }
@@ -121,7 +121,6 @@ fn answer_all<W: Sink, V: Sink>(
 // Answers the lines in a session that was asked none, and saves the file that they leave, where the
 // words name one.
 fn answer_and_save<W: Sink, V: Sink>(
-    alloc: Global,
     session: &mut Session,
     job: &RunJob<'_>,
     script: &[u8],
@@ -149,7 +148,7 @@ fn answer_and_save<W: Sink, V: Sink>(
     let Some(name) = job.save else {
         return Ok(accepted);
     };
-    match save_file(alloc, session, name, saved) {
+    match save_file(session, name, saved) {
         Ok(()) => {}
         Err(stop) => return Err(stop),
     }

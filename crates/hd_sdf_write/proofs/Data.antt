@@ -1,29 +1,20 @@
 -- The data of a map, one after another.
-use Rattle.std.proofs.Common.{◌≡◌, ◌+◌, ◌*◌, ◌-◌, ◌%◌, ◌<◌, ◌≤◌, Bool, ℕ, zero, suc, List, [], ◌∷◌, ◌++◌, length, take, eqb, leb, cond, inl, inr, refl, sym, ap, ap₂, arith, ◌∙◌, append_assoc, append-nil, length-append}
+use Rattle.std.proofs.Common.{◌≡◌, ◌+◌, ◌*◌, ◌-◌, ◌%◌, ◌<◌, ◌≤◌, Bool, ℕ, zero, suc, List, [], ◌∷◌, ◌++◌, take, eqb, cond, inl, inr, refl, sym, ap, ap₂, arith, ◌∙◌, append_assoc, append-nil}
 use Rattle.std.specs.Prelude.{slice_index_or}
-use Rattle.std.proofs.lemmas.Bool.{and_parts, cases_eq, eq-eqb, leb-true, ne_eqb}
+use Rattle.std.proofs.lemmas.Bool.{cases_eq, eq-eqb, ne_eqb}
 use Rattle.std.proofs.lemmas.List.{take_all}
 use Rattle.std.proofs.lemmas.Nat.{mod-mul-add}
-use Rattle.std.specs.Str.Parse.{without_leading_sign}
 use Rattle.hd_map.specs.declared.types.Cell.{Cell}
-use Rattle.hd_map.specs.declared.types.Cell.TheVariants.{Bad, Height}
+use Rattle.hd_map.specs.declared.types.Cell.TheVariants.{Bad}
 use Rattle.hd_map.specs.declared.types.DataType.{DataType}
 use Rattle.hd_map.specs.declared.types.Pos.{Pos}
 use Rattle.hd_map.specs.declared.types.Size.{Size}
-use Rattle.hd_map.specs.Map.{IsCellOf, IsMap, Map, cell_at, cell_count, most_places, place_of, places_of}
-use Rattle.hd_num.specs.Decimal.{is_unsigned_decimal}
-use Rattle.hd_num.specs.Steps.{steps_decimal}
-use Rattle.hd_sdf_read.proofs.Gapless.{decimal_form}
+use Rattle.hd_map.specs.Map.{IsMap, Map, cell_at, cell_count, place_of}
 use Rattle.hd_sdf_write.specs.Canonical.{cell_text, line, profile, profile_lines, spaced}
-use Rattle.hd_sdf_write.specs.Data.{AddsData, data_from, data_text, datum_text, gap_after}
-use Rattle.hd_sdf_write.proofs.Laid.{height_decimal}
+use Rattle.hd_sdf_write.specs.Data.{data_from, data_text, datum_text, gap_after}
 use Rattle.hd_sdf_write.proofs.Profiles.{length-profile, row_first, row_more}
 
--- one more datum
-pub data_more : (m : Map) (k : ℕ) → k < cell_count m.size → data_from m k ≡ datum_text m k ++ data_from m (k + 1)
-unfolding data_text
-data_more m k inside = let step : cell_count m.size - k ≡ suc (cell_count m.size - (k + 1)) = omega arith in rw step refl
-
+-- no more data
 pub data_none : (m : Map) → data_from m (cell_count m.size) ≡ []
 unfolding data_text
 data_none m = let none : cell_count m.size - cell_count m.size ≡ 0 = omega arith in rw none refl
@@ -40,6 +31,31 @@ data_append m k (suc a) b =
     let next : suc a + b ≡ suc (a + b) = omega arith in
     ap (data_text m k) next ∙ ap (λ (t : List ℕ). datum_text m k ++ t) (data_append m (k + 1) a b ∙ ap (λ n. data_text m (k + 1) a ++ data_text m n b) place)
     ∙ sym (append_assoc (datum_text m k) (data_text m (k + 1) a) (data_text m (k + suc a) b))
+
+-- the data from one on, parted at another
+pub data_parts : (m : Map) (from to : ℕ) → from ≤ to → to ≤ cell_count m.size → data_from m from ≡ data_text m from (to - from) ++ data_from m to
+data_parts m from to order inside =
+    let count : cell_count m.size - from ≡ to - from + (cell_count m.size - to) = omega (arith, order, inside) in
+    let place : from + (to - from) ≡ to = omega (arith, order) in
+    ap (data_text m from) count ∙ data_append m from (to - from) (cell_count m.size - to) ∙ ap (λ k. data_text m from (to - from) ++ data_text m k (cell_count m.size - to)) place
+
+-- one more datum before others
+pub data_before : (m : Map) (index next to : ℕ) (cell : Cell) (gap : ℕ) (at : Pos) (old middle new : List ℕ) → next ≡ index + 1 → next ≤ to → place_of m.size at ≡ index → old ≡ data_text m next (to - next)
+    → middle ≡ gap ∷ old → new ≡ cell_text m.data_type cell ++ middle → cell ≡ cell_at m at → gap ≡ gap_after m.size index → new ≡ data_text m index (to - index)
+unfolding data_text
+data_before m index next to cell gap at old middle new one below place old_is middle_is new_is cell_is gap_is =
+    let count : suc (to - next) ≡ to - index = omega (arith, one, below) in
+    let t : DataType = m.data_type in
+    let here : cell ≡ slice_index_or m.cells index Bad = cell_is ∙ ap (λ k. slice_index_or m.cells k Bad) place in
+    new_is ∙ ap (λ (r : List ℕ). cell_text t cell ++ r) (middle_is ∙ ap (λ (r : List ℕ). gap ∷ r) (old_is ∙ ap (λ k. data_text m k (to - next)) one))
+    ∙ ap₂ (λ (c : Cell) (g : ℕ). cell_text t c ++ (g ∷ data_text m (index + 1) (to - next))) here gap_is
+    ∙ sym (append_assoc (cell_text t (slice_index_or m.cells index Bad)) (gap_after m.size index ∷ []) (data_text m (index + 1) (to - next)))
+    ∙ ap (data_text m index) count
+
+-- none of them
+pub data_empty : (m : Map) (k : ℕ) → data_text m k (k - k) ≡ []
+unfolding data_text
+data_empty m k = let none : k - k ≡ 0 = omega arith in ap (data_text m k) none
 
 data_one : (m : Map) (k : ℕ) → data_text m k 1 ≡ datum_text m k
 unfolding data_text
@@ -65,13 +81,6 @@ gap_at size x y column = elim (cases_eq (x + 1) size.points) [
   | inr before ↦ gap_test ((y * size.points + x + 1) % size.points) (eqb (x + 1) size.points) (rw (other_rest size.points x y (omega (arith, before, column)), ne_eqb (x + 1) size.points before)
       (ne_eqb (x + 1) 0 (λ none. omega (arith, none))))
 ]
-
--- a datum takes at most 64 bytes
-pub cell_short : (t : DataType) (cell : Cell) → places_of t ≤ most_places → IsCellOf t cell → length (cell_text t cell) ≤ 64
-cell_short t Bad few fits = omega arith
-cell_short t (Height h) few fits =
-    let right = decimal_form (cell_text t (Height h)) (steps_decimal h (places_of t)) (height_decimal t h few fits) in
-    leb-true (length (cell_text t (Height h))) 64 (and_parts (leb (length (cell_text t (Height h))) 64) (is_unsigned_decimal (without_leading_sign (cell_text t (Height h)))) right).0
 
 -- the data of a profile are its line
 module _ (m : Map) (y : ℕ) (whole : IsMap m) (below : y < m.size.profiles) where
@@ -128,48 +137,3 @@ profiles_are m (suc y) whole below =
 -- the data of a map are the lines of its profiles
 pub data_are : (m : Map) → IsMap m → data_from m 0 ≡ profile_lines m m.size.profiles
 data_are m whole = let all : cell_count m.size - 0 ≡ cell_count m.size = omega arith in ap (data_text m 0) all ∙ profiles_are m m.size.profiles whole (omega arith)
-
--- data are added up to one
-pub record HasAdded (m : Map) (from : ℕ) (old new : List ℕ) (index : ℕ) : Type 0 where
-  pub text : old ++ data_from m from ≡ new ++ data_from m index
-  pub short : length new ≤ length old + 65536
-  pub none : index ≡ from → length new ≡ length old
-  pub some : from < index → length old < length new
-
-pub none_added : (m : Map) (from : ℕ) (out : List ℕ) → HasAdded m from out out from
-none_added m from out = record { text = refl; short = omega arith; none = λ _. refl; some = λ more. absurd (omega (arith, more)) }
-
--- one more
-pub more_added : (m : Map) (from index : ℕ) (old before middle after : List ℕ) (cell : Cell) (gap : ℕ) (at : Pos) → IsMap m → index < cell_count m.size → place_of m.size at ≡ index → HasAdded m from old before index → from ≤ index
-    → length before ≤ length old + 65471 → cell ≡ cell_at m at → gap ≡ gap_after m.size index → middle ≡ before ++ cell_text m.data_type cell → after ≡ middle ++ gap ∷ [] → HasAdded m from old after (index + 1)
-more_added m from index old before middle after cell gap at whole inside place has onward few is gap_is middle_is after_is =
-    let t : DataType = m.data_type in
-    let here : cell ≡ slice_index_or m.cells index Bad = is ∙ ap (λ k. slice_index_or m.cells k Bad) place in
-    let cells = whole.cells in
-    let fits : IsCellOf t (slice_index_or m.cells index Bad) = whole.heights index (omega (arith, inside, cells)) in
-    let size = cell_short t (slice_index_or m.cells index Bad) whole.places fits in
-    let datum : after ≡ before ++ datum_text m index =
-    after_is ∙ ap₂ (λ (a : List ℕ) (g : ℕ). a ++ g ∷ []) (middle_is ∙ ap (λ c. before ++ cell_text t c) here) gap_is
-    ∙ append_assoc before (cell_text t (slice_index_or m.cells index Bad)) (gap_after m.size index ∷ []) in
-    let long : length after ≡ length before + (length (cell_text t (slice_index_or m.cells index Bad)) + 1) =
-    ap length datum ∙ length-append before (datum_text m index) ∙ ap (λ n. length before + n) (length-append (cell_text t (slice_index_or m.cells index Bad)) (gap_after m.size index ∷ [])) in
-    let start = has.none in
-    let longer = has.some in
-    record {
-      text = has.text ∙ ap (λ (a : List ℕ). before ++ a) (data_more m index inside) ∙ sym (append_assoc before (datum_text m index) (data_from m (index + 1))) ∙ ap (λ (a : List ℕ). a ++ data_from m (index + 1)) (sym datum);
-      short = omega (arith, long, size, few);
-      none = λ same. absurd (omega (arith, same, onward));
-      some = λ _. elim (cases_eq index from) [
-        | inl first ↦ (let same = start first in omega (arith, long, same))
-        | inr other ↦ (let more = longer (omega (arith, onward, other)) in omega (arith, long, more))
-      ];
-    }
-
-pub some_added : (m : Map) (from index : ℕ) (old new : List ℕ) → HasAdded m from old new index → from ≤ index → length old < length new → from < index
-some_added m from index old new has onward more = elim (cases_eq index from) [
-  | inl first ↦ (let same = has.none first in absurd (omega (arith, same, more)))
-  | inr other ↦ omega (arith, onward, other)
-]
-
-pub AddsData-added : (m : Map) (from index : ℕ) (old new : List ℕ) → HasAdded m from old new index → from < index → index ≤ cell_count m.size → AddsData m from old new index
-AddsData-added m from index old new has some within = record { text = has.text; within = within; some = some; longer = has.some some; short = has.short }

@@ -6,7 +6,5 @@ mod Joined
 mod Known
 mod Laid
 mod LaidDecimals
-mod Parts
 mod ReadsBack
 mod Profiles
-mod Sizes

@@ -223,6 +223,10 @@ unmasked_lines : (m : Map) (y : ℕ) → profile_lines (unmasked m) y ≡ profil
 unfolding profile_lines
 unmasked_lines m y = refl
 
+pub unmasked_text : (f : File) → canonical (record f { map = unmasked f.map }) ≡ canonical f
+unfolding canonical name_lines scale_lines encoding_lines profile_lines
+unmasked_text f = refl
+
 -- nor are the places of a type without heights
 lines_stay : (m : Map) (y : ℕ) → profile_lines (typed (type_read m) (unmasked m)) y ≡ profile_lines m y
 lines_stay m y = elim (cases_Bool (list_any is_height m.cells)) [

@@ -1,5 +1,5 @@
 -- The data of a map as text, from one of them on.
-use Rattle.std.specs.Prelude.{◌≡◌, ◌<◌, ◌≤◌, ◌+◌, ◌-◌, ◌%◌, ◌==◌, ◌++◌, ℕ, zero, suc, List, [], ◌∷◌, length, slice_index_or, if◌then◌else◌}
+use Rattle.std.specs.Prelude.{◌+◌, ◌-◌, ◌%◌, ◌==◌, ◌++◌, ℕ, zero, suc, List, [], ◌∷◌, slice_index_or, if◌then◌else◌}
 use Rattle.hd_map.specs.declared.types.Cell.TheVariants.{Bad}
 use Rattle.hd_map.specs.declared.types.Size.{Size}
 use Rattle.hd_map.specs.Map.{Map, cell_count}
@@ -21,11 +21,3 @@ data_text m k (suc n) = datum_text m k ++ data_text m (k + 1) n
 -- the data from one on
 abbrev pub data_from : Map → ℕ → List ℕ
 data_from m k = data_text m k (cell_count m.size - k)
-
--- data from one on are added, up to the next
-pub record AddsData (m : Map) (from : ℕ) (old new : List ℕ) (next : ℕ) : Type 0 where
-  pub text : old ++ data_from m from ≡ new ++ data_from m next
-  pub within : next ≤ cell_count m.size
-  pub some : from < next
-  pub longer : length old < length new
-  pub short : length new ≤ length old + 65536

@@ -1,4 +1,4 @@
 pub mod Canonical
 pub mod Data
-pub mod Parts
 pub mod Pieces
+pub mod Texts

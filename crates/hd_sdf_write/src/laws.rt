@@ -1,6 +1,7 @@
 // What the canonical text of a file says.
 ghost use Rattle.std.specs.Prelude.{◌≡◌, Ok};
 ghost use Rattle.hd_map.specs.Map.{IsMap};
+ghost use Rattle.hd_map.specs.Unmasked.{unmasked};
 ghost use Rattle.hd_sdf_read.specs.File.{File, HasForms};
 ghost use Rattle.hd_sdf_read.specs.Grammar.{file_in};
 ghost use Rattle.hd_sdf_write.specs.Canonical.{as_read, canonical};
@@ -14,4 +15,9 @@ pub fn canonical_text_reads_back()
 /// The file that a canonical text is read as has the same canonical text.
 pub fn canonical_text_stays()
     ensures { (file again : File) → IsMap file.map → HasForms file → file_in (canonical file) ≡ Ok again → canonical again ≡ canonical file }
+{}
+
+/// The canonical text of a file does not tell the masks of its map, nor which points are neighbours.
+pub fn masks_are_not_written()
+    ensures { (file : File) → canonical (record file { map = unmasked file.map }) ≡ canonical file }
 {}

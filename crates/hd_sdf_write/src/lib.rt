@@ -2,12 +2,17 @@
 #![tactic(auto)]
 
 mod cells;
+mod header;
 mod laws;
 mod lines;
-mod part;
 mod pieces;
+mod rest;
+mod steps;
+mod texts;
+mod unwritten;
 mod write;
 
-pub use laws::{canonical_text_reads_back, canonical_text_stays};
+pub use laws::{canonical_text_reads_back, canonical_text_stays, masks_are_not_written};
 pub use pieces::SdfPieces;
+pub use texts::SdfTexts;
 pub use write::write_sdf;

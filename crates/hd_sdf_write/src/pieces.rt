@@ -1,61 +1,72 @@
 // A text piece by piece.
-ghost use Rattle.std.specs.Prelude.{◌≡◌, [], Some};
-ghost use Rattle.hd_sdf_read.specs.FileOf.{file_of};
+ghost use Rattle.std.specs.Prelude.{◌≡◌, [], IfOk};
 ghost use Rattle.hd_sdf_write.specs.Canonical.{canonical};
-ghost use Rattle.hd_sdf_write.specs.Parts.{IsPartOf};
+ghost use Rattle.hd_sdf_write.specs.Pieces.{IsNext};
+ghost use Rattle.hd_sdf_write.specs.Texts.{file_with};
 
-use crate::part::Part;
-use crate::write::push_part;
-use hd_list::{List, Memory};
-use hd_sdf_read::SdfFile;
+use crate::texts::SdfTexts;
+use crate::unwritten::Unwritten;
+use hd_list::Memory;
+use hd_map::Grid;
 use std::alloc::Global;
-use std::mem::replace;
+use std::marker::Model;
 
-/// The canonical text of a file, as [`write_sdf`](crate::write_sdf) makes it, piece by piece: the
-/// header, then the data, and then what stands behind them.
+// The most bytes of a piece.
+const PIECE_BYTES: usize = 262_144;
+
+/// The canonical text of a file, as [`write_sdf`](crate::write_sdf) makes it, piece by piece. Contracts see the
+/// present piece, and what is left of the text behind it.
 ///
-/// It stands for what is left of the text, and keeps of it only the place of the next piece.
+/// All memory is taken at first: some 256 KiB, and that of what stands before and behind the data.
 #[derive(Drop)]
-pub struct SdfPieces<'a> {
-    file: &'a SdfFile,
-    next: Option<Part>,
-    ghost within: { IsPartOf (file_of file.now) next },
+pub struct SdfPieces<'a, G: Grid> {
+    unwritten: Unwritten<'a, G>,
+    // The present piece stands at its end.
+    room: Vec<u8>,
+    start: usize,
 }
 
-impl<'a> SdfPieces<'a> {
-    ghost use Rattle.hd_sdf_write.specs.Pieces.{GivesNext, left_of};
+impl<'a, G: Grid> Model for SdfPieces<'a, G> {
+    ghost use Rattle.std.specs.Prelude.{◌≡◌, ◌≤◌, drop, length};
+    ghost use Rattle.hd_sdf_write.specs.Pieces.{PiecesState, most_bytes};
 
-    /// The whole text of a file.
-    pub fn new(file: &'a SdfFile) -> SdfPieces<'a>
-        ensures { left_of result ≡ canonical (file_of file.now) }
-    {
-        SdfPieces {
-            file,
-            next: Some(Part::Header),
-        }
-    }
+    ghost Value = { PiecesState };
 
-    /// Puts the next piece, of at most 262,144 bytes, in the place of what `out` holds, and tells
-    /// whether there was one.
-    ///
-    /// `Memory` comes where a piece is refused its memory. The same piece is then the next one.
-    pub fn next_piece(&mut self, alloc: Global, out: &mut List<u8>) -> Result<bool, Memory>
-        ensures { GivesNext (left_of self.old) out.new (left_of self.new) result }
-    {
-        clear(alloc, out);
-        let Some(part) = self.next else {
-            return Ok(false);
-        };
-        self.next = push_part(alloc, out, self.file, part)?;
-        Ok(true)
-    }
+    ghost view = { λ p. record { piece = drop p.start p.room.items; left = p.unwritten } };
+
+    ghost invariant = { λ p. (p.start ≤ most_bytes) × (length p.room.items ≡ most_bytes) };
 }
 
-// Takes all items out of a list, which keeps its memory.
-fn clear(alloc: Global, list: &mut List<u8>)
-    ensures { list.new ≡ [] }
-{
-    let mut items = replace(list, List::new(alloc)).into_vec();
-    items.clear();
-    *list = List::from_vec(items);
+impl<'a, G: Grid> SdfPieces<'a, G> {
+    /// The whole text of the file of these texts and a grid. `Memory` comes where the memory of all pieces is
+    /// refused.
+    pub fn new(alloc: Global, texts: &SdfTexts<'_>, grid: &'a G) -> Result<Self, Memory>
+        ensures { IfOk result (λ pieces. pieces ≡ record {
+          piece = [];
+          left = canonical (file_with texts.now (G.map grid.now));
+        }) }
+    {
+        let unwritten = Unwritten::new(alloc, texts, grid)?;
+        let room = vec![in alloc; 0u8; PIECE_BYTES]?;
+        Ok(SdfPieces {
+            unwritten,
+            room,
+            start: PIECE_BYTES,
+        })
+    }
+
+    /// Goes on to the next piece, of at most 262,144 bytes, and tells whether there is one.
+    pub fn advance(&mut self) -> bool
+        ensures { IsNext self.old result self.new }
+    {
+        self.start = self.unwritten.write_next(&mut self.room);
+        self.start < self.room.len()
+    }
+
+    /// The present piece: the one that was gone on to last, and nothing before the first.
+    pub fn piece(&self) -> &[u8]
+        ensures { result.now ≡ self.now.piece }
+    {
+        &self.room[self.start..]
+    }
 }

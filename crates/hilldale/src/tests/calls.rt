@@ -83,9 +83,9 @@ const SAVING: [&str; 5] = ["run", "A", "B", "--save", "C"];
 
 // The calls of the surface, the script, `out` and `saved` where none fails: an open, a read for each
 // piece of the 217 bytes of the surface and the 16 of the script, and one that finds the end; a write
-// for each of two answers, and a flush; an open, a write for each piece of the 217 bytes that are
-// saved, and a flush.
-const ALL: [u64; 4] = [6, 3, 3, 6];
+// for each of two answers, and a flush; an open, a write for each piece of the 209 bytes that are
+// saved before the data, one for these and one for what stands behind them, and a flush.
+const ALL: [u64; 4] = [6, 3, 3, 8];
 
 // The calls that fail: of the surface, the script, `out` and `saved`.
 #[derive(Clone, Copy)]
@@ -159,7 +159,7 @@ fn no_source_is_called_after_its_fault(rt: HostRuntime) -> Result<(), Fail> {
 fn no_sink_is_called_after_a_fault_of_one(rt: HostRuntime) -> Result<(), Fail> {
     let surface = profile(rt.alloc(), 5)?;
     // The file is saved before the last call of `out`, its flush.
-    for (call, saves) in [(0, 0), (1, 0), (2, 6)] {
+    for (call, saves) in [(0, 0), (1, 0), (2, 8)] {
         let failing = Failing {
             out: &[call],
             ..NONE
@@ -168,7 +168,7 @@ fn no_sink_is_called_after_a_fault_of_one(rt: HostRuntime) -> Result<(), Fail> {
         assert_eq!(rt; status, Status::WriteFault);
         assert_eq!(rt; calls, [6, 3, call + 1, saves]);
     }
-    for call in 0..6 {
+    for call in 0..8 {
         let failing = Failing {
             saved: &[call],
             ..NONE

@@ -1,6 +1,7 @@
-use Rattle.std.proofs.Common.{◌∙◌, List, ℕ, inl, inr, refl, sym, subst}
+use Rattle.std.proofs.Common.{◌∙◌, List, ℕ, inl, inr, refl, sym, ap, subst}
 use Rattle.std.specs.Io.KnownBytes.{Appends}
 use Rattle.hd_base.specs.Told.{AppendsStart}
+use Rattle.hd_sdf_write.specs.Pieces.{PiecesState}
 use Rattle.hd_run.specs.Saving.{emptied}
 use Rattle.hd_run.proofs.Checks.{of_err, of_ok}
 use Rattle.hd_run.proofs.Savings.{all_after_open, cut_after_open, emptied-open, rose_later, start-whole}
@@ -18,28 +19,28 @@ pub returns-then-is_err-2 : goal.returns-then-is_err-2
 returns-then-is_err-2 g c =
     let old = g.V.Sink.written c.args.saved.now in
     let mid = g.V.Sink.written c.open.new.self in
-    let new = g.V.Sink.written c.write_all.new.sink in
+    let new = g.V.Sink.written c.write_pieces.new.saved in
     let opened = sym c.is_err.ensures.value ∙ c.if-is_err.false in
     let failed = sym c.is_err-2.ensures.value ∙ c.if-is_err-2.true in
-    let begun = cut_after_open old mid new c.as_slice.result.now (emptied-open old mid (of_ok c.open.result opened c.open.ensures.empty)) (of_err c.write_all.result failed c.write_all.ensures.part) in
+    let begun = cut_after_open old mid new c.in-Ok.pieces.left (emptied-open old mid (of_ok c.open.result opened c.open.ensures.empty)) (of_err c.write_pieces.result failed c.write_pieces.ensures.part) in
     record {
-      written = inr (subst (λ (text : List ℕ). AppendsStart (emptied old) new text) (c.as_slice.ensures ∙ c.in-Ok.ensures) begun);
-      count = rose_later _ _ _ (of_ok c.open.result opened c.open.ensures.cause.accepted) (of_err c.write_all.result failed c.write_all.ensures.cause.failed);
+      written = inr (subst (λ (text : List ℕ). AppendsStart (emptied old) new text) (ap (λ (p : PiecesState). p.left) c.in-Ok.ensures) begun);
+      count = rose_later _ _ _ (of_ok c.open.result opened c.open.ensures.cause.accepted) (of_err c.write_pieces.result failed c.write_pieces.ensures.cause.failed);
     }
 
 pub returns-then-is_err-3 : goal.returns-then-is_err-3
 returns-then-is_err-3 g c =
     let old = g.V.Sink.written c.args.saved.now in
     let mid = g.V.Sink.written c.open.new.self in
-    let new = g.V.Sink.written c.write_all.new.sink in
+    let new = g.V.Sink.written c.write_pieces.new.saved in
     let last = g.V.Sink.written c.flush.new.self in
     let opened = sym c.is_err.ensures.value ∙ c.if-is_err.false in
     let written = sym c.is_err-2.ensures.value ∙ c.if-is_err-2.false in
     let failed = sym c.is_err-3.ensures.value ∙ c.if-is_err-3.true in
-    let all = all_after_open old mid new last c.as_slice.result.now (emptied-open old mid (of_ok c.open.result opened c.open.ensures.empty)) (of_ok c.write_all.result written c.write_all.ensures.all) c.flush.ensures.written in
+    let all = all_after_open old mid new last c.in-Ok.pieces.left (emptied-open old mid (of_ok c.open.result opened c.open.ensures.empty)) (of_ok c.write_pieces.result written c.write_pieces.ensures.all) c.flush.ensures.written in
     record {
-      written = inr (start-whole (emptied old) last _ (subst (λ (text : List ℕ). Appends (emptied old) last text) (c.as_slice.ensures ∙ c.in-Ok.ensures) all));
-      count = rose_later _ _ _ (of_ok c.write_all.result written c.write_all.ensures.cause.accepted ∙ of_ok c.open.result opened c.open.ensures.cause.accepted)
+      written = inr (start-whole (emptied old) last _ (subst (λ (text : List ℕ). Appends (emptied old) last text) (ap (λ (p : PiecesState). p.left) c.in-Ok.ensures) all));
+      count = rose_later _ _ _ (of_ok c.write_pieces.result written c.write_pieces.ensures.cause.accepted ∙ of_ok c.open.result opened c.open.ensures.cause.accepted)
           (of_err c.flush.result failed c.flush.ensures.cause.failed);
     }
 
@@ -47,14 +48,14 @@ pub returns : goal.returns
 returns g c =
     let old = g.V.Sink.written c.args.saved.now in
     let mid = g.V.Sink.written c.open.new.self in
-    let new = g.V.Sink.written c.write_all.new.sink in
+    let new = g.V.Sink.written c.write_pieces.new.saved in
     let last = g.V.Sink.written c.flush.new.self in
     let opened = sym c.is_err.ensures.value ∙ c.if-is_err.false in
     let written = sym c.is_err-2.ensures.value ∙ c.if-is_err-2.false in
     let flushed = sym c.is_err-3.ensures.value ∙ c.if-is_err-3.false in
-    let all = all_after_open old mid new last c.as_slice.result.now (emptied-open old mid (of_ok c.open.result opened c.open.ensures.empty)) (of_ok c.write_all.result written c.write_all.ensures.all) c.flush.ensures.written in
+    let all = all_after_open old mid new last c.in-Ok.pieces.left (emptied-open old mid (of_ok c.open.result opened c.open.ensures.empty)) (of_ok c.write_pieces.result written c.write_pieces.ensures.all) c.flush.ensures.written in
     record {
-      written = subst (λ (text : List ℕ). Appends (emptied old) last text) (c.as_slice.ensures ∙ c.in-Ok.ensures) all;
+      written = subst (λ (text : List ℕ). Appends (emptied old) last text) (ap (λ (p : PiecesState). p.left) c.in-Ok.ensures) all;
       flushed_all = of_ok c.flush.result flushed c.flush.ensures.flushed;
-      count = of_ok c.flush.result flushed c.flush.ensures.cause.accepted ∙ of_ok c.write_all.result written c.write_all.ensures.cause.accepted ∙ of_ok c.open.result opened c.open.ensures.cause.accepted;
+      count = of_ok c.flush.result flushed c.flush.ensures.cause.accepted ∙ of_ok c.write_pieces.result written c.write_pieces.ensures.cause.accepted ∙ of_ok c.open.result opened c.open.ensures.cause.accepted;
     }

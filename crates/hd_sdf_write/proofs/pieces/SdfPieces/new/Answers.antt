@@ -1,7 +1,9 @@
-use Rattle.hd_map.specs.Surface.{map_of}
-use Rattle.hd_map.specs.SurfaceLaws.{surface-whole}
-use Rattle.hd_sdf_write.proofs.Parts.{some_data}
+use Rattle.std.proofs.Common.{ℕ, List, ap₂, arith}
+use Rattle.std.proofs.lemmas.List.{drop_all}
+use Rattle.hd_sdf_write.specs.Pieces.{PiecesState, most_bytes}
 use Rattle.hd_sdf_write.proofs.pieces.SdfPieces.new.Goals as goal
 
-pub invariant_of-result : goal.invariant_of-result
-invariant_of-result c = record { within = some_data (map_of c.args.file.now.surface) (surface-whole c.args.file.now.surface) }
+pub returns : goal.returns
+returns g c =
+    let state : List ℕ → List ℕ → PiecesState = λ piece left. record { piece = piece; left = left } in
+    ap₂ state (drop_all most_bytes c.in_ok-room.room.items (omega (arith, c.in_ok-room.ensures.len))) c.in_ok-unwritten.ensures
