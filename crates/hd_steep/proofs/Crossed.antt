@@ -2,7 +2,7 @@
 use Rattle.std.proofs.Common.{◌≡◌, ◌<◌, ◌+◌, ℕ, Bool, true, false, List, [], ◌∷◌, ◌++◌, Option, ◌⊎◌, inl, inr, ap, ◌∙◌, sym, subst, refl, arith}
 use Rattle.std.specs.Prelude.{Contains}
 use Rattle.std.proofs.lemmas.Bool.{cases_eq, cases_lt}
-use Rattle.std.proofs.lemmas.List.Elements.{Contains-push, Contains-push_cases, Contains-append_left}
+use Rattle.std.proofs.lemmas.List.Elements.{Contains-push, Contains-push_cases, Contains-append_cases, Contains-append_left, Contains-append_right}
 use Rattle.hd_map.specs.declared.types.Pass.{Pass}
 use Rattle.hd_map.specs.declared.types.Pos.{Pos}
 use Rattle.hd_map.specs.declared.types.Rank.{Rank}
@@ -105,14 +105,33 @@ module _ (m : Map) (side : SideName) where
     ];
   }
 
+  -- what is added to none is a crossing
+  added_to_none : (xs : List Pass) (p : Pass) → Extends m side [] xs → Contains xs p → IsCrossing m side p
+  added_to_none xs p extends h = elim (extends.from p h) [
+    | inl none ↦ absurd (Contains-none p none)
+    | inr crossing ↦ crossing
+  ]
+
+  -- for some points, and for others on their own
+  pub gathers_append : (C D : Pos → Type 0) (xs ys : List Pass) → Gathers m side C [] xs → Gathers m side D [] ys → Gathers m side (λ u. C u ⊎ D u) [] (xs ++ ys)
+  gathers_append C D xs ys one other =
+      let new : (p : Pass) → Contains (xs ++ ys) p → IsCrossing m side p = λ p h. elim (Contains-append_cases xs ys p h) [
+        | inl left ↦ added_to_none xs p one.extends left
+        | inr right ↦ added_to_none ys p other.extends right
+      ] in
+      record {
+        extends = record { from = λ p h. inr (new p h); kept = λ p h. absurd (Contains-none p h) };
+        served = λ u chosen here z low. elim chosen [
+          | inl c ↦ served_kept xs (xs ++ ys) (rank m u) z (record { from = λ p h. inr (new p h); kept = λ p h. Contains-append_left xs ys p h }) (one.served u c here z low)
+          | inr d ↦ served_kept ys (xs ++ ys) (rank m u) z (record { from = λ p h. inr (new p h); kept = λ p h. Contains-append_right xs ys p h }) (other.served u d here z low)
+        ];
+      }
+
   -- where the lower neighbours of all points are served, the passes are crossings
   module _ (whole : IsMap m) (labels : List (Option ℕ)) (regions : AreRegions m side labels) (passes : List Pass)
       (all : Gathers m side (λ u. u.y < m.size.profiles) [] passes) where
     crossing_of : (p : Pass) → Contains passes p → IsCrossing m side p
-    crossing_of p h = elim (all.extends.from p h) [
-      | inl none ↦ absurd (Contains-none p none)
-      | inr crossing ↦ crossing
-    ]
+    crossing_of p h = added_to_none passes p all.extends h
 
     -- a crossing is at a meeting of its two regions
     meets_at : (p : Pass) → IsCrossing m side p → IsMeeting m side (IsLabelled m labels) p.a p.b p.at

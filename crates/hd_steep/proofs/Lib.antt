@@ -23,7 +23,7 @@ pub mod Heights
 pub mod Enough
 pub mod Crossed
 mod TracedNumbers
-mod NumberedCrossings
+pub mod NumberedCrossings
 pub mod TracedCrossings
 pub mod DescentsStay
 pub mod Served

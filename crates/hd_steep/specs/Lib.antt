@@ -7,8 +7,10 @@ pub mod Borders
 pub mod Meetings
 pub mod Ring
 pub mod Crossed
+pub mod Batch
 pub mod Crossings
 pub mod Numbering
+pub mod Reached
 pub mod Descents
 pub mod Descended
 pub mod Tracing

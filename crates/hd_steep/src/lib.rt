@@ -2,6 +2,7 @@
 //! the passes between these regions.
 #![tactic(auto)]
 
+mod batch;
 mod borders;
 mod crossing;
 mod descent;

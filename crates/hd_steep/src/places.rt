@@ -1,5 +1,7 @@
 // The eight places round one, clockwise from the one above it. Two places are beside each other
 // where they follow each other, and so are the one above and the one to the right, and so on.
+// What is told of them is inlined at each call: between calls the compiler packs the eight marks into
+// one word, and takes them out of it again.
 ghost use Rattle.std.specs.Prelude.{◌≡◌, ◌<◌, ◌+◌, length};
 ghost use Rattle.std.specs.Bool.{OnFalse};
 ghost use Rattle.hd_steep.specs.Lowest.{earlier_below, later_below};
@@ -9,7 +11,7 @@ use hd_map::{Adjacency, Rank, Side};
 
 /// Which of the ranks round a place of the middle one of three rows are below the one that stands
 /// there, by heights alone: those before it have lesser indexes, and those after it greater ones.
-#[inline]
+#[inline(always)]
 pub fn lower_at<S: Side>(
     above: &[Rank],
     level: &[Rank],
@@ -35,7 +37,7 @@ pub fn lower_at<S: Side>(
 }
 
 // Whether a rank is below one of a greater index.
-#[inline]
+#[inline(always)]
 fn is_below_later<S: Side>(rank: Rank, later: Rank) -> bool
     ensures { result ≡ earlier_below S.NAME rank later }
 {
@@ -51,7 +53,7 @@ fn is_below_later<S: Side>(rank: Rank, later: Rank) -> bool
 }
 
 // Whether a rank is below one of a lesser index.
-#[inline]
+#[inline(always)]
 fn is_below_earlier<S: Side>(rank: Rank, earlier: Rank) -> bool
     ensures { result ≡ later_below S.NAME rank earlier }
 {
@@ -68,7 +70,7 @@ fn is_below_earlier<S: Side>(rank: Rank, earlier: Rank) -> bool
 
 /// Those of the lower places at which the passes of a point are gathered: under eight neighbours of
 /// each group that are beside one another the first, under fewer all that the setting takes.
-#[inline]
+#[inline(always)]
 pub fn marked(adjacency: Adjacency, lower: &[bool; 8]) -> [bool; 8]
     ensures { result ≡ marks_of adjacency lower.now }
 {
@@ -85,7 +87,7 @@ pub fn marked(adjacency: Adjacency, lower: &[bool; 8]) -> [bool; 8]
 
 // Of each group of lower places that are beside one another the first straight one, clockwise from
 // the one above. A corner is first only where it is alone.
-#[inline]
+#[inline(always)]
 fn firsts(lower: &[bool; 8]) -> [bool; 8]
     ensures { result ≡ firsts_of lower.now }
 {
@@ -106,7 +108,7 @@ fn firsts(lower: &[bool; 8]) -> [bool; 8]
 }
 
 /// Whether more than one place is marked.
-#[inline]
+#[inline(always)]
 pub fn are_several(marks: &[bool; 8]) -> bool
     ensures { OnFalse result (IsOneAtMost marks.now) }
 {

@@ -1,31 +1,27 @@
-use Rattle.std.proofs.Common.{◌∙◌, List, ap, subst, sym}
-use Rattle.std.proofs.lemmas.List.{map_push}
-use Rattle.hd_map.specs.declared.types.Pass.{Pass}
-use Rattle.hd_map.specs.declared.types.Link.{Link}
+use Rattle.std.proofs.Common.{not, nat_eq, refl}
 use Rattle.hd_steep.specs.Crossed.{Extends, IsCrossed}
-use Rattle.hd_steep.specs.Crossings.{pass_of, passes_of}
-use Rattle.hd_steep.proofs.Crossed.{crossed_push, extends_push}
-use Rattle.hd_steep.proofs.NumberedCrossings.{pass-to}
+use Rattle.hd_steep.specs.Crossings.{passes_of}
+use Rattle.hd_steep.proofs.NumberedCrossings.{crossed-if, pits-if}
+use Rattle.hd_steep.proofs.crossing.cross_to.Given.{Over}
 use Rattle.hd_steep.proofs.crossing.cross_to.Goals as goal
+use Rattle.hd_steep.proofs.crossing.cross_to.Goals.{After-put}
 
-pub returns-in_ok-push-clause-extends : goal.returns-in_ok-push-clause-extends
-returns-in_ok-push-clause-extends g c =
-    let m = g.G.Heights.map c.args.grid.now in
-    let side = g.S.Side.NAME in
-    let regions = c.args.regions.now in
-    let old = c.args.crossings.now.items in
-    let x : Link = record { a = c.args.number; b = c.number_of-there.result; at = c.args.own } in
-    let pushed = ap (passes_of side regions.pits) c.in_ok-push.ensures.items ∙ map_push (pass_of side regions.pits) old x in
-    let pass = pass-to m side regions.pits c.args.own c.args.other c.args.number c.number_of-there.result c.requires.number c.number_of-there.ensures c.requires.regions.pits.in_order c.if-number-there.true in
-    subst (λ (ps : List Pass). Extends m side (passes_of side regions.pits old) ps) (sym pushed) (extends_push m side (passes_of side regions.pits old) (pass_of side regions.pits x) c.args.own c.args.other c.requires.lower pass)
+-- the passes are extended, and the point is crossed to the other one
+crossed : (g : Over) (c : After-put g) → let side = g.S.Side.NAME in let pits = c.args.regions.now.pits in
+    Extends (g.G.Heights.map c.args.grid.now) side (passes_of side pits c.args.batch.now.links) (passes_of side pits c.put.new.self.links) × IsCrossed (g.G.Heights.map c.args.grid.now) side (passes_of side pits c.put.new.self.links) c.args.own c.args.other
+crossed g c =
+    let there = c.number_of-there.result in
+    rw c.put.ensures (crossed-if (g.G.Heights.map c.args.grid.now) g.S.Side.NAME c.args.regions.now.pits c.args.own c.args.other c.args.number there c.requires.number c.number_of-there.ensures c.requires.regions.pits.in_order
+    c.args.batch.now.links c.requires.other (not (nat_eq there c.args.number)) refl)
 
-pub returns-in_ok-push-clause-crossed : goal.returns-in_ok-push-clause-crossed
-returns-in_ok-push-clause-crossed g c =
-    let m = g.G.Heights.map c.args.grid.now in
-    let side = g.S.Side.NAME in
-    let regions = c.args.regions.now in
-    let old = c.args.crossings.now.items in
-    let x : Link = record { a = c.args.number; b = c.number_of-there.result; at = c.args.own } in
-    let pushed = ap (passes_of side regions.pits) c.in_ok-push.ensures.items ∙ map_push (pass_of side regions.pits) old x in
-    let pass = pass-to m side regions.pits c.args.own c.args.other c.args.number c.number_of-there.result c.requires.number c.number_of-there.ensures c.requires.regions.pits.in_order c.if-number-there.true in
-    subst (λ (ps : List Pass). IsCrossed m side ps c.args.own c.args.other) (sym pushed) (crossed_push m side (passes_of side regions.pits old) (pass_of side regions.pits x) c.args.own c.args.other pass)
+pub returns-clause-extends : goal.returns-clause-extends
+returns-clause-extends g c = (crossed g c).0
+
+pub returns-clause-crossed : goal.returns-clause-crossed
+returns-clause-crossed g c = (crossed g c).1
+
+pub returns-clause-pits : goal.returns-clause-pits
+returns-clause-pits g c =
+    let there = c.number_of-there.result in
+    rw c.put.ensures (pits-if (g.G.Heights.map c.args.grid.now) g.S.Side.NAME c.args.regions.now.pits c.args.own c.args.other c.args.number there c.requires.number c.number_of-there.ensures c.requires.regions.pits.in_order
+    c.args.batch.now.links (not (nat_eq there c.args.number)))

@@ -1,10 +1,12 @@
 use Rattle.std.proofs.Common.{◌≡◌, ◌<◌, ◌+◌, ◌*◌, ◌⊎◌, ◌∙◌, [], length, ap, subst, sym, inl, inr, arith}
 use Rattle.std.proofs.lemmas.Bool.{cases_lt}
-use Rattle.std.proofs.lemmas.List.{take_at}
+use Rattle.std.proofs.lemmas.List.{map-append, take_at}
+use Rattle.std.proofs.lemmas.List.Elements.{All-append, All-nil}
 use Rattle.hd_map.specs.declared.types.Size.{Size}
-use Rattle.hd_steep.specs.Crossings.{passes_of}
+use Rattle.hd_steep.specs.Batch.{Batched}
+use Rattle.hd_steep.specs.Crossings.{HasPits, pass_of, passes_of}
 use Rattle.hd_steep.specs.Numbering.{AreInner}
-use Rattle.hd_steep.proofs.Crossed.{gathers_less, gathers_join}
+use Rattle.hd_steep.proofs.Crossed.{gathers_append, gathers_less}
 use Rattle.hd_steep.proofs.ProfilesRound.{rows-next}
 use Rattle.hd_steep.proofs.crossing.gather.Goals as goal
 
@@ -21,7 +23,9 @@ profiles-preserved g c =
     let side = g.S.Side.NAME in
     let y = c.profiles.y in
     let pits = c.args.regions.now.pits in
-    let new = passes_of side pits c.gather_profile.new.crossings.items in
+    let before = c.profiles.crossings.items in
+    let batch = c.gather_profile.new.batch.links in
+    let none = c.profiles.invariant.none in
     let marks = c.mark_profile.new.inner in
     let sized : length marks ≡ c.profiles.inner.len = omega arith in
     let long : length marks ≡ m.size.points = (let before = c.profiles.invariant.marks_sized in omega (arith, before)) in
@@ -29,13 +33,16 @@ profiles-preserved g c =
     record {
       rows = rows-next m side y c.advance.new.self c.advance.ensures;
       marks_sized = ap length written ∙ long;
-      gathers = gathers_less m side (λ u. (u.y < y) ⊎ (u.y ≡ y)) (λ u. u.y < y + 1) [] new
+      gathers = gathers_less m side (λ u. (u.y < y) ⊎ (u.y ≡ y)) (λ u. u.y < y + 1) [] (passes_of side pits c.move_to.new.links.items)
           (λ u here less. elim (cases_lt u.y y) [
             | inl before ↦ inl before
             | inr past ↦ inr (omega (arith, less, past))
           ])
-          (gathers_join m side (λ u. u.y < y) (λ u. u.y ≡ y) [] (passes_of side pits c.profiles.crossings.items) new c.profiles.invariant.gathers c.in_ok-gather_profile.ensures.gathers);
-      pits = c.in_ok-gather_profile.ensures.pits c.profiles.invariant.pits;
+          (rw (c.in_ok-move_to.ensures.moved, map-append (pass_of side pits) before batch)
+          (gathers_append m side (λ u. u.y < y) (λ u. u.y ≡ y) (passes_of side pits before) (passes_of side pits batch) c.profiles.invariant.gathers (rw none at c.gather_profile.ensures.gathers)));
+      pits = rw c.in_ok-move_to.ensures.moved (All-append (HasPits pits) before batch c.profiles.invariant.pits (c.gather_profile.ensures.pits (rw none (All-nil (HasPits pits)))));
+      none = ap (λ (b : Batched). b.links) c.in_ok-move_to.ensures.empty;
+      room = ap (λ (b : Batched). b.room) c.in_ok-move_to.ensures.empty ∙ c.gather_profile.ensures.room ∙ c.profiles.invariant.room;
     }
 
 pub returns-clause-gathers : goal.returns-clause-gathers

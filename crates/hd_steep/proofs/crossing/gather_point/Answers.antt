@@ -19,7 +19,7 @@ looked g c first first_is =
 
 pub returns-then-is_missing-clause-gathers : goal.returns-then-is_missing-clause-gathers
 returns-then-is_missing-clause-gathers g c =
-    gathers_absent (g.G.Heights.map c.args.grid.now) g.S.Side.NAME (g.met.G.Heights.whole c.args.grid.now) c.args.rows.now c.args.at c.requires.inside c.requires.rows c.index-own.result.now (passes_of g.S.Side.NAME c.args.regions.now.pits c.args.crossings.now.items)
+    gathers_absent (g.G.Heights.map c.args.grid.now) g.S.Side.NAME (g.met.G.Heights.whole c.args.grid.now) c.args.rows.now c.args.at c.requires.inside c.requires.rows c.index-own.result.now (passes_of g.S.Side.NAME c.args.regions.now.pits c.args.batch.now.links)
     (read_middle (g.G.Heights.map c.args.grid.now) g.S.Side.NAME (g.met.G.Heights.whole c.args.grid.now) c.args.rows.now c.args.at c.requires.inside c.requires.rows c.index-own.result.now c.index-own.ensures)
     (sym c.is_missing.ensures ∙ c.if-is_missing.true)
 
@@ -27,7 +27,7 @@ pub returns-then-is_inner-clause-gathers : goal.returns-then-is_inner-clause-gat
 returns-then-is_inner-clause-gathers g c =
     let side = g.S.Side.NAME in
     let regions = c.args.regions.now in
-    gathers_inside (g.G.Heights.map c.args.grid.now) side regions c.requires.regions c.args.at (passes_of side regions.pits c.args.crossings.now.items) (OnTrue_at c.if-is_inner.true c.requires.inner)
+    gathers_inside (g.G.Heights.map c.args.grid.now) side regions c.requires.regions c.args.at (passes_of side regions.pits c.args.batch.now.links) (OnTrue_at c.if-is_inner.true c.requires.inner)
 
 pub cross-requires-clause-point : goal.cross-requires-clause-point
 cross-requires-clause-point g c =
@@ -48,14 +48,14 @@ cross-requires-clause-wide g c =
 pub cross-requires-clause-lower : goal.cross-requires-clause-lower
 cross-requires-clause-lower g c =
     let before = (goal.at.cross-requires-clause-lower g c).After-lower_at-lower in
-    looked_lower _ _ _ _ _ _ _ _ _ _ (looked g before c.marked-marks.result (rw c.adjacency.ensures at c.marked-marks.ensures))
+    looked_lower _ _ _ _ _ _ _ _ _ _ (looked g before c.marked-marks.result (rw c.requires.adjacency at c.marked-marks.ensures))
 
-pub returns-in_ok-cross-clause-gathers : goal.returns-in_ok-cross-clause-gathers
-returns-in_ok-cross-clause-gathers g c =
-    let before = (goal.at.returns-in_ok-cross-clause-gathers g c).After-lower_at-lower in
-    gathers_crossed _ _ _ _ _ _ _ _ _ _ (looked g before c.marked-marks.result (rw c.adjacency.ensures at c.marked-marks.ensures)) (passes_of g.S.Side.NAME c.args.regions.now.pits c.args.crossings.now.items) (passes_of g.S.Side.NAME c.args.regions.now.pits c.cross.new.crossings.items) c.in_ok-cross.ensures.extends c.in_ok-cross.ensures.crossed
+pub returns-then-are_several-clause-gathers : goal.returns-then-are_several-clause-gathers
+returns-then-are_several-clause-gathers g c =
+    let before = (goal.at.returns-then-are_several-clause-gathers g c).After-lower_at-lower in
+    gathers_crossed _ _ _ _ _ _ _ _ _ _ (looked g before c.marked-marks.result (rw c.requires.adjacency at c.marked-marks.ensures)) (passes_of g.S.Side.NAME c.args.regions.now.pits c.args.batch.now.links) (passes_of g.S.Side.NAME c.args.regions.now.pits c.cross.new.batch.links) c.cross.ensures.extends c.cross.ensures.crossed
 
 pub returns-else-are_several-clause-gathers : goal.returns-else-are_several-clause-gathers
 returns-else-are_several-clause-gathers g c =
     let before = (goal.at.returns-else-are_several-clause-gathers g c).After-lower_at-lower in
-    gathers_alone _ _ _ _ _ _ _ _ _ _ (looked g before c.marked-marks.result (rw c.adjacency.ensures at c.marked-marks.ensures)) (roots_of c.args.regions.now) c.requires.regions.roots (passes_of g.S.Side.NAME c.args.regions.now.pits c.args.crossings.now.items) (OnFalse_at c.if-are_several.false c.are_several.ensures)
+    gathers_alone _ _ _ _ _ _ _ _ _ _ (looked g before c.marked-marks.result (rw c.requires.adjacency at c.marked-marks.ensures)) (roots_of c.args.regions.now) c.requires.regions.roots (passes_of g.S.Side.NAME c.args.regions.now.pits c.args.batch.now.links) (OnFalse_at c.if-are_several.false c.are_several.ensures)
