@@ -1,11 +1,12 @@
 -- A flood, entry by entry.
 use Rattle.std.proofs.Common.{◌≡◌, ◌<◌, ◌≤◌, ◌+◌, ◌*◌, ◌%◌, ◌/◌, ℕ, List, [], ◌∷◌, ◌++◌, length, get_or, set, replicate, Option, Some, None, ◌⊎◌, inl, inr, ap, ◌∙◌, refl, sym, subst, arith}
 use Rattle.std.proofs.Math.ListN.{length-set}
-use Rattle.std.proofs.lemmas.List.{get_or-set_same, get_or-set_other, get_or_append_left, get_or_push, length_push, get_or-replicate, length-replicate, length-map, get_or-map, map-append, map-set}
+use Rattle.std.proofs.lemmas.List.{get_or-set_same, get_or-set_other, get_or_append_left, get_or_push, length_push, length-append, append_assoc, get_or-replicate, length-replicate, length-map, get_or-map, map-append, map-set}
 use Rattle.std.proofs.lemmas.List.Sums.{sum_by-set}
 use Rattle.std.proofs.lemmas.List.Folds.{sum_by-replicate}
 use Rattle.std.proofs.lemmas.Bool.{cases_lt, cases_eq}
 use Rattle.hd_map.specs.declared.types.Pos.{Pos}
+use Rattle.hd_map.specs.declared.types.Size.{Size}
 use Rattle.hd_map.specs.Map.{Map, InGrid, Present, place_of, cell_count}
 use Rattle.hd_map.specs.Neighbour.{Neighbour, AreBesideUnder}
 use Rattle.hd_map.specs.Path.{Leads}
@@ -21,6 +22,35 @@ use Rattle.hd_cert.specs.Flood.{Reached, no_entry, entry_of, is_free, HasStepsWi
 -- a step from a neighbour
 pub OpenStep-turned : (m : Map) (IsOpen : Pos → Type 0) (p q : Pos) → OpenStep m IsOpen p q → OpenStep m IsOpen q p
 OpenStep-turned m IsOpen p q s = record { neighbour = neighbour-sym m p q s.neighbour; from = s.to; to = s.from }
+
+-- the point behind those that are passed is at the head
+pub head_behind : (s : Size) (here : Pos) (passed left : List ℕ) → InGrid s here → IsAtHead s ((passed ++ place_of s here ∷ []) ++ left) (length passed) here
+head_behind s here passed left in_grid =
+    let front : List ℕ = passed ++ place_of s here ∷ [] in
+    let within : length passed < length front = (let longer = length_push passed (place_of s here) in omega (arith, longer)) in
+    record {
+      inside = (let more = length-append front left in omega (arith, within, more));
+      in_grid = in_grid;
+      place = get_or_append_left front left 0 (length passed) within ∙ get_or_push passed (place_of s here) 0 (length passed) refl;
+    }
+
+-- what is reached behind those that are passed is reached in the whole queue
+pub reaches_behind : (m : Map) (IsOpen : Pos → Type 0) (at : Pos) (x y : ℕ) (residue : Residue) (residues residues' : List Residue) (front places places' : List ℕ)
+    → ReachesAt m IsOpen at x y residue residues places residues' places' → ReachesAt m IsOpen at x y residue residues (front ++ places) residues' (front ++ places')
+reaches_behind m IsOpen at x y residue residues residues' front places places' reaches = elim reaches [
+  | inl some ↦ inl (
+    some.0,
+    some.1,
+    some.2,
+    some.3,
+    some.4,
+    elim some.5 [
+      | inl left ↦ inl (left.0, left.1, ap (λ xs. front ++ xs) left.2)
+      | inr noted ↦ inr (noted.0, noted.1, noted.2, ap (λ xs. front ++ xs) noted.3 ∙ sym (append_assoc front places (place_of m.size some.0 ∷ [])))
+    ],
+  )
+  | inr none ↦ inr (none.0, none.1, ap (λ xs. front ++ xs) none.2)
+]
 
 module _ (m : Map) (IsOpen : Pos → Type 0) (start : Pos) where
   -- a point is noted
@@ -475,3 +505,20 @@ module _ (m : Map) (IsOpen : Pos → Type 0) (start : Pos) where
       let long = queue_long residues places head f in
       let inside' : k < length f.queue = omega (arith, inside, long) in
       rw (queue_read residues places head f k inside') (place_inside m.size (entry_of f.queue k).at (f.flood.entries k inside').present.in_grid)
+
+  -- the index at the head of what is left is in the grid
+  pub flooding_next : (residues : List Residue) (passed left rest : List ℕ) (index : ℕ) → left ≡ index ∷ rest → IsFlooding m IsOpen start residues (passed ++ left) (length passed) → index < cell_count m.size
+  flooding_next residues passed left rest index is f =
+      let front : List ℕ = passed ++ index ∷ [] in
+      let same : passed ++ left ≡ front ++ rest = ap (λ xs. passed ++ xs) is ∙ sym (append_assoc passed (index ∷ []) rest) in
+      let within : length passed < length front = (let longer = length_push passed index in omega (arith, longer)) in
+      let inside : length passed < length (front ++ rest) = (let more = length-append front rest in omega (arith, within, more)) in
+      let below = flooding_index residues (front ++ rest) (length passed) (subst (λ xs. IsFlooding m IsOpen start residues xs (length passed)) same f) (length passed) inside in
+      let read : get_or (front ++ rest) (length passed) 0 ≡ index = get_or_append_left front rest 0 (length passed) within ∙ get_or_push passed index 0 (length passed) refl in
+      subst (λ n. n < cell_count m.size) read below
+
+  -- the point at the head of what is left is passed
+  pub flooding_pass : (residues : List Residue) (here : Pos) (passed left rest : List ℕ) → left ≡ place_of m.size here ∷ rest → IsFlooding m IsOpen start residues (passed ++ left) (length passed)
+      → IsFlooding m IsOpen start residues ((passed ++ place_of m.size here ∷ []) ++ rest) (length passed)
+  flooding_pass residues here passed left rest is f =
+      subst (λ xs. IsFlooding m IsOpen start residues xs (length passed)) (ap (λ xs. passed ++ xs) is ∙ sym (append_assoc passed (place_of m.size here ∷ []) rest)) f

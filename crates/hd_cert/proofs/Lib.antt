@@ -6,5 +6,6 @@ mod Listed
 mod Shown
 mod Sound
 mod RoutesAsPaths
+mod ReachedLow
 mod Determined
 mod Right

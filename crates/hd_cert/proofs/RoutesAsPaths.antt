@@ -19,7 +19,7 @@ use Rattle.hd_check.specs.Rules.{point_of}
 use Rattle.hd_check.proofs.Paths.{path_leads}
 use Rattle.hd_check.proofs.Searching.{place_at, rises_far}
 use Rattle.hd_cert.specs.Within.{within}
-use Rattle.hd_cert.specs.Routes.{IsRouteOver, IsShownRoute, IsLowStep, IsRouteCut, IsMade}
+use Rattle.hd_cert.specs.Routes.{IsRouteOver, IsShownRoute, IsLowStep, IsReachedLow, IsRouteCut, IsMade}
 use Rattle.hd_cert.specs.Shown.{AreTwoPits, IsPathAt, IsCutAt, IsShownCertificate}
 use Rattle.hd_cert.proofs.Shown.{leads_present}
 use Rattle.hd_cert.proofs.Sound.{leads_ranks, route_present}
@@ -153,6 +153,26 @@ low_route m side saddle a (p ∷ ps) b all l =
       low_route m side saddle p ps b rest l.1,
     )
 
+-- what is reached below the saddle is so by positions as by ranks
+module _ (m : Map) (side : SideName) (saddle : Option Rank) (a : Pos) (here : Present m a) where
+  pub reached-below : (p : Pos) → within side saddle true (rank m a) ≡ true → IsReachedLow m side saddle a p → IsReachedBelow m side saddle (rank m a) (rank m p)
+  reached-below p low w = record {
+    points = map (rank m) w.0;
+    path = record { point = point_at m a here; leads = leads_ranks m side saddle a w.0 p w.1 };
+    below = all_below m side saddle a w.0 p low w.1;
+  }
+
+  end_point : (c : Rank) (xs : List Rank) (x : Rank) → IsPoint m c → Leads (Near m) c xs x → IsPoint m x
+  end_point c [] x point l = subst (IsPoint m) l point
+  end_point c (y ∷ xs) x point l = end_point y xs x (record { at = l.0.to; present = l.0.neighbour.to; rank_is = l.0.to_rank }) l.1
+
+  pub reached-low : (x : Rank) → IsReachedBelow m side saddle (rank m a) x → (p : Pos) × (rank m p ≡ x) × IsReachedLow m side saddle a p
+  reached-low x r =
+      let point = end_point (rank m a) r.points x r.path.point r.path.leads in
+      let route = route_of m a r.points point.at here point.present (subst (λ (y : Rank). Leads (Near m) (rank m a) r.points y) point.rank_is r.path.leads) in
+      let low = low_route m side saddle a route.0 point.at (subst (λ (xs : List Rank). All (IsBelowSaddle side saddle) (rank m a ∷ xs)) (sym route.2) r.below) route.1 in
+      (point.at, sym point.rank_is, (route.0, low))
+
 module _ (m : Map) (side : SideName) (a b : Pos) (saddle : Option Rank) (here : Present m a) (is : SaddleIs m side (rank m a) (rank m b) saddle) (cut : List Pos) (shown : IsRouteCut m side saddle a cut) where
   rises_more : (i j : ℕ) → i < j → j < length cut → place_at m.size cut i < place_at m.size cut j
   rises_more i j less inside =
@@ -164,25 +184,11 @@ module _ (m : Map) (side : SideName) (a b : Pos) (saddle : Option Rank) (here : 
   route-reached_of : (x : Rank) → Contains (map (rank m) cut) x → IsReachedBelow m side saddle (rank m a) x
   route-reached_of x c =
       let q = Contains-map (rank m) cut x c in
-      let w = (shown.all q.0).0 q.1 in
-      subst (λ (r : Rank). IsReachedBelow m side saddle (rank m a) r) q.2 (record {
-        points = map (rank m) w.0;
-        path = record { point = point_at m a here; leads = leads_ranks m side saddle a w.0 q.0 w.1 };
-        below = all_below m side saddle a w.0 q.0 shown.low w.1;
-      })
-
-  -- what is reached is a point
-  end_point : (c : Rank) (xs : List Rank) (x : Rank) → IsPoint m c → Leads (Near m) c xs x → IsPoint m x
-  end_point c [] x point l = subst (IsPoint m) l point
-  end_point c (y ∷ xs) x point l = end_point y xs x (record { at = l.0.to; present = l.0.neighbour.to; rank_is = l.0.to_rank }) l.1
+      subst (λ (r : Rank). IsReachedBelow m side saddle (rank m a) r) q.2 (reached-below m side saddle a here q.0 shown.low ((shown.all q.0).0 q.1))
 
   -- what is reached is listed
   listed_of : (x : Rank) → IsReachedBelow m side saddle (rank m a) x → Contains (map (rank m) cut) x
-  listed_of x r =
-      let point = end_point (rank m a) r.points x r.path.point r.path.leads in
-      let route = route_of m a r.points point.at here point.present (subst (λ (y : Rank). Leads (Near m) (rank m a) r.points y) point.rank_is r.path.leads) in
-      let low = low_route m side saddle a route.0 point.at (subst (λ (xs : List Rank). All (IsBelowSaddle side saddle) (rank m a ∷ xs)) (sym route.2) r.below) route.1 in
-      subst (Contains (map (rank m) cut)) (sym point.rank_is) (map-Contains (rank m) cut point.at ((shown.all point.at).1 (route.0, low)))
+  listed_of x r = let q = reached-low m side saddle a here x r in subst (Contains (map (rank m) cut)) q.1 (map-Contains (rank m) cut q.0 ((shown.all q.0).1 q.2))
 
   -- the cut by positions is the shown cut
   pub cut_at : IsCutAt m side a b saddle cut

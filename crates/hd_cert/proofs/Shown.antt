@@ -22,8 +22,7 @@ use Rattle.hd_map.specs.SideLaws.{below_by-order}
 use Rattle.hd_map.proofs.Saddles.{saddle-above_pit}
 use Rattle.hd_map.specs.Saddle.{IsSaddle, SaddleIs}
 use Rattle.hd_cert.specs.declared.residue.Residue.{Residue}
-use Rattle.hd_cert.specs.declared.residue.Residue.TheVariants.{Unreached}
-use Rattle.hd_cert.specs.Residues.{residue_at, residue_of, AreResidues}
+use Rattle.hd_cert.specs.Residues.{residue_at, residue_of, AreResidues, IsReached}
 use Rattle.hd_cert.specs.Steps.{IsWanted, OpenStep, steps_at, AreSteps}
 use Rattle.hd_cert.specs.Within.{within, LiesWithin}
 use Rattle.hd_cert.specs.FirstNearer.{IsNearer, IsFirst, GoesNearer, LeadsDown}
@@ -315,7 +314,7 @@ leads_present m side saddle a (x ∷ xs) p here l = leads_present m side saddle 
 
 -- the points that are reached are those that are joined below the saddle
 pub cut_shown : (m : Map) (side : SideName) (saddle : Option Rank) (a : Pos) (residues : List Residue) (cut : List Pos) → AreResidues m (LiesWithin m side saddle true) a None residues
-    → AreListed m.size residues (cell_count m.size) cut → Present m a → within side saddle true (rank m a) ≡ true → IsRouteCut m side saddle a cut
+    → AreListed m.size (IsReached m.size residues) (cell_count m.size) cut → Present m a → within side saddle true (rank m a) ≡ true → IsRouteCut m side saddle a cut
 cut_shown m side saddle a residues cut known listed here low = record {
   rises = listed.rises;
   low = low;
@@ -323,7 +322,7 @@ cut_shown m side saddle a residues cut known listed here low = record {
     λ c.
         (let f = place_found cut p c in
         let inside : InGrid m.size p = subst (InGrid m.size) f.2 (listed.inside f.0 f.1) in
-        let reached : residue_at m.size residues p ≡ Unreached → ⊥ = subst (λ (q : Pos). residue_at m.size residues q ≡ Unreached → ⊥) f.2 (listed.reached f.0 f.1) in
+        let reached : IsReached m.size residues p = subst (IsReached m.size residues) f.2 (listed.chosen f.0 f.1) in
         let n = steps_noted (steps_at m.size steps p) (λ none. reached (read p inside ∙ none)) in
         let w = known.are.reached p inside n.0 n.1 in
         leads_turn (OpenStep m IsLow) (IsLowStep m side saddle) (λ x y s. (let t = OpenStep-turned m IsLow x y s in record { neighbour = t.neighbour; from = t.from.low; to = t.to.low })) p w.0 a w.1),

@@ -35,7 +35,7 @@ leads_more R a [] b c l r = (c ∷ [], (subst (λ (p : Pos). R p c) (sym l) r, r
 leads_more R a (x ∷ xs) b c l r = let rest = leads_more R x xs b c l.1 r in (x ∷ rest.0, (l.0, rest.1))
 
 -- the end of a low path is low
-low_end : (m : Map) (side : SideName) (saddle : Option Rank) (a : Pos) (xs : List Pos) (b : Pos) → within side saddle true (rank m a) ≡ true → Leads (IsLowStep m side saddle) a xs b → within side saddle true (rank m b) ≡ true
+pub low_end : (m : Map) (side : SideName) (saddle : Option Rank) (a : Pos) (xs : List Pos) (b : Pos) → within side saddle true (rank m a) ≡ true → Leads (IsLowStep m side saddle) a xs b → within side saddle true (rank m b) ≡ true
 low_end m side saddle a [] b low l = subst (λ (p : Pos). within side saddle true (rank m p) ≡ true) l low
 low_end m side saddle a (x ∷ xs) b low l = low_end m side saddle x xs b l.0.to l.1
 

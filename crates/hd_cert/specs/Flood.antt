@@ -1,5 +1,5 @@
 -- The queue of a flood: points with their steps, in the order in which they were reached.
-use Rattle.std.specs.Prelude.{◌≡◌, ◌<◌, ◌≤◌, ◌+◌, ℕ, List, length, map, slice_index_or, Option, Some, None}
+use Rattle.std.specs.Prelude.{◌≡◌, ◌<◌, ◌≤◌, ◌+◌, ◌++◌, ℕ, List, [], ◌∷◌, length, map, slice_index_or, Option, Some, None}
 use Rattle.std.specs.List.{sum_by}
 use Rattle.hd_map.specs.declared.types.Pos.{Pos}
 use Rattle.hd_map.specs.declared.types.Size.{Size}
@@ -76,7 +76,14 @@ pub record IsAtHead (s : Size) (places : List ℕ) (head : ℕ) (here : Pos) : T
   pub in_grid : InGrid s here
   pub place : slice_index_or places head 0 ≡ place_of s here
 
--- such a flood goes on by the point at its head
+-- such a flood, of the queue of which so many places are passed, and the others are kept
+pub record IsFloodingOn (m : Map) (IsOpen : Pos → Type 0) (start : Pos) (residues : List Residue) (left : List ℕ) (head : ℕ) : Type 0 where
+  pub passed : List ℕ
+  pub count : length passed ≡ head
+  pub flooding : IsFlooding m IsOpen start residues (passed ++ left) head
+
+-- such a flood goes on by the point that was at its head
 abbrev pub FloodsRound : Map → (Pos → Type 0) → Pos → List Residue → List ℕ → List Residue → List ℕ → Type 0
-FloodsRound m IsOpen here residues places residues' places' = (start : Pos) (head : ℕ) → IsFlooding m IsOpen start residues places head
-    → IsAtHead m.size places head here → IsFlooding m IsOpen start residues' places' (head + 1)
+FloodsRound m IsOpen here residues left residues' left' = (start : Pos) (passed : List ℕ) → InGrid m.size here
+    → IsFlooding m IsOpen start residues ((passed ++ place_of m.size here ∷ []) ++ left) (length passed)
+    → IsFlooding m IsOpen start residues' ((passed ++ place_of m.size here ∷ []) ++ left') (length passed + 1)

@@ -29,6 +29,10 @@ residue_of (Some n) = residue_of_steps n
 abbrev pub residue_at : Size → List Residue → Pos → Residue
 residue_at s residues p = slice_index_or residues (place_of s p) Unreached
 
+-- the residue that is noted for a point is one
+abbrev pub IsReached : Size → List Residue → Pos → Type 0
+IsReached s residues p = residue_at s residues p ≡ Unreached → ⊥
+
 -- by index the residues of the fewest steps
 pub record AreResidues (m : Map) (IsOpen : Pos → Type 0) (start : Pos) (goal : Option Pos) (residues : List Residue) : Type 0 where
   pub steps : List (Option ℕ)

@@ -34,11 +34,15 @@ pub record IsLowStep (m : Map) (side : SideName) (saddle : Option Rank) (p q : P
   pub from : within side saddle true (rank m p) ≡ true
   pub to : within side saddle true (rank m q) ≡ true
 
--- the points that a is joined to below the saddle, in position order
+-- p is reached from a by such steps
+abbrev pub IsReachedLow : Map → SideName → Option Rank → Pos → Pos → Type 0
+IsReachedLow m side saddle a p = (xs : List Pos) × Leads (IsLowStep m side saddle) a xs p
+
+-- the points that are reached from a below the saddle, in position order
 pub record IsRouteCut (m : Map) (side : SideName) (saddle : Option Rank) (a : Pos) (cut : List Pos) : Type 0 where
   pub rises : (k : ℕ) → k < length cut - 1 → place_of m.size (point_of cut k) < place_of m.size (point_of cut (k + 1))
   pub low : within side saddle true (rank m a) ≡ true
-  pub all : (p : Pos) → Contains cut p ↔ ((xs : List Pos) × Leads (IsLowStep m side saddle) a xs p)
+  pub all : (p : Pos) → Contains cut p ↔ IsReachedLow m side saddle a p
 
 -- the certificate shown for a and b, whose saddle this is
 pub record IsMade (m : Map) (side : SideName) (a b : Pos) (saddle : Option Rank) (c : Certificate) : Type 0 where

@@ -1,4 +1,4 @@
-// In how many steps points are reached, modulo 3: a queue of points that are reached.
+// In how many steps points are reached, modulo 3: a queue of the points that are reached and whose neighbours may not be.
 ghost use Rattle.std.specs.Prelude.{◌≡◌, ◌≤◌, IfOk, OnOk, length};
 ghost use Rattle.hd_map.specs.Map.{InGrid, cell_count};
 ghost use Rattle.hd_cert.specs.Flood.{FloodsRound};
@@ -10,10 +10,11 @@ use crate::residue::Residue;
 use hd_list::Memory;
 use hd_map::{Heights, Pos, Side, beside_at, index_of, position_of};
 use std::alloc::Global;
+use std::collections::VecDeque;
 
 /// By index the residues of the fewest steps in which points within a bound are reached from the start by way
 /// of such points. It ends at the goal, if there is one: points that are further may be left unreached. It
-/// takes five bytes a point, and time in proportion to the points.
+/// takes a byte a point and four for each point that waits, and time in proportion to the points.
 pub fn residues_from<S: Side, G: Heights>(
     alloc: Global,
     grid: &G,
@@ -27,15 +28,15 @@ pub fn residues_from<S: Side, G: Heights>(
     let size = grid.size();
     let count = size.profiles * size.points;
     let mut residues = vec![in alloc; Residue::Unreached; count as usize]?;
-    let mut queue = Vec::with_capacity(alloc, count as usize)?;
+    let mut queue = VecDeque::new(alloc);
     let first = index_of(size, start);
-    queue.push(first)?;
+    queue.push_back(first)?;
     residues[first as usize] = Residue::Zero;
-    for head in 0..count {
-        if head as usize >= queue.len() {
+    for _passed in 0..count {
+        let Some(index) = queue.pop_front() else {
             return Ok(residues);
-        }
-        let here = position_of(size, queue[head as usize]);
+        };
+        let here = position_of(size, index);
         if goal == Some(here) {
             return Ok(residues);
         }
@@ -50,7 +51,7 @@ fn reach_round<S: Side, G: Heights>(
     bound: Bound,
     here: Pos,
     residues: &mut Vec<Residue>,
-    queue: &mut Vec<u32>,
+    queue: &mut VecDeque<u32>,
 ) -> Result<(), Memory>
     requires here { InGrid (G.map grid.now).size here }
     requires whole { length residues.old.items ≡ cell_count (G.map grid.now).size }
@@ -78,7 +79,7 @@ fn reach_at<S: Side, G: Heights>(
     y: u32,
     residue: Residue,
     residues: &mut Vec<Residue>,
-    queue: &mut Vec<u32>,
+    queue: &mut VecDeque<u32>,
 ) -> Result<(), Memory>
     requires here { InGrid (G.map grid.now).size here }
     requires x { x ≤ 2 }
@@ -101,7 +102,7 @@ fn reach<S: Side, G: Heights>(
     at: Pos,
     residue: Residue,
     residues: &mut Vec<Residue>,
-    queue: &mut Vec<u32>,
+    queue: &mut VecDeque<u32>,
 ) -> Result<(), Memory>
     requires at { InGrid (G.map grid.now).size at }
     requires whole { length residues.old.items ≡ cell_count (G.map grid.now).size }
@@ -112,7 +113,7 @@ fn reach<S: Side, G: Heights>(
     if residues[index as usize] != Residue::Unreached || !lies_within::<S, G>(grid, bound, at) {
         return Ok(());
     }
-    queue.push(index)?;
+    queue.push_back(index)?;
     residues[index as usize] = residue;
     Ok(())
 }

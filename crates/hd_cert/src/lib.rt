@@ -1,5 +1,5 @@
 //! The saddle certificate of two pits: the shortest path over their saddle, and the points reached from
-//! the first below it, found by two floods.
+//! the first below it, found by two floods, or by one where the regions of the points are known.
 #![tactic(auto)]
 
 mod bound;
@@ -7,8 +7,9 @@ mod flood;
 mod laws;
 mod listed_points;
 mod making;
+mod region_cut;
 mod residue;
 mod trace;
 
 pub use laws::{shown_certificate_is_determined, shown_certificate_is_right};
-pub use making::certify;
+pub use making::{certify, certify_by_regions};

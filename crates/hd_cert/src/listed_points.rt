@@ -2,6 +2,7 @@
 ghost use Rattle.std.specs.Prelude.{◌≡◌, IfOk, OnOk, length};
 ghost use Rattle.hd_map.specs.Map.{IsSize, InGrid, cell_count, place_of};
 ghost use Rattle.hd_cert.specs.Listed.{AreListed, Lists};
+ghost use Rattle.hd_cert.specs.Residues.{IsReached};
 
 use crate::residue::Residue;
 use hd_list::{List, Memory};
@@ -12,7 +13,7 @@ use std::alloc::Global;
 pub fn listed(alloc: Global, size: Size, residues: &[Residue]) -> Result<List<Pos>, Memory>
     requires limits { IsSize size }
     requires whole { length residues.now ≡ cell_count size }
-    ensures { IfOk result (AreListed size residues.now (cell_count size)) }
+    ensures { IfOk result (AreListed size (IsReached size residues.now) (cell_count size)) }
 {
     let mut found = Vec::with_capacity(alloc, residues.len())?;
     let mut at = Pos { x: 0, y: 0 };
@@ -28,7 +29,7 @@ fn list_one(size: Size, residues: &[Residue], at: Pos, found: &mut Vec<Pos>) -> 
     requires limits { IsSize size }
     requires whole { length residues.now ≡ cell_count size }
     requires at { InGrid size at }
-    ensures { OnOk result (Lists size residues.now (place_of size at) found.old.items found.new.items) }
+    ensures { OnOk result (Lists size (IsReached size residues.now) (place_of size at) found.old.items found.new.items) }
 {
     if residues[index_of(size, at) as usize] == Residue::Unreached {
         return Ok(());

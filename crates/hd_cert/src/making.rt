@@ -5,16 +5,20 @@ ghost use Rattle.hd_map.specs.Rank.{rank, IsPoint};
 ghost use Rattle.hd_check.specs.Rules.{IsRight};
 ghost use Rattle.hd_cert.specs.Within.{within};
 ghost use Rattle.hd_map.specs.Saddle.{IsSaddle, SaddleIs};
+ghost use Rattle.hd_steep.specs.Numbering.{AreNumbered};
+ghost use Rattle.hd_steep.specs.Reached.{AreReachedPits};
 ghost use Rattle.hd_cert.specs.Routes.{IsShownRoute, IsRouteCut, IsMade};
 ghost use Rattle.hd_cert.specs.Shown.{IsWritten, AreTwoPits, IsShownCertificate};
 
 use crate::bound::Bound;
 use crate::flood::residues_from;
 use crate::listed_points::listed;
+use crate::region_cut::region_cut;
 use crate::trace::path_down;
 use hd_check::Certificate;
 use hd_list::{List, Memory};
 use hd_map::{Heights, Pos, Rank, Side, position_of};
+use hd_steep::Regions;
 use std::alloc::Global;
 
 /// The certificate of two different pits and their saddle.
@@ -22,8 +26,9 @@ use std::alloc::Global;
 /// Of the paths from the first to the second with that top, its path is one with the fewest points,
 /// and of those with the fewest the first by the list of indexes. Its cut is the points that are
 /// reached from the first by paths wholly below the saddle, or by any path where there is no saddle.
-/// The certificate is right. It takes 9 bytes a point, or 13 where there is a saddle, beside the path,
-/// and time in proportion to the points. `Memory` comes where memory is refused.
+/// The certificate is right. It takes 9 bytes a point, the 8 for the cut among them, and 4 for each point
+/// that waits in a flood, beside the path, and time in proportion to the points. `Memory` comes where
+/// memory is refused.
 pub fn certify<S: Side, G: Heights>(
     alloc: Global,
     grid: &G,
@@ -36,22 +41,47 @@ pub fn certify<S: Side, G: Heights>(
     ensures shown { IfOk result (IsShownCertificate (G.map grid.now) S.NAME from to saddle) }
     ensures right { IfOk result (IsRight (G.map grid.now)) }
 {
-    make::<S, G>(alloc, grid, from, to, saddle)
+    let cut = shown_cut::<S, G>(alloc, grid, from, saddle)?;
+    make::<S, G>(alloc, grid, from, to, saddle, cut)
 }
 
-// The certificate by positions.
+/// The same, where the regions are known, and of each pit whether it is reached from the first below the saddle. It
+/// takes a byte a point where there is a saddle, and 4 for each point that waits in the flood, beside the path and the
+/// cut.
+pub fn certify_by_regions<S: Side, G: Heights>(
+    alloc: Global,
+    grid: &G,
+    regions: &Regions,
+    reached: &[bool],
+    from: Pos,
+    to: Pos,
+    saddle: Option<Rank>,
+) -> Result<Certificate, Memory>
+    requires regions { AreNumbered (G.map grid.now) S.NAME regions.now }
+    requires reached { AreReachedPits (G.map grid.now) S.NAME saddle (rank (G.map grid.now) from) regions.now.pits reached.now }
+    requires pits { AreTwoPits (G.map grid.now) S.NAME from to }
+    requires saddle { SaddleIs (G.map grid.now) S.NAME (rank (G.map grid.now) from) (rank (G.map grid.now) to) saddle }
+    ensures shown { IfOk result (IsShownCertificate (G.map grid.now) S.NAME from to saddle) }
+    ensures right { IfOk result (IsRight (G.map grid.now)) }
+{
+    let cut = region_cut::<S, G>(alloc, grid, regions, reached, from, saddle)?;
+    make::<S, G>(alloc, grid, from, to, saddle, cut)
+}
+
+// The certificate of two pits and their saddle, by its cut.
 fn make<S: Side, G: Heights>(
     alloc: Global,
     grid: &G,
     from: Pos,
     to: Pos,
     saddle: Option<Rank>,
+    cut: List<Pos>,
 ) -> Result<Certificate, Memory>
     requires pits { AreTwoPits (G.map grid.now) S.NAME from to }
     requires saddle { SaddleIs (G.map grid.now) S.NAME (rank (G.map grid.now) from) (rank (G.map grid.now) to) saddle }
+    requires cut { IsRouteCut (G.map grid.now) S.NAME saddle from cut }
     ensures { IfOk result (IsMade (G.map grid.now) S.NAME from to saddle) }
 {
-    let cut = shown_cut::<S, G>(alloc, grid, from, saddle)?;
     match saddle {
         None => Ok(Certificate {
             side: S::NAME,

@@ -3,6 +3,7 @@ pub mod Texts
 pub mod Workpiece
 pub mod Tiled
 pub mod Layout
+pub mod FilePieces
 pub mod Reply
 pub mod Edits
 pub mod Elements

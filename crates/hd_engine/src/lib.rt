@@ -4,6 +4,7 @@
 mod answer;
 mod by_pool_or_links;
 mod copies;
+mod file_pieces;
 mod labels;
 mod laws;
 mod parts;
@@ -16,6 +17,7 @@ mod values;
 mod workpiece;
 
 pub use answer::Answer;
+pub use file_pieces::FilePieces;
 pub use laws::{
     answer_is_determined, answer_keeps_a_state, answers_are_determined,
     printed_certificate_is_right, printed_pruning_certificate_is_right,

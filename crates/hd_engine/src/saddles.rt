@@ -1,8 +1,11 @@
 // The certificate of the saddle of two points' pits.
-ghost use Rattle.std.specs.Prelude.{◌≡◌, IfOk, Option as Maybe};
-ghost use Rattle.hd_map.specs.declared.types.Rank.{Rank};
+ghost use Rattle.std.specs.Prelude.{◌≡◌, IfOk, true, Option as Maybe};
+ghost use Rattle.std.specs.Option.{is_some};
+ghost use Rattle.hd_map.specs.declared.types.Rank.{Rank as Point};
 ghost use Rattle.hd_map.specs.Map.{Present};
-ghost use Rattle.hd_check.specs.declared.types.Certificate.{Certificate};
+ghost use Rattle.hd_map.specs.Rank.{rank};
+ghost use Rattle.hd_map.specs.Saddle.{SaddleIs};
+ghost use Rattle.hd_check.specs.declared.types.Certificate.{Certificate as Shown};
 ghost use Rattle.hd_check.specs.Text.{certificate_text};
 ghost use Rattle.hd_cert.specs.Shown.{AreTwoPits, IsShownCertificate};
 ghost use Rattle.hd_survey.specs.Findings.{AreFindings};
@@ -10,12 +13,12 @@ ghost use Rattle.hd_engine.specs.Reply.{reply_of};
 ghost use Rattle.hd_engine.specs.Saddles.{IsPairReply, IsSaddleReply};
 
 use crate::Answer;
-use hd_cert::certify;
-use hd_check::write_certificate;
+use hd_cert::{certify, certify_by_regions};
+use hd_check::{Certificate, write_certificate};
 use hd_list::{List, Memory};
-use hd_map::{Heights, Pos, Side, contains, is_present, rank_of};
+use hd_map::{Heights, Pos, Rank, Side, contains, is_present, rank_of};
 use hd_report::one_region_cause;
-use hd_survey::{Findings, saddle_between};
+use hd_survey::{Findings, reached_pits, saddle_between};
 use std::alloc::Global;
 
 /// The answer to `saddle`: the certificate of the pits of two points' regions on a side. A position
@@ -87,9 +90,15 @@ fn tell_saddle<S: Side, G: Heights>(
     requires findings { AreFindings (G.map grid.now) S.NAME findings.old }
     requires pits { AreTwoPits (G.map grid.now) S.NAME from to }
     ensures findings { AreFindings (G.map grid.now) S.NAME findings.new }
-    ensures text { IfOk result (λ text. (saddle : Maybe Rank) × (c : Certificate) × IsShownCertificate (G.map grid.now) S.NAME from to saddle c
+    ensures text { IfOk result (λ text. (saddle : Maybe Point) × (c : Shown) × IsShownCertificate (G.map grid.now) S.NAME from to saddle c
         × (text ≡ certificate_text c)) }
 {
+    // Both the merges and the first certificate are found by the regions, which are then given up: a script may have no
+    // other line that asks for them.
+    let is_first = !findings.has_merges() && !findings.has_regions();
+    if is_first {
+        findings.find_regions(alloc, grid)?;
+    }
     let saddle = saddle_between::<S, G>(
         alloc,
         grid,
@@ -97,8 +106,37 @@ fn tell_saddle<S: Side, G: Heights>(
         rank_of(grid, from),
         rank_of(grid, to),
     )?;
-    let certificate = certify::<S, G>(alloc, grid, from, to, saddle)?;
+    let certificate = certificate_of::<S, G>(alloc, grid, findings, from, to, saddle)?;
+    if is_first {
+        findings.forget_regions(grid);
+    }
     let mut text = List::new(alloc);
     write_certificate(&mut text, &certificate)?;
     Ok(text)
+}
+
+// The certificate of two pits, by the region of each point where it was found. Else floods make it, which are counted as
+// a walk over all points, so that the regions are found for the next one.
+fn certificate_of<S: Side, G: Heights>(
+    alloc: Global,
+    grid: &G,
+    findings: &mut Findings<S>,
+    from: Pos,
+    to: Pos,
+    saddle: Option<Rank>,
+) -> Result<Certificate, Memory>
+    requires findings { AreFindings (G.map grid.now) S.NAME findings.old }
+    requires merges { is_some findings.old.merges ≡ true }
+    requires pits { AreTwoPits (G.map grid.now) S.NAME from to }
+    requires saddle { SaddleIs (G.map grid.now) S.NAME (rank (G.map grid.now) from) (rank (G.map grid.now) to) saddle }
+    ensures findings { findings.new ≡ findings.old }
+    ensures shown { IfOk result (IsShownCertificate (G.map grid.now) S.NAME from to saddle) }
+{
+    if !findings.has_regions() {
+        findings.count_walk(grid);
+        return certify::<S, G>(alloc, grid, from, to, saddle);
+    }
+    let reached = reached_pits::<S, G>(alloc, grid, findings, rank_of(grid, from), saddle)?;
+    let regions = findings.regions();
+    certify_by_regions::<S, G>(alloc, grid, regions, reached.as_slice(), from, to, saddle)
 }

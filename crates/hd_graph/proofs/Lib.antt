@@ -31,6 +31,7 @@ pub mod Isosceles
 pub mod PitMerges
 pub mod MergeWays
 pub mod MergedTrees
+pub mod JoinedBelow
 pub mod Basins
 pub mod RegionBasins
 pub mod AgreeingMerges

@@ -5,6 +5,7 @@
 mod classes;
 mod flooding;
 mod graph;
+mod joined;
 mod laws;
 mod line;
 mod links;
@@ -19,6 +20,7 @@ mod trees;
 pub use classes::Classes;
 pub use flooding::flood;
 pub use graph::{Graph, Low};
+pub use joined::joined_lows;
 pub use laws::{
     flood_line_tells_the_saddles, least_highest_pass_is_the_saddle, merges_rest_on_the_passes,
     merges_tell_the_saddles, passes_are_crossings, passes_of_basins_are_a_graph,

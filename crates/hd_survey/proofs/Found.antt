@@ -34,6 +34,11 @@ pub with_regions : (m : Map) (side : SideName) (f : Found) (regions : Numbering)
     → AreFindings m side (record { sizes = f.sizes; merges = f.merges; kept = f.kept; pruned = f.pruned; regions = Some regions })
 with_regions m side f regions are new = record { sizes = are.sizes; merges = are.merges; kept = are.kept; pruned = are.pruned; regions = search rules }
 
+-- the region of each point is given up
+pub without_regions : (m : Map) (side : SideName) (f : Found) → AreFindings m side f
+    → AreFindings m side (record { sizes = f.sizes; merges = f.merges; kept = f.kept; pruned = f.pruned; regions = None })
+without_regions m side f are = record { sizes = are.sizes; merges = are.merges; kept = are.kept; pruned = are.pruned; regions = search rules }
+
 -- the kept pits that were found at a percent are those of its pruning
 pub kept_known : (m : Map) (side : SideName) (thousandths : ℕ) (f : Found) (x : KeptPits) → AreFindings m side f → AreKeptAt thousandths f.kept → f.kept ≡ Some x
     → AreKeptPits m side thousandths x.pits

@@ -22,3 +22,4 @@ mod FeatureNeeds
 mod ValuesDetermined
 mod PrunedLines
 pub mod MapMerges
+mod ReachedBelow

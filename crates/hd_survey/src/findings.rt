@@ -11,7 +11,7 @@ ghost use Rattle.hd_survey.specs.Findings.{AreFindings, AreKeptAt, ArePitMerges,
 
 use crate::grid_view::GridView;
 use crate::kept::{KeptPits, keep_pits};
-use crate::merges::PitMerges;
+use crate::merges::{PitMerges, merges_of_regions};
 use crate::pruned::{PrunedRegions, cells_of, pruned_side, pruned_side_by, regions_left};
 use crate::roots::root_at;
 use crate::view::SideView;
@@ -27,7 +27,7 @@ use std::marker::{Model, PhantomData};
 /// What reports found of a side of a map, for later ones on the same map under the same setting: the regions
 /// with the numbers of their points, the merges of the pits, the pits that were kept last, the pruning that was done
 /// last, and the region of each point. It takes at most 168 bytes a pit, and 4 a point for these regions, which are
-/// found only where many points were asked. Contracts see it as what was found.
+/// found only where they are asked for, many points were asked, or all were gone over. Contracts see it as what was found.
 #[derive(Drop)]
 pub struct Findings<S: Side> {
     sizes: Option<List<RegionSize>>,
@@ -115,11 +115,14 @@ impl<S: Side> Findings<S> {
         ensures findings { AreFindings (G.map grid.now) S.NAME self.new }
         ensures found { OnOk result (is_some self.new.merges ≡ true) }
     {
-        if self.merges.is_none() {
-            let view = GridView::<S, G>::new(alloc, grid)?;
-            let merges = view.into_merges()?;
-            self.add_merges(grid, merges);
+        if self.merges.is_some() {
+            return Ok(());
         }
+        let merges = match &self.regions {
+            Some(regions) => merges_of_regions::<S, G>(alloc, grid, regions)?,
+            None => GridView::<S, G>::new(alloc, grid)?.into_merges()?,
+        };
+        self.add_merges(grid, merges);
         Ok(())
     }
 
@@ -277,6 +280,55 @@ impl<S: Side> Findings<S> {
             Some(pruned) => pruned,
             None => unreachable!(),
         }
+    }
+
+    /// Finds the region of each point, where it is not found. `Memory` comes where the regions are refused their
+    /// memory, 4 bytes a point.
+    pub fn find_regions<G: Heights>(&mut self, alloc: Global, grid: &G) -> Result<(), Memory>
+        requires { AreFindings (G.map grid.now) S.NAME self.old }
+        ensures findings { AreFindings (G.map grid.now) S.NAME self.new }
+        ensures found { OnOk result (is_some self.new.regions ≡ true) }
+    {
+        if self.regions.is_some() {
+            return Ok(());
+        }
+        let regions = find_regions::<S, G>(alloc, grid)?;
+        self.regions = Some(regions);
+        Ok(())
+    }
+
+    /// Whether the region of each point was found.
+    pub fn has_regions(&self) -> bool
+        ensures { result ≡ is_some self.now.regions }
+    {
+        self.regions.is_some()
+    }
+
+    /// The region of each point, which was found.
+    pub fn regions(&self) -> &Regions
+        requires { is_some self.now.regions ≡ true }
+        ensures { self.now.regions ≡ Some result.now }
+    {
+        match &self.regions {
+            Some(regions) => regions,
+            None => unreachable!(),
+        }
+    }
+
+    /// Gives the region of each point up. The next point that is asked finds it again.
+    pub fn forget_regions<G: Heights>(&mut self, grid: &G)
+        requires { AreFindings (G.map grid.now) S.NAME self.old }
+        ensures findings { AreFindings (G.map grid.now) S.NAME self.new }
+    {
+        drop(self.regions.take());
+        self.count_walk(grid);
+    }
+
+    /// Counts a walk over all points of a grid, after which the next point that is asked finds the region of each.
+    pub fn count_walk<G: Heights>(&mut self, grid: &G)
+        ensures { self.new ≡ self.old }
+    {
+        self.walked = self.walked.saturating_add(cells_of(grid) as u64);
     }
 
     /// The pit in whose region a present point lies. The way to it is walked; once such walks together went over

@@ -36,7 +36,7 @@ pub use laws::{
 pub use lines::pruned_lines;
 pub use merges::{PitMerges, merges_of_crossings, merges_of_passes};
 pub use pruned::PrunedRegions;
-pub use saddles::saddle_between;
+pub use saddles::{reached_pits, saddle_between};
 pub use survey::Survey;
 pub use tally::Tally;
 pub use tree::change_tree;

@@ -11,7 +11,7 @@ use hd_steep::next;
 use std::alloc::Global;
 
 /// The pit in which the steepest way down from a present point ends, and none where this way and those walked
-/// before together have more steps than the grid has points. The steps are counted.
+/// before together have as many steps as the grid has points. The steps are counted.
 pub fn end_of_way<S: Side, G: Heights>(
     alloc: Global,
     grid: &G,
@@ -23,12 +23,12 @@ pub fn end_of_way<S: Side, G: Heights>(
 {
     let most = cells_of(grid) as u64;
     let mut here = at;
-    'walk: while let Some(lower) = next::<S, G>(alloc, grid, here) {
-        if *walked >= most {
-            return None;
-        }
+    'walk: while *walked < most {
+        let Some(lower) = next::<S, G>(alloc, grid, here) else {
+            return Some(here);
+        };
         *walked += 1;
         here = lower;
     }
-    Some(here)
+    None
 }

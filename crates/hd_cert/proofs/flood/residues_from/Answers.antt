@@ -1,78 +1,95 @@
-use Rattle.std.proofs.Common.{◌≡◌, ◌<◌, ◌≤◌, ◌*◌, ◌∙◌, rules, ap, sym, subst, arith, List, [], ◌∷◌, ◌++◌, ℕ, length, get_or, replicate, Some}
-use Rattle.std.proofs.lemmas.List.{get_or_default}
+use Rattle.std.proofs.Common.{◌≡◌, ◌≤◌, ◌+◌, ◌*◌, ◌∙◌, rules, refl, ap, sym, subst, arith, List, [], ◌∷◌, ◌++◌, ℕ, length, replicate, Some}
+use Rattle.std.proofs.lemmas.List.{length-append, length_push}
 use Rattle.hd_map.specs.declared.types.Size.{Size}
 use Rattle.hd_map.specs.Map.{InGrid, place_of, cell_count}
 use Rattle.hd_cert.specs.declared.residue.Residue.TheVariants.{Unreached}
-use Rattle.hd_cert.specs.Flood.{IsAtHead}
 use Rattle.hd_cert.specs.Within.{LiesWithin}
-use Rattle.hd_cert.proofs.Flooding.{flooding_begin, flooding_end, flooding_index, flooding_room, flooding_stop}
+use Rattle.hd_cert.proofs.Flooding.{flooding_begin, flooding_end, flooding_next, flooding_pass, flooding_room, flooding_stop, head_behind}
+use Rattle.hd_cert.specs.Flood.{IsFlooding}
 use Rattle.hd_cert.proofs.flood.residues_from.Given.{Over}
 use Rattle.hd_cert.proofs.flood.residues_from.Goals as goal
-use Rattle.hd_cert.proofs.flood.residues_from.Goals.{After-index, After-position_of-here}
+use Rattle.hd_cert.proofs.flood.residues_from.Goals.{After-position_of-here}
 
-pub loop-head-init : goal.loop-head-init
-loop-head-init g c =
+pub loop-passed-init : goal.loop-passed-init
+loop-passed-init g c =
     let m = g.G.Heights.map c.args.grid.now in
     let count : c.size-size.result.profiles * c.size-size.result.points ≡ cell_count m.size = ap cell_count c.size-size.ensures in
     let blank : c.in_ok-residues.residues.items ≡ replicate (c.size-size.result.profiles * c.size-size.result.points) Unreached = search rules in
-    let queue : c.push.new.self.items ≡ c.index_of-first.result ∷ [] = c.in_ok-push.ensures.items ∙ ap (λ (q : List ℕ). q ++ c.index_of-first.result ∷ []) c.in_ok-queue.ensures.items in
+    let queue : c.push_back.new.self.items ≡ c.index_of-first.result ∷ [] = search rules in
     let place : c.index_of-first.result ≡ place_of m.size c.args.start = c.index_of-first.ensures.value ∙ ap (λ (s : Size). place_of s c.args.start) c.size-size.ensures in
-    rw (queue, blank, count, place) (flooding_begin m (LiesWithin m g.S.Side.NAME c.args.bound.level c.args.bound.strict) c.args.start c.requires.present c.requires)
-
-pub returns-then-head-len : goal.returns-then-head-len
-returns-then-head-len g c =
-    let m = g.G.Heights.map c.args.grid.now in
-    flooding_end m (LiesWithin m g.S.Side.NAME c.args.bound.level c.args.bound.strict) c.args.start c.loop-head.residues.items c.loop-head.queue.items c.loop-head.head c.loop-head.invariant
-    (omega (arith, c.if-head-len.true, c.len.ensures)) c.args.goal
-
--- the index at the head of the queue
-abbrev IsIndexAtHead : List ℕ → ℕ → ℕ → Type 0
-IsIndexAtHead queue head index = (head < length queue) × (get_or queue head 0 ≡ index)
-
-index_at_head : (g : Over) (c : After-index g) → IsIndexAtHead c.loop-head.queue.items c.loop-head.head c.index.result.now
-index_at_head g c =
-    let inside : c.loop-head.head < length c.loop-head.queue.items = omega (arith, c.if-head-len.false, c.len.ensures) in
-    (inside, get_or_default c.loop-head.queue.items c.loop-head.head 0 c.index.result.now inside ∙ sym c.index.ensures)
-
--- the point at the head of the queue
-point_at_head : (g : Over) (c : After-position_of-here g) → IsIndexAtHead c.loop-head.queue.items c.loop-head.head c.index.result.now
-    → IsAtHead (g.G.Heights.map c.args.grid.now).size c.loop-head.queue.items c.loop-head.head c.position_of-here.result
-point_at_head g c index =
-    let here = c.position_of-here.result in
     record {
-      inside = index.0;
-      in_grid = subst (λ (s : Size). InGrid s here) c.size-size.ensures c.position_of-here.ensures.in_grid;
-      place = index.1 ∙ sym c.position_of-here.ensures.place ∙ ap (λ (s : Size). place_of s here) c.size-size.ensures;
+      passed = [];
+      count = refl;
+      flooding = rw (queue, blank, count, place) (flooding_begin m (LiesWithin m g.S.Side.NAME c.args.bound.level c.args.bound.strict) c.args.start c.requires.present c.requires);
     }
+
+pub returns-in_default : goal.returns-in_default
+returns-in_default g c =
+    let m = g.G.Heights.map c.args.grid.now in
+    let so = c.loop-passed.invariant in
+    let none : length c.loop-passed.queue.items ≡ 0 = search rules in
+    let more = length-append so.passed c.loop-passed.queue.items in
+    flooding_end m (LiesWithin m g.S.Side.NAME c.args.bound.level c.args.bound.strict) c.args.start c.loop-passed.residues.items (so.passed ++ c.loop-passed.queue.items) c.loop-passed._passed so.flooding
+    (omega (arith, more, none, so.count)) c.args.goal
 
 pub position_of-here-requires : goal.position_of-here-requires
 position_of-here-requires g c =
     let m = g.G.Heights.map c.args.grid.now in
+    let so = c.loop-passed.invariant in
     let IsOpen = LiesWithin m g.S.Side.NAME c.args.bound.level c.args.bound.strict in
-    let head = c.loop-head.head in
-    let index = index_at_head g (goal.at.position_of-here-requires g c).After-index in
-    let below : c.index.result.now < cell_count m.size = rw (← index.1) (flooding_index m IsOpen c.args.start c.loop-head.residues.items c.loop-head.queue.items head c.loop-head.invariant head index.0) in
+    let below = flooding_next m IsOpen c.args.start c.loop-passed.residues.items so.passed c.loop-passed.queue.items c.pop_front.new.self.items c.in-Some.index c.in-Some.ensures.items
+    (subst (IsFlooding m IsOpen c.args.start c.loop-passed.residues.items (so.passed ++ c.loop-passed.queue.items)) (sym so.count) so.flooding) in
     rw c.size-size.ensures below
+
+-- the point at the head lies in the grid, and is passed
+passed_inside : (g : Over) (c : After-position_of-here g) → InGrid (g.G.Heights.map c.args.grid.now).size c.position_of-here.result
+passed_inside g c = subst (λ (s : Size). InGrid s c.position_of-here.result) c.size-size.ensures c.position_of-here.ensures.in_grid
+
+one_more : (g : Over) (c : After-position_of-here g) → let m = g.G.Heights.map c.args.grid.now in let here = c.position_of-here.result in
+    IsFlooding m (LiesWithin m g.S.Side.NAME c.args.bound.level c.args.bound.strict) c.args.start c.loop-passed.residues.items
+    ((c.loop-passed.invariant.passed ++ place_of m.size here ∷ []) ++ c.pop_front.new.self.items) (length c.loop-passed.invariant.passed)
+one_more g c =
+    let m = g.G.Heights.map c.args.grid.now in
+    let here = c.position_of-here.result in
+    let rest = c.pop_front.new.self.items in
+    let left : c.loop-passed.queue.items ≡ place_of m.size here ∷ rest =
+    c.in-Some.ensures.items ∙ ap (λ (n : ℕ). n ∷ rest) (sym c.position_of-here.ensures.place ∙ ap (λ (s : Size). place_of s here) c.size-size.ensures) in
+    let so = c.loop-passed.invariant in
+    let IsOpen = LiesWithin m g.S.Side.NAME c.args.bound.level c.args.bound.strict in
+    flooding_pass m IsOpen c.args.start c.loop-passed.residues.items here so.passed c.loop-passed.queue.items rest left
+    (subst (IsFlooding m IsOpen c.args.start c.loop-passed.residues.items (so.passed ++ c.loop-passed.queue.items)) (sym so.count) so.flooding)
 
 pub returns-then-eq : goal.returns-then-eq
 returns-then-eq g c =
     let m = g.G.Heights.map c.args.grid.now in
-    let IsOpen = LiesWithin m g.S.Side.NAME c.args.bound.level c.args.bound.strict in
     let here = c.position_of-here.result in
+    let rest = c.pop_front.new.self.items in
+    let passed = c.loop-passed.invariant.passed in
     let is : c.args.goal ≡ Some here = search rules in
     let at = goal.at.returns-then-eq g c in
-    flooding_stop m IsOpen c.args.start c.loop-head.residues.items c.loop-head.queue.items c.loop-head.head c.loop-head.invariant here
-    (point_at_head g at.After-position_of-here (index_at_head g at.After-index)) c.args.goal is
+    flooding_stop m (LiesWithin m g.S.Side.NAME c.args.bound.level c.args.bound.strict) c.args.start c.loop-passed.residues.items ((passed ++ place_of m.size here ∷ []) ++ rest) (length passed)
+    (one_more g at.After-position_of-here) here (head_behind m.size here passed rest (passed_inside g at.After-position_of-here)) c.args.goal is
 
-pub loop-head-preserved : goal.loop-head-preserved
-loop-head-preserved g c =
-    let at = goal.at.loop-head-preserved g c in
-    c.in_ok-reach_round.ensures c.args.start c.loop-head.head c.loop-head.invariant (point_at_head g at.After-position_of-here (index_at_head g at.After-index))
+pub loop-passed-preserved : goal.loop-passed-preserved
+loop-passed-preserved g c =
+    let m = g.G.Heights.map c.args.grid.now in
+    let IsOpen = LiesWithin m g.S.Side.NAME c.args.bound.level c.args.bound.strict in
+    let so = c.loop-passed.invariant in
+    let front : List ℕ = so.passed ++ place_of m.size c.position_of-here.result ∷ [] in
+    let at = goal.at.loop-passed-preserved g c in
+    let on = c.in_ok-reach_round.ensures c.args.start so.passed (passed_inside g at.After-position_of-here) (one_more g at.After-position_of-here) in
+    record {
+      passed = front;
+      count = length_push so.passed (place_of m.size c.position_of-here.result) ∙ ap (λ (n : ℕ). n + 1) so.count;
+      flooding = subst (λ (n : ℕ). IsFlooding m IsOpen c.args.start c.reach_round.new.residues.items (front ++ c.reach_round.new.queue.items) (n + 1)) so.count on;
+    }
 
 pub returns : goal.returns
 returns g c =
     let m = g.G.Heights.map c.args.grid.now in
     let IsOpen = LiesWithin m g.S.Side.NAME c.args.bound.level c.args.bound.strict in
-    let room = flooding_room m IsOpen c.args.start c.loop-head.residues.items c.loop-head.queue.items c.loop-head.head c.loop-head.invariant in
-    let past : cell_count m.size ≤ c.loop-head.head = subst (λ (s : Size). cell_count s ≤ c.loop-head.head) c.size-size.ensures c.loop-head-test.false in
-    flooding_end m IsOpen c.args.start c.loop-head.residues.items c.loop-head.queue.items c.loop-head.head c.loop-head.invariant (omega (arith, room, past)) c.args.goal
+    let so = c.loop-passed.invariant in
+    let whole = so.passed ++ c.loop-passed.queue.items in
+    let room = flooding_room m IsOpen c.args.start c.loop-passed.residues.items whole c.loop-passed._passed so.flooding in
+    let past : cell_count m.size ≤ c.loop-passed._passed = subst (λ (s : Size). cell_count s ≤ c.loop-passed._passed) c.size-size.ensures c.loop-passed-test.false in
+    flooding_end m IsOpen c.args.start c.loop-passed.residues.items whole c.loop-passed._passed so.flooding (omega (arith, room, past)) c.args.goal

@@ -2,7 +2,6 @@ use Rattle.std.proofs.Common.{◌∙◌, List, sym, subst}
 use Rattle.std.specs.Prelude.{All}
 use Rattle.hd_map.specs.declared.types.Link.{Link}
 use Rattle.hd_map.specs.declared.types.Rank.{Rank}
-use Rattle.hd_map.specs.Pruning.{ArePits}
 use Rattle.hd_steep.specs.Crossings.{HasPits, passes_of}
 use Rattle.hd_steep.specs.Numbering.{roots_of}
 use Rattle.hd_survey.specs.PitLinks.{AreRegionCrossings}
