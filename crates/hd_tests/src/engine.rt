@@ -9,6 +9,25 @@ use hd_pool::Choice;
 use hd_sdf_read::SdfFile;
 use std::process::Abort;
 
+// What the file of a small surface is after a height was set.
+const SAVED: &[u8] = b"aBCR-1.0
+ManufacID =
+CreateDate =
+ModDate =
+NumPoints = 3
+NumProfiles = 1
+Xscale = 1e-6
+Yscale = 2e-6
+Zscale = 1e-9
+Zresolution = -1
+Compression = 0
+DataType = 5
+CheckType = 0
+*
+7 5 1
+*
+";
+
 // The answers of a session on a file to the lines of a script.
 pub(crate) fn answers(rt: &(impl Abort + AllocGlobal), file: SdfFile, script: &[u8]) -> List<u8> {
     let (text, _) = answered(rt, file, script, 64, Choice::Free);
@@ -76,12 +95,46 @@ fn a_file_is_given_back_with_the_present_cells_and_without_masks(rt: HostRuntime
 }
 
 #[test]
+fn the_present_file_is_given_piece_by_piece(rt: HostRuntime) {
+    let text = file_text(&rt, "0 5 1");
+    let file = file_of(&rt, text.as_bytes());
+    let mut session = Session::new(rt.alloc(), file, 64).expect(&rt, "memory");
+    drop(answers_of(&rt, &mut session, b"set 0 0 7\nmask 1 0 1 0\n"));
+    let mut pieces = session.file_pieces().expect(&rt, "memory");
+    let mut text = List::new(rt.alloc());
+    'pieces: for _ in 0..8 {
+        if !pieces.advance() {
+            break;
+        }
+        push_text(&mut text, pieces.piece()).expect(&rt, "memory");
+    }
+    expect_bytes(&rt, text.as_slice(), SAVED);
+}
+
+#[test]
 fn points_are_refused_in_order(rt: HostRuntime) {
     expect_answers(
         &rt,
         "0 5 1",
         "label D 3 0\nmask 1 0 1 0\nlabel H 1 0\nsaddle H 1 0 3 0\nsaddle H 3 0 4 0\nsaddle H 2 0 1 0\nsaddle D 2 0 0 0\n",
         "line 1 refused: 3 0 is outside\nline 2 ok\nline 3 refused: 1 0 is not present\nline 4 refused: 3 0 is outside\nline 5 refused: 3 0 is outside\nline 6 refused: 1 0 is not present\ncertificate D 8\nfrom 2 0\nto 0 0\nsaddle none\ncut 1\n2 0\nend\n",
+    );
+}
+
+/// The first certificate of a map is made by two floods, later ones by its regions.
+#[test]
+fn further_certificates_of_a_map_are_as_the_first(rt: HostRuntime) {
+    expect_answers(
+        &rt,
+        "0 9 1\n4 9 5\n6 2 6",
+        "saddle D 0 0 2 0\nsaddle D 0 0 2 0\nsaddle D 0 1 2 1\nsaddle D 1 2 2 0\nsaddle D 2 0 1 2\n",
+        "certificate D 8\nfrom 0 0\nto 2 0\nsaddle 2 1 5\npath 5\n0 0\n0 1\n1 2\n2 1\n2 0\ncut 3\n0 0\n0 1\n1 2\nend\ncertificate D 8\nfrom 0 0\nto 2 0\nsaddle 2 1 5\npath 5\n0 0\n0 1\n1 2\n2 1\n2 0\ncut 3\n0 0\n0 1\n1 2\nend\ncertificate D 8\nfrom 0 0\nto 2 0\nsaddle 2 1 5\npath 5\n0 0\n0 1\n1 2\n2 1\n2 0\ncut 3\n0 0\n0 1\n1 2\nend\ncertificate D 8\nfrom 1 2\nto 2 0\nsaddle 2 1 5\npath 3\n1 2\n2 1\n2 0\ncut 3\n0 0\n0 1\n1 2\nend\ncertificate D 8\nfrom 2 0\nto 1 2\nsaddle 2 1 5\npath 3\n2 0\n2 1\n1 2\ncut 1\n2 0\nend\n",
+    );
+    expect_answers(
+        &rt,
+        "0 5 1",
+        "mask 1 0 1 0\nsaddle D 0 0 2 0\nsaddle D 2 0 0 0\n",
+        "line 1 ok\ncertificate D 8\nfrom 0 0\nto 2 0\nsaddle none\ncut 1\n0 0\nend\ncertificate D 8\nfrom 2 0\nto 0 0\nsaddle none\ncut 1\n2 0\nend\n",
     );
 }
 

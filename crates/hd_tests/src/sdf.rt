@@ -1,10 +1,10 @@
 // What no clause says: the outcomes that the format gives for texts from outside, at its borders.
 use crate::shared::{Outcome, expect_bytes, expect_heights, expect_rows, file_of, lines_of, shown};
 use hd_list::List;
-use hd_map::{Heights, Size};
+use hd_map::{Grid, Heights, Size, Surface};
 use hd_num::{Decimal, push_text, push_unsigned};
 use hd_sdf_read::{SdfError, SdfFile, SdfReader, Version, read_sdf};
-use hd_sdf_write::{SdfPieces, write_sdf};
+use hd_sdf_write::{SdfPieces, SdfTexts, write_sdf};
 use std::process::Abort;
 
 const NAMES: &[u8] = b"aBCR-1.0
@@ -252,19 +252,29 @@ Operator: A. N.
 fn expect_written(rt: &(impl Abort + AllocGlobal), file: &SdfFile, wanted: &[u8]) {
     let text = write_sdf(rt.alloc(), file).expect(rt, "memory");
     expect_bytes(rt, text.as_slice(), wanted);
-    let mut pieces = SdfPieces::new(file);
-    let mut piece = List::new(rt.alloc());
+    let texts = SdfTexts::of(file);
+    let text = match &file.surface {
+        Surface::Narrow(grid) => joined_pieces(rt, &texts, grid),
+        Surface::Wide(grid) => joined_pieces(rt, &texts, grid),
+    };
+    expect_bytes(rt, text.as_slice(), wanted);
+}
+
+// The pieces of a text, at most eight, as one.
+fn joined_pieces<G: Grid>(
+    rt: &(impl Abort + AllocGlobal),
+    texts: &SdfTexts<'_>,
+    grid: &G,
+) -> List<u8> {
+    let mut pieces = SdfPieces::new(rt.alloc(), texts, grid).expect(rt, "memory");
     let mut text = List::new(rt.alloc());
     'pieces: for _ in 0..8 {
-        if !pieces
-            .next_piece(rt.alloc(), &mut piece)
-            .expect(rt, "memory")
-        {
+        if !pieces.advance() {
             break;
         }
-        push_text(&mut text, piece.as_slice()).expect(rt, "memory");
+        push_text(&mut text, pieces.piece()).expect(rt, "memory");
     }
-    expect_bytes(rt, text.as_slice(), wanted);
+    text
 }
 
 #[test]
