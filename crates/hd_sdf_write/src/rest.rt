@@ -1,4 +1,4 @@
-// A text that is given bit by bit.
+// What is left of a text that is given part by part.
 ghost use Rattle.std.specs.Prelude.{◌≡◌, ◌<◌, ◌≤◌, ◌++◌, drop, length};
 
 use hd_list::List;

@@ -15,7 +15,7 @@ use hd_map::Grid;
 use std::alloc::Global;
 use std::marker::Model;
 
-// How many data are written at once.
+// How many data are written at once: with 41 bytes for each they fit into a piece.
 const DATA_AT_ONCE: u32 = 6_000;
 
 /// What is not yet written of the text of a file: of what stands before the data, of these, and of what stands

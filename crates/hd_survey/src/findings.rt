@@ -1,5 +1,5 @@
 // What reports find of a side of a map, kept for later ones.
-ghost use Rattle.std.specs.Prelude.{◌≡◌, ◌↔◌, true, IsTrue, IfOk, OnOk, Some, ℕ};
+ghost use Rattle.std.specs.Prelude.{◌≡◌, ◌↔◌, true, IsTrue, IfOk, OnOk, None, Some, ℕ};
 ghost use Rattle.std.specs.Option.{is_some};
 ghost use Rattle.hd_map.specs.Map.{Map, Present};
 ghost use Rattle.hd_map.specs.Presence.{present_heights};
@@ -319,6 +319,7 @@ impl<S: Side> Findings<S> {
     pub fn forget_regions<G: Heights>(&mut self, grid: &G)
         requires { AreFindings (G.map grid.now) S.NAME self.old }
         ensures findings { AreFindings (G.map grid.now) S.NAME self.new }
+        ensures forgotten { self.new ≡ record self.old { regions = None } }
     {
         drop(self.regions.take());
         self.count_walk(grid);

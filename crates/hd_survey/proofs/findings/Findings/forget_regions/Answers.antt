@@ -1,4 +1,4 @@
-use Rattle.std.proofs.Common.{subst, sym}
+use Rattle.std.proofs.Common.{None, ap, subst, sym}
 use Rattle.hd_survey.specs.Findings.{AreFindings, Found}
 use Rattle.hd_survey.proofs.Found.{without_regions}
 use Rattle.hd_survey.proofs.findings.Findings.forget_regions.Goals as goal
@@ -9,4 +9,7 @@ returns g c =
     let side = g.S.Side.NAME in
     let before : Found = record { sizes = c.self.inside.sizes; merges = c.self.inside.merges; kept = c.self.inside.kept; pruned = c.self.inside.pruned; regions = c.self.inside.regions } in
     let are = without_regions m side before (subst (AreFindings m side) (sym c.self.view_is) c.requires) in
-    record { findings = rw (c.count_walk.ensures, c.take.ensures.after) are }
+    record {
+      findings = rw (c.count_walk.ensures, c.take.ensures.after) are;
+      forgotten = rw (c.count_walk.ensures, c.take.ensures.after) (ap (λ (f : Found). record { sizes = f.sizes; merges = f.merges; kept = f.kept; pruned = f.pruned; regions = None }) c.self.view_is);
+    }
