@@ -4,7 +4,8 @@ use Rattle.hd_map.specs.declared.types.Pos.{Pos}
 use Rattle.hd_map.specs.declared.types.Cell.{Cell}
 use Rattle.hd_map.specs.Map.{Map}
 use Rattle.hd_morph.specs.Element.{ElementTable}
-use Rattle.hd_morph.specs.Filter.{Filter, Dilation, Erosion, Opening, Closing}
+use Rattle.hd_morph.specs.declared.filter.Filter.{Filter}
+use Rattle.hd_morph.specs.declared.filter.Filter.TheVariants.{Dilation, Erosion, Opening, Closing}
 use Rattle.hd_morph.specs.Answer.{AreFilteredCells, IsOutOfRange, with_cells}
 use Rattle.hd_edit.specs.declared.edit.Edit.{Edit}
 use Rattle.hd_edit.specs.declared.edit.Edit.TheVariants as edit

@@ -25,7 +25,8 @@ use Rattle.hd_edit.specs.declared.edit.Edit.TheVariants as edit
 use Rattle.hd_edit.specs.declared.edit.EditError.{EditError}
 use Rattle.hd_edit.specs.declared.edit.EditError.TheVariants.{Memory, Outside, HeightRange, EmptyRect, NoElement}
 use Rattle.hd_morph.specs.Element.{ElementTable}
-use Rattle.hd_morph.specs.Filter.{Filter, Dilation, Erosion, Opening, Closing}
+use Rattle.hd_morph.specs.declared.filter.Filter.{Filter}
+use Rattle.hd_morph.specs.declared.filter.Filter.TheVariants.{Dilation, Erosion, Opening, Closing}
 use Rattle.hd_morph.specs.Answer.{AreFilteredCells, with_cells}
 use Rattle.hd_edit.specs.Elements.{first_named}
 use Rattle.hd_edit.specs.Filter.{IsFilteredBy}

@@ -2,7 +2,7 @@
 use Rattle.std.specs.Prelude.{◌≡◌, ◌<◌, ◌≤◌, ◌+◌, ◌-◌, ℕ, true, false, List, [], ◌∷◌, ◌++◌, length, take, drop, slice_index_or, Result, Ok, Err}
 use Rattle.hd_map.specs.Map.{Map}
 use Rattle.hd_morph.specs.Element.{ElementTable}
-use Rattle.hd_morph.specs.Filter.{Dilation, Erosion, Opening, Closing}
+use Rattle.hd_morph.specs.declared.filter.Filter.TheVariants.{Dilation, Erosion, Opening, Closing}
 use Rattle.hd_edit.specs.Edit.{height_set, height_taken, heights_raised, masks_set}
 use Rattle.hd_edit.specs.Elements.{first_named}
 use Rattle.hd_edit.specs.Filter.{IsFilteredBy}

@@ -3,7 +3,7 @@ use Rattle.std.specs.Prelude.{◌≡◌, List, Option, Some, None, Result, Err, 
 use Rattle.hd_map.specs.declared.types.Cell.{Cell}
 use Rattle.hd_map.specs.Map.{Map}
 use Rattle.hd_morph.specs.Element.{ElementTable}
-use Rattle.hd_morph.specs.Filter.{Filter}
+use Rattle.hd_morph.specs.declared.filter.Filter.{Filter}
 use Rattle.hd_morph.specs.Answer.{AreFilteredCells, IsOutOfRange, with_cells}
 use Rattle.hd_edit.specs.declared.edit.EditError.{EditError}
 use Rattle.hd_edit.specs.declared.edit.EditError.TheVariants.{Memory, Outside, HeightRange, EmptyRect, NoElement}

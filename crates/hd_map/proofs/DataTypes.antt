@@ -1,12 +1,13 @@
 -- The heights of the data types.
-use Rattle.std.proofs.Common.{◌≡◌, ◌≤◌, ◌≤ℤ◌, ◌<ℤ◌, ◌+ℤ◌, ◌∙◌, ℤ, pos, arith}
+use Rattle.std.proofs.Common.{◌≡◌, ◌<◌, ◌≤◌, ◌≤ℤ◌, ◌<ℤ◌, ◌+ℤ◌, ◌∙◌, ℕ, ℤ, pos, arith}
 use Rattle.std.specs.Prelude.{negsuc, FitsSigned}
 use mir.Syntax.{w64}
 use mir.Val.{of_z, to_z}
 use Rattle.std.proofs.lemmas.Int.{ints, to_z-of_z}
 use Rattle.hd_map.specs.declared.types.DataType.{DataType}
 use Rattle.hd_map.specs.declared.types.DataType.TheVariants.{U8, U16, U32, I8, I16, I32, Single, Double}
-use Rattle.hd_map.specs.Map.{IsNarrow, least_height, greatest_height, most_places, places_of}
+use Rattle.hd_map.specs.Map.{IsNarrow, four_bytes, least_height, greatest_height, most_places, places_of}
+use Rattle.hd_map.specs.Packing.{over_least}
 
 -- the heights of each data type are within the widest limits
 pub type_limits : (t : DataType) → (negsuc 9007199254740991 ≤ℤ least_height t) × (least_height t ≤ℤ pos 0) × (greatest_height t ≤ℤ pos 9007199254740992)
@@ -47,3 +48,10 @@ pub least_read : (t : DataType) (least : ℤ) → least ≡ least_height t → t
 least_read t least is =
     let limits = type_limits t in
     to_z-of_z w64 least (omega (arith, ints, limits.0, limits.1, is)) ∙ is
+
+-- a height is read in 64 bits from how far it is over the least one
+pub over_read : (t : DataType) (least : ℤ) (over : ℕ) → least ≡ least_height t → over < four_bytes → to_z w64 (of_z w64 (to_z w64 (of_z w64 least) +ℤ to_z w64 over)) ≡ over_least t over
+over_read t least over is few =
+    let limits = type_limits t in
+    let read = least_read t least is in
+    omega (arith, ints, limits.0, limits.1, read, few)

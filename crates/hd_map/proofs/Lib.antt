@@ -18,5 +18,7 @@ pub mod Prunings
 pub mod PositionOrder
 pub mod Presences
 pub mod Ranks
+pub mod Lanes
+mod Filled
 mod Sets
 mod PackedPoints

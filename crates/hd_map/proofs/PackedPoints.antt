@@ -1,11 +1,12 @@
 -- What is packed is read again, and a point that is set or added keeps the others.
-use Rattle.std.proofs.Common.{◌≡◌, ◌≢◌, ◌<◌, ◌+◌, ◌-◌, ◌*ℤ◌, ◌++◌, ◌≤◌, ℕ, ℤ, zero, suc, Bool, false, List, [], ◌∷◌, length, get_or, set, take, drop, map, replicate, None, inl, inr, ap, ap₂, append-nil, sym, refl, ◌∙◌, arith}
+use Rattle.std.proofs.Common.{◌≡◌, ◌<◌, ◌+◌, ◌-◌, ◌*ℤ◌, ◌++◌, ◌≤◌, ◌&&◌, ℕ, ℤ, zero, suc, Bool, false, not, Some, None, List, [], ◌∷◌, length, get_or, set, take, drop, map, replicate, inl, inr, ap, ap₂, append-nil, sym, refl, ◌∙◌, arith}
 use Rattle.std.specs.Int.{int_wrap, w64}
+use Rattle.std.specs.Prelude.{if◌then◌else◌}
 use Rattle.std.specs.Simd.Lanes.{zip2}
 use Rattle.std.proofs.Math.Seq.{map-set_same, take-append_seam}
 use Rattle.std.proofs.lemmas.Bool.{cases_Bool, cases_lt}
 use Rattle.std.proofs.lemmas.Int.{int_wrap_fits}
-use Rattle.std.proofs.lemmas.List.{get_or-replicate, length-replicate, length-map, map-append, map-set, get_or-map, get_or_append_left, get_or_push, replicate_more, take_more_set, take_all, drop_all, length_push}
+use Rattle.std.proofs.lemmas.List.{get_or_default, get_or-replicate, length-replicate, length-map, map-append, map-set, get_or-map, get_or_append_left, get_or_push, replicate_more, take_more_set, take_all, drop_all, length_push}
 use Rattle.std.proofs.lemmas.List.Edits.{map_over_more}
 use Rattle.std.proofs.lemmas.Simd.{get_or-zip2, length-zip2}
 use Rattle.hd_map.specs.declared.types.Adjacency.{Adjacency}
@@ -17,12 +18,13 @@ use Rattle.hd_map.specs.declared.types.Cell.TheVariants.{Height, Bad}
 use Rattle.hd_map.specs.declared.types.DataType.{DataType}
 use Rattle.hd_map.specs.declared.mark.Mark.{Mark}
 use Rattle.hd_map.specs.declared.mark.Mark.TheVariants.{Shown, Masked, Unmeasured, MaskedUnmeasured}
-use Rattle.hd_map.specs.Map.{Map, IsMap, IsSize, IsCellOf, most_places, places_of, AreCellsOf, cell_count, place_of, cell_at, mask_at, shown_height}
+use Rattle.hd_map.specs.Map.{Map, InGrid, IsMap, IsSize, IsCellOf, most_places, places_of, AreCellsOf, cell_count, place_of, cell_at, height_at, mask_at, shown_height}
 use Rattle.hd_map.specs.Sets.{with_cell, with_mask}
 use Rattle.hd_map.specs.Unmasked.{unmasked, unmeasured_map}
 use Rattle.hd_map.specs.Packing.{measures, masks, as_it_is, cell_from, kept_cells, kept_map, multiplied}
 use Rattle.hd_map.specs.UnmaskedMarks.{AreUnmasked}
 use Rattle.hd_map.proofs.DataTypes.{in_64_bits}
+use Rattle.hd_map.proofs.Points.{place_inside}
 
 module _ {X Y Z : Type 0} (f : X → Y → Z) where
   -- a pair that is set in two lists
@@ -46,6 +48,13 @@ module _ {X Y Z : Type 0} (f : X → Y → Z) where
   zip2-push [] (b ∷ ys) x y e = absurd (omega arith)
   zip2-push (a ∷ xs) [] x y e = absurd (omega arith)
   zip2-push (a ∷ xs) (b ∷ ys) x y e = ap (λ zs. f a b ∷ zs) (zip2-push xs ys x y (omega arith))
+
+-- what a mark shows of a number
+shown_by : {H : Type 0} (height : H → ℤ) (number : H) (mark : Mark) → shown_height (cell_from height number mark) (masks mark) ≡ (if measures mark && not (masks mark) then Some (height number) else None)
+shown_by height number Shown = refl
+shown_by height number Masked = refl
+shown_by height number Unmeasured = refl
+shown_by height number MaskedUnmeasured = refl
 
 -- a map of these cells and masks
 abbrev with_lists : Size → DataType → Adjacency → List Cell → List Bool → Map
@@ -85,6 +94,21 @@ module _ {H : Type 0} (height : H → ℤ) (s : Size) (t : DataType) (numbers : 
   mask_set new masked stays covers =
       ap (λ cells. with_lists s t adjacency cells (map masks (set marks k new))) (zip2-set_same (cell_from height) numbers marks k new mark (λ number. rw (stays ∙ ap measures is) refl))
       ∙ ap (λ covers. with_lists s t adjacency kept.cells covers) (map-set masks marks k new ∙ ap (λ m. set kept.masks k m) covers ∙ ap (λ (i : ℕ). set kept.masks i masked) here)
+
+-- the height at a position is that of the number there, where the mark there shows it
+module _ {H : Type 0} (height : H → ℤ) (s : Size) (t : DataType) (numbers ns : List H) (marks ms : List Mark) (adjacency : Adjacency) (paired : length numbers ≡ length marks)
+    (whole : IsMap (kept_map height s t numbers marks adjacency)) (same : ns ≡ numbers) (alike : ms ≡ marks) where
+  pub height_shown : (at : Pos) → InGrid s at → (shown : Bool) → shown ≡ (measures (get_or ms (place_of s at) Shown) && not (masks (get_or ms (place_of s at) Shown))) → (d : H)
+      → height_at (kept_map height s t numbers marks adjacency) at ≡ (if shown then Some (height (get_or ns (place_of s at) d)) else None)
+  height_shown at within shown is d =
+      let k : ℕ = place_of s at in
+      let mark : Mark = get_or marks k Shown in
+      let below : k < cell_count s = place_inside s at within in
+      let marked : k < length marks = omega (arith, below, sym (length-map marks masks) ∙ whole.masks) in
+      sym (height_read height s t numbers marks adjacency paired whole at k refl below mark (get_or_default marks k Shown mark marked) d)
+      ∙ shown_by height (get_or numbers k d) mark
+      ∙ ap (λ (b : Bool). if b then Some (height (get_or numbers k d)) else None) (ap (λ (list : List Mark). measures (get_or list k Shown) && not (masks (get_or list k Shown))) (sym alike) ∙ sym is)
+      ∙ ap (λ (list : List H). if shown then Some (height (get_or list k d)) else None) (sym same)
 
 -- the last number that was added is taken again
 pub popped : {X : Type 0} (xs zs : List X) (x : X) (count : ℕ) → count ≡ length xs + 1 → zs ≡ take (count - 1) (xs ++ x ∷ []) → zs ≡ xs

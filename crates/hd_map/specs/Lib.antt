@@ -3,6 +3,8 @@ pub mod Neighbour
 pub mod Order
 pub mod Rank
 pub mod Ranks
+pub mod Encoding
+pub mod Lanes
 pub mod SideLaws
 pub mod SettingLaws
 pub mod Path

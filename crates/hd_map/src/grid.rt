@@ -1,11 +1,12 @@
 // A grid that is seen as a map.
 ghost use Rattle.std.specs.Prelude.{◌≡◌, ◌<◌, ◌^◌, ◌+◌, ℕ, ◌↔◌, IsTrue, length};
+ghost use Rattle.std.specs.Bool.{OnTrue, OnFalse};
 ghost use Rattle.hd_map.specs.Map.{Map, IsMap, IsSize, InGrid, Present, place_of, position_at, cell_count, cell_at, mask_at, shown_height};
 ghost use Rattle.hd_map.specs.Rank.{rank};
-ghost use Rattle.hd_map.specs.Ranks.{AreRanksOf, rank_shown};
+ghost use Rattle.hd_map.specs.Lanes.{IsFarProfile, IsRowOfHeights};
 ghost use Rattle.hd_map.specs.Sets.{SetsCell, SetsMask, under, CountsChange};
 
-use crate::{Adjacency, Cell, DataType, MapError, Pos, Rank, Size};
+use crate::{Adjacency, Cell, DataType, Lane, MapError, Pos, Rank, Size};
 
 /// Heights on a rectangular grid, seen as a map and a setting (a sampled surface after ISO 25178-2).
 pub trait Heights {
@@ -25,16 +26,21 @@ pub trait Heights {
         requires { InGrid (map self.now).size at }
         ensures { result ≡ shown_height (cell_at (map self.now) at) (mask_at (map self.now) at) };
 
-    /// Writes by column the ranks of the points of a profile into a row, and `none` where a point is not present.
-    fn fill_ranks(&self, y: u32, none: Rank, row: &mut [Rank])
+    /// Writes by column the heights of the points of a profile into a row, as numbers that stand for them, and tells
+    /// whether all are near enough to zero for these. Where one is not, the row holds anything.
+    fn fill_heights<L: Lane>(&self, y: u32, row: &mut [L]) -> bool
         requires profile { y < (map self.now).size.profiles }
         requires columns { length row.old ≡ (map self.now).size.points }
-        ensures { AreRanksOf (map self.now) y none row.new }
+        ensures row { OnTrue result (IsRowOfHeights L.code (map self.now) y row.new) }
+        ensures far { OnFalse result (IsFarProfile L.code (map self.now) y) }
     {
         for x in 0..row.len() {
-            let at = Pos { x: x as u32, y };
-            row[x] = rank_shown(none, index_of(self.size(), at), self.height(at));
+            match L::of_height(self.height(Pos { x: x as u32, y })) {
+                Some(number) => row[x] = number,
+                None => return false,
+            }
         }
+        true
     }
 
     /// The size is within the limits, the lists are of that size, and the heights are of the type.
@@ -139,17 +145,6 @@ pub fn position_after(size: Size, at: Pos) -> Pos
         }
     } else {
         Pos { x: 0, y: at.y + 1 }
-    }
-}
-
-// The rank of a height at an index, and `none` where there is no height.
-#[inline]
-pub(crate) fn rank_shown(none: Rank, index: u32, height: Option<i64>) -> Rank
-    ensures { result ≡ rank_shown none index height }
-{
-    match height {
-        Some(height) => Rank { height, index },
-        None => none,
     }
 }
 

@@ -5,6 +5,7 @@
 mod cells;
 mod grid;
 mod height_range;
+mod lane;
 mod laws;
 mod mark;
 mod narrow;
@@ -25,6 +26,7 @@ pub use grid::{
     Grid, Heights, contains, height, index_of, is_present, position_after, position_of, rank_of,
 };
 pub use height_range::HeightRange;
+pub use lane::Lane;
 pub use laws::{
     change_tree_is_determined, saddle_exists_where_there_is_a_path, saddle_is_determined,
     saddle_is_not_above_the_higher_of_two, saddle_is_the_same_both_ways,

@@ -1,5 +1,5 @@
 // The marks of the points of a surface, in one byte each.
-ghost use Rattle.std.specs.Prelude.{◌≡◌, false, IfOk};
+ghost use Rattle.std.specs.Prelude.{◌≡◌, ◌&&◌, not, false, IfOk};
 ghost use Rattle.hd_map.specs.Packing.{masks, measures};
 ghost use Rattle.hd_map.specs.UnmaskedMarks.{AreUnmasked};
 
@@ -52,6 +52,17 @@ impl Mark {
         match self {
             Mark::Masked | Mark::MaskedUnmeasured => true,
             Mark::Shown | Mark::Unmeasured => false,
+        }
+    }
+
+    /// Whether it says that the point is measured and not masked.
+    #[inline]
+    pub fn is_shown(self) -> bool
+        ensures { result ≡ (measures self && not (masks self)) }
+    {
+        match self {
+            Mark::Shown => true,
+            Mark::Masked | Mark::Unmeasured | Mark::MaskedUnmeasured => false,
         }
     }
 

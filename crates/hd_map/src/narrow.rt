@@ -1,13 +1,13 @@
 // A surface whose heights take four bytes each.
-ghost use Rattle.std.specs.Prelude.{◌≡◌, ◌↔◌, ◌≤ℤ◌, ◌+ℤ◌, pos, negsuc, IfOk, IsTrue, length, replicate, false};
-ghost use Rattle.hd_map.specs.Map.{IsSize, IsMap, IsNarrow, cell_count, least_height, shown_height};
+ghost use Rattle.std.specs.Prelude.{◌≡◌, ◌↔◌, ◌<◌, ◌≤◌, ◌≤ℤ◌, ◌+ℤ◌, ℕ, pos, negsuc, neg_ℤ, IfOk, IsTrue, length, replicate, false};
+ghost use Rattle.hd_map.specs.Map.{IsSize, IsMap, IsNarrow, cell_count, four_bytes, least_height, shown_height};
 ghost use Rattle.hd_map.specs.Packing.{cell_from, kept_map, masks, over_least};
 
-use crate::grid::rank_shown;
+use crate::lane::number_of;
 use crate::mark::{Mark, unmasked_marks};
 use crate::packing::pack_narrow;
 use crate::{
-    Adjacency, Cell, Cells, DataType, Grid, Heights, MapError, Pos, Rank, Size, contains, index_of,
+    Adjacency, Cell, Cells, DataType, Grid, Heights, Lane, MapError, Pos, Size, contains, index_of,
     is_cell_of, least_of,
 };
 use hd_list::Memory;
@@ -132,16 +132,22 @@ impl Heights for Narrow {
         height_over(self.least, self.heights[index], self.marks[index])
     }
 
-    fn fill_ranks(&self, y: u32, none: Rank, row: &mut [Rank]) {
+    fn fill_heights<L: Lane>(&self, y: u32, row: &mut [L]) -> bool {
         let first = y as usize * self.size.points as usize;
         let least = self.least;
+        let most = L::most_height();
+        let (from, to) = (first_near(least, most), last_near(least, most));
         let heights = self.heights.as_slice();
         let marks = self.marks.as_slice();
+        let mut all = true;
         for x in 0..row.len() {
-            let index = first + x;
-            let height = height_over(least, heights[index], marks[index]);
-            row[x] = rank_shown(none, index as u32, height);
+            let over = heights[first + x];
+            let shown = marks[first + x].is_shown();
+            let is_near = (from <= over) & (over <= to);
+            row[x] = number_of(shown & is_near, least + over as i64);
+            all = all & (!shown | is_near);
         }
+        all
     }
 }
 
@@ -209,5 +215,34 @@ fn height_over(least: i64, over: u32, mark: Mark) -> Option<i64>
     match mark {
         Mark::Shown => Some(least + over as i64),
         _ => None,
+    }
+}
+
+// How far over the least height the first one is that lies at most so far below zero.
+#[inline]
+fn first_near(least: i64, most: i64) -> u32
+    requires least { negsuc 2147483647 ≤ℤ least }
+    requires most { pos 0 ≤ℤ most }
+    ensures { (over : ℕ) → result ≤ over ↔ neg_ℤ most ≤ℤ (least +ℤ pos over) }
+{
+    if least < -most {
+        (-most - least) as u32
+    } else {
+        0
+    }
+}
+
+// How far over the least height the last one is that lies at most so far above zero, or as far as four bytes tell.
+#[inline]
+fn last_near(least: i64, most: i64) -> u32
+    requires least { negsuc 2147483647 ≤ℤ least }
+    requires zero { least ≤ℤ pos 0 }
+    requires most { pos 0 ≤ℤ most }
+    ensures { (over : ℕ) → over < four_bytes → over ≤ result ↔ (least +ℤ pos over) ≤ℤ most }
+{
+    if most < least + u32::MAX as i64 {
+        (most - least) as u32
+    } else {
+        u32::MAX
     }
 }

@@ -3,7 +3,7 @@ ghost use Rattle.std.specs.Prelude.{◌≡◌, ◌≤◌, IfOk, length, replicat
 ghost use Rattle.hd_map.specs.Map.{IsSize, cell_count, most_places, places_of};
 
 use crate::{
-    Adjacency, Cell, Cells, DataType, Grid, Heights, MapError, Narrow, Pos, Rank, Size, Wide,
+    Adjacency, Cell, Cells, DataType, Grid, Heights, Lane, MapError, Narrow, Pos, Size, Wide,
     is_narrow,
 };
 use hd_list::Memory;
@@ -102,10 +102,10 @@ impl Heights for Surface {
         }
     }
 
-    fn fill_ranks(&self, y: u32, none: Rank, row: &mut [Rank]) {
+    fn fill_heights<L: Lane>(&self, y: u32, row: &mut [L]) -> bool {
         match self {
-            Surface::Narrow(surface) => surface.fill_ranks(y, none, row),
-            Surface::Wide(surface) => surface.fill_ranks(y, none, row),
+            Surface::Narrow(surface) => surface.fill_heights(y, row),
+            Surface::Wide(surface) => surface.fill_heights(y, row),
         }
     }
 }

@@ -1,5 +1,5 @@
 // A grid under another setting of its neighbours.
-use crate::{Adjacency, Heights, Pos, Size};
+use crate::{Adjacency, Heights, Lane, Pos, Size};
 
 /// A grid under a setting of its neighbours that need not be its own. It is seen as the map of the
 /// grid under this setting.
@@ -29,5 +29,9 @@ impl<'a, G: Heights> Heights for Under<'a, G> {
 
     fn height(&self, at: Pos) -> Option<i64> {
         self.grid.height(at)
+    }
+
+    fn fill_heights<L: Lane>(&self, y: u32, row: &mut [L]) -> bool {
+        self.grid.fill_heights(y, row)
     }
 }

@@ -3,11 +3,11 @@ ghost use Rattle.std.specs.Prelude.{◌≡◌, ◌≤◌, ◌<◌, pos, IfOk, le
 ghost use Rattle.hd_map.specs.Map.{IsSize, IsMap, cell_count, most_places, places_of, shown_height};
 ghost use Rattle.hd_map.specs.Packing.{as_it_is, cell_from, kept_map, masks};
 
-use crate::grid::rank_shown;
+use crate::lane::number_of;
 use crate::mark::{Mark, unmasked_marks};
 use crate::packing::pack_wide;
 use crate::{
-    Adjacency, Cell, DataType, Grid, Heights, MapError, Pos, Rank, Size, WideCells, contains,
+    Adjacency, Cell, DataType, Grid, Heights, Lane, MapError, Pos, Size, WideCells, contains,
     index_of, is_cell_of,
 };
 use hd_list::Memory;
@@ -111,14 +111,20 @@ impl Heights for Wide {
         height_in(self.heights.as_slice(), index, self.marks[index])
     }
 
-    fn fill_ranks(&self, y: u32, none: Rank, row: &mut [Rank]) {
+    fn fill_heights<L: Lane>(&self, y: u32, row: &mut [L]) -> bool {
         let first = y as usize * self.size.points as usize;
+        let most = L::most_height();
         let heights = self.heights.as_slice();
         let marks = self.marks.as_slice();
+        let mut all = true;
         for x in 0..row.len() {
-            let index = first + x;
-            row[x] = rank_shown(none, index as u32, height_in(heights, index, marks[index]));
+            let height = heights[first + x];
+            let shown = marks[first + x].is_shown();
+            let is_near = (-most <= height) & (height <= most);
+            row[x] = number_of(shown & is_near, height);
+            all = all & (!shown | is_near);
         }
+        all
     }
 }
 

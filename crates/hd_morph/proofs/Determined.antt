@@ -9,7 +9,9 @@ use Rattle.hd_map.specs.declared.types.Cell.TheVariants.{Height, Bad}
 use Rattle.hd_map.specs.Map.{Map, IsMap, InGrid, IsCellOf, place_of, position_at, cell_count, cell_at}
 use Rattle.hd_map.proofs.Points.{place_inside, same_place, position_at-place, position_at-inside}
 use Rattle.hd_morph.specs.Element.{ElementTable}
-use Rattle.hd_morph.specs.Filter.{Relief, Filter, Dilation, Erosion, Opening, Closing, IsRaised, IsLowered, IsDilation, IsErosion, IsFiltered}
+use Rattle.hd_morph.specs.declared.filter.Filter.{Filter}
+use Rattle.hd_morph.specs.declared.filter.Filter.TheVariants.{Dilation, Erosion, Opening, Closing}
+use Rattle.hd_morph.specs.Filter.{Relief, IsRaised, IsLowered, IsDilation, IsErosion, IsFiltered}
 use Rattle.hd_morph.specs.Compare.{AreSame}
 use Rattle.hd_morph.specs.Answer.{AreFilteredCells, IsFirstOutside, IsOutOfRange, with_cells}
 use Rattle.hd_morph.proofs.Greatest.{greatest_same, least_same, greatest_of, least_of}

@@ -1,20 +1,10 @@
 -- Numbers that stand for heights.
-use Rattle.std.proofs.Common.{◌≡◌, ◌<◌, ◌≤ℤ◌, ◌<ℤ◌, ◌++◌, ℕ, ℤ, true, false, List, length, take, drop, get_or, Some, None, inl, inr, ap, sym, ◌∙◌, arith}
-use Rattle.std.specs.Prelude.{int_lt}
-use Rattle.std.proofs.lemmas.Int.{ints}
+use Rattle.std.proofs.Common.{◌≡◌, ◌<◌, ◌++◌, ℕ, List, length, take, drop, get_or, None, inl, inr, ap, sym, ◌∙◌, arith}
 use Rattle.std.proofs.lemmas.Bool.{cases_lt}
 use Rattle.std.proofs.lemmas.List.{get_or-map, get_or_past, get_or_read, length-map, map-append, take-map, drop-map}
 use borrow.Rule.Slice.PartMut.{put_mid}
-use Rattle.hd_morph.specs.Encoding.{Encoding, shown_over, values_of, number_in}
+use Rattle.hd_map.specs.Encoding.{Encoding, values_of, number_in}
 use Rattle.hd_morph.specs.Plain.{value_at}
-
--- a number above the floor is a height
-pub shown_above : (floor z : ℤ) → floor <ℤ z → shown_over floor z ≡ Some z
-shown_above floor z above = let test : int_lt floor z ≡ true = grind (arith, ints) in rw test
-
--- a number not above the floor is none
-pub shown_below : (floor z : ℤ) → z ≤ℤ floor → shown_over floor z ≡ None
-shown_below floor z below = let test : int_lt floor z ≡ false = grind (arith, ints) in rw test
 
 module _ {L : Type 0} (code : Encoding L) where
   -- what a number stands for is the value at its place

@@ -5,9 +5,9 @@ use Rattle.std.proofs.lemmas.Nat.{mul-add-lt}
 use Rattle.hd_map.specs.declared.types.Pos.{Pos}
 use Rattle.hd_map.specs.declared.types.Size.{Size}
 use Rattle.hd_map.specs.Map.{InGrid, place_of, position_at}
+use Rattle.hd_map.specs.Encoding.{Encoding, values_of, most_between, most_filtered}
 use Rattle.hd_map.proofs.Points.{position_at-place, position_at-inside}
 use Rattle.hd_morph.specs.Element.{ElementTable, IsElement, number_at, centre}
-use Rattle.hd_morph.specs.Encoding.{Encoding, values_of, most_between, most_filtered}
 use Rattle.hd_morph.specs.Greatest.{IsGreatest}
 use Rattle.hd_morph.specs.Filter.{IsRaised}
 use Rattle.hd_morph.specs.Plain.{relief, ArePlain, HasNumbersWithin}

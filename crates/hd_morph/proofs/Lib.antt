@@ -12,3 +12,4 @@ pub mod Determined
 pub mod Stable
 pub mod Raising
 pub mod Listed
+pub mod Between

@@ -1,6 +1,5 @@
 -- Heights by index, and plain numbers that stand for them.
 use Rattle.std.proofs.Common.{◌≡◌, ◌<◌, ◌≤◌, ◌+◌, ◌++◌, ℕ, ℤ, List, length, take, drop, get_or, slice_index_or, slice_set, length-set, get_or-set_other, get_or-set_same, below_more, Option, Some, None, ◌⊎◌, inl, inr, refl, ap, subst, sym, ◌∙◌, arith, rules}
-use Rattle.std.proofs.lemmas.Int.{ints}
 use Rattle.std.proofs.lemmas.Bool.{cases_lt}
 use Rattle.std.proofs.lemmas.List.{places, get_or_past}
 use Rattle.std.proofs.Math.Seq.{take-append_seam}
@@ -8,11 +7,13 @@ use borrow.Rule.Slice.PartMut.{put_mid}
 use Rattle.hd_map.specs.declared.types.Pos.{Pos}
 use Rattle.hd_map.specs.declared.types.Size.{Size}
 use Rattle.hd_map.specs.Map.{InGrid, place_of}
+use Rattle.hd_map.specs.Encoding.{Encoding, values_of, number_in}
+use Rattle.hd_map.specs.Lanes.{IsNegated, minus, IsPlainNumber, IsBounded}
+use Rattle.hd_map.proofs.Lanes.{IsPlainNumber-more}
 use Rattle.hd_morph.specs.Element.{ElementTable}
-use Rattle.hd_morph.specs.Encoding.{Encoding, values_of, number_in}
 use Rattle.hd_morph.specs.Raised.{IsNumberWithin, IsSettled, AreTopped}
-use Rattle.hd_morph.specs.Turned.{IsNegated, AreNegated, minus}
-use Rattle.hd_morph.specs.Plain.{value_at, relief, ArePlain, IsPlainNumber, IsBounded, HasNumbersWithin}
+use Rattle.hd_morph.specs.Turned.{AreNegated}
+use Rattle.hd_morph.specs.Plain.{value_at, relief, ArePlain, HasNumbersWithin}
 use Rattle.hd_morph.proofs.Encodings.{value_of_number, number_read}
 
 -- a value is some number, or none
@@ -27,24 +28,26 @@ some_inside xs i z is = elim (cases_lt i (length xs)) [
   | inr past ↦ let none : value_at xs i ≡ None = get_or_past xs i None past in cc
 ]
 
--- a value of a list of which a stretch was written anew
-pub mid_inside : (a k i : ℕ) (xs ys : List (Option ℤ)) → a + k ≤ length xs → length ys ≡ k → i < k → value_at (put_mid a k xs ys) (a + i) ≡ value_at ys i
-mid_inside a k i xs ys room size below = search (rules, places)
+module _ {X : Type 0} (none : X) where
+  -- an item of a list of which a stretch was written anew
+  pub mid_inside : (a k i : ℕ) (xs ys : List X) → a + k ≤ length xs → length ys ≡ k → i < k → get_or (put_mid a k xs ys) (a + i) none ≡ get_or ys i none
+  mid_inside a k i xs ys room size below = search (rules, places)
 
-pub mid_before : (a k i : ℕ) (xs ys : List (Option ℤ)) → a + k ≤ length xs → length ys ≡ k → i < a → value_at (put_mid a k xs ys) i ≡ value_at xs i
-mid_before a k i xs ys room size below = search (rules, places)
+  pub mid_before : (a k i : ℕ) (xs ys : List X) → a + k ≤ length xs → length ys ≡ k → i < a → get_or (put_mid a k xs ys) i none ≡ get_or xs i none
+  mid_before a k i xs ys room size below = search (rules, places)
 
-pub mid_after : (a k i : ℕ) (xs ys : List (Option ℤ)) → a + k ≤ length xs → length ys ≡ k → a + k ≤ i → value_at (put_mid a k xs ys) i ≡ value_at xs i
-mid_after a k i xs ys room size above = search (rules, places)
+  pub mid_after : (a k i : ℕ) (xs ys : List X) → a + k ≤ length xs → length ys ≡ k → a + k ≤ i → get_or (put_mid a k xs ys) i none ≡ get_or xs i none
+  mid_after a k i xs ys room size above = search (rules, places)
 
-pub mid_length : (a k : ℕ) (xs ys : List (Option ℤ)) → a + k ≤ length xs → length ys ≡ k → length (put_mid a k xs ys) ≡ length xs
+  -- an item of a stretch
+  pub part_at : (a k i : ℕ) (xs : List X) → i < k → get_or (take k (drop a xs)) i none ≡ get_or xs (a + i) none
+  part_at a k i xs below = search (rules, places)
+
+-- how long they are
+pub mid_length : {X : Type 0} (a k : ℕ) (xs ys : List X) → a + k ≤ length xs → length ys ≡ k → length (put_mid a k xs ys) ≡ length xs
 mid_length a k xs ys room size = search (rules, places)
 
--- a value of a stretch
-pub part_at : (a k i : ℕ) (xs : List (Option ℤ)) → i < k → value_at (take k (drop a xs)) i ≡ value_at xs (a + i)
-part_at a k i xs below = search (rules, places)
-
-pub part_length : (a k : ℕ) (xs : List (Option ℤ)) → a + k ≤ length xs → length (take k (drop a xs)) ≡ k
+pub part_length : {X : Type 0} (a k : ℕ) (xs : List X) → a + k ≤ length xs → length (take k (drop a xs)) ≡ k
 part_length a k xs room = search (rules, places)
 
 module _ {L : Type 0} (code : Encoding L) where
@@ -130,18 +133,11 @@ bounded_before n e index all before = record {
   ];
 }
 
--- a bound is one for each greater number
-pub IsBounded-more : (m n : ℕ) (v : Option ℤ) → m ≤ n → IsBounded m v → IsBounded n v
-IsBounded-more m n v more within = record {
-  least = λ z is. let h = within.least z is in omega (arith, ints);
-  greatest = λ z is. let h = within.greatest z is in omega (arith, ints);
-}
-
 module _ {L : Type 0} (code : Encoding L) where
   pub plain_more : (s : Size) (m n : ℕ) (numbers : List L) → m ≤ n → ArePlain code s m numbers → ArePlain code s n numbers
   plain_more s m n numbers more are = record {
     whole = are.whole;
-    plain = record { each = λ k. record { bounded = IsBounded-more m n (code.shown (number_in code numbers k)) more (are.plain.each k).bounded; absent = (are.plain.each k).absent } };
+    plain = record { each = λ k. IsPlainNumber-more code m n (number_in code numbers k) more (are.plain.each k) };
   }
 
   -- heights are bounded as the numbers are
@@ -155,4 +151,4 @@ module _ {L : Type 0} (code : Encoding L) where
   pub plain_read : (m n : ℕ) → m ≤ n → (numbers : List L) → ((k : ℕ) → IsPlainNumber code m (number_in code numbers k)) → (k : ℕ) (x : L) → k < length numbers → x ≡ get_or numbers k x → IsPlainNumber code n x
   plain_read m n more numbers each k x inside read =
       let here : x ≡ number_in code numbers k = number_read code numbers k x inside read in
-      rw here (record { bounded = IsBounded-more m n (code.shown (number_in code numbers k)) more (each k).bounded; absent = (each k).absent })
+      rw here (IsPlainNumber-more code m n (number_in code numbers k) more (each k))

@@ -8,12 +8,13 @@ use borrow.Rule.Slice.PartMut.{put_mid}
 use Rattle.hd_map.specs.declared.types.Pos.{Pos}
 use Rattle.hd_map.specs.declared.types.Size.{Size}
 use Rattle.hd_map.specs.Map.{InGrid, place_of, position_at, cell_count}
+use Rattle.hd_map.specs.Encoding.{Encoding, values_of, most_between, most_filtered}
 use Rattle.hd_map.proofs.Gather.{same_pos}
 use Rattle.hd_map.proofs.Points.{position_at-place, position_at-inside}
 use Rattle.hd_morph.specs.Element.{ElementTable, IsElement, number_at}
 use Rattle.hd_morph.specs.Greatest.{IsGreatest, larger}
-use Rattle.hd_morph.specs.Filter.{Relief, Dilation, IsOffset, IsRaised}
-use Rattle.hd_morph.specs.Encoding.{Encoding, values_of, most_between, most_filtered}
+use Rattle.hd_morph.specs.declared.filter.Filter.TheVariants.{Dilation}
+use Rattle.hd_morph.specs.Filter.{Relief, IsOffset, IsRaised}
 use Rattle.hd_morph.specs.Plain.{value_at, relief, ArePlain, HasNumbersWithin}
 use Rattle.hd_morph.specs.Raised.{ArePlainlyFiltered, AreTopped, AreSettled, plus, AreRaisedTo, AreRaisedAcross, IsRaisedBy, IsRowRaisedOnce, AreBlank, IsBlankRow, IsRowRaised, AreRaised}
 use Rattle.hd_morph.proofs.Greatest.{greatest_of, greatest_join, greatest_none, larger_none}
@@ -172,7 +173,7 @@ row_raised s e heights y row start offset number old new whole width within row_
               | inl there ↦
                   let q : Pos = record { x = x + e.width / 2 - offset.x; y = row } in
                   let o : IsOffset e offset q p = record { column = column; row = table_row; across = omega arith; down = leads } in
-                  let value : value_at (take s.points (drop start heights)) q.x ≡ relief s heights q = part_at start s.points q.x heights there ∙ ap (λ k. value_at heights (k + q.x)) start_is in
+                  let value : value_at (take s.points (drop start heights)) q.x ≡ relief s heights q = part_at None start s.points q.x heights there ∙ ap (λ k. value_at heights (k + q.x)) start_is in
                   record {
                     raised = plus number (relief s heights q);
                     greatest = one_offset s e (relief s heights) p offset q number (record { column = there; profile = row_within }) p_inside o is_number;
@@ -248,7 +249,7 @@ row_blank s e f y k tops row width was =
       each = λ x. elim (some_or_none (value_at (take k (drop (y * s.points) tops)) x)) [
         | inl z ↦
             let inside : x < k = omega (arith, size, some_inside (take k (drop (y * s.points) tops)) x z.0 z.1) in
-            part_at (y * s.points) k x tops inside ∙ was.left (y * s.points + x) (omega arith)
+            part_at None (y * s.points) k x tops inside ∙ was.left (y * s.points + x) (omega arith)
         | inr none ↦ none
       ];
     }
@@ -265,19 +266,19 @@ rows_more s e f y k tops part row width was raised =
         | inl before ↦
             let earlier : (p.y + 1) * s.points ≤ y * s.points = mul-le-mul_right s.points (let h : p.y + 1 ≤ y = omega arith in h) in
             let there : value_at (put_mid (y * s.points) k tops part) (place_of s p) ≡ value_at tops (place_of s p) =
-            mid_before (y * s.points) k (place_of s p) tops part room size (omega (arith, earlier, inside.column)) in
+            mid_before None (y * s.points) k (place_of s p) tops part room size (omega (arith, earlier, inside.column)) in
             rw there (was.done p inside before)
         | inr not ↦
             let same : p.y ≡ y = omega arith in
             let place : place_of s p ≡ y * s.points + p.x = ap (λ t. t * s.points + p.x) same in
             let there : value_at (put_mid (y * s.points) k tops part) (place_of s p) ≡ value_at part p.x =
-            ap (value_at (put_mid (y * s.points) k tops part)) place ∙ mid_inside (y * s.points) k p.x tops part room size (omega (arith, inside.column)) in
+            ap (value_at (put_mid (y * s.points) k tops part)) place ∙ mid_inside None (y * s.points) k p.x tops part room size (omega (arith, inside.column)) in
             let at : record { x = p.x; y = y } ≡ p = same_pos (record { x = p.x; y = y }) p refl (sym same) in
             rw there (subst (λ (q : Pos). IsGreatest (IsRaised s e f q) (value_at part p.x)) at (raised.each p.x inside.column))
       ];
       left = λ i above.
           let beyond : y * s.points + k ≤ i = omega arith in
-          mid_after (y * s.points) k i tops part room size beyond ∙ was.left i (omega arith);
+          mid_after None (y * s.points) k i tops part room size beyond ∙ was.left i (omega arith);
     }
 
 pub rows_all : (s : Size) (e : ElementTable) (f : Relief) (y : ℕ) (tops : List (Option ℤ)) → s.profiles ≤ y → RowsRaised s e f y tops → AreRaised s e f tops

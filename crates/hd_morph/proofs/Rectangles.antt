@@ -1,5 +1,5 @@
 -- The greatest of the heights of a rectangle, column by column and row by row.
-use Rattle.std.proofs.Common.{◌≡◌, ◌<◌, ◌≤◌, ◌+◌, ◌-◌, ◌*◌, ℕ, ℤ, List, length, take, drop, Option, Some, inl, inr, refl, ap, sym, ◌∙◌, arith}
+use Rattle.std.proofs.Common.{◌≡◌, ◌<◌, ◌≤◌, ◌+◌, ◌-◌, ◌*◌, ℕ, ℤ, List, length, take, drop, Option, Some, None, inl, inr, refl, ap, sym, ◌∙◌, arith}
 use Rattle.std.proofs.lemmas.Bool.{cases_lt}
 use Rattle.std.proofs.Math.Nat.{mul-le-mul_right}
 use borrow.Rule.Slice.PartMut.{put_mid}
@@ -39,29 +39,29 @@ rows_more s reach y k old now part row whole width rows window =
         | inl before ↦
             let earlier : (p.y + 1) * s.points ≤ y * s.points = mul-le-mul_right s.points (let h : p.y + 1 ≤ y = omega arith in h) in
             let there : value_at (put_mid (y * s.points) k now part) (place_of s p) ≡ value_at now (place_of s p) =
-            mid_before (y * s.points) k (place_of s p) now part room size (omega (arith, earlier, inside.column)) in
+            mid_before None (y * s.points) k (place_of s p) now part room size (omega (arith, earlier, inside.column)) in
             rw there (rows.done p inside before)
         | inr not ↦
             let same : p.y ≡ y = omega arith in
             let place : place_of s p ≡ y * s.points + p.x = ap (λ t. t * s.points + p.x) same in
             let there : value_at (put_mid (y * s.points) k now part) (place_of s p) ≡ value_at part p.x =
-            ap (value_at (put_mid (y * s.points) k now part)) place ∙ mid_inside (y * s.points) k p.x now part room size (omega (arith, inside.column)) in
+            ap (value_at (put_mid (y * s.points) k now part)) place ∙ mid_inside None (y * s.points) k p.x now part room size (omega (arith, inside.column)) in
             rw there (greatest_of (IsNearby (take k (drop (y * s.points) now)) reach p.x) (IsInRow s reach old p) (value_at part p.x)
             (λ z a.
             let below : a.at < k = omega (arith, some_inside (take k (drop (y * s.points) now)) a.at z a.is, part_length (y * s.points) k now room) in
             let at : value_at (take k (drop (y * s.points) now)) a.at ≡ value_at old (p.y * s.points + a.at) =
-            part_at (y * s.points) k a.at now below ∙ rows.left (y * s.points + a.at) (omega arith) ∙ ap (λ t. value_at old (t * s.points + a.at)) (sym same) in
+            part_at None (y * s.points) k a.at now below ∙ rows.left (y * s.points + a.at) (omega arith) ∙ ap (λ t. value_at old (t * s.points + a.at)) (sym same) in
             record { column = a.at; inside = omega (arith, below); near = record { not_after = a.not_after; not_before = a.not_before }; is = sym at ∙ a.is })
             (λ z a.
             let below : a.column < k = omega (arith, a.inside) in
             let at : value_at (take k (drop (y * s.points) now)) a.column ≡ value_at old (p.y * s.points + a.column) =
-            part_at (y * s.points) k a.column now below ∙ rows.left (y * s.points + a.column) (omega arith) ∙ ap (λ t. value_at old (t * s.points + a.column)) (sym same) in
+            part_at None (y * s.points) k a.column now below ∙ rows.left (y * s.points + a.column) (omega arith) ∙ ap (λ t. value_at old (t * s.points + a.column)) (sym same) in
             record { at = a.column; not_after = a.near.not_after; not_before = a.near.not_before; is = at ∙ a.is })
             (window.each p.x (omega (arith, inside.column, part_length (y * s.points) k now room))))
       ];
       left = λ i above.
           let beyond : y * s.points + k ≤ i = omega arith in
-          mid_after (y * s.points) k i now part room size beyond ∙ rows.left i (omega arith);
+          mid_after None (y * s.points) k i now part room size beyond ∙ rows.left i (omega arith);
     }
 
 -- a position of the row, at most reach columns off

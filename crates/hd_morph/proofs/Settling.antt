@@ -6,12 +6,15 @@ use Rattle.std.proofs.lemmas.List.{get_or_past}
 use Rattle.hd_map.specs.declared.types.Pos.{Pos}
 use Rattle.hd_map.specs.declared.types.Size.{Size}
 use Rattle.hd_map.specs.Map.{InGrid, place_of, position_at, cell_count}
+use Rattle.hd_map.specs.Encoding.{Encoding, values_of, number_in, most_filtered}
+use Rattle.hd_map.specs.Lanes.{IsBounded}
 use Rattle.hd_map.proofs.Points.{place_inside, position_at-place, position_at-inside}
 use Rattle.hd_morph.specs.Element.{ElementTable}
-use Rattle.hd_morph.specs.Encoding.{Encoding, values_of, number_in, most_filtered}
 use Rattle.hd_morph.specs.Greatest.{IsGreatest}
-use Rattle.hd_morph.specs.Filter.{Relief, Filter, Dilation, Erosion, IsRaised, IsLowered, IsDilation, IsErosion}
-use Rattle.hd_morph.specs.Plain.{value_at, relief, ArePlain, IsBounded, HasNumbersWithin}
+use Rattle.hd_morph.specs.declared.filter.Filter.{Filter}
+use Rattle.hd_morph.specs.declared.filter.Filter.TheVariants.{Dilation, Erosion}
+use Rattle.hd_morph.specs.Filter.{Relief, IsRaised, IsLowered, IsDilation, IsErosion}
+use Rattle.hd_morph.specs.Plain.{value_at, relief, ArePlain, HasNumbersWithin}
 use Rattle.hd_morph.specs.Raised.{ArePlainlyFiltered, AreTopped, IsSettled, AreSettled, plus}
 use Rattle.hd_morph.proofs.Encodings.{value_of_number, length_values}
 use Rattle.hd_morph.proofs.PlainNumbers.{some_or_none, IsBounded-relief}

@@ -4,7 +4,9 @@ use Rattle.hd_map.specs.declared.types.Cell.{Cell}
 use Rattle.hd_map.specs.declared.types.Cell.TheVariants.{Height, Bad}
 use Rattle.hd_map.specs.Map.{Map, cell_at, mask_at, shown_height}
 use Rattle.hd_morph.specs.Element.{ElementTable}
-use Rattle.hd_morph.specs.Filter.{Relief, Filter, Opening, Closing, IsFiltered, relief_of}
+use Rattle.hd_morph.specs.declared.filter.Filter.{Filter}
+use Rattle.hd_morph.specs.declared.filter.Filter.TheVariants.{Opening, Closing}
+use Rattle.hd_morph.specs.Filter.{Relief, IsFiltered, relief_of}
 use Rattle.hd_morph.specs.Compare.{HaveSamePoints, AreSame}
 use Rattle.hd_morph.specs.Answer.{AreCellsWith, AreFilteredCells, IsStable, with_cells}
 use Rattle.hd_morph.proofs.Adjunction.{origin_of, opening_points, closing_points, opening_of_itself, closing_of_itself}

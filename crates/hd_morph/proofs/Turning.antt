@@ -8,13 +8,15 @@ use Rattle.std.proofs.lemmas.Bool.{cases_lt}
 use Rattle.hd_map.specs.declared.types.Pos.{Pos}
 use Rattle.hd_map.specs.declared.types.Size.{Size}
 use Rattle.hd_map.specs.Map.{place_of}
+use Rattle.hd_map.specs.Encoding.{Encoding, values_of, number_in}
+use Rattle.hd_map.specs.Lanes.{minus}
 use Rattle.hd_map.proofs.Gather.{same_pos}
 use Rattle.hd_morph.specs.Element.{ElementTable, IsEntry, IsElement, number_at, centre}
-use Rattle.hd_morph.specs.Filter.{Relief, Erosion, IsOffset, IsRaised, IsDilation, IsErosion}
-use Rattle.hd_morph.specs.Encoding.{Encoding, values_of, number_in}
+use Rattle.hd_morph.specs.declared.filter.Filter.TheVariants.{Erosion}
+use Rattle.hd_morph.specs.Filter.{Relief, IsOffset, IsRaised, IsDilation, IsErosion}
 use Rattle.hd_morph.specs.Plain.{relief, ArePlain, HasNumbersWithin}
 use Rattle.hd_morph.specs.Raised.{ArePlainlyFiltered}
-use Rattle.hd_morph.specs.Turned.{minus, AreNegated, turned_table}
+use Rattle.hd_morph.specs.Turned.{AreNegated, turned_table}
 use Rattle.hd_morph.proofs.Encodings.{value_of_number}
 use Rattle.hd_morph.proofs.PlainNumbers.{none_bounded}
 

@@ -7,7 +7,8 @@ use Rattle.hd_map.specs.Map.{Map, InGrid, IsCellOf, AreCellsOf, cell_count, cell
 use Rattle.hd_morph.specs.declared.errors.MorphError.{MorphError}
 use Rattle.hd_morph.specs.declared.errors.MorphError.TheVariants.{Memory, HeightRange}
 use Rattle.hd_morph.specs.Element.{ElementTable, IsElement}
-use Rattle.hd_morph.specs.Filter.{Relief, Filter, IsFiltered, relief_of}
+use Rattle.hd_morph.specs.declared.filter.Filter.{Filter}
+use Rattle.hd_morph.specs.Filter.{Relief, IsFiltered, relief_of}
 
 -- the map with these cells; the masks stay
 abbrev pub with_cells : Map → List Cell → Map

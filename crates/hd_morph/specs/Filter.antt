@@ -4,6 +4,8 @@ use Rattle.std.specs.Prelude.{◌≡◌, ◌<◌, ◌+◌, ◌+ℤ◌, ◌-ℤ�
 use Rattle.hd_map.specs.declared.types.Pos.{Pos}
 use Rattle.hd_map.specs.declared.types.Size.{Size}
 use Rattle.hd_map.specs.Map.{Map, InGrid, cell_at, mask_at, shown_height}
+use Rattle.hd_morph.specs.declared.filter.Filter.{Filter}
+use Rattle.hd_morph.specs.declared.filter.Filter.TheVariants.{Dilation, Erosion, Opening, Closing}
 use Rattle.hd_morph.specs.Element.{ElementTable, number_at, centre}
 use Rattle.hd_morph.specs.Greatest.{IsGreatest, IsLeast}
 
@@ -72,13 +74,6 @@ pub record IsClosing (s : Size) (e : ElementTable) (f g : Relief) : Type 0 where
   pub between : Relief
   pub first : IsDilation s e f between
   pub second : IsErosion s e between g
-
--- the four filters
-pub data Filter : Type 0 where
-  Dilation : Filter
-  Erosion : Filter
-  Opening : Filter
-  Closing : Filter
 
 -- g is what a filter makes of f
 abbrev pub IsFiltered : Filter → Size → ElementTable → Relief → Relief → Type 0

@@ -1,11 +1,9 @@
 pub mod Element
 pub mod Greatest
 pub mod Filter
-pub mod Kind
 pub mod Answer
 pub mod NewHeights
 pub mod Compare
-pub mod Encoding
 pub mod Plain
 pub mod Window
 pub mod Round

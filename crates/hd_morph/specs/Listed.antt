@@ -1,20 +1,12 @@
 -- Heights of a map, one by one.
-use Rattle.std.specs.Prelude.{◌≡◌, ℤ, List, Option, Some, MatchOption}
+use Rattle.std.specs.Prelude.{◌≡◌, ℤ, List, Some}
 use Rattle.hd_map.specs.declared.types.Pos.{Pos}
 use Rattle.hd_map.specs.declared.types.Cell.TheVariants.{Height}
 use Rattle.hd_map.specs.Map.{Map, InGrid, IsCellOf}
+use Rattle.hd_map.specs.Encoding.{Encoding, values_of}
+use Rattle.hd_map.specs.Lanes.{IsBounded}
 use Rattle.hd_morph.specs.Filter.{Relief, relief_of}
-use Rattle.hd_morph.specs.Encoding.{Encoding, values_of}
-use Rattle.hd_morph.specs.Plain.{relief, IsBounded, IsPlainNumber, ArePlain}
-
--- the number stands for a height, or for none
-pub record IsPlainHeight {L : Type 0} (code : Encoding L) (height : Option ℤ) (number : L) : Type 0 where
-  pub is : code.shown number ≡ height
-  pub plain : IsPlainNumber code code.most_height number
-
--- a number that stands for a height, if the height is not too far from zero
-abbrev pub EncodesHeight : {L : Type 0} → Encoding L → Option ℤ → Option L → Type 0
-EncodesHeight code height result = MatchOption result (IsBounded code.most_height height → ⊥) (IsPlainHeight code height)
+use Rattle.hd_morph.specs.Plain.{relief, ArePlain}
 
 -- the plain numbers are the heights of a map
 pub record AreHeightsOf {L : Type 0} (code : Encoding L) (m : Map) (numbers : List L) : Type 0 where

@@ -6,7 +6,7 @@ use Rattle.hd_map.specs.declared.types.Cell.TheVariants.{Height, Bad}
 use Rattle.hd_map.specs.Map.{Map, cell_count}
 use Rattle.hd_morph.specs.declared.errors.MorphError.{MorphError}
 use Rattle.hd_morph.specs.Element.{ElementTable}
-use Rattle.hd_morph.specs.Filter.{Filter}
+use Rattle.hd_morph.specs.declared.filter.Filter.{Filter}
 use Rattle.hd_morph.specs.Answer.{AreFilteredCells, IsFilterRefusal}
 
 -- a new height, and the old cell where there is none

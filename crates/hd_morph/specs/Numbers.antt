@@ -1,8 +1,8 @@
 -- Lists of plain numbers of either type.
 use Rattle.std.specs.Prelude.{ℤ, List, Option}
+use Rattle.hd_map.specs.Encoding.{narrow, wide, values_of}
 use Rattle.hd_morph.specs.declared.new_heights.Numbers.{Numbers}
 use Rattle.hd_morph.specs.declared.new_heights.Numbers.TheVariants.{Narrow, Wide}
-use Rattle.hd_morph.specs.Encoding.{narrow, wide, values_of}
 
 -- the heights for which the numbers stand
 abbrev pub heights_in : Numbers → List (Option ℤ)

@@ -1,15 +1,15 @@
 -- Heights by index, and plain numbers that stand for them.
-use Rattle.std.specs.Prelude.{◌≡◌, ◌≤ℤ◌, ℕ, ℤ, pos, neg_ℤ, List, length, slice_index_or, Option, Some, None}
+use Rattle.std.specs.Prelude.{◌≡◌, ◌≤ℤ◌, ℕ, ℤ, List, length, slice_index_or, Option, Some, None}
 use Rattle.hd_map.specs.declared.types.Size.{Size}
 use Rattle.hd_map.specs.Map.{place_of, cell_count}
+use Rattle.hd_map.specs.Encoding.{Encoding, number_in}
+use Rattle.hd_map.specs.Lanes.{IsBounded, IsPlainNumber}
 use Rattle.hd_morph.specs.Element.{ElementTable}
-use Rattle.hd_morph.specs.Encoding.{Encoding, number_in}
 use Rattle.hd_morph.specs.Filter.{Relief}
 
--- the value, if it is a number, is at most n from zero
-pub record IsBounded (n : ℕ) (value : Option ℤ) : Type 0 where
-  pub least : (z : ℤ) → value ≡ Some z → neg_ℤ (pos n) ≤ℤ z
-  pub greatest : (z : ℤ) → value ≡ Some z → z ≤ℤ pos n
+-- the value, if it is a number, is from a least to a greatest one
+abbrev pub IsBetween : ℤ → ℤ → Option ℤ → Type 0
+IsBetween least greatest value = (z : ℤ) → value ≡ Some z → (least ≤ℤ z) × (z ≤ℤ greatest)
 
 -- each number of an element is at most n from zero
 pub record HasNumbersWithin (n : ℕ) (e : ElementTable) : Type 0 where
@@ -19,14 +19,13 @@ pub record HasNumbersWithin (n : ℕ) (e : ElementTable) : Type 0 where
 abbrev pub value_at : List (Option ℤ) → ℕ → Option ℤ
 value_at values place = slice_index_or values place None
 
+-- each height is from a least to a greatest one
+abbrev pub AreBetween : ℤ → ℤ → List (Option ℤ) → Type 0
+AreBetween least greatest values = (k : ℕ) → IsBetween least greatest (value_at values k)
+
 -- the heights by position
 abbrev pub relief : Size → List (Option ℤ) → Relief
 relief s values p = value_at values (place_of s p)
-
--- the number stands for a height at most n from zero, or is `missing`
-pub record IsPlainNumber {L : Type 0} (code : Encoding L) (n : ℕ) (number : L) : Type 0 where
-  pub bounded : IsBounded n (code.shown number)
-  pub absent : code.shown number ≡ None → number ≡ code.missing
 
 -- each height is at most n from zero, and each number that stands for none is `missing`
 pub record IsPlain {L : Type 0} (code : Encoding L) (n : ℕ) (numbers : List L) : Type 0 where

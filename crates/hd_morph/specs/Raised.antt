@@ -4,10 +4,12 @@ use Rattle.std.specs.Prelude.{◌≡◌, ◌<◌, ◌≤◌, ◌+◌, ◌*◌, �
 use Rattle.hd_map.specs.declared.types.Pos.{Pos}
 use Rattle.hd_map.specs.declared.types.Size.{Size}
 use Rattle.hd_map.specs.Map.{InGrid, cell_count}
+use Rattle.hd_map.specs.Encoding.{Encoding, values_of, number_in}
 use Rattle.hd_morph.specs.Element.{ElementTable, number_at}
 use Rattle.hd_morph.specs.Greatest.{IsGreatest, larger}
-use Rattle.hd_morph.specs.Filter.{Relief, IsRaised, Filter, Dilation, IsFiltered}
-use Rattle.hd_morph.specs.Encoding.{Encoding, values_of, number_in}
+use Rattle.hd_morph.specs.declared.filter.Filter.{Filter}
+use Rattle.hd_morph.specs.declared.filter.Filter.TheVariants.{Dilation}
+use Rattle.hd_morph.specs.Filter.{Relief, IsRaised, IsFiltered}
 use Rattle.hd_morph.specs.Plain.{value_at, relief}
 
 -- the plain numbers are what a filter makes of others, and each that stands for none is `missing`

@@ -1,17 +1,8 @@
 -- Heights turned upside down, and elements turned about their centres.
-use Rattle.std.specs.Prelude.{◌≡◌, ℕ, ℤ, neg_ℤ, List, [], length, reverse, Option, Some, None}
+use Rattle.std.specs.Prelude.{◌≡◌, ℕ, List, [], length, reverse}
+use Rattle.hd_map.specs.Encoding.{Encoding, number_in}
+use Rattle.hd_map.specs.Lanes.{IsNegated}
 use Rattle.hd_morph.specs.Element.{ElementTable}
-use Rattle.hd_morph.specs.Encoding.{Encoding, number_in}
-
--- the negative of a value
-abbrev pub minus : Option ℤ → Option ℤ
-minus (Some z) = Some (neg_ℤ z)
-minus None = None
-
--- what a number becomes: its negative, or `missing` where it stands for none
-pub record IsNegated {L : Type 0} (code : Encoding L) (old new : L) : Type 0 where
-  pub value : code.shown new ≡ minus (code.shown old)
-  pub absent : code.shown old ≡ None → new ≡ code.missing
 
 -- each number is negated
 pub record AreNegated {L : Type 0} (code : Encoding L) (old new : List L) : Type 0 where

@@ -1,7 +1,7 @@
 // The filters of a map: its new cells.
 ghost use Rattle.std.specs.Prelude.{◌≡◌, IfOk, length};
 ghost use Rattle.hd_map.specs.Map.{cell_count};
-ghost use Rattle.hd_morph.specs.Filter.{Dilation, Erosion, Opening, Closing};
+ghost use Rattle.hd_morph.specs.declared.filter.Filter.TheVariants.{Dilation, Erosion, Opening, Closing};
 ghost use Rattle.hd_morph.specs.Answer.{FiltersMap};
 ghost use Rattle.hd_morph.specs.NewHeights.{cells_after};
 

@@ -1,10 +1,9 @@
-// The four filters of plain numbers.
+// The four filters, of plain numbers.
 ghost use Rattle.std.specs.Prelude.{◌≡◌, ◌/◌, IfOk, IfSome};
 ghost use Rattle.hd_map.specs.Map.{IsSize};
+ghost use Rattle.hd_map.specs.Encoding.{most_between, most_filtered};
 ghost use Rattle.hd_morph.specs.Element.{IsElement};
-ghost use Rattle.hd_morph.specs.Encoding.{most_between, most_filtered};
-ghost use Rattle.hd_morph.specs.Filter.{Dilation, Erosion, Opening, Closing};
-ghost use Rattle.hd_morph.specs.Kind.{filter_of};
+ghost use Rattle.hd_morph.specs.declared.filter.Filter.TheVariants.{Dilation, Erosion, Opening, Closing};
 ghost use Rattle.hd_morph.specs.Plain.{ArePlain, IsPlain, HasNumbersWithin};
 ghost use Rattle.hd_morph.specs.Raised.{ArePlainlyFiltered, IsFlat};
 ghost use Rattle.hd_morph.specs.Turned.{AreNegated};
@@ -12,39 +11,48 @@ ghost use Rattle.hd_morph.specs.Turned.{AreNegated};
 use crate::Element;
 use crate::element::turned;
 use crate::flat::dilate_flat;
-use crate::kind::Kind;
-use crate::lane::Lane;
 use crate::offsets::dilate_by_offsets;
 use crate::plain::negate;
+use crate::raise::Raise;
 use hd_list::Memory;
-use hd_map::Size;
+use hd_map::{Lane, Size};
 use std::alloc::Global;
 
+/// One of the four filters.
+#[derive(Clone, Copy, Debug)]
+pub enum Filter {
+    Dilation,
+    Erosion,
+    Opening,
+    Closing,
+}
+
 /// A filter of heights.
-pub fn filtered<L: Lane>(
+pub fn filtered<L: Raise>(
     alloc: Global,
     heights: Vec<L>,
     size: Size,
     element: &Element,
-    kind: Kind,
+    filter: Filter,
 ) -> Result<Vec<L>, Memory>
     requires size { IsSize size }
     requires heights { ArePlain L.code size L.code.most_height heights.items }
     requires numbers { HasNumbersWithin L.code.most_number element.now }
-    ensures { IfOk result (λ g. ArePlainlyFiltered L.code (filter_of kind) size element.now heights.items g.items) }
+    ensures { IfOk result (λ g. ArePlainlyFiltered L.code filter size element.now heights.items g.items) }
 {
-    match kind {
-        Kind::Dilation => dilated(Vec::new(alloc), &heights, size, element),
-        Kind::Erosion => eroded_once(alloc, heights, size, element),
-        Kind::Opening => opened(alloc, heights, size, element),
-        Kind::Closing => closed(alloc, heights, size, element),
+    let mut heights = heights;
+    match filter {
+        Filter::Dilation => dilated(Vec::new(alloc), &heights, size, element),
+        Filter::Erosion => eroded(alloc, Vec::new(alloc), &mut heights, size, element),
+        Filter::Opening => opened(alloc, heights, size, element),
+        Filter::Closing => closed(alloc, heights, size, element),
     }
 }
 
 // The dilation of heights, in the memory of `room` where that suffices. An element that has one and
 // the same number everywhere takes time in proportion to the points, times the logarithm of its
 // size.
-fn dilated<L: Lane>(
+fn dilated<L: Raise>(
     room: Vec<L>,
     heights: &[L],
     size: Size,
@@ -83,26 +91,9 @@ fn flat_number(element: &Element) -> Option<i64>
     Some(first)
 }
 
-// The erosion of heights.
-fn eroded_once<L: Lane>(
-    alloc: Global,
-    heights: Vec<L>,
-    size: Size,
-    element: &Element,
-) -> Result<Vec<L>, Memory>
-    requires size { IsSize size }
-    requires heights { ArePlain L.code size L.code.most_height heights.items }
-    requires numbers { HasNumbersWithin L.code.most_number element.now }
-    ensures { IfOk result (λ w. ArePlainlyFiltered L.code Erosion size element.now heights.items w.items) }
-{
-    let mut heights = heights;
-    let eroded = eroded(alloc, Vec::new(alloc), &mut heights, size, element)?;
-    Ok(eroded)
-}
-
 // The erosion of heights, in the memory of `room` where that suffices: the negative of the dilation
 // of the negatives by the turned element. The heights are left negated.
-fn eroded<L: Lane>(
+fn eroded<L: Raise>(
     alloc: Global,
     room: Vec<L>,
     heights: &mut [L],
@@ -132,7 +123,7 @@ fn all_negated<L: Lane>(heights: Vec<L>) -> Vec<L>
 }
 
 // The opening of heights: an erosion, and then a dilation. It takes the memory of one more list.
-fn opened<L: Lane>(
+fn opened<L: Raise>(
     alloc: Global,
     heights: Vec<L>,
     size: Size,
@@ -149,7 +140,7 @@ fn opened<L: Lane>(
 }
 
 // The closing of heights: a dilation, and then an erosion. It takes the memory of one more list.
-fn closed<L: Lane>(
+fn closed<L: Raise>(
     alloc: Global,
     heights: Vec<L>,
     size: Size,

@@ -1,19 +1,19 @@
 // Dilations by elements that have one and the same number everywhere.
 ghost use Rattle.std.specs.Prelude.{◌≡◌, ◌<◌, ◌≤ℤ◌, ◌^◌, IfOk, pos, neg_ℤ, length};
 ghost use Rattle.hd_map.specs.Map.{IsSize};
-ghost use Rattle.hd_morph.specs.Encoding.{most_between};
+ghost use Rattle.hd_map.specs.Encoding.{most_between};
 ghost use Rattle.hd_morph.specs.Plain.{ArePlain};
 ghost use Rattle.hd_morph.specs.Raised.{AreFlatlyDilated};
 
-use crate::lane::Lane;
 use crate::plain::settle;
+use crate::raise::Raise;
 use crate::round::spread_round;
 use hd_list::Memory;
 use hd_map::Size;
 
 /// The dilation by each element of `2 * across + 1` columns and `2 * down + 1` rows that has this
 /// number everywhere, in the memory of `room` where that suffices.
-pub fn dilate_flat<L: Lane>(
+pub fn dilate_flat<L: Raise>(
     room: Vec<L>,
     heights: &[L],
     size: Size,
@@ -37,7 +37,7 @@ pub fn dilate_flat<L: Lane>(
 }
 
 // The tops are the heights at the call, and the dilation at the return.
-fn raise_flat<L: Lane>(
+fn raise_flat<L: Raise>(
     tops: &mut [L],
     heights: &[L],
     size: Size,

@@ -1,22 +1,21 @@
 // The heights of a map, filtered.
-ghost use Rattle.std.specs.Prelude.{◌≡◌, ◌≤ℤ◌, ◌↔◌, ℤ, IsTrue, IfOk, MatchOption, MatchResult, Some, length};
+ghost use Rattle.std.specs.Prelude.{◌≡◌, ◌↔◌, IsTrue, IfOk, MatchOption, MatchResult, length};
 ghost use Rattle.hd_map.specs.Map.{cell_count};
+ghost use Rattle.hd_map.specs.Encoding.{narrow, values_of};
 ghost use Rattle.hd_morph.specs.Element.{IsElement};
-ghost use Rattle.hd_morph.specs.Encoding.{narrow, values_of};
-ghost use Rattle.hd_morph.specs.Filter.{Dilation, Erosion, Opening, Closing};
-ghost use Rattle.hd_morph.specs.Kind.{filter_of};
+ghost use Rattle.hd_morph.specs.declared.filter.Filter.TheVariants.{Dilation, Erosion, Opening, Closing};
 ghost use Rattle.hd_morph.specs.Answer.{IsFirstOutside, IsFilterRefusal};
 ghost use Rattle.hd_morph.specs.NewHeights.{AreNewHeights, MakesNewHeights};
-ghost use Rattle.hd_morph.specs.Plain.{HasNumbersWithin, relief};
+ghost use Rattle.hd_morph.specs.Plain.{HasNumbersWithin, IsBetween, relief};
 ghost use Rattle.hd_morph.specs.Listed.{AreHeightsOf, AreOfType, IsBeyond};
 
-use crate::filter::filtered;
-use crate::kind::Kind;
-use crate::lane::{Lane, MOST_NARROW_NUMBER};
+use crate::filter::{Filter, filtered};
 use crate::new_heights::{NewHeights, Numbers};
+use crate::plain::are_between;
+use crate::raise::{MOST_NARROW_NUMBER, Raise};
 use crate::{Element, MorphError};
 use hd_list::Memory;
-use hd_map::{Grid, Pos, greatest_of, height, least_of, position_after, position_of};
+use hd_map::{Grid, Lane, Pos, greatest_of, least_of, position_of};
 use std::alloc::Global;
 
 /// The dilation of a map by an element: its new heights by index.
@@ -38,7 +37,7 @@ pub fn dilated_heights<G: Grid>(
 ) -> Result<NewHeights, MorphError>
     ensures { MakesNewHeights Dilation (G.map grid.now) element.now result }
 {
-    filtered_heights(alloc, grid, element, Kind::Dilation)
+    filtered_heights(alloc, grid, element, Filter::Dilation)
 }
 
 /// The erosion of a map by an element: its new heights by index.
@@ -53,7 +52,7 @@ pub fn eroded_heights<G: Grid>(
 ) -> Result<NewHeights, MorphError>
     ensures { MakesNewHeights Erosion (G.map grid.now) element.now result }
 {
-    filtered_heights(alloc, grid, element, Kind::Erosion)
+    filtered_heights(alloc, grid, element, Filter::Erosion)
 }
 
 /// The opening of a map by an element, an erosion and then a dilation: its new heights by index.
@@ -67,7 +66,7 @@ pub fn opened_heights<G: Grid>(
 ) -> Result<NewHeights, MorphError>
     ensures { MakesNewHeights Opening (G.map grid.now) element.now result }
 {
-    filtered_heights(alloc, grid, element, Kind::Opening)
+    filtered_heights(alloc, grid, element, Filter::Opening)
 }
 
 /// The closing of a map by an element, a dilation and then an erosion: its new heights by index.
@@ -81,7 +80,7 @@ pub fn closed_heights<G: Grid>(
 ) -> Result<NewHeights, MorphError>
     ensures { MakesNewHeights Closing (G.map grid.now) element.now result }
 {
-    filtered_heights(alloc, grid, element, Kind::Closing)
+    filtered_heights(alloc, grid, element, Filter::Closing)
 }
 
 // The new heights of a filtered map, in 32 bits each where they fit.
@@ -89,16 +88,16 @@ fn filtered_heights<G: Grid>(
     alloc: Global,
     grid: &G,
     element: &Element,
-    kind: Kind,
+    filter: Filter,
 ) -> Result<NewHeights, MorphError>
-    ensures { MakesNewHeights (filter_of kind) (G.map grid.now) element.now result }
+    ensures { MakesNewHeights filter (G.map grid.now) element.now result }
 {
     if has_narrow_numbers(element) {
-        if let Some(numbers) = filtered_numbers::<i32, G>(alloc, grid, element, kind)? {
+        if let Some(numbers) = filtered_numbers::<i32, G>(alloc, grid, element, filter)? {
             return Ok(NewHeights::new(Numbers::Narrow(numbers)));
         }
     }
-    match filtered_numbers::<i64, G>(alloc, grid, element, kind)? {
+    match filtered_numbers::<i64, G>(alloc, grid, element, filter)? {
         Some(numbers) => Ok(NewHeights::new(Numbers::Wide(numbers))),
         None => unreachable!(),
     }
@@ -119,22 +118,22 @@ fn has_narrow_numbers(element: &Element) -> bool
 }
 
 // The new heights of a filtered map as plain numbers of one type, unless a height is beyond it.
-fn filtered_numbers<L: Lane, G: Grid>(
+fn filtered_numbers<L: Raise, G: Grid>(
     alloc: Global,
     grid: &G,
     element: &Element,
-    kind: Kind,
+    filter: Filter,
 ) -> Result<Option<Vec<L>>, MorphError>
     requires { HasNumbersWithin L.code.most_number element.now }
     ensures { let m = G.map grid.now in MatchResult result
         (λ found. MatchOption found (IsBeyond L.code m)
-        (λ g. AreNewHeights (filter_of kind) m element.now (values_of L.code g.items)))
-        (IsFilterRefusal (filter_of kind) m element.now) }
+        (λ g. AreNewHeights filter m element.now (values_of L.code g.items)))
+        (IsFilterRefusal filter m element.now) }
 {
     let Some(heights) = heights_of::<L, G>(alloc, grid)? else {
         return Ok(None);
     };
-    let filtered = filtered(alloc, heights, grid.size(), element, kind)?;
+    let filtered = filtered(alloc, heights, grid.size(), element, filter)?;
     if let Some(at) = first_outside(grid, &filtered) {
         return Err(MorphError::HeightRange(at));
     }
@@ -147,21 +146,21 @@ fn heights_of<L: Lane, G: Grid>(alloc: Global, grid: &G) -> Result<Option<Vec<L>
         (λ heights. AreHeightsOf L.code m heights.items)) }
 {
     let size = grid.size();
+    let points = size.points as usize;
     let count = size.profiles * size.points;
     let mut heights = vec![in alloc; L::missing(); count as usize]?;
-    let mut at = Pos { x: 0, y: 0 };
-    for index in 0..count {
-        let Some(number) = L::of_height(height(grid, at)) else {
+    for y in 0..size.profiles {
+        let first = y as usize * points;
+        if !grid.fill_heights(y, &mut heights[first..first + points]) {
             return Ok(None);
-        };
-        heights[index as usize] = number;
-        at = position_after(size, at);
+        }
     }
     Ok(Some(heights))
 }
 
-// The first position whose height is outside the range of the data type.
-fn first_outside<L: Lane, G: Grid>(grid: &G, numbers: &[L]) -> Option<Pos>
+// The first position whose height is outside the range of the data type. Mostly there is none, which
+// one pass without a branch tells.
+fn first_outside<L: Raise, G: Grid>(grid: &G, numbers: &[L]) -> Option<Pos>
     requires { length numbers.now ≡ cell_count (G.map grid.now).size }
     ensures { let m = G.map grid.now in let heights = relief m.size (values_of L.code numbers.now) in
         MatchOption result (AreOfType m heights) (IsFirstOutside m heights) }
@@ -169,21 +168,24 @@ fn first_outside<L: Lane, G: Grid>(grid: &G, numbers: &[L]) -> Option<Pos>
     let data_type = grid.data_type();
     let least = least_of(data_type);
     let greatest = greatest_of(data_type);
+    if are_between(numbers, least, greatest) {
+        return None;
+    }
     for index in 0..numbers.len() {
-        if !is_between(least, greatest, numbers[index].height()) {
+        if !numbers[index].is_between(least, greatest) {
             return Some(position_of(grid.size(), index as u32));
         }
     }
     None
 }
 
-// Whether a height, if there is one, is from a least to a greatest one.
+// Whether an entry of an element, if it is a number, is from a least to a greatest one.
 #[inline]
-fn is_between(least: i64, greatest: i64, height: Option<i64>) -> bool
-    ensures { IsTrue result ↔ ((z : ℤ) → height ≡ Some z → (least ≤ℤ z) × (z ≤ℤ greatest)) }
+fn is_between(least: i64, greatest: i64, entry: Option<i64>) -> bool
+    ensures { IsTrue result ↔ IsBetween least greatest entry }
 {
-    match height {
-        Some(height) => least <= height && height <= greatest,
+    match entry {
+        Some(number) => least <= number && number <= greatest,
         None => true,
     }
 }

@@ -5,7 +5,9 @@ ghost use Rattle.hd_map.specs.declared.types.Pos.{Pos};
 ghost use Rattle.hd_map.specs.declared.types.Size.{Size};
 ghost use Rattle.hd_map.specs.Map.{Map, IsMap};
 ghost use Rattle.hd_morph.specs.Element.{ElementTable, IsElement};
-ghost use Rattle.hd_morph.specs.Filter.{Relief, Filter, Opening, Closing, IsDilation, IsErosion};
+ghost use Rattle.hd_morph.specs.declared.filter.Filter.{Filter};
+ghost use Rattle.hd_morph.specs.declared.filter.Filter.TheVariants.{Opening, Closing};
+ghost use Rattle.hd_morph.specs.Filter.{Relief, IsDilation, IsErosion};
 ghost use Rattle.hd_morph.specs.Compare.{HaveSamePoints, IsNowhereAbove};
 ghost use Rattle.hd_morph.specs.Answer.{AreFilteredCells, IsOutOfRange, IsStable, with_cells};
 

@@ -12,12 +12,11 @@ mod errors;
 mod filter;
 mod flat;
 mod heights;
-mod kind;
-mod lane;
 mod laws;
 mod new_heights;
 mod offsets;
 mod plain;
+mod raise;
 mod round;
 mod window;
 

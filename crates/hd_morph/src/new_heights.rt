@@ -2,8 +2,7 @@
 ghost use Rattle.std.specs.Prelude.{◌≡◌, ◌<◌, None, length, slice_index_or};
 ghost use Rattle.hd_morph.specs.NewHeights.{cell_with};
 
-use crate::lane::Lane;
-use hd_map::Cell;
+use hd_map::{Cell, Lane};
 use std::marker::Model;
 
 /// Heights as plain numbers of either type.

@@ -1,21 +1,21 @@
 // Dilations by any element, offset by offset, each over whole rows.
 ghost use Rattle.std.specs.Prelude.{◌≡◌, ◌<◌, ◌≤◌, ◌+◌, ◌/◌, ◌≤ℤ◌, IfOk, IfSome, IfNone, ℕ, None, pos, neg_ℤ, length};
 ghost use Rattle.hd_map.specs.Map.{IsSize, cell_count};
+ghost use Rattle.hd_map.specs.Encoding.{most_between, values_of};
 ghost use Rattle.hd_morph.specs.Element.{IsElement, number_at};
-ghost use Rattle.hd_morph.specs.Encoding.{most_between, values_of};
-ghost use Rattle.hd_morph.specs.Filter.{Dilation};
+ghost use Rattle.hd_morph.specs.declared.filter.Filter.TheVariants.{Dilation};
 ghost use Rattle.hd_morph.specs.Plain.{ArePlain, IsPlain, HasNumbersWithin, value_at, relief};
 ghost use Rattle.hd_morph.specs.Raised.{ArePlainlyFiltered, AreRaisedTo, AreRaisedAcross, IsRowRaisedOnce, AreBlank, IsBlankRow, IsRowRaised, AreRaised};
 
 use crate::Element;
-use crate::lane::Lane;
 use crate::plain::settle;
+use crate::raise::Raise;
 use hd_list::Memory;
-use hd_map::{Pos, Size};
+use hd_map::{Lane, Pos, Size};
 
 /// The dilation of heights by an element, in the memory of `room` where that suffices. It takes time
 /// in proportion to the places times the numbers of the element.
-pub fn dilate_by_offsets<L: Lane>(
+pub fn dilate_by_offsets<L: Raise>(
     room: Vec<L>,
     heights: &[L],
     size: Size,
@@ -35,7 +35,7 @@ pub fn dilate_by_offsets<L: Lane>(
 }
 
 // The tops are the dilation at the return.
-fn raise_and_settle<L: Lane>(tops: &mut [L], heights: &[L], size: Size, element: &Element)
+fn raise_and_settle<L: Raise>(tops: &mut [L], heights: &[L], size: Size, element: &Element)
     requires size { IsSize size }
     requires heights { ArePlain L.code size (most_between L.code) heights.now }
     requires numbers { HasNumbersWithin L.code.most_number element.now }
@@ -59,7 +59,7 @@ fn leave_out<L: Lane>(tops: &mut [L])
 }
 
 // Puts at each position the greatest of the raised heights.
-fn raise_rows<L: Lane>(tops: &mut [L], heights: &[L], size: Size, element: &Element)
+fn raise_rows<L: Raise>(tops: &mut [L], heights: &[L], size: Size, element: &Element)
     requires size { IsSize size }
     requires heights { ArePlain L.code size (most_between L.code) heights.now }
     requires numbers { HasNumbersWithin L.code.most_number element.now }
@@ -74,7 +74,7 @@ fn raise_rows<L: Lane>(tops: &mut [L], heights: &[L], size: Size, element: &Elem
 }
 
 // Puts at each position of a row the greatest of the raised heights.
-fn raise_row<L: Lane>(tops: &mut [L], heights: &[L], size: Size, element: &Element, y: u32)
+fn raise_row<L: Raise>(tops: &mut [L], heights: &[L], size: Size, element: &Element, y: u32)
     requires size { IsSize size }
     requires heights { ArePlain L.code size (most_between L.code) heights.now }
     requires numbers { HasNumbersWithin L.code.most_number element.now }
@@ -94,7 +94,7 @@ fn raise_row<L: Lane>(tops: &mut [L], heights: &[L], size: Size, element: &Eleme
 }
 
 // Raises the tops of a row by the heights that come from one offset of the element.
-fn raise_by<L: Lane>(
+fn raise_by<L: Raise>(
     tops: &mut [L],
     heights: &[L],
     size: Size,
@@ -131,7 +131,7 @@ fn raise_by<L: Lane>(
 
 // Raises the tops of a row by a row of heights that an offset leads from: those of this column of
 // the element, which has `reach` columns on either side of its centre.
-fn raise_from_row<L: Lane>(tops: &mut [L], heights: &[L], reach: usize, column: usize, number: i64)
+fn raise_from_row<L: Raise>(tops: &mut [L], heights: &[L], reach: usize, column: usize, number: i64)
     requires whole { length heights.now ≡ length tops.old }
     requires heights { IsPlain L.code (most_between L.code) heights.now }
     requires least { neg_ℤ (pos L.code.most_number) ≤ℤ number }
@@ -148,7 +148,7 @@ fn raise_from_row<L: Lane>(tops: &mut [L], heights: &[L], reach: usize, column: 
 }
 
 // Raises a stretch of the tops by a stretch of the heights.
-fn raise_stretch<L: Lane>(
+fn raise_stretch<L: Raise>(
     tops: &mut [L],
     to: usize,
     heights: &[L],

@@ -1,17 +1,17 @@
 // The greatest of the heights of a rectangle round each position of a grid.
 ghost use Rattle.std.specs.Prelude.{◌≡◌, ◌<◌, ◌^◌, length};
 ghost use Rattle.hd_map.specs.Map.{IsSize, cell_count};
-ghost use Rattle.hd_morph.specs.Encoding.{values_of};
+ghost use Rattle.hd_map.specs.Encoding.{values_of};
 ghost use Rattle.hd_morph.specs.Round.{AreRowGreatests, AreRoundGreatests};
 
-use crate::lane::Lane;
+use crate::raise::Raise;
 use crate::window::{spread, spread_near};
 use hd_map::Size;
 
 /// Puts at each position the greatest of the heights at most `across` columns and `down` rows off.
 ///
 /// It takes no memory: first the columns are gone through in place, and then the rows.
-pub fn spread_round<L: Lane>(tops: &mut [L], size: Size, across: usize, down: usize)
+pub fn spread_round<L: Raise>(tops: &mut [L], size: Size, across: usize, down: usize)
     requires size { IsSize size }
     requires whole { length tops.old ≡ cell_count size }
     requires across { across < 2 ^ 31 }
@@ -23,7 +23,7 @@ pub fn spread_round<L: Lane>(tops: &mut [L], size: Size, across: usize, down: us
 }
 
 // Puts at each position the greatest of the heights of its row, at most `reach` columns off.
-fn spread_rows<L: Lane>(tops: &mut [L], size: Size, reach: usize)
+fn spread_rows<L: Raise>(tops: &mut [L], size: Size, reach: usize)
     requires size { IsSize size }
     requires whole { length tops.old ≡ cell_count size }
     requires reach { reach < 2 ^ 31 }

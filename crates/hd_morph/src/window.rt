@@ -1,12 +1,12 @@
 // The greatest of the values near each place of a list.
 ghost use Rattle.std.specs.Prelude.{◌≡◌, ◌<◌, ◌≤◌, ◌+◌, ◌*◌, ◌^◌, ℕ, length};
-ghost use Rattle.hd_morph.specs.Encoding.{values_of};
+ghost use Rattle.hd_map.specs.Encoding.{values_of};
 ghost use Rattle.hd_morph.specs.Window.{AreWindowGreatests, AreStrideGreatests, AreAheadGreatests, IsWidened, AreWidened, IsLookedBack, AreLookedBack};
 
-use crate::lane::Lane;
+use crate::raise::Raise;
 
 /// Puts at each place the greatest of the values at a distance of at most `reach`.
-pub fn spread_near<L: Lane>(tops: &mut [L], reach: usize)
+pub fn spread_near<L: Raise>(tops: &mut [L], reach: usize)
     requires { reach < 2 ^ 31 }
     ensures { AreWindowGreatests (values_of L.code tops.old) reach (values_of L.code tops.new) }
 {
@@ -14,7 +14,7 @@ pub fn spread_near<L: Lane>(tops: &mut [L], reach: usize)
 }
 
 /// Puts at each place the greatest of the values at most `reach` strides after or before it.
-pub fn spread<L: Lane>(tops: &mut [L], stride: usize, reach: usize)
+pub fn spread<L: Raise>(tops: &mut [L], stride: usize, reach: usize)
     requires some { 0 < stride }
     requires stride { stride < 2 ^ 31 }
     requires reach { reach < 2 ^ 31 }
@@ -26,7 +26,7 @@ pub fn spread<L: Lane>(tops: &mut [L], stride: usize, reach: usize)
 
 // Puts at each place the greatest of the values from there on by strides. Each round doubles how
 // many of them a value stands for.
-fn look_ahead<L: Lane>(tops: &mut [L], stride: usize, count: usize)
+fn look_ahead<L: Raise>(tops: &mut [L], stride: usize, count: usize)
     requires stride { stride < 2 ^ 31 }
     requires some { 0 < count }
     requires small { count ≤ 2 ^ 31 }
@@ -44,7 +44,7 @@ fn look_ahead<L: Lane>(tops: &mut [L], stride: usize, count: usize)
 // Puts at each place the larger of its value and of that which is some steps ahead. Several numbers
 // are taken at once only by a loop whose step is known when it is built, or that writes no place
 // which it reads further on.
-fn widen<L: Lane>(tops: &mut [L], step: usize)
+fn widen<L: Raise>(tops: &mut [L], step: usize)
     requires { 0 < step }
     ensures { IsWidened (values_of L.code tops.old) step (values_of L.code tops.new) }
 {
@@ -59,7 +59,7 @@ fn widen<L: Lane>(tops: &mut [L], step: usize)
 }
 
 // The same before a place, in runs of at most a step.
-fn widen_by_runs<L: Lane>(tops: &mut [L], end: usize, step: usize)
+fn widen_by_runs<L: Raise>(tops: &mut [L], end: usize, step: usize)
     requires some { 0 < step }
     requires room { 0 < end → end + step ≤ length tops.old }
     ensures { AreWidened (values_of L.code tops.old) step 0 end (values_of L.code tops.new) }
@@ -74,7 +74,7 @@ fn widen_by_runs<L: Lane>(tops: &mut [L], end: usize, step: usize)
 
 // The same from one place to another.
 #[inline(always)]
-fn widen_run<L: Lane>(tops: &mut [L], from: usize, to: usize, step: usize)
+fn widen_run<L: Raise>(tops: &mut [L], from: usize, to: usize, step: usize)
     requires order { from ≤ to }
     requires room { from < to → to + step ≤ length tops.old }
     ensures { AreWidened (values_of L.code tops.old) step from to (values_of L.code tops.new) }
@@ -85,7 +85,7 @@ fn widen_run<L: Lane>(tops: &mut [L], from: usize, to: usize, step: usize)
 }
 
 // Puts at each place the larger of its value and of that which is some strides behind.
-fn look_back<L: Lane>(tops: &mut [L], stride: usize, reach: usize)
+fn look_back<L: Raise>(tops: &mut [L], stride: usize, reach: usize)
     requires some { 0 < stride }
     requires stride { stride < 2 ^ 31 }
     requires reach { reach < 2 ^ 31 }
@@ -100,7 +100,7 @@ fn look_back<L: Lane>(tops: &mut [L], stride: usize, reach: usize)
 
 // Puts at each place from a step on the larger of its value and of that which is a step behind, and
 // leaves the others. The loops are parted as those of `widen`.
-fn look_far_back<L: Lane>(tops: &mut [L], step: usize)
+fn look_far_back<L: Raise>(tops: &mut [L], step: usize)
     ensures { AreLookedBack (values_of L.code tops.old) step step (length tops.old) (values_of L.code tops.new) }
 {
     let end = tops.len();
@@ -121,7 +121,7 @@ fn look_far_back<L: Lane>(tops: &mut [L], step: usize)
 }
 
 // The same in runs of at most a step, the last one first.
-fn look_back_by_runs<L: Lane>(tops: &mut [L], step: usize)
+fn look_back_by_runs<L: Raise>(tops: &mut [L], step: usize)
     requires some { 0 < step }
     requires room { step ≤ length tops.old }
     ensures { AreLookedBack (values_of L.code tops.old) step step (length tops.old) (values_of L.code tops.new) }
@@ -136,7 +136,7 @@ fn look_back_by_runs<L: Lane>(tops: &mut [L], step: usize)
 
 // The same from one place to another, the last one first.
 #[inline(always)]
-fn look_run_back<L: Lane>(tops: &mut [L], from: usize, to: usize, step: usize)
+fn look_run_back<L: Raise>(tops: &mut [L], from: usize, to: usize, step: usize)
     requires step { step ≤ from }
     requires order { from ≤ to }
     requires room { to ≤ length tops.old }

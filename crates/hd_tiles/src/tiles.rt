@@ -7,7 +7,7 @@ ghost use Rattle.hd_tiles.specs.Stamps.{AreUpTo, TouchesRound, TouchesAll};
 use crate::touch::{touch_all, touch_round};
 use crate::{Looked, Steps, Tiling};
 use hd_list::Memory;
-use hd_map::{Adjacency, Cell, DataType, Grid, Heights, MapError, Pos, Rank, Size, contains};
+use hd_map::{Adjacency, Cell, DataType, Grid, Heights, Lane, MapError, Pos, Size, contains};
 use std::alloc::Global;
 use std::sync::ledger::Ledger;
 
@@ -90,8 +90,8 @@ impl<G: Grid> Heights for Tiles<G> {
         self.grid.height(at)
     }
 
-    fn fill_ranks(&self, y: u32, none: Rank, row: &mut [Rank]) {
-        self.grid.fill_ranks(y, none, row)
+    fn fill_heights<L: Lane>(&self, y: u32, row: &mut [L]) -> bool {
+        self.grid.fill_heights(y, row)
     }
 }
 

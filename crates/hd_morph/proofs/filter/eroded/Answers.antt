@@ -1,7 +1,7 @@
 use Rattle.std.proofs.Common.{arith}
+use Rattle.hd_map.specs.Encoding.{most_between, most_filtered}
 use Rattle.hd_morph.specs.Element.{ElementTable}
-use Rattle.hd_morph.specs.Encoding.{most_between, most_filtered}
-use Rattle.hd_morph.specs.Filter.{Dilation}
+use Rattle.hd_morph.specs.declared.filter.Filter.TheVariants.{Dilation}
 use Rattle.hd_morph.specs.Plain.{ArePlain}
 use Rattle.hd_morph.specs.Raised.{ArePlainlyFiltered}
 use Rattle.hd_morph.specs.Turned.{turned_table}

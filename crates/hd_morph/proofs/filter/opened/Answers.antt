@@ -1,5 +1,5 @@
 use Rattle.std.proofs.Common.{arith}
-use Rattle.hd_morph.specs.Encoding.{most_between}
+use Rattle.hd_map.specs.Encoding.{most_between}
 use Rattle.hd_morph.proofs.PlainNumbers.{plain_more}
 use Rattle.hd_morph.proofs.Settling.{eroded_plain}
 use Rattle.hd_morph.proofs.filter.opened.Goals as goal

@@ -1,4 +1,3 @@
-use Rattle.hd_morph.specs.Kind.{filter_of}
 use Rattle.hd_morph.specs.Raised.{ArePlainlyFiltered}
 use Rattle.hd_morph.proofs.Listed.{heights_filtered, heights_refused}
 use Rattle.hd_morph.proofs.heights.filtered_numbers.Goals as goal
@@ -7,7 +6,7 @@ pub returns-in-Some-first_outside : goal.returns-in-Some-first_outside
 returns-in-Some-first_outside g c =
     let m = g.G.Heights.map c.args.grid.now in
     let code = g.L.Lane.code in
-    let filter = filter_of c.args.kind in
+    let filter = c.args.filter in
     let old = c.in-Some.heights.items in
     let new = c.in_ok-filtered.filtered.items in
     let made : ArePlainlyFiltered code filter m.size c.args.element.now old new = rw c.size.ensures at c.in_ok-filtered.ensures in
@@ -17,7 +16,7 @@ pub returns : goal.returns
 returns g c =
     let m = g.G.Heights.map c.args.grid.now in
     let code = g.L.Lane.code in
-    let filter = filter_of c.args.kind in
+    let filter = c.args.filter in
     let old = c.in-Some.heights.items in
     let new = c.in_ok-filtered.filtered.items in
     let made : ArePlainlyFiltered code filter m.size c.args.element.now old new = rw c.size.ensures at c.in_ok-filtered.ensures in

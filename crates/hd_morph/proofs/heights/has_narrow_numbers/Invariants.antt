@@ -1,6 +1,6 @@
 use Rattle.std.proofs.Common.{◌<◌, ℕ, slice_index_or, None}
-use Rattle.hd_morph.specs.Encoding.{narrow}
-use Rattle.hd_morph.specs.Plain.{IsBounded}
+use Rattle.hd_map.specs.Encoding.{narrow}
+use Rattle.hd_map.specs.Lanes.{IsBounded}
 use Rattle.hd_morph.proofs.heights.has_narrow_numbers.Given as goal
 
 abbrev pub invariant-loop-index : goal.invariant-loop-index

@@ -1,5 +1,5 @@
 use Rattle.hd_morph.proofs.Listed.{HeightsBefore}
 use Rattle.hd_morph.proofs.heights.heights_of.Given as goal
 
-abbrev pub invariant-loop-index : goal.invariant-loop-index
-invariant-loop-index g l = HeightsBefore g.L.Lane.code (g.G.Heights.map l.grid) l.index l.at l.heights.items
+abbrev pub invariant-loop-y : goal.invariant-loop-y
+invariant-loop-y g l = HeightsBefore g.L.Lane.code (g.G.Heights.map l.grid) l.y l.heights.items

@@ -1,5 +1,5 @@
 use Rattle.std.proofs.Common.{◌≡◌, ◌<◌, ℕ, length}
-use Rattle.hd_morph.specs.Encoding.{number_in}
+use Rattle.hd_map.specs.Encoding.{number_in}
 use Rattle.hd_morph.proofs.offsets.leave_out.Given as goal
 
 abbrev pub invariant-loop-place : goal.invariant-loop-place

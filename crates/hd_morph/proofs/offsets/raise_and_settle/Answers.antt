@@ -1,5 +1,5 @@
 use Rattle.std.proofs.Common.{◌∙◌}
-use Rattle.hd_morph.specs.Encoding.{values_of}
+use Rattle.hd_map.specs.Encoding.{values_of}
 use Rattle.hd_morph.proofs.Encodings.{length_values}
 use Rattle.hd_morph.proofs.Raising.{raised_topped, raised_settled}
 use Rattle.hd_morph.proofs.offsets.raise_and_settle.Goals as goal

@@ -1,7 +1,7 @@
 use Rattle.std.proofs.Common.{mul-le-mul_right, ℕ, ◌<◌, ◌≤◌, ◌+◌, ◌*◌, ◌/◌, ◌∙◌, take, drop, refl, sym, subst, arith, rules, w64, SFits}
 use Rattle.std.proofs.lemmas.Int.{to_z-of_z}
 use Rattle.hd_map.specs.declared.types.Size.{Size}
-use Rattle.hd_morph.specs.Encoding.{values_of}
+use Rattle.hd_map.specs.Encoding.{values_of}
 use Rattle.hd_morph.specs.Plain.{relief}
 use Rattle.hd_morph.specs.Raised.{AreRaisedAcross}
 use Rattle.hd_morph.proofs.Encodings.{length_values, values_part}

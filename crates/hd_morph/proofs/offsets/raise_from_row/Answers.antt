@@ -1,6 +1,6 @@
 use Rattle.std.proofs.Common.{ap, sym, ◌∙◌, ◌-◌, arith, w64}
 use Rattle.std.proofs.lemmas.Int.{to_z-of_z}
-use Rattle.hd_morph.specs.Encoding.{values_of}
+use Rattle.hd_map.specs.Encoding.{values_of}
 use Rattle.hd_morph.proofs.Encodings.{length_values}
 use Rattle.hd_morph.proofs.Raising.{raised_across, raised_nowhere}
 use Rattle.hd_morph.proofs.offsets.raise_from_row.Goals as goal

@@ -1,5 +1,5 @@
 use Rattle.std.proofs.Common.{ap, length, arith}
-use Rattle.hd_morph.specs.Encoding.{values_of}
+use Rattle.hd_map.specs.Encoding.{values_of}
 use Rattle.hd_morph.specs.Plain.{relief}
 use Rattle.hd_morph.proofs.Raising.{row_none, row_more, row_all}
 use Rattle.hd_morph.proofs.offsets.raise_row.Goals as goal

@@ -1,5 +1,5 @@
 use Rattle.std.proofs.Common.{◌*◌, arith}
-use Rattle.hd_morph.specs.Encoding.{values_of}
+use Rattle.hd_map.specs.Encoding.{values_of}
 use Rattle.hd_morph.specs.Plain.{relief}
 use Rattle.hd_morph.proofs.Encodings.{values_mid, values_part}
 use Rattle.hd_morph.proofs.Raising.{rows_none, row_blank, rows_more, rows_all}

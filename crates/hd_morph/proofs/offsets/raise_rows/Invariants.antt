@@ -1,4 +1,4 @@
-use Rattle.hd_morph.specs.Encoding.{values_of}
+use Rattle.hd_map.specs.Encoding.{values_of}
 use Rattle.hd_morph.specs.Plain.{relief}
 use Rattle.hd_morph.proofs.Raising.{RowsRaised}
 use Rattle.hd_morph.proofs.offsets.raise_rows.Given as goal

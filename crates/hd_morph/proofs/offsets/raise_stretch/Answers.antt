@@ -1,7 +1,7 @@
 use Rattle.std.proofs.Common.{◌+◌, arith, w64}
 use Rattle.std.proofs.lemmas.Int.{to_z-of_z}
 use Rattle.std.proofs.lemmas.List.{map-set}
-use Rattle.hd_morph.specs.Encoding.{values_of, most_between, most_filtered}
+use Rattle.hd_map.specs.Encoding.{values_of, most_between, most_filtered}
 use Rattle.hd_morph.proofs.Encodings.{length_values, value_read}
 use Rattle.hd_morph.proofs.PlainNumbers.{plain_read}
 use Rattle.hd_morph.proofs.Raising.{raised_none, raised_more, raised_all}

@@ -1,6 +1,6 @@
 use Rattle.std.proofs.Common.{refl, sym, ◌∙◌, arith, w64}
 use Rattle.std.proofs.lemmas.Int.{to_z-of_z}
-use Rattle.hd_morph.specs.Encoding.{most_filtered, values_of}
+use Rattle.hd_map.specs.Encoding.{most_filtered, values_of}
 use Rattle.hd_morph.proofs.Encodings.{length_values, value_read}
 use Rattle.hd_morph.proofs.PlainNumbers.{settled_more, topped_read}
 use Rattle.hd_morph.proofs.plain.settle.Goals as goal

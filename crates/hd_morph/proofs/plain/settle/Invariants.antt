@@ -1,4 +1,4 @@
-use Rattle.hd_morph.specs.Encoding.{values_of}
+use Rattle.hd_map.specs.Encoding.{values_of}
 use Rattle.hd_morph.proofs.PlainNumbers.{SettledBefore}
 use Rattle.hd_morph.proofs.plain.settle.Given as goal
 

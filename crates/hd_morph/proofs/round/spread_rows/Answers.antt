@@ -1,5 +1,5 @@
 use Rattle.std.proofs.Common.{◌*◌, ◌∙◌, arith}
-use Rattle.hd_morph.specs.Encoding.{values_of}
+use Rattle.hd_map.specs.Encoding.{values_of}
 use Rattle.hd_morph.proofs.Encodings.{length_values, values_mid, values_part}
 use Rattle.hd_morph.proofs.Rectangles.{rows_none, rows_more, rows_all}
 use Rattle.hd_morph.proofs.round.spread_rows.Goals as goal

@@ -1,4 +1,4 @@
-use Rattle.hd_morph.specs.Encoding.{values_of}
+use Rattle.hd_map.specs.Encoding.{values_of}
 use Rattle.hd_morph.proofs.Rectangles.{RowsDone}
 use Rattle.hd_morph.proofs.round.spread_rows.Given as goal
 

@@ -1,5 +1,5 @@
 use Rattle.std.proofs.Common.{arith}
-use Rattle.hd_morph.specs.Encoding.{values_of}
+use Rattle.hd_map.specs.Encoding.{values_of}
 use Rattle.hd_morph.proofs.Windows.{ahead_one, ahead_join}
 use Rattle.hd_morph.proofs.window.look_ahead.Goals as goal
 

@@ -1,6 +1,6 @@
 use Rattle.std.proofs.Common.{◌-◌, ◌%◌, arith}
 use Rattle.std.proofs.lemmas.List.{map-set}
-use Rattle.hd_morph.specs.Encoding.{values_of}
+use Rattle.hd_map.specs.Encoding.{values_of}
 use Rattle.hd_morph.proofs.Encodings.{length_values, value_read}
 use Rattle.hd_morph.proofs.Windows.{far_looked_back, looked_near_more}
 use Rattle.hd_morph.proofs.window.look_back.Goals as goal

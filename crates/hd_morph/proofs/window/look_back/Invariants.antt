@@ -1,4 +1,4 @@
-use Rattle.hd_morph.specs.Encoding.{values_of}
+use Rattle.hd_map.specs.Encoding.{values_of}
 use Rattle.hd_morph.proofs.Windows.{LookedBackFrom}
 use Rattle.hd_morph.proofs.window.look_back.Given as goal
 

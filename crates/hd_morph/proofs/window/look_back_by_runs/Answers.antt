@@ -1,5 +1,5 @@
 use Rattle.std.proofs.Common.{ℕ, length, subst, arith}
-use Rattle.hd_morph.specs.Encoding.{values_of}
+use Rattle.hd_map.specs.Encoding.{values_of}
 use Rattle.hd_morph.specs.Window.{AreLookedBack}
 use Rattle.hd_morph.proofs.Windows.{looked_back_none, looked_back_join}
 use Rattle.hd_morph.proofs.window.look_back_by_runs.Goals as goal

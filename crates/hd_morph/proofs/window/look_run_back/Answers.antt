@@ -1,6 +1,6 @@
 use Rattle.std.proofs.Common.{◌-◌, ℕ, subst, arith}
 use Rattle.std.proofs.lemmas.List.{map-set}
-use Rattle.hd_morph.specs.Encoding.{values_of}
+use Rattle.hd_map.specs.Encoding.{values_of}
 use Rattle.hd_morph.specs.Window.{AreLookedBack}
 use Rattle.hd_morph.proofs.Encodings.{length_values, value_read}
 use Rattle.hd_morph.proofs.Windows.{looked_back_none, looked_back_more}

@@ -1,4 +1,4 @@
-use Rattle.hd_morph.specs.Encoding.{values_of}
+use Rattle.hd_map.specs.Encoding.{values_of}
 use Rattle.hd_morph.proofs.Windows.{back_join}
 use Rattle.hd_morph.proofs.window.spread.Goals as goal
 

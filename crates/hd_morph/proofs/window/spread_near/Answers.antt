@@ -1,4 +1,4 @@
-use Rattle.hd_morph.specs.Encoding.{values_of}
+use Rattle.hd_map.specs.Encoding.{values_of}
 use Rattle.hd_morph.proofs.Windows.{near_strides}
 use Rattle.hd_morph.proofs.window.spread_near.Goals as goal
 

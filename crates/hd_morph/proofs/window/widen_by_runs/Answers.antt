@@ -1,5 +1,5 @@
 use Rattle.std.proofs.Common.{ℕ, subst, arith}
-use Rattle.hd_morph.specs.Encoding.{values_of}
+use Rattle.hd_map.specs.Encoding.{values_of}
 use Rattle.hd_morph.specs.Window.{AreWidened}
 use Rattle.hd_morph.proofs.Windows.{widened_none, widened_join}
 use Rattle.hd_morph.proofs.window.widen_by_runs.Goals as goal

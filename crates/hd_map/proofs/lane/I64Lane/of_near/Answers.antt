@@ -1,0 +1,11 @@
+use Rattle.std.proofs.Common.{refl, arith, to_z, of_z, w64}
+use Rattle.std.proofs.lemmas.Int.{ints}
+use Rattle.hd_map.specs.Encoding.{wide, wide_floor}
+use Rattle.hd_map.proofs.Lanes.{near_number}
+use Rattle.hd_map.proofs.lane.I64Lane.of_near.Goals as goal
+
+pub returns : goal.returns
+returns c =
+    let low = c.requires.least in
+    let high = c.requires.greatest in
+    near_number wide wide_floor (λ z. refl) c.args.height (to_z w64 (of_z w64 c.args.height)) (omega (arith, ints)) low high (omega (arith, ints))
