@@ -2,7 +2,6 @@
 use Rattle.std.proofs.Common.{◌≡◌, ◌<◌, ◌+◌, ◌++◌, ℕ, zero, suc, Bool, true, false, List, [], ◌∷◌, inl, inr, ap, ◌∙◌, sym, subst, refl, arith}
 use Rattle.std.specs.Prelude.{Contains}
 use Rattle.std.proofs.lemmas.Bool.{cases_eq, and_parts}
-use Rattle.hd_map.specs.declared.types.Pass.{Pass}
 use Rattle.hd_map.specs.declared.types.Adjacency.{Adjacency}
 use Rattle.hd_map.specs.declared.types.Adjacency.TheVariants.{Four, Six, Eight}
 use Rattle.hd_map.specs.declared.types.Pos.{Pos}
@@ -13,12 +12,11 @@ use Rattle.hd_map.specs.Neighbour.{Neighbour, IsNear, AreBesideUnder}
 use Rattle.hd_map.specs.Order.{IsNotAbove}
 use Rattle.hd_map.specs.Path.{Leads}
 use Rattle.hd_map.specs.Rank.{rank, below_by, IsPoint}
-use Rattle.hd_map.specs.Region.{LowerNeighbour, IsRoot, IsNext}
+use Rattle.hd_map.specs.Region.{LowerNeighbour, IsNext}
 use Rattle.hd_map.specs.SideLaws.{below_by-order}
 use Rattle.hd_map.proofs.Gather.{same_pos}
 use Rattle.hd_map.proofs.Points.{same_point}
 use Rattle.hd_map.proofs.Depth.{point_limits}
-use Rattle.hd_map.proofs.Nexts.{root-next}
 use Rattle.hd_map.proofs.Saddles.{near-sym}
 use Rattle.hd_map.proofs.Settings.{beside-eight}
 use Rattle.hd_map.proofs.Order.{below-not_above}
@@ -26,7 +24,7 @@ use Rattle.hd_steep.specs.Lowest.{missing, IsChosen, IsLow, IsAtPlace}
 use Rattle.hd_steep.specs.Rows.{rank_in, IsRowOf}
 use Rattle.hd_steep.specs.Ring.{ring_of, are_lower, is_marked, firsts_of, taken_of, marks_of, IsOneAtMost}
 use Rattle.hd_steep.specs.declared.descent.Descent.{Descent}
-use Rattle.hd_steep.specs.Crossed.{AreBeside, IsCrossed, IsServed}
+use Rattle.hd_steep.specs.Crossed.{AreBeside}
 use Rattle.hd_steep.specs.Descended.{descent_to}
 use Rattle.hd_steep.specs.Descents.{IsReached}
 use Rattle.hd_steep.proofs.Lows.{low_missing, below_missing}
@@ -336,28 +334,8 @@ module _ (m : Map) (side : SideName) where
               },
             )
 
-        -- where the first ones are crossed, all lower neighbours are served
-        pub served_crossed : (passes : List Pass) → ((k : ℕ) → is_marked gathered k ≡ true → IsCrossed m side passes own (rank_in ring k))
-            → (z : Rank) → LowerNeighbour m side own z → IsServed m side passes own z
-        served_crossed passes crossed z low =
-            let found = leads_to_first z low in
-            record { last = rank_in ring found.0; way = found.2.0; along = found.2.1; crossed = crossed found.0 found.1 }
-
-        -- and where there is one at most, since the next is one of them
-        pub served_alone : (passes : List Pass) (root : Rank) → IsRoot m side own root → IsOneAtMost gathered
-            → (z : Rank) → LowerNeighbour m side own z → IsServed m side passes own z
-        served_alone passes root is_root alone z low =
-            let next = next_round z low in
-            let onward = leads_to_each alone z next.0 low next.1.lower in
-            record {
-              last = next.0;
-              way = onward.0;
-              along = onward.1;
-              crossed = record { a = root; b = root; from = is_root; to = root-next m side own next.0 root next.1 is_root; by = inl refl };
-            }
-
         -- where descents lead to the first ones, all lower neighbours are reached
-        pub reached_first : (descents : List Descent) → ((k : ℕ) → is_marked gathered k ≡ true → Contains descents (descent_to own (rank_in ring k)))
+        pub reached_first : (descents : List Descent) → ((k : ℕ) → is_marked gathered k ≡ true → Contains descents (descent_to own.index (rank_in ring k).index))
             → (z : Rank) → LowerNeighbour m side own z → IsReached m side descents own z
         reached_first descents listed z low =
             let found = leads_to_first z low in

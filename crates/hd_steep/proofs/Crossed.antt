@@ -1,7 +1,6 @@
 -- Lists of passes that are gathered point by point, and what they are in the end.
-use Rattle.std.proofs.Common.{◌≡◌, ◌<◌, ◌+◌, ℕ, Bool, true, false, List, [], ◌∷◌, ◌++◌, Option, ◌⊎◌, inl, inr, ap, ◌∙◌, sym, subst, refl, arith}
+use Rattle.std.proofs.Common.{◌≡◌, ◌<◌, ℕ, true, false, List, [], ◌∷◌, ◌++◌, Option, ◌⊎◌, inl, inr, ap, ◌∙◌, sym, subst, refl}
 use Rattle.std.specs.Prelude.{Contains}
-use Rattle.std.proofs.lemmas.Bool.{cases_eq, cases_lt}
 use Rattle.std.proofs.lemmas.List.Elements.{Contains-push, Contains-push_cases, Contains-append_cases, Contains-append_left, Contains-append_right}
 use Rattle.hd_map.specs.declared.types.Pass.{Pass}
 use Rattle.hd_map.specs.declared.types.Pos.{Pos}
@@ -20,9 +19,7 @@ use Rattle.hd_map.proofs.Points.{Near-from, Near-to, same_index}
 use Rattle.hd_map.proofs.Regions.{labelled-root, root-labelled}
 use Rattle.hd_map.proofs.Saddles.{near-sym}
 use Rattle.hd_map.proofs.Order.{below-not_above}
-use Rattle.hd_steep.specs.Crossed.{AreInOne, IsPassTo, IsCrossing, Extends, IsCrossed, AreCrossedTo, IsServed, Gathers}
-use Rattle.hd_steep.specs.Ring.{is_marked}
-use Rattle.hd_steep.specs.Rows.{rank_in}
+use Rattle.hd_steep.specs.Crossed.{AreInOne, IsPassTo, IsCrossing, Extends, IsCrossed, IsServed, Gathers}
 use Rattle.hd_steep.proofs.Round.{same_or_below}
 use Rattle.hd_steep.proofs.Enough.{meeting_joined}
 
@@ -87,23 +84,9 @@ module _ (m : Map) (side : SideName) where
   served_kept old new x y extends served =
       record { last = served.last; way = served.way; along = served.along; crossed = crossed_kept old new x served.last extends served.crossed }
 
-  -- nothing is gathered where no chosen point is present
-  pub gathers_none : (C : Pos → Type 0) (xs : List Pass) → ((u : Pos) → C u → Present m u → ⊥) → Gathers m side C xs xs
-  gathers_none C xs none = record { extends = extends_none xs; served = λ u chosen here z low. absurd (none u chosen here) }
-
   -- for fewer points
   pub gathers_less : (C D : Pos → Type 0) (xs ys : List Pass) → ((u : Pos) → Present m u → D u → C u) → Gathers m side C xs ys → Gathers m side D xs ys
   gathers_less C D xs ys less gathers = record { extends = gathers.extends; served = λ u chosen here. gathers.served u (less u here chosen) here }
-
-  -- for some points, and then for others
-  pub gathers_join : (C D : Pos → Type 0) (xs ys zs : List Pass) → Gathers m side C xs ys → Gathers m side D ys zs → Gathers m side (λ u. C u ⊎ D u) xs zs
-  gathers_join C D xs ys zs one other = record {
-    extends = extends_on xs ys zs one.extends other.extends;
-    served = λ u chosen here z low. elim chosen [
-      | inl c ↦ served_kept ys zs (rank m u) z other.extends (one.served u c here z low)
-      | inr d ↦ other.served u d here z low
-    ];
-  }
 
   -- what is added to none is a crossing
   added_to_none : (xs : List Pass) (p : Pass) → Extends m side [] xs → Contains xs p → IsCrossing m side p
@@ -196,32 +179,3 @@ module _ (m : Map) (side : SideName) where
   -- points of one region are crossed
   pub crossed_in_one : (xs : List Pass) (x y : Rank) → AreInOne m side x y → IsCrossed m side xs x y
   crossed_in_one xs x y one = record { a = one.root; b = one.root; from = one.from; to = one.to; by = inl refl }
-
-module _ (m : Map) (side : SideName) (x : Rank) (ring : List Rank) (marks : List Bool) where
-  -- no place
-  pub crossed_to_none : (old : List Pass) (first : ℕ) → AreCrossedTo m side old old x ring marks first first
-  crossed_to_none old first = record { extends = extends_none m side old; crossed = λ k from below marked. absurd (omega (arith, from, below)) }
-
-  -- and the next one
-  pub crossed_to_more : (old now new : List Pass) (first n : ℕ) (y : Rank) → y ≡ rank_in ring n → Extends m side now new → (is_marked marks n ≡ true → IsCrossed m side new x y)
-      → AreCrossedTo m side old now x ring marks first n → AreCrossedTo m side old new x ring marks first (n + 1)
-  crossed_to_more old now new first n y is extends crossed before = record {
-    extends = extends_on m side old now new before.extends extends;
-    crossed = λ k from below marked. elim (cases_eq k n) [
-      | inl same ↦
-          let there : IsCrossed m side new x (rank_in ring n) = subst (λ (r : Rank). IsCrossed m side new x r) is (crossed (subst (λ i. is_marked marks i ≡ true) same marked)) in
-          subst (λ i. IsCrossed m side new x (rank_in ring i)) (sym same) there
-      | inr other ↦ crossed_kept m side now new x (rank_in ring k) extends (before.crossed k from (omega (arith, below, other)) marked)
-    ];
-  }
-
-  -- and those from there on
-  pub crossed_to_join : (old now new : List Pass) (first n end : ℕ) → AreCrossedTo m side old now x ring marks first n → AreCrossedTo m side now new x ring marks n end
-      → AreCrossedTo m side old new x ring marks first end
-  crossed_to_join old now new first n end before after = record {
-    extends = extends_on m side old now new before.extends after.extends;
-    crossed = λ k from below marked. elim (cases_lt k n) [
-      | inl less ↦ crossed_kept m side now new x (rank_in ring k) after.extends (before.crossed k from less marked)
-      | inr past ↦ after.crossed k past below marked
-    ];
-  }

@@ -1,11 +1,12 @@
 pub mod LowerOf
 pub mod Lows
 pub mod Rows
-pub mod ProfilesRound
+pub mod KeyRows
 pub mod Looking
 pub mod Ways
 pub mod Round
 pub mod Linking
+mod Linked
 pub mod FirstLink
 pub mod Following
 pub mod Pits
@@ -26,8 +27,12 @@ mod TracedNumbers
 pub mod NumberedCrossings
 pub mod TracedCrossings
 pub mod DescentsStay
-pub mod Served
+mod ShownKeys
+mod IndexesRound
 mod Descended
+mod ListedColumns
+mod HasDescended
 mod Windows
 mod Taken
-mod Inside
+mod LowerPlaces
+pub mod Keys

@@ -1,42 +1,29 @@
 -- The first links of a profile, from its rows, and those of several profiles.
-use Rattle.std.proofs.Common.{◌≡◌, ◌<◌, ◌+◌, ◌*◌, ◌-◌, ℕ, true, false, List, length, ◌++◌, slice_index, ◌⊎◌, inl, inr, ap, ◌∙◌, sym, subst, refl, arith}
-use Rattle.std.specs.Prelude.{ℤ}
-use Rattle.std.specs.Ordering.{int_eq}
-use Rattle.std.proofs.lemmas.Int.{ints}
+use Rattle.std.proofs.Common.{◌≡◌, ◌<◌, ◌+◌, ◌*◌, ◌-◌, ℕ, true, List, length, ◌++◌, slice_index, ◌⊎◌, inl, inr, ap, ◌∙◌, sym, subst, refl, arith}
+use Rattle.std.specs.Prelude.{is_some}
 use Rattle.std.proofs.lemmas.Bool.{cases_eq, cases_lt}
-use Rattle.std.proofs.lemmas.Bool.Decides.{nat_tests}
 use Rattle.std.proofs.lemmas.List.{get_or_append_left, get_or-append-add, length-append}
-use Rattle.std.proofs.lemmas.Nat.{same_from_place}
+use Rattle.hd_map.specs.declared.types.Adjacency.{Adjacency}
 use Rattle.hd_map.specs.declared.types.Pos.{Pos}
 use Rattle.hd_map.specs.declared.types.Rank.{Rank}
 use Rattle.hd_map.specs.declared.types.SideName.{SideName}
+use Rattle.hd_map.specs.Encoding.{Encoding, number_in}
 use Rattle.hd_map.specs.Map.{Map, IsMap, InGrid, Present, place_of, cell_count}
 use Rattle.hd_map.specs.Rank.{rank}
 use Rattle.hd_map.proofs.Gather.{same_pos}
 use Rattle.hd_map.proofs.Points.{point_at, same_index}
-use Rattle.hd_steep.specs.Lowest.{missing, lower_of, IsLow, IsAtPlace, IsRound, IsRoundIn}
-use Rattle.hd_steep.specs.Rows.{rank_in, link_of, IsRowOf, AreLowsRound, AreLinked}
+use Rattle.hd_steep.specs.declared.rolling.Rows.{Rows}
 use Rattle.hd_steep.specs.FirstLinks.{IsFirst, IsFirstLink, AreFirstLinks, AreFirstLinksFrom}
+use Rattle.hd_steep.specs.KeyRows.{AreRowsRound, ranks_of}
+use Rattle.hd_steep.specs.Keys.{IsKey, rank_of}
+use Rattle.hd_steep.specs.Linked.{AreLinked, IsLinkTo, lowest_above, lowest_at, lowest_below, lowest_of_three}
 use Rattle.hd_steep.specs.Links.{no_link}
+use Rattle.hd_steep.specs.Lowest.{lower_of, IsLow, IsAtPlace, IsRound, IsRoundIn}
 use Rattle.hd_steep.proofs.Following.{no_point_at}
+use Rattle.hd_steep.proofs.Keys.{cases_option, key_apart, rank_at_key, rank_of_missing, rank_of_some}
 use Rattle.hd_steep.proofs.Lows.{low_missing, low_same, low_join, point_apart, place_above}
-use Rattle.hd_steep.proofs.Round.{first-low}
-
--- different numbers are told apart
-apart_test : (h k : ℤ) → (h ≡ k → ⊥) → int_eq h k ≡ false
-apart_test h k apart = grind (arith, ints, nat_tests)
-
--- a point that is present has a link
-link_present : (side : SideName) (own low : Rank) → (own.height ≡ (missing side).height → ⊥) → link_of side own low ≡ low.index
-link_present side own low apart = rw (apart_test own.height (missing side).height apart) refl
-
--- a number is itself
-same_test : (h : ℤ) → int_eq h h ≡ true
-same_test h = grind (arith, ints, nat_tests)
-
--- where no point is present there is no link
-link_absent : (side : SideName) (own low : Rank) → own ≡ missing side → link_of side own low ≡ no_link
-link_absent side own low e = ap (λ (r : Rank). link_of side r low) e ∙ (rw (same_test (missing side).height) refl)
+use Rattle.hd_steep.proofs.Round.{first-low, found}
+use Rattle.hd_steep.proofs.Windows.{low_above, low_below, low_level}
 
 module _ (m : Map) (side : SideName) where
   -- where no point is present, there is no link
@@ -47,26 +34,22 @@ module _ (m : Map) (side : SideName) where
   }
 
   module _ (whole : IsMap m) where
-    -- the lowest round a position, from the lowest of three profiles
-    round_low : (x y : ℕ) (above level below : List Rank) → x < m.size.points → AreLowsRound m side y y above → AreLowsRound m side y (y + 1) level → AreLowsRound m side y (y + 2) below
-        → IsLow m side (IsRound m.adjacency (record { x = x; y = y })) (lower_of side (lower_of side (rank_in above x) (rank_in level x)) (rank_in below x))
-    round_low x y above level below column before here after =
+    -- the lowest round a position, from those of three profiles
+    round_low : (x y : ℕ) (above level below : Rank) → IsLow m side (IsRoundIn m.adjacency (record { x = x; y = y }) y) above → IsLow m side (IsRoundIn m.adjacency (record { x = x; y = y }) (y + 1)) level
+        → IsLow m side (IsRoundIn m.adjacency (record { x = x; y = y }) (y + 2)) below → IsLow m side (IsRound m.adjacency (record { x = x; y = y })) (lower_of side (lower_of side above level) below)
+    round_low x y above level below before here after =
         let at : Pos = record { x = x; y = y } in
         let A : Pos → Type 0 = λ q. IsRoundIn m.adjacency at y q in
         let L : Pos → Type 0 = λ q. IsRoundIn m.adjacency at (y + 1) q in
         let B : Pos → Type 0 = λ q. IsRoundIn m.adjacency at (y + 2) q in
-        let a = rank_in above x in
-        let l = rank_in level x in
-        let b = rank_in below x in
         let upper : (i j : ℕ) (p q : Pos) → i < j → IsRoundIn m.adjacency at i p → IsRoundIn m.adjacency at j q → Present m p → place_of m.size p < place_of m.size q = λ i j p q less s t there.
         place_above m.size p q there.in_grid.column (let e = s.profile in let f = t.profile in omega (arith, e, f, less)) in
-        let two : IsLow m side (λ q. A q ⊎ L q) (lower_of side a l) = low_join m side whole A L a l (λ p q s t there. upper y (y + 1) p q (omega arith) s t there)
-        (before.each x column) (here.each x column) in
-        let three : IsLow m side (λ q. (A q ⊎ L q) ⊎ B q) (lower_of side (lower_of side a l) b) = low_join m side whole (λ q. A q ⊎ L q) B (lower_of side a l) b (λ p q s t there. elim s [
+        let two : IsLow m side (λ q. A q ⊎ L q) (lower_of side above level) = low_join m side whole A L above level (λ p q s t there. upper y (y + 1) p q (omega arith) s t there) before here in
+        let three : IsLow m side (λ q. (A q ⊎ L q) ⊎ B q) (lower_of side (lower_of side above level) below) = low_join m side whole (λ q. A q ⊎ L q) B (lower_of side above level) below (λ p q s t there. elim s [
           | inl u ↦ upper y (y + 2) p q (omega arith) u t there
           | inr u ↦ upper (y + 1) (y + 2) p q (omega arith) u t there
-        ]) two (after.each x column) in
-        low_same m side (λ q. (A q ⊎ L q) ⊎ B q) (IsRound m.adjacency at) (lower_of side (lower_of side a l) b)
+        ]) two after in
+        low_same m side (λ q. (A q ⊎ L q) ⊎ B q) (IsRound m.adjacency at) (lower_of side (lower_of side above level) below)
         (λ q there s. elim s [ inl u ↦ elim u [ inl v ↦ v.round | inr v ↦ v.round ] | inr v ↦ v.round ])
         (λ q there round. elim (cases_eq (q.y + 1) y) [
           | inl e ↦ inl (inl (record { profile = e; round = round }))
@@ -86,31 +69,53 @@ module _ (m : Map) (side : SideName) where
       none = λ no. absurd (no (rank m at) (point_at m at here) refl);
     }
 
-    -- the link at a column, from the rank there and the lowest round it
-    link_is : (x y : ℕ) (own low : Rank) → x < m.size.points → IsLow m side (IsAtPlace (y + 1) (x + 1)) own → IsLow m side (IsRound m.adjacency (record { x = x; y = y })) low
-        → IsFirstLink m side (y * m.size.points + x) (link_of side own low)
-    link_is x y own low column is_own is_low = elim is_own.origin [
-      | inl none ↦ subst (IsFirstLink m side (y * m.size.points + x)) (sym (link_absent side own low none)) (record {
-        point = λ p point e.
-            let places : place_of m.size point.at ≡ y * m.size.points + x = ap (λ (r : Rank). r.index) (sym point.rank_is) ∙ e in
-            let parts = same_from_place point.at.y point.at.x y x m.size.points point.present.in_grid.column column places in
-            absurd (low_missing m side whole (IsAtPlace (y + 1) (x + 1)) own is_own none point.at (record { profile = ap (λ k. k + 1) parts.0; place = ap (λ k. k + 1) parts.1 }) point.present);
-        none = λ no. refl;
-      })
-      | inr one ↦
-          let at : Pos = record { x = x; y = y } in
-          let same : one.at ≡ at = (let a = one.chosen.profile in let b = one.chosen.place in same_pos one.at at (omega (arith, b)) (omega (arith, a))) in
-          subst (IsFirstLink m side (y * m.size.points + x)) (sym (link_present side own low (point_apart m side whole own one.at one.present one.low_is)))
-          (link_low at low (subst (λ (q : Pos). Present m q) same one.present) is_low)
-    ]
+    module _ {L : Type 0} (code : Encoding L) where
+      -- a key whose rank is that of a point has its index
+      index_of_key : (index : ℕ) (key : L) (p : Pos) → Present m p → rank_of code side index key ≡ rank m p → index ≡ place_of m.size p
+      index_of_key index key p here is = elim (cases_option (code.shown key)) [
+        | inl none ↦ absurd (point_apart m side whole (rank m p) p here refl (ap (λ (r : Rank). r.height) (sym is ∙ rank_of_missing code side index key none)))
+        | inr some ↦ sym (rank_of_some code side index key some.0 some.1) ∙ ap (λ (r : Rank). r.index) is
+      ]
 
-    -- the links of a profile, from its rows
-    pub links_of_rows : (y : ℕ) (row above level below : List Rank) (links : List ℕ) → IsRowOf m side (y + 1) row → AreLowsRound m side y y above → AreLowsRound m side y (y + 1) level
-        → AreLowsRound m side y (y + 2) below → length links ≡ m.size.points → AreLinked side row above level below links → AreFirstLinksFrom m side (y * m.size.points) links
-    links_of_rows y row above level below links of before here after long linked = λ x within.
-        let column : x < m.size.points = omega (arith, within, long) in
-        rw (linked x within)
-        (link_is x y (rank_in row (x + 1)) (lower_of side (lower_of side (rank_in above x) (rank_in level x)) (rank_in below x)) column (of.each x column) (round_low x y above level below column before here after))
+      -- the link at a column, from the key there and the lowest round it
+      link_is : (x y first link : ℕ) (own : L) (low : Rank) → x < m.size.points → y < m.size.profiles → IsKey code own → IsLow m side (IsAtPlace (y + 1) (x + 1)) (rank_of code side first own)
+          → IsLow m side (IsRound m.adjacency (record { x = x; y = y })) low → IsLinkTo code side own low link → IsFirstLink m side (y * m.size.points + x) link
+      link_is x y first link own low column profile key is_own is_low linked =
+          let at : Pos = record { x = x; y = y } in
+          let in_grid : InGrid m.size at = record { column = column; profile = profile } in
+          let place : IsAtPlace (y + 1) (x + 1) at = record { profile = refl; place = refl } in
+          elim (cases_option (code.shown own)) [
+            | inl none ↦ subst (IsFirstLink m side (place_of m.size at)) (sym (linked.none none))
+                (link_none at in_grid (low_missing m side whole (IsAtPlace (y + 1) (x + 1)) (rank_of code side first own) is_own (rank_of_missing code side first own none) at place))
+            | inr some ↦
+                let here : Present m at = elim is_own.origin [
+                  | inl e ↦ absurd (key_apart code side first own some.0 key some.1 e)
+                  | inr one ↦ subst (Present m) (same_pos one.at at (let a = one.chosen.place in omega (arith, a)) (let a = one.chosen.profile in omega (arith, a))) one.present
+                ] in
+                let to = linked.some (let e : is_some (code.shown own) ≡ true = ap is_some some.1 in e) in
+                let chosen = found m side whole at here low is_low in
+                let index : link ≡ low.index = index_of_key link to.0 chosen.at chosen.present (to.1 ∙ chosen.low_is) ∙ ap (λ (r : Rank). r.index) (sym chosen.low_is) in
+                subst (IsFirstLink m side (place_of m.size at)) (sym index) (link_low at low here is_low)
+          ]
+
+      -- the links of a profile, from the rows round it
+      pub links_of_rows : (y : ℕ) (adjacency : Adjacency) (rows : Rows L) (links : List ℕ) → y < m.size.profiles → m.adjacency ≡ adjacency → AreRowsRound code side m y rows → length links ≡ m.size.points
+          → AreLinked code side adjacency rows links → AreFirstLinksFrom m side (y * m.size.points) links
+      links_of_rows y adjacency rows links profile is round long linked = λ x within.
+          let column : x < m.size.points = omega (arith, within, long) in
+          let above = ranks_of code side rows.above in
+          let level = ranks_of code side rows.level in
+          let below = ranks_of code side rows.below in
+          let keys = rows.level.keys.items in
+          let wide = round.level.framed.whole in
+          let own : IsLow m side (IsAtPlace (y + 1) (x + 1)) (rank_of code side (rows.level.first + (x + 1) - 1) (number_in code keys (x + 1))) =
+          subst (IsLow m side (IsAtPlace (y + 1) (x + 1))) (rank_at_key code side rows.level.first keys (x + 1) (omega (arith, column, wide))) (round.level.ranks.each x column) in
+          link_is x y (rows.level.first + (x + 1) - 1) (slice_index links x) (number_in code keys (x + 1)) (lowest_at adjacency side above level below x) column profile (round.level.keys (x + 1)) own
+          (round_low x y (lowest_above adjacency side above x) (lowest_of_three side level x) (lowest_below adjacency side below x)
+          (low_above m side whole y x column above adjacency is round.above.ranks)
+          (low_level m side y (y + 1) (omega arith, omega arith) whole level round.level.ranks refl x column)
+          (low_below m side whole y x column below adjacency is round.below.ranks))
+          (linked x within)
 
   -- links, and those of the indexes after them
   pub links_append : (first next : ℕ) (links more : List ℕ) → next ≡ first + length links → AreFirstLinksFrom m side first links → AreFirstLinksFrom m side next more → AreFirstLinksFrom m side first (links ++ more)

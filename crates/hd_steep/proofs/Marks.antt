@@ -1,8 +1,8 @@
 -- How many places of a list are marked, where that is one at most, and which of them is lowest.
-use Rattle.std.proofs.Common.{◌≡◌, ◌<◌, ◌≤◌, ◌+◌, ℕ, zero, suc, Bool, true, false, List, length, inl, inr, ap, refl, sym, subst, arith}
+use Rattle.std.proofs.Common.{◌≡◌, ◌<◌, ◌≤◌, ◌+◌, ℕ, zero, suc, Bool, true, false, List, length, set, inl, inr, ap, refl, sym, subst, arith}
 use Rattle.std.specs.Int.{from_bool}
 use Rattle.std.proofs.lemmas.Bool.{cases_Bool, cases_eq, cases_lt, both_ways}
-use Rattle.std.proofs.lemmas.List.{get_or_past}
+use Rattle.std.proofs.lemmas.List.{get_or_past, get_or-set_same, get_or-set_other}
 use Rattle.hd_map.specs.declared.types.Adjacency.{Adjacency}
 use Rattle.hd_map.specs.declared.types.Adjacency.TheVariants.{Four, Six, Eight}
 use Rattle.hd_map.specs.Order.{IsNotAbove, IsStrictOrder}
@@ -14,6 +14,14 @@ pub eight_marks : (adjacency : Adjacency) (lower : List Bool) → length (marks_
 eight_marks Four lower = refl
 eight_marks Six lower = refl
 eight_marks Eight lower = refl
+
+-- what holds of the marks before a place, and of the one written there, holds before the next place
+pub marks_more : (P : ℕ → Bool → Type 0) (marks : List Bool) (x : ℕ) (mark : Bool) → x < length marks → ((k : ℕ) → k < x → P k (is_marked marks k)) → P x mark
+    → (k : ℕ) → k < x + 1 → P k (is_marked (set marks x mark) k)
+marks_more P marks x mark inside before here k below = elim (cases_eq k x) [
+  | inl same ↦ subst (λ i. P i (is_marked (set marks x mark) i)) (sym same) (subst (P x) (sym (get_or-set_same marks x mark false inside)) here)
+  | inr other ↦ subst (P k) (sym (get_or-set_other marks x k mark false other)) (before k (omega (arith, below, other)))
+]
 
 module _ (marks : List Bool) where
   -- how many of the first n places are marked

@@ -30,7 +30,7 @@ module _ (m : Map) (side : SideName) (whole : IsMap m) (at : Pos) (here : Presen
   itself = record { column = (omega arith, omega arith); profile = (omega arith, omega arith); beside = beside-itself m.adjacency at }
 
   -- so there is a lowest one
-  found : IsChosen m (IsRound m.adjacency at) low
+  pub found : IsChosen m (IsRound m.adjacency at) low
   found = elim of.origin [
     | inl none ↦ absurd (low_missing m side whole (IsRound m.adjacency at) low of none at itself here)
     | inr one ↦ one

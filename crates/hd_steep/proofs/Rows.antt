@@ -1,75 +1,26 @@
--- The row of a profile, and the lowest of each three in it.
-use borrow.Rule.Slice.PartMut.{put_mid}
-use Rattle.std.proofs.Common.{◌≡◌, ◌<◌, ◌≤◌, ◌+◌, ◌-◌, ℕ, List, length, replicate, ◌⊎◌, inl, inr, ◌∙◌, ap, sym, subst, arith, rules}
+-- The row of a profile, and the lowest of two or three places in it.
+use Rattle.std.proofs.Common.{◌≡◌, ◌<◌, ◌+◌, ◌-◌, ℕ, List, ◌⊎◌, inl, inr, sym, subst, arith}
 use Rattle.std.proofs.lemmas.Bool.{cases_eq}
-use Rattle.std.proofs.lemmas.List.{get_or_default, get_or-replicate, length-replicate, places}
 use Rattle.hd_map.specs.declared.types.Pos.{Pos}
 use Rattle.hd_map.specs.declared.types.Rank.{Rank}
 use Rattle.hd_map.specs.declared.types.SideName.{SideName}
 use Rattle.hd_map.specs.Map.{InGrid, IsMap, Map, Present, place_of}
-use Rattle.hd_map.specs.Ranks.{AreRanksOf, rank_or}
+use Rattle.hd_map.specs.Ranks.{rank_or}
 use Rattle.hd_map.proofs.Gather.{same_pos}
 use Rattle.hd_map.proofs.Points.{present_or_not}
 use Rattle.hd_map.proofs.Ranks.{rank_or-absent, rank_or-present}
 use Rattle.hd_steep.specs.Lowest.{missing, lower_of, IsLow, IsAtPlace}
-use Rattle.hd_steep.specs.Rows.{past_end, rank_in, IsFilled, IsFramed, IsRowOf}
+use Rattle.hd_steep.specs.Rows.{rank_in, IsRowOf}
 use Rattle.hd_steep.proofs.Lows.{low_empty, low_join, low_point, place_before}
-
-module _ (side : SideName) (points : ℕ) where
-  -- a row in which no point is present has an empty place on each side
-  pub filled_framed : (row : List Rank) → length row ≡ points + 2 → IsFilled (missing side) row → IsFramed side points row
-  filled_framed row long empty = record {
-    whole = long;
-    left = empty 0 (omega (arith, long));
-    right = empty (points + 1) (omega (arith, long));
-  }
-
-  -- one rank at each place
-  pub replicate_filled : (n : ℕ) → IsFilled (missing side) (replicate n (missing side))
-  replicate_filled n k below = get_or-replicate {A = Rank} n k (missing side) past_end (rw length-replicate at below)
-
--- a row of which a stretch is written anew
-mid_inside : (a k i : ℕ) (xs ys : List Rank) → a + k ≤ length xs → length ys ≡ k → i < k → rank_in (put_mid a k xs ys) (a + i) ≡ rank_in ys i
-mid_inside a k i xs ys room size below = search (rules, places)
-
-mid_before : (a k i : ℕ) (xs ys : List Rank) → a + k ≤ length xs → length ys ≡ k → i < a → rank_in (put_mid a k xs ys) i ≡ rank_in xs i
-mid_before a k i xs ys room size below = search (rules, places)
-
-mid_after : (a k i : ℕ) (xs ys : List Rank) → a + k ≤ length xs → length ys ≡ k → a + k ≤ i → rank_in (put_mid a k xs ys) i ≡ rank_in xs i
-mid_after a k i xs ys room size above = search (rules, places)
-
-mid_length : (a k : ℕ) (xs ys : List Rank) → a + k ≤ length xs → length ys ≡ k → length (put_mid a k xs ys) ≡ length xs
-mid_length a k xs ys room size = search (rules, places)
 
 module _ (m : Map) (side : SideName) where
   -- the rank of a profile's place, or the one that stands where no point is present
-  rank_low : (p : Pos) → InGrid m.size p → IsLow m side (IsAtPlace (p.y + 1) (p.x + 1)) (rank_or (missing side) m p)
+  pub rank_low : (p : Pos) → InGrid m.size p → IsLow m side (IsAtPlace (p.y + 1) (p.x + 1)) (rank_or (missing side) m p)
   rank_low p inside = elim (present_or_not m p inside) [
     | inl here ↦ subst (IsLow m side (IsAtPlace (p.y + 1) (p.x + 1))) (sym (rank_or-present (missing side) m p here)) (low_point m side p here)
     | inr absent ↦ subst (IsLow m side (IsAtPlace (p.y + 1) (p.x + 1))) (sym (rank_or-absent (missing side) m p inside absent)) (low_empty m side (IsAtPlace (p.y + 1) (p.x + 1)) (λ q there here.
         absent (subst (Present m) (same_pos q p (let e = there.place in omega (arith, e)) (let e = there.profile in omega (arith, e))) here)))
   ]
-
-  -- the ranks of a profile between two empty places
-  pub row_filled : (y k : ℕ) (row ranks : List Rank) → y < m.size.profiles → k ≡ m.size.points → IsFramed side m.size.points row → AreRanksOf m y (missing side) ranks → IsRowOf m side (y + 1) (put_mid 1 k row ranks)
-  row_filled y k row ranks profile columns framed are =
-      let room : 1 + k ≤ length row = let w = framed.whole in omega (arith, w, columns) in
-      let size : length ranks ≡ k = are.whole ∙ sym columns in
-      record {
-        framed = record {
-          whole = mid_length 1 k row ranks room size ∙ framed.whole;
-          left = mid_before 1 k 0 row ranks room size (omega arith) ∙ framed.left;
-          right = mid_after 1 k (m.size.points + 1) row ranks room size (omega (arith, columns)) ∙ framed.right;
-        };
-        each = λ x below.
-            let p : Pos = record { x = x; y = y } in
-            let there : rank_in (put_mid 1 k row ranks) (x + 1) ≡ rank_or (missing side) m p =
-            ap (rank_in (put_mid 1 k row ranks)) (let e : x + 1 ≡ 1 + x = omega arith in e)
-            ∙ mid_inside 1 k x row ranks room size (omega (arith, below, columns))
-            ∙ get_or_default ranks x past_end (missing side) (omega (arith, below, are.whole))
-            ∙ are.each x below in
-            subst (IsLow m side (IsAtPlace (y + 1) (x + 1))) (sym there) (rank_low p (record { column = below; profile = profile }));
-      }
 
   -- each place of a row, also on either side
   pub row_place : (y : ℕ) (row : List Rank) (k : ℕ) → IsRowOf m side y row → k < m.size.points + 2 → IsLow m side (IsAtPlace y k) (rank_in row k)

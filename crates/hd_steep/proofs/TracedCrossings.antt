@@ -1,8 +1,9 @@
 -- Descents that are traced across, one list after the other, and what the passes are in the end.
-use Rattle.std.proofs.Common.{◌≡◌, ◌≢◌, ◌<◌, ◌+◌, ℕ, List, [], ◌∷◌, ◌++◌, length, get_or, take, Option, inl, inr, ap, ◌∙◌, sym, subst, refl}
-use Rattle.std.specs.Prelude.{Contains}
+use Rattle.std.proofs.Common.{◌≡◌, ◌≢◌, ◌<◌, ◌+◌, ℕ, Bool, true, false, not, nat_eq, List, [], ◌∷◌, ◌++◌, length, get_or, take, Option, inl, inr, ap, ◌∙◌, sym, subst, refl, arith}
+use Rattle.std.specs.Prelude.{All, Contains, if◌then◌else◌}
+use Rattle.std.proofs.lemmas.Bool.Decides.{nat_tests}
 use Rattle.std.proofs.lemmas.List.{map_push, take_more}
-use Rattle.std.proofs.lemmas.List.Elements.{Contains-append_cases}
+use Rattle.std.proofs.lemmas.List.Elements.{All-push, Contains-append_cases}
 use Rattle.hd_map.specs.declared.types.Link.{Link}
 use Rattle.hd_map.specs.declared.types.Pass.{Pass}
 use Rattle.hd_map.specs.declared.types.Pos.{Pos}
@@ -18,13 +19,18 @@ use Rattle.hd_map.proofs.Items.{Contains-cases, Contains-none}
 use Rattle.hd_map.proofs.Nexts.{root-next}
 use Rattle.hd_map.proofs.Points.{Near-from, Near-to, rank_position}
 use Rattle.hd_steep.specs.declared.descent.Descent.{Descent}
-use Rattle.hd_steep.specs.Crossed.{AreBeside, Extends, IsCrossed, IsPassTo, IsServed}
-use Rattle.hd_steep.specs.Crossings.{IsNumberOf, pass_of, passes_of}
+use Rattle.hd_steep.specs.Crossed.{AreBeside, Extends, Gathers, IsCrossed, IsPassTo, IsServed}
+use Rattle.hd_steep.specs.Crossings.{HasPits, IsCrossingAlong, IsNumberAt, IsNumberOf, pass_of, passes_of}
+use Rattle.hd_steep.specs.Descended.{Descends}
 use Rattle.hd_steep.specs.Descents.{IsDescent, IsReached, LeadsDown}
-use Rattle.hd_steep.specs.Tracing.{IsNumberAt, IsTracedAcross, Traced, TracesAcross, traced_passes}
+use Rattle.hd_steep.specs.Tracing.{IsTracedAcross, Traced, TracesAcross, traced_passes}
 use Rattle.hd_steep.proofs.Crossed.{crossed_in_one, crossed_kept, crossed_push, crossings_all, extends_none, extends_on, extends_push}
 use Rattle.hd_steep.proofs.NumberedCrossings.{in_one-numbers, pass-to}
 use Rattle.hd_steep.proofs.TracedNumbers.{number_of_rank}
+
+-- crossings that were found without a trace
+abbrev pub untraced : List Rank → List Link → Traced
+untraced pits crossings = record { pits = pits; numbers = []; crossings = crossings }
 
 module _ (m : Map) (side : SideName) where
   -- a descent that was traced across stays so when more crossings are added, as those of the lists after its own
@@ -104,6 +110,21 @@ module _ (m : Map) (side : SideName) where
           across = only_descent (IsTracedAcross m side new) d (λ x y leads. subst (λ (ps : List Pass). IsCrossed m side ps x y) (sym pushed) (crossed_push m side old pass x y (along x y leads)));
         }
 
+  -- a crossing along a descent is put where it names two regions
+  pub traces_if : (t : Traced) (d : Descent) (link : Link) (keep : Bool) → ArePits m side t.pits → IsDescent m side d → IsCrossingAlong m side t.pits d link → keep ≡ not (nat_eq link.a link.b)
+      → TracesAcross m side (d ∷ []) t (record { pits = t.pits; numbers = t.numbers; crossings = if keep then t.crossings ++ link ∷ [] else t.crossings })
+  traces_if t d link true pits is along e =
+      let apart : link.a ≢ link.b = grind (arith, nat_tests) in
+      traces_push t d link.a link.b along.from along.to t.numbers link.at pits is along.at_is apart
+  traces_if t d link false pits is along e =
+      let same : link.a ≡ link.b = grind (arith, nat_tests) in
+      traces_same t d link.a link.b along.from along.to t.numbers same
+
+  -- its numbers are those of pits
+  pub with_pits : (pits : List Rank) (old : List Link) (d : Descent) (link : Link) (keep : Bool) → IsCrossingAlong m side pits d link → All (HasPits pits) old → All (HasPits pits) (if keep then old ++ link ∷ [] else old)
+  with_pits pits old d link true along all = All-push (HasPits pits) old link all (along.from.number.inside, along.to.number.inside)
+  with_pits pits old d link false along all = all
+
   -- a way round x by lower neighbours leads to one of them
   leads_lower : (x a b : Rank) (ys : List Rank) → LowerNeighbour m side x a → Leads (AreBeside m side x) a ys b → LowerNeighbour m side x b
   leads_lower x a b [] low leads = subst (λ (r : Rank). LowerNeighbour m side x r) leads low
@@ -129,6 +150,14 @@ module _ (m : Map) (side : SideName) where
                 across d there x last (record { lower = leads_lower x z last reached.way low reached.along; from_is = refl; to_is = refl })
           ];
         }
+
+    -- where descents from some points are traced across, the passes are gathered at these
+    pub gathers_traced : (C : Pos → Type 0) (list : List Descent) → Descends m side C [] list → Extends m side [] (traced_passes m side t) → ((d : Descent) → Contains list d → IsTracedAcross m side t d)
+        → Gathers m side C [] (traced_passes m side t)
+    gathers_traced C list descends extends across = record {
+      extends = extends;
+      served = λ u chosen here z low. served_traced u z list here low (descends.all u chosen here z low) across;
+    }
 
     pub traced-crossings : Extends m side [] (traced_passes m side t)
         → ((u : Pos) → Present m u → (z : Rank) → LowerNeighbour m side (rank m u) z → (list : List Descent) × IsReached m side list (rank m u) z × ((d : Descent) → Contains list d → IsTracedAcross m side t d))

@@ -13,10 +13,10 @@ use Rattle.hd_map.specs.Rank.{IsPoint}
 use Rattle.hd_map.specs.Region.{IsRoot}
 use Rattle.hd_map.proofs.Nexts.{root-is_pit}
 use Rattle.hd_map.proofs.Points.{point_inside, same_index}
-use Rattle.hd_steep.specs.Crossings.{IsNumberOf, pit_at}
+use Rattle.hd_steep.specs.Crossings.{IsNumberAt, IsNumberOf, pit_at}
 use Rattle.hd_steep.specs.Links.{no_link, AreLinks, HasPointAt, IsRootAt}
 use Rattle.hd_steep.specs.Numbering.{root_of, AreWrittenAtPits, IsLabelOf}
-use Rattle.hd_steep.specs.Tracing.{AreTracedNumbers, IsNumberAt, IsWrittenAt}
+use Rattle.hd_steep.specs.Tracing.{AreTracedNumbers, IsWrittenAt}
 use Rattle.hd_steep.proofs.Following.{IsOnWay, way_start, way_more, way_end}
 use Rattle.hd_steep.proofs.PitNumbers.{listed_pit, own_stays, root_at, root_below, root_own}
 use Rattle.hd_steep.proofs.Pits.{pits_few}

@@ -1,5 +1,5 @@
 -- Crossings as they are gathered, point by point.
-use Rattle.std.specs.Prelude.{◌≡◌, ◌<◌, ◌≤◌, ◌⊎◌, ◌+◌, ℕ, Bool, true, List, Contains, length}
+use Rattle.std.specs.Prelude.{◌≡◌, ◌⊎◌, true, List, Contains}
 use Rattle.hd_map.specs.declared.types.Pass.{Pass}
 use Rattle.hd_map.specs.declared.types.Pos.{Pos}
 use Rattle.hd_map.specs.declared.types.Rank.{Rank}
@@ -9,33 +9,8 @@ use Rattle.hd_map.specs.Path.{Leads}
 use Rattle.hd_map.specs.Rank.{rank, below_by, Near}
 use Rattle.hd_map.specs.Region.{LowerNeighbour, IsRoot}
 use Rattle.hd_map.specs.Walks.{HasPass}
-use Rattle.hd_steep.specs.declared.rolling.Rows.{Rows}
-use Rattle.hd_steep.specs.Ring.{is_marked, ring_of}
-use Rattle.hd_steep.specs.Rows.{rank_in, IsFramed, IsRowOf}
-
--- each row has the place of a column, and one on each side of it
-pub record AreWide (rows : Rows) (x : ℕ) : Type 0 where
-  pub above : x + 2 < length rows.above.items
-  pub level : x + 2 < length rows.level.items
-  pub below : x + 2 < length rows.below.items
-
--- the ranks round that place of the middle row
-abbrev pub ring_round : Rows → ℕ → List Rank
-ring_round rows x = ring_of rows.above.items rows.level.items rows.below.items x
 
 module _ (m : Map) (side : SideName) where
-  -- the rows of a profile, the one before it and the one after it
-  pub record AreRowsRound (y : ℕ) (rows : Rows) : Type 0 where
-    pub above : IsRowOf m side y rows.above.items
-    pub level : IsRowOf m side (y + 1) rows.level.items
-    pub below : IsRowOf m side (y + 2) rows.below.items
-
-  -- the rows before those of a profile
-  pub record AreRowsBefore (y : ℕ) (rows : Rows) : Type 0 where
-    pub spare : IsFramed side m.size.points rows.above.items
-    pub level : IsRowOf m side y rows.level.items
-    pub below : IsRowOf m side (y + 1) rows.below.items
-
   -- two lower neighbours of x that are neighbours of each other
   pub record AreBeside (x y z : Rank) : Type 0 where
     pub from : LowerNeighbour m side x y
@@ -73,11 +48,6 @@ module _ (m : Map) (side : SideName) where
     pub from : IsRoot m side x a
     pub to : IsRoot m side y b
     pub by : (a ≡ b) ⊎ HasPass passes a b x
-
-  -- the list is extended, so that x is crossed to the marked places of a ring from a first one up to an end
-  pub record AreCrossedTo (old new : List Pass) (x : Rank) (ring : List Rank) (marks : List Bool) (first end : ℕ) : Type 0 where
-    pub extends : Extends old new
-    pub crossed : (k : ℕ) → first ≤ k → k < end → is_marked marks k ≡ true → IsCrossed new x (rank_in ring k)
 
   -- y leads round x to one that lies in the region of x, or in one that a pass at x joins with it
   pub record IsServed (passes : List Pass) (x y : Rank) : Type 0 where

@@ -1,12 +1,15 @@
 -- Crossings by the numbers of their regions.
-use Rattle.std.specs.Prelude.{◌<◌, ℕ, List, length, map, pos, slice_index_or, if◌then◌else◌}
+use Rattle.std.specs.Prelude.{◌≡◌, ◌<◌, ℕ, List, [], All, length, map, pos, slice_index_or, if◌then◌else◌}
+use Rattle.hd_map.specs.declared.types.Link.{Link}
 use Rattle.hd_map.specs.declared.types.Pass.{Pass}
+use Rattle.hd_map.specs.declared.types.Pos.{Pos}
 use Rattle.hd_map.specs.declared.types.Rank.{Rank}
 use Rattle.hd_map.specs.declared.types.SideName.{SideName}
-use Rattle.hd_map.specs.Map.{Map}
-use Rattle.hd_map.specs.Rank.{below_by}
+use Rattle.hd_map.specs.Map.{Map, position_at}
+use Rattle.hd_map.specs.Rank.{rank, below_by, IsPoint}
 use Rattle.hd_map.specs.Region.{IsRoot}
-use Rattle.hd_map.specs.declared.types.Link.{Link}
+use Rattle.hd_steep.specs.declared.descent.Descent.{Descent}
+use Rattle.hd_steep.specs.Crossed.{Gathers}
 
 -- the pit of a number
 abbrev pub pit_at : List Rank → ℕ → Rank
@@ -28,3 +31,22 @@ HasPits pits x = (x.a < length pits) × (x.b < length pits)
 pub record IsNumberOf (m : Map) (side : SideName) (pits : List Rank) (x : Rank) (n : ℕ) : Type 0 where
   pub inside : n < length pits
   pub root : IsRoot m side x (pit_at pits n)
+
+module _ (m : Map) (side : SideName) (pit_ranks : List Rank) where
+  -- a point has this index, and n is the number of the pit in whose region it lies
+  pub record IsNumberAt (k n : ℕ) : Type 0 where
+    pub at : Rank
+    pub point : IsPoint m at
+    pub index_is : k ≡ at.index
+    pub number : IsNumberOf m side pit_ranks at n
+
+  -- it names the regions of both ends of the descent, and stands at the higher one
+  pub record IsCrossingAlong (d : Descent) (x : Link) : Type 0 where
+    pub from : IsNumberAt d.from x.a
+    pub to : IsNumberAt d.to x.b
+    pub at_is : x.at ≡ rank m (position_at m.size d.from)
+
+  -- crossings that serve the lower neighbours of the chosen points
+  pub record AreCrossingsAt (Chosen : Pos → Type 0) (xs : List Link) : Type 0 where
+    pub gathers : Gathers m side Chosen [] (passes_of side pit_ranks xs)
+    pub pits : All (HasPits pit_ranks) xs

@@ -1,5 +1,5 @@
 -- Descents as they are gathered, point by point.
-use Rattle.std.specs.Prelude.{◌⊎◌, ◌+◌, ◌++◌, ℕ, zero, suc, Bool, List, [], ◌∷◌, Contains, if◌then◌else◌}
+use Rattle.std.specs.Prelude.{◌⊎◌, ◌+◌, ◌-◌, ◌++◌, ℕ, zero, suc, Bool, List, [], ◌∷◌, Contains, slice_index, if◌then◌else◌}
 use Rattle.hd_map.specs.declared.types.Pos.{Pos}
 use Rattle.hd_map.specs.declared.types.Rank.{Rank}
 use Rattle.hd_map.specs.declared.types.SideName.{SideName}
@@ -7,24 +7,29 @@ use Rattle.hd_map.specs.Map.{Map, Present}
 use Rattle.hd_map.specs.Rank.{rank}
 use Rattle.hd_map.specs.Region.{LowerNeighbour}
 use Rattle.hd_steep.specs.declared.descent.Descent.{Descent}
+use Rattle.hd_steep.specs.declared.rolling.Rows.{Rows}
 use Rattle.hd_steep.specs.Descents.{IsDescentFrom, IsReached}
 use Rattle.hd_steep.specs.Ring.{is_marked}
-use Rattle.hd_steep.specs.Rows.{rank_in}
 
--- the descent from one point to another
-abbrev pub descent_to : Rank → Rank → Descent
-descent_to x y = record { from = x.index; to = y.index }
+-- the descent from an index to another one
+abbrev pub descent_to : ℕ → ℕ → Descent
+descent_to from to = record { from = from; to = to }
 
-module _ (x : Rank) (ring : List Rank) (marks : List Bool) (old : List Descent) where
-  -- with the descent from x to a place of a ring, if that is marked
-  abbrev pub with_descent : ℕ → List Descent
-  with_descent k = if is_marked marks k then old ++ descent_to x (rank_in ring k) ∷ [] else old
+-- the list with the descent from an index to another one, if that is marked
+abbrev pub with_descent_if : ℕ → ℕ → Bool → List Descent → List Descent
+with_descent_if from to marked old = if marked then old ++ descent_to from to ∷ [] else old
 
-module _ (x : Rank) (ring : List Rank) (marks : List Bool) (old : List Descent) (first : ℕ) where
-  -- with those to this many places from a first one on
+-- with the descents from an index to the marked ones among the first n of others
+module _ (from : ℕ) (others : List ℕ) (marks : List Bool) (old : List Descent) where
   abbrev pub with_descents : ℕ → List Descent
   with_descents zero = old
-  with_descents (suc n) = with_descent x ring marks (with_descents n) (first + n)
+  with_descents (suc n) = with_descent_if from (slice_index others n) (is_marked marks n) (with_descents n)
+
+-- the indexes of the eight places round a column, where they are in the rows
+abbrev pub indexes_round : {L : Type 0} → Rows L → ℕ → List ℕ
+indexes_round rows x =
+    (rows.above.first + x) ∷ (rows.above.first + x + 1) ∷ (rows.level.first + x + 1) ∷ (rows.below.first + x + 1)
+    ∷ (rows.below.first + x) ∷ (rows.below.first + x - 1) ∷ (rows.level.first + x - 1) ∷ (rows.above.first + x - 1) ∷ []
 
 -- the list is extended by descents from the chosen points, so that all lower neighbours of these are reached
 pub record Descends (m : Map) (side : SideName) (Chosen : Pos → Type 0) (old new : List Descent) : Type 0 where

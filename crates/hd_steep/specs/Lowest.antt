@@ -50,11 +50,6 @@ pub record IsPlaceBeside (adjacency : Adjacency) (p near q : Pos) : Type 0 where
   pub place : q ≡ near
   pub beside : AreBesideUnder adjacency p q
 
--- the position lies in this profile, and its column is near another one
-pub record InSpan (y x : ℕ) (q : Pos) : Type 0 where
-  pub profile : q.y + 1 ≡ y
-  pub column : IsNear x q.x
-
 -- q is p, or one of the positions round it that are beside it under the setting
 pub record IsRound (adjacency : Adjacency) (p q : Pos) : Type 0 where
   pub column : IsNear p.x q.x

@@ -1,10 +1,9 @@
 -- The regions of a map by the numbers of their pits.
-use Rattle.std.specs.Prelude.{◌≡◌, ◌<◌, ◌≤◌, ◌+◌, ℕ, Bool, true, false, List, length, map, Option, Some, None, slice_get, slice_index, slice_index_or, nat_lt, MatchOption, if◌then◌else◌}
+use Rattle.std.specs.Prelude.{◌≡◌, ◌<◌, ◌≤◌, ℕ, List, length, map, Option, Some, None, slice_get, slice_index, slice_index_or, nat_lt, MatchOption, if◌then◌else◌}
 use Rattle.std.specs.Option.{option_map}
 use Rattle.hd_map.specs.declared.types.Rank.{Rank}
 use Rattle.hd_map.specs.declared.types.SideName.{SideName}
 use Rattle.hd_map.specs.Map.{Map, cell_count}
-use Rattle.hd_map.specs.Neighbour.{IsNear}
 use Rattle.hd_map.specs.Pruning.{ArePits}
 use Rattle.hd_map.specs.Region.{AreRegions}
 use Rattle.hd_steep.specs.Links.{NoPointAt, IsRootAt, IsRootLink}
@@ -67,17 +66,3 @@ pub record AreNumbers (m : Map) (side : SideName) (pits : List Rank) (numbers : 
 pub record AreNumbered (m : Map) (side : SideName) (regions : Numbering) : Type 0 where
   pub pits : ArePits m side regions.pits
   pub roots : AreRegions m side (roots_of regions)
-
--- an index and those beside it have this number
-abbrev pub AreThree : List ℕ → ℕ → ℕ → Type 0
-AreThree numbers middle number = (k : ℕ) → IsNear k middle → slice_index numbers k ≡ number
-
--- the number of an index is that of the eight round it in a grid of this width
-pub record AreOneAround (numbers : List ℕ) (width index : ℕ) : Type 0 where
-  pub above : (middle : ℕ) → middle + width ≡ index → AreThree numbers middle (slice_index numbers index)
-  pub level : AreThree numbers index (slice_index numbers index)
-  pub below : AreThree numbers (index + width) (slice_index numbers index)
-
--- a marked one of a row of indexes, from a first one on, has one number with the eight round it
-abbrev pub AreInner : List ℕ → ℕ → ℕ → List Bool → Type 0
-AreInner numbers width first marks = (k : ℕ) → k < length marks → slice_index_or marks k false ≡ true → AreOneAround numbers width (first + k)

@@ -6,10 +6,9 @@ use Rattle.hd_map.specs.declared.types.Rank.{Rank}
 use Rattle.hd_map.specs.declared.types.SideName.{SideName}
 use Rattle.hd_map.specs.Map.{Map, cell_count}
 use Rattle.hd_map.specs.Pruning.{ArePits}
-use Rattle.hd_map.specs.Rank.{IsPoint}
 use Rattle.hd_steep.specs.declared.descent.Descent.{Descent}
 use Rattle.hd_steep.specs.Crossed.{Extends, IsCrossed}
-use Rattle.hd_steep.specs.Crossings.{HasPits, IsNumberOf, passes_of}
+use Rattle.hd_steep.specs.Crossings.{HasPits, passes_of}
 use Rattle.hd_steep.specs.Descents.{LeadsDown}
 use Rattle.hd_steep.specs.Links.{no_link, IsRootAt}
 use Rattle.hd_steep.specs.Numbering.{IsLabelOf, root_of}
@@ -31,13 +30,6 @@ module _ (m : Map) (side : SideName) where
     pub whole : length numbers ≡ cell_count m.size
     pub each : (k : ℕ) → k < length numbers → (slice_index numbers k ≡ no_link) ⊎ IsLabelOf m side k (root_of pits (slice_index numbers k))
     pub own : (k : ℕ) → IsRootAt m side k k → slice_index numbers k ≢ no_link
-
-  -- a point has this index, and n is the number of the pit in whose region it lies
-  pub record IsNumberAt (pits : List Rank) (k n : ℕ) : Type 0 where
-    pub at : Rank
-    pub point : IsPoint m at
-    pub index_is : k ≡ at.index
-    pub number : IsNumberOf m side pits at n
 
   -- what was traced is that of the map
   pub record IsTraced (t : Traced) : Type 0 where

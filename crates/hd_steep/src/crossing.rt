@@ -1,28 +1,34 @@
 // The passes at points whose lower neighbours fall into several groups.
-ghost use Rattle.std.specs.Prelude.{◌≡◌, ◌⊎◌, ◌<◌, ◌≤◌, ◌+◌, ◌*◌, ℕ, [], true, length, All, IfOk};
-ghost use Rattle.std.specs.Bool.{OnTrue};
-ghost use Rattle.hd_map.specs.Map.{InGrid, cell_count, place_of};
+ghost use Rattle.std.specs.Prelude.{◌≡◌, ◌≤◌, ◌+◌, ◌*◌, length, take, All, IfOk, IfSome, MatchOption};
 ghost use Rattle.hd_map.specs.Crossings.{AreCrossingsUnder};
-ghost use Rattle.hd_map.specs.Rank.{IsPoint};
-ghost use Rattle.hd_map.specs.Region.{LowerNeighbour};
-ghost use Rattle.hd_steep.specs.Batch.{AddsAtMost, HasRoomFor};
-ghost use Rattle.hd_steep.specs.Crossings.{HasPits, IsNumberOf, pass_of, passes_of};
-ghost use Rattle.hd_steep.specs.Numbering.{AreInner, AreNumbered, AreOneAround, roots_of};
-ghost use Rattle.hd_steep.specs.Rows.{rank_in};
-ghost use Rattle.hd_steep.specs.Ring.{is_marked};
-ghost use Rattle.hd_steep.specs.Crossed.{AreRowsRound, AreWide, ring_round, Extends, IsCrossed, AreCrossedTo, Gathers};
+ghost use Rattle.hd_map.specs.Map.{position_at};
+ghost use Rattle.hd_map.specs.Rank.{rank};
+ghost use Rattle.hd_steep.specs.Crossings.{AreCrossingsAt, HasPits, IsCrossingAlong, IsNumberAt, pass_of, passes_of};
+ghost use Rattle.hd_steep.specs.Descending.{HasDescended};
+ghost use Rattle.hd_steep.specs.Descents.{IsDescentFrom};
+ghost use Rattle.hd_steep.specs.KeyRows.{IsKeyRow};
+ghost use Rattle.hd_steep.specs.Keys.{IsBeyond, IsKey, on_side};
+ghost use Rattle.hd_steep.specs.Links.{HasPointAt};
+ghost use Rattle.hd_steep.specs.Numbering.{AreNumbered, roots_of};
 
-use crate::batch::Batch;
-use crate::lowest::is_missing;
+use crate::descending::Descending;
+use crate::descent::Descent;
 use crate::numbering::Regions;
-use crate::places::{are_several, lower_at, marked};
-use crate::rolling::Rows;
+use crate::put::put;
+use crate::row::Row;
 use hd_list::{List, Memory};
-use hd_map::{Adjacency, Heights, Link, Pass, Pos, Rank, Side};
+use hd_map::{Heights, Lane, Link, Pass, Rank, Side, SideName};
 use std::alloc::Global;
 
-// Pits are few where each has more points than this.
-const POINTS_A_PIT: usize = 64;
+// Stands where no link was put.
+const SPARE: Link = Link {
+    a: 0,
+    b: 0,
+    at: Rank {
+        height: 0,
+        index: 0,
+    },
+};
 
 /// Passes between these regions that are enough to tell at which heights regions are joined: where
 /// two of them meet, passes that are not above the meeting lead from one to the other.
@@ -30,7 +36,8 @@ const POINTS_A_PIT: usize = 64;
 /// The regions are those that `find_regions` gives for this grid and side. There may be several
 /// passes for two regions, or none; `passes` gives one for each two that meet. Measured, it takes
 /// time in proportion to the points, and memory for the passes, at first for one of three points,
-/// and 241 bytes a column, of which 192 are room for eight. `Memory` comes where memory is refused.
+/// and 281 bytes a column, or 293 where a height is more than 2 ^ 29 steps from zero; of these 192
+/// are room for eight passes. `Memory` comes where memory is refused.
 pub fn crossings<S: Side, G: Heights>(
     alloc: Global,
     grid: &G,
@@ -40,8 +47,13 @@ pub fn crossings<S: Side, G: Heights>(
     ensures passes { IfOk result (λ xs. AreCrossingsUnder (G.map grid.now) S.NAME (roots_of regions.now) (passes_of S.NAME regions.now.pits xs)) }
     ensures pits { IfOk result (All (HasPits regions.now.pits)) }
 {
-    let crossings = gather::<S, G>(alloc, grid, regions)?;
-    Ok(List::from_vec(crossings))
+    if let Some(crossings) = found_crossings::<S, i32, G>(alloc, grid, regions)? {
+        return Ok(crossings);
+    }
+    match found_crossings::<S, i64, G>(alloc, grid, regions)? {
+        Some(crossings) => Ok(crossings),
+        None => unreachable!(),
+    }
 }
 
 /// The passes of crossings between these regions, each with the pits that it joins, the lower one first. `Memory`
@@ -78,285 +90,120 @@ fn pass_of<S: Side>(regions: &Regions, crossing: Link) -> Pass
     }
 }
 
-// The crossings at all points.
-fn gather<S: Side, G: Heights>(
+// The same by keys of one type, unless a height is too far from zero for these.
+fn found_crossings<S: Side, L: Lane, G: Heights>(
     alloc: Global,
     grid: &G,
     regions: &Regions,
-) -> Result<Vec<Link>, Memory>
+) -> Result<Option<List<Link>>, Memory>
     requires { AreNumbered (G.map grid.now) S.NAME regions.now }
-    ensures gathers { IfOk result (λ xs. Gathers (G.map grid.now) S.NAME (λ u. u.y < (G.map grid.now).size.profiles) [] (passes_of S.NAME regions.now.pits xs.items)) }
-    ensures pits { IfOk result (λ xs. All (HasPits regions.now.pits) xs.items) }
+    ensures passes { let m = G.map grid.now in IfOk result (λ found. MatchOption found (IsBeyond L.code m)
+        (λ xs. AreCrossingsUnder m S.NAME (roots_of regions.now) (passes_of S.NAME regions.now.pits xs))) }
+    ensures pits { IfOk result (λ found. IfSome found (All (HasPits regions.now.pits))) }
 {
-    let width = grid.size().points as usize;
-    let mut rows = Rows::before::<S, G>(alloc, grid, 0)?;
-    let mut inner = vec![in alloc; false; width]?;
+    let Some(mut descending) = Descending::<L>::before::<S, G>(alloc, grid, 0)? else {
+        return Ok(None);
+    };
     // a point has eight lower neighbours at most
-    let mut batch = Batch::with_room(alloc, 8 * width)?;
+    let mut room = vec![in alloc; SPARE; 8 * grid.size().points as usize]?;
     // heights without any order have about one pass for three points
     let mut crossings = Vec::with_capacity(alloc, regions.len() / 3)?;
     'profiles: for y in 0..grid.size().profiles {
-        rows.advance::<S, G>(grid, y);
-        mark_profile::<G>(grid, regions, y, &mut inner);
-        gather_profile::<S, G>(grid, regions, &rows, &inner, y, &mut batch);
-        batch.move_to(&mut crossings)?;
+        if !descending.advance::<S, G>(grid, y) {
+            return Ok(None);
+        }
+        let count = cross_profile::<S, L, G>(grid, regions, &descending, y, &mut room);
+        crossings.extend_from_slice(&room[..count])?;
     }
-    Ok(crossings)
+    Ok(Some(List::from_vec(crossings)))
 }
 
-// Marks by column the points of a profile that lie inside a region, where pits are few: where they are many, hardly any
-// point does.
-fn mark_profile<G: Heights>(grid: &G, regions: &Regions, y: u32, inner: &mut [bool])
-    requires profile { y < (G.map grid.now).size.profiles }
-    requires columns { length inner.old ≡ (G.map grid.now).size.points }
-    requires numbers { length regions.now.numbers ≡ cell_count (G.map grid.now).size }
-    ensures { AreInner regions.now.numbers (G.map grid.now).size.points (y * (G.map grid.now).size.points) inner.new }
-{
-    let size = grid.size();
-    let are_pits_few = regions.pits().len() < regions.len() / POINTS_A_PIT;
-    // The two profiles at each border are left: of the indexes round theirs some are not in the grid.
-    if are_pits_few && 1 < y && y + 2 < size.profiles {
-        let width = size.points as usize;
-        regions.mark_inner(y as usize * width, width, inner);
-    } else {
-        inner.fill(false);
-    }
-}
-
-// Adds the crossings at the points of a profile, of which the marked ones lie inside a region.
-fn gather_profile<S: Side, G: Heights>(
+// Finds the crossings along the descents from the points of a profile, and tells how many they are.
+fn cross_profile<S: Side, L: Lane, G: Heights>(
     grid: &G,
     regions: &Regions,
-    rows: &Rows,
-    inner: &[bool],
+    descending: &Descending<L>,
     y: u32,
-    batch: &mut Batch,
-)
+    room: &mut [Link],
+) -> usize
     requires regions { AreNumbered (G.map grid.now) S.NAME regions.now }
-    requires profile { y < (G.map grid.now).size.profiles }
-    requires rows { AreRowsRound (G.map grid.now) S.NAME y rows.now }
-    requires columns { length inner.now ≡ (G.map grid.now).size.points }
-    requires inner { AreInner regions.now.numbers (G.map grid.now).size.points (y * (G.map grid.now).size.points) inner.now }
-    requires room { HasRoomFor (8 * (G.map grid.now).size.points) batch.old }
-    ensures gathers { Gathers (G.map grid.now) S.NAME (λ u. u.y ≡ y) (passes_of S.NAME regions.now.pits batch.old.links) (passes_of S.NAME regions.now.pits batch.new.links) }
-    ensures pits { All (HasPits regions.now.pits) batch.old.links → All (HasPits regions.now.pits) batch.new.links }
-    ensures room { batch.new.room ≡ batch.old.room }
+    requires descended { HasDescended L.code S.NAME (G.map grid.now) y descending.now }
+    requires room { 8 * (G.map grid.now).size.points ≤ length room.old }
+    ensures crosses { AreCrossingsAt (G.map grid.now) S.NAME regions.now.pits (λ u. u.y ≡ y) (take result room.new) }
+    ensures few { result ≤ length room.old }
 {
-    match grid.adjacency() {
-        Adjacency::Four => {
-            gather_points::<S, G>(grid, Adjacency::Four, regions, rows, inner, y, batch);
-        }
-        Adjacency::Six => {
-            gather_points::<S, G>(grid, Adjacency::Six, regions, rows, inner, y, batch);
-        }
-        Adjacency::Eight => {
-            gather_points::<S, G>(grid, Adjacency::Eight, regions, rows, inner, y, batch);
-        }
+    let level = descending.level();
+    let descents = descending.descents();
+    let mut count = 0;
+    for descent in descents {
+        let crossing = crossing_along::<S, L, G>(grid, regions, level, y, *descent);
+        count = put(room, count, crossing, crossing.a != crossing.b);
     }
+    count
 }
 
-// The same under a setting that the call names, so that the code for it does not ask for the setting at each point.
+// The crossing along a descent from a point of a profile. Where both its ends lie in one region, it names that twice.
 #[inline(always)]
-fn gather_points<S: Side, G: Heights>(
-    grid: &G,
-    adjacency: Adjacency,
+fn crossing_along<S: Side, L: Lane, G: Heights>(
+    _grid: &G,
     regions: &Regions,
-    rows: &Rows,
-    inner: &[bool],
-    y: u32,
-    batch: &mut Batch,
-)
-    requires adjacency { adjacency ≡ (G.map grid.now).adjacency }
-    requires regions { AreNumbered (G.map grid.now) S.NAME regions.now }
-    requires profile { y < (G.map grid.now).size.profiles }
-    requires rows { AreRowsRound (G.map grid.now) S.NAME y rows.now }
-    requires columns { length inner.now ≡ (G.map grid.now).size.points }
-    requires inner { AreInner regions.now.numbers (G.map grid.now).size.points (y * (G.map grid.now).size.points) inner.now }
-    requires room { HasRoomFor (8 * (G.map grid.now).size.points) batch.old }
-    ensures gathers { Gathers (G.map grid.now) S.NAME (λ u. u.y ≡ y) (passes_of S.NAME regions.now.pits batch.old.links) (passes_of S.NAME regions.now.pits batch.new.links) }
-    ensures pits { All (HasPits regions.now.pits) batch.old.links → All (HasPits regions.now.pits) batch.new.links }
-    ensures room { batch.new.room ≡ batch.old.room }
-{
-    for x in 0..grid.size().points {
-        let is_inner = inner[x as usize];
-        gather_point::<S, G>(
-            grid,
-            adjacency,
-            regions,
-            rows,
-            Pos { x, y },
-            is_inner,
-            batch,
-        );
-    }
-}
-
-// Adds the crossings at a point, if it is present. Where it lies inside a region, its lower neighbours all lie in that
-// one; and where they are one group, they are joined below it.
-#[inline(always)]
-fn gather_point<S: Side, G: Heights>(
-    grid: &G,
-    adjacency: Adjacency,
-    regions: &Regions,
-    rows: &Rows,
-    at: Pos,
-    is_inner: bool,
-    batch: &mut Batch,
-)
-    requires adjacency { adjacency ≡ (G.map grid.now).adjacency }
-    requires regions { AreNumbered (G.map grid.now) S.NAME regions.now }
-    requires inside { InGrid (G.map grid.now).size at }
-    requires rows { AreRowsRound (G.map grid.now) S.NAME at.y rows.now }
-    requires inner { OnTrue is_inner (AreOneAround regions.now.numbers (G.map grid.now).size.points (place_of (G.map grid.now).size at)) }
-    requires room { HasRoomFor 8 batch.old }
-    ensures gathers { Gathers (G.map grid.now) S.NAME (λ u. u ≡ at) (passes_of S.NAME regions.now.pits batch.old.links) (passes_of S.NAME regions.now.pits batch.new.links) }
-    ensures pits { All (HasPits regions.now.pits) batch.old.links → All (HasPits regions.now.pits) batch.new.links }
-    ensures few { AddsAtMost 8 batch.old batch.new }
-{
-    if is_inner {
-        return;
-    }
-    let x = at.x as usize;
-    let own = rows.level[x + 1];
-    if is_missing::<S>(own) {
-        return;
-    }
-    let lower = lower_at::<S>(&rows.above, &rows.level, &rows.below, x, own);
-    let marks = marked(adjacency, &lower);
-    if are_several(&marks) {
-        cross::<S, G>(grid, regions, own, rows, x, &marks, batch);
-    }
-}
-
-// Adds the crossings at a point to the marked ones of its lower neighbours.
-#[inline(always)]
-fn cross<S: Side, G: Heights>(
-    grid: &G,
-    regions: &Regions,
-    own: Rank,
-    rows: &Rows,
-    x: usize,
-    marks: &[bool; 8],
-    batch: &mut Batch,
-)
-    requires regions { AreNumbered (G.map grid.now) S.NAME regions.now }
-    requires point { IsPoint (G.map grid.now) own }
-    requires wide { AreWide rows.now x }
-    requires lower { (k : ℕ) → is_marked marks.now k ≡ true → LowerNeighbour (G.map grid.now) S.NAME own (rank_in (ring_round rows.now x) k) }
-    requires room { HasRoomFor 8 batch.old }
-    ensures extends { Extends (G.map grid.now) S.NAME (passes_of S.NAME regions.now.pits batch.old.links) (passes_of S.NAME regions.now.pits batch.new.links) }
-    ensures crossed { (k : ℕ) → is_marked marks.now k ≡ true → IsCrossed (G.map grid.now) S.NAME (passes_of S.NAME regions.now.pits batch.new.links) own (rank_in (ring_round rows.now x) k) }
-    ensures pits { All (HasPits regions.now.pits) batch.old.links → All (HasPits regions.now.pits) batch.new.links }
-    ensures few { AddsAtMost 8 batch.old batch.new }
-{
-    let number = number_of::<S, G>(grid, regions, own);
-    cross_four::<S, G>(grid, regions, own, number, rows, x, marks, 0, batch);
-    cross_four::<S, G>(grid, regions, own, number, rows, x, marks, 4, batch);
-}
-
-// Adds the crossings at a point, the number of whose pit is known, to the marked ones among four of its lower
-// neighbours, from one of the eight places on. Each is written out: a loop would have to store the
-// marks, and to look for the row of each place.
-#[inline(always)]
-fn cross_four<S: Side, G: Heights>(
-    grid: &G,
-    regions: &Regions,
-    own: Rank,
-    number: u32,
-    rows: &Rows,
-    x: usize,
-    marks: &[bool; 8],
-    first: usize,
-    batch: &mut Batch,
-)
-    requires regions { AreNumbered (G.map grid.now) S.NAME regions.now }
-    requires point { IsPoint (G.map grid.now) own }
-    requires number { IsNumberOf (G.map grid.now) S.NAME regions.now.pits own number }
-    requires wide { AreWide rows.now x }
-    requires lower { (k : ℕ) → is_marked marks.now k ≡ true → LowerNeighbour (G.map grid.now) S.NAME own (rank_in (ring_round rows.now x) k) }
-    requires first { first ≤ 4 }
-    requires room { HasRoomFor 4 batch.old }
-    ensures crossed { AreCrossedTo (G.map grid.now) S.NAME (passes_of S.NAME regions.now.pits batch.old.links) (passes_of S.NAME regions.now.pits batch.new.links) own (ring_round rows.now x) marks.now first (first + 4) }
-    ensures pits { All (HasPits regions.now.pits) batch.old.links → All (HasPits regions.now.pits) batch.new.links }
-    ensures few { AddsAtMost 4 batch.old batch.new }
-{
-    cross_if::<S, G>(grid, regions, own, number, rows, x, marks, first, batch);
-    cross_if::<S, G>(grid, regions, own, number, rows, x, marks, first + 1, batch);
-    cross_if::<S, G>(grid, regions, own, number, rows, x, marks, first + 2, batch);
-    cross_if::<S, G>(grid, regions, own, number, rows, x, marks, first + 3, batch);
-}
-
-// Adds the crossing at a point to its lower neighbour at one of the eight places, if that is marked and
-// lies in another region. Whether it does is hard to guess, so that nothing branches on it: where the place is not
-// marked, the point itself is taken, which lies in no other region.
-#[inline(always)]
-fn cross_if<S: Side, G: Heights>(
-    grid: &G,
-    regions: &Regions,
-    own: Rank,
-    number: u32,
-    rows: &Rows,
-    x: usize,
-    marks: &[bool; 8],
-    place: usize,
-    batch: &mut Batch,
-)
-    requires regions { AreNumbered (G.map grid.now) S.NAME regions.now }
-    requires point { IsPoint (G.map grid.now) own }
-    requires number { IsNumberOf (G.map grid.now) S.NAME regions.now.pits own number }
-    requires wide { AreWide rows.now x }
-    requires place { place < 8 }
-    requires lower { is_marked marks.now place ≡ true → LowerNeighbour (G.map grid.now) S.NAME own (rank_in (ring_round rows.now x) place) }
-    requires room { HasRoomFor 1 batch.old }
-    ensures extends { Extends (G.map grid.now) S.NAME (passes_of S.NAME regions.now.pits batch.old.links) (passes_of S.NAME regions.now.pits batch.new.links) }
-    ensures crossed { is_marked marks.now place ≡ true → IsCrossed (G.map grid.now) S.NAME (passes_of S.NAME regions.now.pits batch.new.links) own (rank_in (ring_round rows.now x) place) }
-    ensures pits { All (HasPits regions.now.pits) batch.old.links → All (HasPits regions.now.pits) batch.new.links }
-    ensures few { AddsAtMost 1 batch.old batch.new }
-{
-    let around = rows.around(x, place);
-    let other = if marks[place] { around } else { own };
-    cross_to::<S, G>(grid, regions, own, number, other, batch);
-}
-
-// Adds the crossing at a point to one of its lower neighbours, if that lies in another region, and none to the point
-// itself.
-#[inline(always)]
-fn cross_to<S: Side, G: Heights>(
-    grid: &G,
-    regions: &Regions,
-    own: Rank,
-    number: u32,
-    other: Rank,
-    batch: &mut Batch,
-)
-    requires regions { AreNumbered (G.map grid.now) S.NAME regions.now }
-    requires point { IsPoint (G.map grid.now) own }
-    requires number { IsNumberOf (G.map grid.now) S.NAME regions.now.pits own number }
-    requires other { (other ≡ own) ⊎ LowerNeighbour (G.map grid.now) S.NAME own other }
-    requires room { HasRoomFor 1 batch.old }
-    ensures extends { Extends (G.map grid.now) S.NAME (passes_of S.NAME regions.now.pits batch.old.links) (passes_of S.NAME regions.now.pits batch.new.links) }
-    ensures crossed { IsCrossed (G.map grid.now) S.NAME (passes_of S.NAME regions.now.pits batch.new.links) own other }
-    ensures pits { All (HasPits regions.now.pits) batch.old.links → All (HasPits regions.now.pits) batch.new.links }
-    ensures few { AddsAtMost 1 batch.old batch.new }
-{
-    let there = number_of::<S, G>(grid, regions, other);
-    let crossing = Link {
-        a: number,
-        b: there,
-        at: own,
-    };
-    batch.put(crossing, there != number);
-}
-
-// The number of the pit in whose region a point lies.
-#[inline]
-fn number_of<S: Side, G: Heights>(_grid: &G, regions: &Regions, point: Rank) -> u32
+    level: &Row<L>,
+    _y: u32,
+    descent: Descent,
+) -> Link
     requires regions { AreNumbered (G.map _grid.now) S.NAME regions.now }
-    requires point { IsPoint (G.map _grid.now) point }
-    ensures { IsNumberOf (G.map _grid.now) S.NAME regions.now.pits point result }
+    requires level { IsKeyRow L.code S.NAME (G.map _grid.now) (_y + 1) level.now }
+    requires descent { IsDescentFrom (G.map _grid.now) S.NAME (λ u. u.y ≡ _y) descent }
+    ensures { IsCrossingAlong (G.map _grid.now) S.NAME regions.now.pits descent result }
 {
-    match regions.number(point.index as usize) {
+    Link {
+        a: number_of::<S, G>(_grid, regions, descent.from),
+        b: number_of::<S, G>(_grid, regions, descent.to),
+        at: higher_end::<S, L, G>(_grid, level, _y, descent),
+    }
+}
+
+// The point of a profile from which a descent leads.
+#[inline(always)]
+fn higher_end<S: Side, L: Lane, G: Heights>(
+    _grid: &G,
+    level: &Row<L>,
+    _y: u32,
+    descent: Descent,
+) -> Rank
+    requires level { IsKeyRow L.code S.NAME (G.map _grid.now) (_y + 1) level.now }
+    requires descent { IsDescentFrom (G.map _grid.now) S.NAME (λ u. u.y ≡ _y) descent }
+    ensures { result ≡ rank (G.map _grid.now) (position_at (G.map _grid.now).size descent.from) }
+{
+    let index = descent.from;
+    let column = (index - level.first) as usize;
+    match height_of::<S, L>(level.keys[column + 1]) {
+        Some(height) => Rank { height, index },
+        None => unreachable!(),
+    }
+}
+
+// The number of the pit in whose region the point of an index lies.
+#[inline(always)]
+fn number_of<S: Side, G: Heights>(_grid: &G, regions: &Regions, index: u32) -> u32
+    requires regions { AreNumbered (G.map _grid.now) S.NAME regions.now }
+    requires point { HasPointAt (G.map _grid.now) index }
+    ensures { IsNumberAt (G.map _grid.now) S.NAME regions.now.pits index result }
+{
+    match regions.number(index as usize) {
         Some(number) => number,
         None => unreachable!(),
+    }
+}
+
+// The height for which a key stands.
+#[inline(always)]
+fn height_of<S: Side, L: Lane>(key: L) -> Option<i64>
+    requires { IsKey L.code key }
+    ensures { result ≡ on_side S.NAME (L.code.shown key) }
+{
+    match S::NAME {
+        SideName::Dales => key.negated().height(),
+        SideName::Hills => key.height(),
     }
 }

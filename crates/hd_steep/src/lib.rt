@@ -2,21 +2,25 @@
 //! the passes between these regions.
 #![tactic(auto)]
 
-mod batch;
+mod below;
 mod borders;
 mod crossing;
+mod descending;
 mod descent;
 mod kept_links;
 mod laws;
 mod leading;
 mod links;
+mod low;
+mod lower_places;
 mod lowest;
 mod meetings;
 mod numbering;
 mod numbers;
 mod places;
-mod profile;
+mod put;
 mod rolling;
+mod row;
 mod steep;
 mod tracing;
 

@@ -1,8 +1,7 @@
 // The regions of all points, by the numbers of their pits.
-ghost use Rattle.std.specs.Prelude.{◌≡◌, ◌<◌, ◌≤◌, ◌+◌, IfOk, length, slice_get, slice_index};
-ghost use Rattle.std.specs.Bool.{OnTrue};
+ghost use Rattle.std.specs.Prelude.{◌≡◌, ◌<◌, IfOk, length, slice_get, slice_index};
 ghost use Rattle.hd_steep.specs.FirstLinks.{AreFirstLinks};
-ghost use Rattle.hd_steep.specs.Numbering.{AreInner, AreNumbered, AreOneAround, AreThree, number_of, root_of, roots_of};
+ghost use Rattle.hd_steep.specs.Numbering.{AreNumbered, number_of, root_of, roots_of};
 
 use crate::leading::{lead_on, lead_to_roots};
 use crate::links::first_links;
@@ -69,19 +68,6 @@ impl Regions {
         self.pits.get(self.numbers[index] as usize).copied()
     }
 
-    /// Marks in a row of indexes, from a first one on, those that have one number with the eight round them. All of
-    /// these are in the grid, which has this width.
-    pub(crate) fn mark_inner(&self, first: usize, width: usize, marks: &mut [bool])
-        requires before { width < first }
-        requires after { first + length marks.old + width < length self.now.numbers }
-        ensures { AreInner self.now.numbers width first marks.new }
-    {
-        let numbers = self.numbers.as_slice();
-        for k in 0..marks.len() {
-            marks[k] = are_one_around(numbers, first + k, width);
-        }
-    }
-
     /// The pits in position order. The numbers of the points are given up.
     pub fn into_pits(self) -> List<Rank>
         ensures { result ≡ self.pits }
@@ -90,36 +76,12 @@ impl Regions {
     }
 }
 
-// Whether an index and the eight round it have one number. All nine are in the grid, which has this width. It is told
-// without a branch, so that many are told at once.
-#[inline(always)]
-fn are_one_around(numbers: &[u32], index: usize, width: usize) -> bool
-    requires before { width < index }
-    requires after { index + width + 1 < length numbers.now }
-    ensures { OnTrue result (AreOneAround numbers.now width index) }
-{
-    let number = numbers[index];
-    are_three(numbers, index - width, number)
-        & are_three(numbers, index, number)
-        & are_three(numbers, index + width, number)
-}
-
-// Whether an index and the two beside it have this number.
-#[inline(always)]
-fn are_three(numbers: &[u32], middle: usize, number: u32) -> bool
-    requires before { 1 ≤ middle }
-    requires after { middle + 1 < length numbers.now }
-    ensures { OnTrue result (AreThree numbers.now middle number) }
-{
-    (numbers[middle - 1] == number) & (numbers[middle] == number) & (numbers[middle + 1] == number)
-}
-
 /// The regions of a side of a grid.
 ///
-/// Measured, it takes 4 bytes a point, 100 a column and 16 a pit, at first for one of eight points,
-/// and time in proportion to the points, however long the ways are. `Memory` comes where memory is
-/// refused. Dales and hills are those of ISO 25178-2; that each point has one steepest way is this
-/// project's own rule.
+/// Measured, it takes 4 bytes a point, 16 a pit, at first for one of eight points, and 16 a column,
+/// or 28 a column where a height is more than 2 ^ 29 steps from zero, and time in proportion to the
+/// points, however long the ways are. `Memory` comes where memory is refused. Dales and hills are
+/// those of ISO 25178-2; that each point has one steepest way is this project's own rule.
 pub fn find_regions<S: Side, G: Heights>(alloc: Global, grid: &G) -> Result<Regions, Memory>
     ensures { IfOk result (AreNumbered (G.map grid.now) S.NAME) }
 {

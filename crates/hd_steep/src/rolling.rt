@@ -1,120 +1,79 @@
-// Three profiles, or their rows alone, which roll over the map.
-ghost use Rattle.std.specs.Prelude.{◌≡◌, ◌<◌, ◌≤◌, ◌+◌, IfOk};
-ghost use Rattle.hd_steep.specs.Crossed.{AreRowsRound, AreRowsBefore, AreWide, ring_round};
-ghost use Rattle.hd_steep.specs.Profiles.{AreProfilesRound, AreProfilesBefore};
-ghost use Rattle.hd_steep.specs.Rows.{rank_in, IsRowOf};
+// Three profiles as rows of keys, which roll over the map.
+ghost use Rattle.std.specs.Prelude.{◌<◌, ◌≤◌, ◌+◌, IfOk, MatchOption};
+ghost use Rattle.std.specs.Bool.{OnTrue, OnFalse};
+ghost use Rattle.hd_steep.specs.KeyRows.{AreRowsRound, AreRowsBefore, IsKeyRow};
+ghost use Rattle.hd_steep.specs.Keys.{IsBeyond};
 
-use crate::lowest::missing_rank;
-use crate::profile::{Profile, fill_row};
+use crate::row::Row;
 use hd_list::Memory;
-use hd_map::{Heights, Rank, Side};
+use hd_map::{Heights, Lane, Side};
 use std::alloc::Global;
 use std::mem::swap;
 
-/// The ranks of three profiles, one after the other, each with an empty place on each side.
+/// Three profiles, one after the other, as rows of keys.
 #[derive(Drop)]
-pub struct Rows {
-    pub above: Vec<Rank>,
-    pub level: Vec<Rank>,
-    pub below: Vec<Rank>,
+pub struct Rows<L> {
+    pub above: Row<L>,
+    pub level: Row<L>,
+    pub below: Row<L>,
 }
 
-impl Rows {
-    /// The rows before those of a profile. `Memory` comes where their 48 bytes a column are refused.
-    pub fn before<S: Side, G: Heights>(alloc: Global, grid: &G, y: u32) -> Result<Rows, Memory>
+impl<L: Lane> Rows<L> {
+    /// The rows before those of a profile, unless a height is too far from zero. `Memory` comes where their three lanes
+    /// a column are refused.
+    pub fn before<S: Side, G: Heights>(
+        alloc: Global,
+        grid: &G,
+        y: u32,
+    ) -> Result<Option<Rows<L>>, Memory>
         requires { y ≤ (G.map grid.now).size.profiles }
-        ensures { IfOk result (AreRowsBefore (G.map grid.now) S.NAME y) }
+        ensures { let m = G.map grid.now in IfOk result (λ found. MatchOption found (IsBeyond L.code m)
+            (AreRowsBefore L.code S.NAME m y)) }
     {
-        let width = grid.size().points as usize + 2;
-        let above = vec![in alloc; missing_rank::<S>(); width]?;
-        let level = row_before::<S, G>(alloc, grid, y)?;
-        let below = row_before::<S, G>(alloc, grid, y + 1)?;
-        Ok(Rows {
+        let above = Row::empty(alloc, grid.size().points)?;
+        let Some(level) = row_before::<S, L, G>(alloc, grid, y)? else {
+            return Ok(None);
+        };
+        let Some(below) = row_before::<S, L, G>(alloc, grid, y + 1)? else {
+            return Ok(None);
+        };
+        Ok(Some(Rows {
             above,
             level,
             below,
-        })
+        }))
     }
 
-    /// Goes on to the rows of a profile. Past the last one no point is present.
-    pub fn advance<S: Side, G: Heights>(&mut self, grid: &G, y: u32)
+    /// Goes on to the rows of a profile, and tells whether all heights are near enough to zero. Past the last one no
+    /// point is present.
+    pub fn advance<S: Side, G: Heights>(&mut self, grid: &G, y: u32) -> bool
         requires profile { y < (G.map grid.now).size.profiles }
-        requires rows { AreRowsBefore (G.map grid.now) S.NAME y self.old }
-        ensures { AreRowsRound (G.map grid.now) S.NAME y self.new }
+        requires rows { AreRowsBefore L.code S.NAME (G.map grid.now) y self.old }
+        ensures rows { OnTrue result (AreRowsRound L.code S.NAME (G.map grid.now) y self.new) }
+        ensures far { OnFalse result (IsBeyond L.code (G.map grid.now)) }
     {
         swap(&mut self.above, &mut self.level);
         swap(&mut self.level, &mut self.below);
-        fill_row::<S, G>(grid, y + 1, &mut self.below);
-    }
-
-    /// The rank at one of the eight places round that of a column in the middle row, counted clockwise
-    /// from the one above it.
-    #[inline]
-    pub fn around(&self, x: usize, place: usize) -> Rank
-        requires wide { AreWide self.now x }
-        requires place { place < 8 }
-        ensures { result ≡ rank_in (ring_round self.now x) place }
-    {
-        match place {
-            0 => self.above[x + 1],
-            1 => self.above[x + 2],
-            2 => self.level[x + 2],
-            3 => self.below[x + 2],
-            4 => self.below[x + 1],
-            5 => self.below[x],
-            6 => self.level[x],
-            _ => self.above[x],
-        }
+        self.below.take::<S, G>(grid, y + 1)
     }
 }
 
-// The row of the profile before this one. Before the first no point is present.
-fn row_before<S: Side, G: Heights>(alloc: Global, grid: &G, y: u32) -> Result<Vec<Rank>, Memory>
+// The row of the profile before this one, unless a height is too far from zero. Before the first no point is present.
+fn row_before<S: Side, L: Lane, G: Heights>(
+    alloc: Global,
+    grid: &G,
+    y: u32,
+) -> Result<Option<Row<L>>, Memory>
     requires { y ≤ (G.map grid.now).size.profiles + 1 }
-    ensures { IfOk result (λ row. IsRowOf (G.map grid.now) S.NAME y row.items) }
+    ensures { let m = G.map grid.now in IfOk result (λ found. MatchOption found (IsBeyond L.code m)
+        (IsKeyRow L.code S.NAME m y)) }
 {
-    let width = grid.size().points as usize + 2;
-    let mut row = vec![in alloc; missing_rank::<S>(); width]?;
-    if y > 0 {
-        fill_row::<S, G>(grid, y - 1, &mut row);
+    let mut row = Row::empty(alloc, grid.size().points)?;
+    if y == 0 {
+        return Ok(Some(row));
     }
-    Ok(row)
-}
-
-/// Three profiles, one after the other.
-#[derive(Drop)]
-pub struct Profiles {
-    pub above: Profile,
-    pub level: Profile,
-    pub below: Profile,
-}
-
-impl Profiles {
-    /// The profiles before those of the first one. `Memory` comes where their 96 bytes a column are
-    /// refused.
-    pub fn new<S: Side, G: Heights>(alloc: Global, grid: &G) -> Result<Profiles, Memory>
-        ensures { IfOk result (AreProfilesBefore (G.map grid.now) S.NAME 0) }
-    {
-        let points = grid.size().points;
-        let above = Profile::empty::<S>(alloc, points)?;
-        let level = Profile::empty::<S>(alloc, points)?;
-        let mut below = Profile::empty::<S>(alloc, points)?;
-        below.take::<S, G>(grid, 0);
-        Ok(Profiles {
-            above,
-            level,
-            below,
-        })
+    if !row.take::<S, G>(grid, y - 1) {
+        return Ok(None);
     }
-
-    /// Goes on to a profile and those beside it. Past the last one no point is present.
-    pub fn advance<S: Side, G: Heights>(&mut self, grid: &G, y: u32)
-        requires profile { y < (G.map grid.now).size.profiles }
-        requires before { AreProfilesBefore (G.map grid.now) S.NAME y self.old }
-        ensures { AreProfilesRound (G.map grid.now) S.NAME y self.new }
-    {
-        swap(&mut self.above, &mut self.level);
-        swap(&mut self.level, &mut self.below);
-        self.below.take::<S, G>(grid, y + 1);
-    }
+    Ok(Some(row))
 }

@@ -2,10 +2,11 @@
 ghost use Rattle.std.specs.Prelude.{◌≡◌, ◌∷◌, [], IfOk, OnOk, Contains, slice_index};
 ghost use Rattle.hd_map.specs.Pruning.{ArePits};
 ghost use Rattle.hd_steep.specs.declared.descent.Descent.{Descent as ADescent};
+ghost use Rattle.hd_steep.specs.Crossings.{IsNumberAt};
 ghost use Rattle.hd_steep.specs.Descents.{IsDescent};
 ghost use Rattle.hd_steep.specs.FirstLinks.{AreFirstLinks};
 ghost use Rattle.hd_steep.specs.Links.{no_link, AreLinks, HasPointAt};
-ghost use Rattle.hd_steep.specs.Tracing.{AreTracedNumbers, IsNumberAt, IsTraced, IsWrittenAt, TracesAcross};
+ghost use Rattle.hd_steep.specs.Tracing.{AreTracedNumbers, IsTraced, IsWrittenAt, TracesAcross};
 
 use crate::descent::Descent;
 use crate::kept_links::FirstLinks;

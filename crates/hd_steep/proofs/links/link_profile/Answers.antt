@@ -1,16 +1,19 @@
-use Rattle.std.proofs.Common.{◌+◌, ◌∙◌, arith}
+use Rattle.std.proofs.Common.{◌∙◌, sym}
+use Rattle.hd_map.specs.declared.types.Adjacency.TheVariants.{Four, Six, Eight}
 use Rattle.hd_steep.proofs.Linking.{links_of_rows}
-use Rattle.hd_steep.proofs.Windows.{lows_level}
 use Rattle.hd_steep.proofs.links.link_profile.Goals as goal
 
-pub returns : goal.returns
-returns g c =
-    let m = g.G.Heights.map c.args.grid.now in
-    let side = g.S.Side.NAME in
-    let y = c.args.y in
-    let whole = g.met.G.Heights.whole c.args.grid.now in
-    let level = c.args.profiles.now.level in
-    let is = c.requires.round.level in
-    let beside = lows_level m side y (y + 1) (omega arith, omega arith) whole level.ranks.items is.ranks (omega arith) level.lows.items is.room.lows is.lows in
-    links_of_rows m side whole y level.ranks.items c.lows_above-above.result.now level.lows.items c.lows_below-below.result.now c.link_row.new.links is.ranks c.lows_above-above.ensures beside
-    c.lows_below-below.ensures (c.link_row.auto.links ∙ c.requires.links) (rw (c.deref.ensures.value, c.deref-2.ensures.value) at c.link_row.ensures)
+pub returns-in-Four : goal.returns-in-Four
+returns-in-Four g c =
+    links_of_rows (g.G.Heights.map c.args.grid.now) g.S.Side.NAME (g.met.G.Heights.whole c.args.grid.now) g.L.Lane.code c.args._y Four c.args.rows.now c.link_row.new.links c.requires.profile
+    (sym c.adjacency.ensures ∙ c.in-Four.is) c.requires.round (c.link_row.ensures.whole ∙ c.requires.links) c.link_row.ensures.linked
+
+pub returns-in-Six : goal.returns-in-Six
+returns-in-Six g c =
+    links_of_rows (g.G.Heights.map c.args.grid.now) g.S.Side.NAME (g.met.G.Heights.whole c.args.grid.now) g.L.Lane.code c.args._y Six c.args.rows.now c.link_row-in-Six.new.links c.requires.profile
+    (sym c.adjacency.ensures ∙ c.in-Six.is) c.requires.round (c.link_row-in-Six.ensures.whole ∙ c.requires.links) c.link_row-in-Six.ensures.linked
+
+pub returns-in-Eight : goal.returns-in-Eight
+returns-in-Eight g c =
+    links_of_rows (g.G.Heights.map c.args.grid.now) g.S.Side.NAME (g.met.G.Heights.whole c.args.grid.now) g.L.Lane.code c.args._y Eight c.args.rows.now c.link_row-in-Eight.new.links c.requires.profile
+    (sym c.adjacency.ensures ∙ c.in-Eight.is) c.requires.round (c.link_row-in-Eight.ensures.whole ∙ c.requires.links) c.link_row-in-Eight.ensures.linked

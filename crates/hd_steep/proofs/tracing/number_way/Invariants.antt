@@ -1,4 +1,5 @@
-use Rattle.hd_steep.specs.Tracing.{AreTracedNumbers, IsNumberAt}
+use Rattle.hd_steep.specs.Crossings.{IsNumberAt}
+use Rattle.hd_steep.specs.Tracing.{AreTracedNumbers}
 use Rattle.hd_steep.proofs.TracedNumbers.{IsWrittenUpTo}
 use Rattle.hd_steep.proofs.Ways.{depth_at}
 use Rattle.hd_steep.proofs.tracing.number_way.Given as goal
