@@ -32,3 +32,7 @@ mod HeightOrder
 mod Placed
 mod LineList
 mod PlainLines
+pub mod EndsLine
+mod Stages
+mod Pieces
+mod StandsFor

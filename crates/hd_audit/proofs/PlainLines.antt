@@ -1,19 +1,16 @@
 -- A line of a point without more blanks than needed is the first line of its text.
-use Rattle.std.proofs.Common.{◌≡◌, ◌≢◌, ◌<◌, ◌≤◌, ◌+◌, ◌-◌, ◌^◌, ◌&&◌, ◌++◌, ℕ, Bool, true, false, List, [], ◌∷◌, length, map, take, drop, Option, Some, None, ap, ap₂, ◌∙◌, sym, refl, arith, append_assoc, if◌then◌else◌}
+use Rattle.std.proofs.Common.{◌≡◌, ◌≢◌, ◌<◌, ◌≤◌, ◌^◌, ◌&&◌, ◌++◌, ℕ, Bool, true, false, List, [], ◌∷◌, length, map, take, drop, Option, Some, None, ap, ap₂, ◌∙◌, sym, refl, arith, append_assoc, if◌then◌else◌}
 use Rattle.std.specs.Prelude.{codes, nat_lt}
 use Rattle.std.specs.Char.{is_ascii_digit}
 use Rattle.std.specs.List.{list_all}
 use Rattle.std.specs.Str.{bytes_eq}
-use Rattle.std.proofs.Math.Seq.{drop-append_seam}
 use Rattle.std.specs.Str.Parse.{digits_value}
 use Rattle.std.proofs.lemmas.Bool.{and_from, and_parts, lt-ltb}
-use Rattle.std.proofs.lemmas.List.{drop-drop, length-append, length-drop, length-take, take-append-drop}
+use Rattle.std.proofs.lemmas.List.{length-append, length-take, take-append-drop}
 use Rattle.std.proofs.lemmas.Slice.Eq.{bytes_eq-Decides}
 use Rattle.hd_num.specs.Lines.{lines_of, words_of}
 use Rattle.hd_num.specs.Whole.{count_of, is_numeral}
 use Rattle.hd_num.proofs.Decimals.{count_parts}
-use Rattle.hd_check.specs.declared.lines.Place.{Place}
-use Rattle.hd_check.specs.Places.{IsPlace}
 use Rattle.hd_check.specs.Text.{line_text}
 use Rattle.hd_check.proofs.ReadsBack.{IsWord, clear_digits, word-filled, first_line}
 use Rattle.hd_audit.specs.Plain.{BeginsWith, BeginsWithLine}
@@ -84,17 +81,3 @@ module _ (text rest a b c d e : List ℕ) (index : ℕ) (parent cut : Option ℕ
     whole = plain_line-first;
     some = omega (arith, length-append first.word (32 ∷ (second.word ++ 32 ∷ (third.word ++ 10 ∷ []))));
   }
-
--- what follows a front of the text from a place on, is the text from a later place on
-module _ (bytes front rest : List ℕ) (place : Place) (at : IsPlace bytes place) (whole : drop place.from bytes ≡ front ++ rest) (some : 0 < length front) where
-  count_left : length bytes - place.from ≡ length front + length rest
-  count_left = sym (length-drop place.from bytes) ∙ ap length whole ∙ length-append front rest
-
-  next_from : length bytes - length rest ≡ place.from + length front
-  next_from = let within = at.within in let left = count_left in omega (arith, within, left)
-
-  pub rest_at : drop (length bytes - length rest) bytes ≡ rest
-  rest_at = ap (λ (n : ℕ). drop n bytes) next_from ∙ sym (drop-drop (length front) place.from bytes) ∙ ap (drop (length front)) whole ∙ drop-append_seam front rest
-
-  pub next_place : IsPlace bytes (record { from = length bytes - length rest; number = place.number + 1 })
-  next_place = let within = at.within in let counted = at.counted in let left = count_left in record { within = omega arith; counted = omega (arith, next_from, counted, some) }

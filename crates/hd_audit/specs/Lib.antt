@@ -16,3 +16,6 @@ pub mod LineList
 pub mod Plain
 pub mod Standings
 pub mod Placed
+pub mod Stages
+pub mod Pieces
+pub mod Reader

@@ -1,6 +1,6 @@
 //! Pruning certificates: the kept pits of a pruning, shown by all points in the order in which a flood
-//! from these pits reaches them. They can be made, written, read, and checked on any map, where a right one
-//! names exactly the pits that the pruning keeps.
+//! from these pits reaches them. They can be made, written, read, at once or in pieces, and checked on any
+//! map, where a right one names exactly the pits that the pruning keeps.
 #![tactic(auto)]
 
 mod chains;
@@ -15,10 +15,13 @@ mod listing;
 mod making;
 mod order;
 mod parents;
+mod part;
 mod place_table;
 mod places;
 mod plain;
+mod reader;
 mod reading;
+mod stage;
 mod standing;
 mod types;
 mod waiting;
@@ -33,6 +36,7 @@ pub use laws::{
 };
 pub use line_list::AuditLines;
 pub use making::make_audit;
+pub use reader::AuditReader;
 pub use reading::read_audit;
 pub use types::{Audit, AuditLine};
 pub use writing::{text_of_audit, write_audit};

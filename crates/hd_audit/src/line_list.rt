@@ -50,6 +50,16 @@ impl Model for AuditLines {
 impl AuditLines {
     ghost use Rattle.hd_audit.specs.Lines.{line_at};
 
+    /// No lines.
+    pub fn new(alloc: Global) -> AuditLines
+        ensures { result ≡ [] }
+    {
+        AuditLines {
+            numbers: Vec::new(alloc),
+            named: Vec::new(alloc),
+        }
+    }
+
     /// No lines, and the memory for this many. `Memory` comes where it is refused.
     pub fn with_capacity(alloc: Global, capacity: usize) -> Result<AuditLines, Memory>
         ensures { IfOk result (λ lines. lines ≡ []) }

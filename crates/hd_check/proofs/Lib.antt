@@ -4,8 +4,8 @@ pub mod Paths
 pub mod Pits
 pub mod AppendedTexts
 pub mod Determined
-pub mod ReadingSteps
 pub mod ReadsBack
+mod ReadingSteps
 mod Pairs
 mod Leaks
 mod Verdicts

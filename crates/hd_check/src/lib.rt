@@ -19,10 +19,10 @@ pub use checking::check;
 pub use laws::{
     right_certificate_tells_the_saddle, verdict_is_determined, written_certificate_reads_back,
 };
-pub use lines::{Line, Place, line_at, part, take_line};
+pub use lines::part;
 pub use order::{is_below, is_lower};
 pub use path::{are_neighbours, is_pit, is_point};
-pub use reading::{count_line, last_lines, read_certificate};
+pub use reading::read_certificate;
 pub use types::{Certificate, CertificateError, Verdict};
-pub use words::{adjacency_of, side_of};
+pub use words::{adjacency_of, count_words, end_words, side_of};
 pub use writing::{push_count, write_certificate};

@@ -116,8 +116,8 @@ fn counted_lines(
     point_lines(alloc, bytes, count, place)
 }
 
-/// Reads `KEY N`, and gives N and the place of the line after it.
-pub fn count_line(
+// Reads `KEY N`.
+fn count_line(
     alloc: Global,
     bytes: &[u8],
     key: &[u8],
@@ -165,12 +165,8 @@ fn point_line(bytes: &[u8], place: Place) -> Result<(Pos, Place), CertificateErr
     }
 }
 
-/// Reads `end` and the lines without words that follow it, up to the end of the text.
-pub fn last_lines(
-    alloc: Global,
-    bytes: &[u8],
-    place: Place,
-) -> Result<((), Place), CertificateError>
+// Reads `end` and the lines without words that follow it, up to the end of the text.
+fn last_lines(alloc: Global, bytes: &[u8], place: Place) -> Result<((), Place), CertificateError>
     requires { IsPlace bytes.now place }
     ensures { Gives bytes.now result (end_in (lines_at bytes.now place)) }
 {

@@ -1,5 +1,5 @@
 -- What a check comes to, from its parts.
-use Rattle.std.proofs.Common.{◌≡◌, ◌<◌, ◌≤◌, ◌⊎◌, ℕ, Bool, true, false, List, length, Option, Result, Ok, Err, refl, sym, ap, ◌∙◌, subst, arith, nat_lt}
+use Rattle.std.proofs.Common.{◌≡◌, ◌<◌, ◌≤◌, ℕ, Bool, true, false, List, length, Option, Result, Ok, Err, refl, sym, ap, ◌∙◌, subst, arith, nat_lt}
 use Rattle.std.specs.Prelude.{MatchResult, OnErr, OnOk, is_err}
 use Rattle.std.specs.Io.KnownBytes.{Appends}
 use Rattle.std.proofs.KnownBytes.{Keeps-refl}
@@ -11,7 +11,6 @@ use Rattle.hd_audit.specs.Rules as pruning
 use Rattle.hd_check.specs.declared.types.Certificate.{Certificate}
 use Rattle.hd_check.specs.declared.types.CertificateError.{CertificateError}
 use Rattle.hd_check.specs.declared.types.CertificateError.TheVariants.{BadLine}
-use Rattle.hd_check.specs.declared.types.CertificateError.TheVariants as unread
 use Rattle.hd_check.specs.declared.types.Verdict.{Verdict}
 use Rattle.hd_check.specs.Reading.{certificate_of}
 use Rattle.hd_check.specs.Rules.{IsVerdict}
@@ -23,7 +22,7 @@ use Rattle.hd_run.specs.declared.stop.Refusal.TheVariants.{SecondTooLong, Unread
 use Rattle.hd_run.specs.declared.stop.Stop.{Stop}
 use Rattle.hd_run.specs.declared.stop.Stop.TheVariants.{Memory, ReadFault, WriteFault, Refused}
 use Rattle.hd_run.specs.Limits.{certificate_limit}
-use Rattle.hd_run.specs.Inputs.{IsSurfaceRead, IsSecondRead}
+use Rattle.hd_run.specs.Inputs.{IsCertificateRead, IsSurfaceRead}
 use Rattle.hd_run.specs.Outcome.{RunOutcome, IsTheRunOutcome, IsOutcomeOfCertificate, IsOutcomeOfCheck, IsOutcomeOfKind, IsOutcomeOfReading, acceptance, begins_pruning, certificate_text_of, judges, surface_of}
 use Rattle.hd_run.specs.RunResult.{IsCheck, IsJudged}
 use Rattle.hd_run.specs.Texts.{accepted_text}
@@ -91,7 +90,7 @@ module _ (surface second : List ℕ) where
     second_refused refusal refused = record { is = at_text (Err refusal) (Err refusal) refused refl; only = λ other h. of_text other (Err refusal) refused h }
 
     -- a certificate that is not read stops a check
-    pub check_second_stops : (stop : Stop) (told : Option (List ℕ)) → IsSecondRead certificate_limit second (Err stop) → IsCheck surface second (Err stop) told told
+    pub check_second_stops : (stop : Stop) (told : Option (List ℕ)) → IsCertificateRead second (Err stop) → IsCheck surface second (Err stop) told told
     check_second_stops Memory told h = Keeps-refl told
     check_second_stops ReadFault told h = Keeps-refl told
     check_second_stops WriteFault told h = absurd h

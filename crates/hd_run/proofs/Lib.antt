@@ -5,4 +5,5 @@ mod Checks
 mod SavedPieces
 mod Savings
 mod Stops
-mod SurfacePieces
+mod FedPieces
+mod IsOfKind

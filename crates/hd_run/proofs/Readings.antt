@@ -1,5 +1,5 @@
 -- How far an input is read, and what stops it.
-use Rattle.std.proofs.Common.{◌≡◌, ◌∙◌, ◌<◌, ℕ, Err, ap}
+use Rattle.std.proofs.Common.{◌≡◌, ℕ, Err, ap}
 use Rattle.hd_run.specs.declared.stop.Stop.{Stop}
 use Rattle.hd_run.specs.declared.stop.Stop.TheVariants.{ReadFault, WriteFault}
 use Rattle.hd_run.specs.Inputs.{HasReadStop}

@@ -1,12 +1,12 @@
 -- What stops a run or a check, from what stops its parts.
-use Rattle.std.proofs.Common.{◌≡◌, Result, Ok, Err, List, ℕ, inl, inr, ap, subst}
+use Rattle.std.proofs.Common.{◌≡◌, Result, Ok, Err, ℕ, inl, inr, ap, subst}
 use Rattle.std.specs.Prelude.{◌≢◌}
-use Rattle.hd_map.specs.Map.{Map}
 use Rattle.hd_run.specs.declared.stop.Stop.{Stop}
-use Rattle.hd_run.specs.declared.stop.Stop.TheVariants.{Memory, ReadFault, WriteFault, Refused}
+use Rattle.hd_run.specs.declared.stop.Stop.TheVariants.{ReadFault, WriteFault}
 use Rattle.hd_run.specs.FaultCounts.{Count, Stays}
 use Rattle.hd_run.specs.Inputs.{HasReadStop}
-use Rattle.hd_run.specs.RunResult.{HasRunStop, HasSinkStop, IsJudged}
+use Rattle.hd_run.specs.Outcome.{RunOutcome}
+use Rattle.hd_run.specs.RunResult.{HasRunStop, HasSinkStop, IsJudgedAs}
 use Rattle.hd_run.specs.WrittenAnswers.{HasWriteStop}
 
 -- a value is no error, and one fault is not the other
@@ -28,12 +28,16 @@ HasWriteStop-ok before now x cause = cause.no_fault (ok≢err x WriteFault)
 pub HasSinkStop-no_read_fault : {T : Type 0} (out saved : Count) (result : Result T Stop) → HasSinkStop out saved result → result ≢ Err ReadFault
 HasSinkStop-no_read_fault out saved result cause e = elim (cause.only ReadFault e) [ inl w ↦ absurd (cc) | inr w ↦ absurd (cc) ]
 
--- a certificate that is refused is no read fault
-pub judged_no_fault : {U : Type 0} (T : Type 0) (m : Map) (text : List ℕ) (stop : Stop) → IsJudged {T = T} m text (Err stop) → ◌≡◌ {A = Result U Stop} (Err stop) (Err ReadFault) → ⊥
-judged_no_fault T m text Memory h e = cc
-judged_no_fault T m text (Refused refusal) h e = cc
-judged_no_fault T m text ReadFault h e = absurd h
-judged_no_fault T m text WriteFault h e = absurd h
+-- what is judged is no fault
+pub judged_no_fault : {T : Type 0} (Is : RunOutcome → Type 0) (result : Result T Stop) → IsJudgedAs {T = T} Is result → result ≢ Err ReadFault
+judged_no_fault {T} Is result judged e = subst (λ (r : Result T Stop). IsJudgedAs {T = T} Is r) e judged
+
+pub judged_no_write : {T : Type 0} (Is : RunOutcome → Type 0) (result : Result T Stop) → IsJudgedAs {T = T} Is result → result ≢ Err WriteFault
+judged_no_write {T} Is result judged e = subst (λ (r : Result T Stop). IsJudgedAs {T = T} Is r) e judged
+
+-- the same stop is no read fault, whatever was to be had
+pub no_fault_moved : {T U : Type 0} (stop : Stop) → ◌≢◌ {A = Result T Stop} (Err stop) (Err ReadFault) → ◌≢◌ {A = Result U Stop} (Err stop) (Err ReadFault)
+no_fault_moved stop no_fault e = let same : stop ≡ ReadFault = cc in no_fault (ap Err same)
 
 module _ {U : Type 0} (surface script out saved : Count) (stop : Stop) where
   -- the surface is not read
@@ -53,10 +57,11 @@ module _ {U : Type 0} (surface script out saved : Count) (stop : Stop) where
   }
 
   -- the certificate is refused
-  pub judged_stopped : (T : Type 0) (m : Map) (text : List ℕ) → IsJudged {T = T} m text (Err stop) → Stays surface → Stays script → Stays out → Stays saved → HasRunStop {T = U} surface script out saved (Err stop)
-  judged_stopped T m text h a b c d = record {
-    read = λ e. absurd (judged_no_fault T m text stop h e);
-    write = λ e. let same : stop ≡ WriteFault = cc in absurd (subst (λ (s : Stop). IsJudged {T = T} m text (Err s)) same h);
+  pub judged_stopped : {T : Type 0} → ◌≢◌ {A = Result T Stop} (Err stop) (Err ReadFault) → ◌≢◌ {A = Result T Stop} (Err stop) (Err WriteFault) → Stays surface → Stays script → Stays out → Stays saved
+      → HasRunStop {T = U} surface script out saved (Err stop)
+  judged_stopped no_fault no_write a b c d = record {
+    read = λ e. let same : stop ≡ ReadFault = cc in absurd (no_fault (ap Err same));
+    write = λ e. let same : stop ≡ WriteFault = cc in absurd (no_write (ap Err same));
     other = λ _ _. (a, b, c, d);
   }
 

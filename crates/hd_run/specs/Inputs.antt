@@ -10,7 +10,9 @@ use Rattle.hd_run.specs.declared.stop.Stop.TheVariants.{Memory, ReadFault, Write
 use Rattle.hd_base.specs.Told.{Told}
 use Rattle.hd_sdf_read.specs.Reader.{StandsFor}
 use Rattle.hd_sdf_read.specs.declared.reader.SdfReader.{SdfReader}
-use Rattle.hd_run.specs.Limits.{surface_limit}
+use Rattle.hd_run.specs.declared.certificate_reader.CertificateReader.{CertificateReader}
+use Rattle.hd_run.specs.CertificateReader as certificate
+use Rattle.hd_run.specs.Limits.{certificate_limit, surface_limit}
 use Rattle.hd_run.specs.Outcome.{surface_of}
 
 -- what the answer tells of the surface's bytes
@@ -32,6 +34,14 @@ IsRead limit too_long bytes (Err WriteFault) = ⊥
 -- what it tells of the second input's bytes
 abbrev pub IsSecondRead : ℕ → List ℕ → Result (List ℕ) Stop → Type 0
 IsSecondRead limit bytes result = IsRead limit SecondTooLong bytes result
+
+-- what it tells of a certificate's bytes: a reader stands for them, or they are too many
+abbrev pub IsCertificateRead : List ℕ → Result CertificateReader Stop → Type 0
+IsCertificateRead bytes (Ok reader) = (length bytes ≤ certificate_limit) × certificate.StandsFor reader bytes
+IsCertificateRead bytes (Err (Refused refusal)) = (certificate_limit < length bytes) × (refusal ≡ SecondTooLong)
+IsCertificateRead bytes (Err Memory) = ⊤
+IsCertificateRead bytes (Err ReadFault) = ⊤
+IsCertificateRead bytes (Err WriteFault) = ⊥
 
 -- a read fault comes only where the count rose, and each other answer leaves the count; no write fault comes
 pub record HasReadStop {T : Type 0} (before now : ℕ) (result : Result T Stop) : Type 0 where

@@ -5,6 +5,7 @@ pub mod Outcome
 pub mod FaultCounts
 pub mod Saving
 pub mod ReadOrder
+pub mod CertificateReader
 pub mod Inputs
 pub mod WrittenAnswers
 pub mod RunResult

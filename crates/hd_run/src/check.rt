@@ -1,31 +1,27 @@
 // The check of a certificate against a surface.
-ghost use Rattle.std.specs.Prelude.{◌≡◌, ◌⊎◌, ℕ, List as Items, Some, Ok, Err, IfOk, IsTrue};
+ghost use Rattle.std.specs.Prelude.{◌≡◌, ◌≢◌, ◌⊎◌, ℕ, List as Items, Some, Ok, Err, IfOk, IsTrue};
 ghost use Rattle.std.specs.Io.KnownBytes.{Keeps};
-ghost use Rattle.hd_audit.specs.Reading.{audit_of};
 ghost use Rattle.hd_audit.specs.Rules as pruning;
 ghost use Rattle.hd_check.specs.Reading.{certificate_of};
 ghost use Rattle.hd_check.specs.Rules.{IsVerdict};
 ghost use Rattle.hd_map.specs.Surface.{map_of};
 ghost use Rattle.hd_sdf_read.specs.FileOf.{file_of};
+ghost use Rattle.hd_run.specs.CertificateReader.{StandsFor};
 ghost use Rattle.hd_run.specs.FaultCounts.{Count, RoseIn, SourceFailed, Stays, over};
 ghost use Rattle.hd_run.specs.Limits.{certificate_limit, surface_limit};
-ghost use Rattle.hd_num.specs.Lines.{lines_of};
-ghost use Rattle.hd_run.specs.Outcome.{IsOutcomeOfReading, begins_pruning, surface_of};
+ghost use Rattle.hd_run.specs.Outcome.{IsOutcomeOfReading, surface_of};
 ghost use Rattle.hd_run.specs.ReadOrder.{SecondComesLast, StopsWithin, reading};
 ghost use Rattle.hd_run.specs.RunResult.{HasRunStop, IsCheck, IsJudged, IsJudgedAs, stop_at, stop_of};
 
-use crate::inputs::{read_second, read_surface};
-use crate::limits::CERTIFICATE_LIMIT;
+use crate::certificate_reader::{CertificateReader, begins_pruning};
+use crate::inputs::{read_certificate, read_surface};
 use crate::stop::{Refusal, Stop};
 use crate::texts::ACCEPTED;
 use hd_audit::{Audit, check_audit, pruning_verdict_is_determined, read_audit};
 use hd_base::{Sink, Source, write_all};
-use hd_check::{
-    Certificate, CertificateError, Verdict, check, read_certificate, verdict_is_determined,
-};
-use hd_list::{List, Memory};
+use hd_check::{Certificate, CertificateError, Verdict, check, verdict_is_determined};
+use hd_list::Memory;
 use hd_map::Surface;
-use hd_num::{first_word, next_line};
 use hd_sdf_read::SdfFile;
 use hd_words::CheckJob;
 use std::alloc::Global;
@@ -94,11 +90,11 @@ fn check_second<R: Source, W: Sink>(
 {
     verdict_is_determined();
     pruning_verdict_is_determined();
-    let text = match read_second(alloc, script, job.certificate, CERTIFICATE_LIMIT) {
-        Ok(text) => text,
+    let reader = match read_certificate(alloc, script, job.certificate) {
+        Ok(reader) => reader,
         Err(stop) => return Err(stop),
     };
-    match judge(alloc, &file.surface, text) {
+    match judge(alloc, &file.surface, reader) {
         Ok(()) => {}
         Err(stop) => return Err(stop),
     }
@@ -108,27 +104,27 @@ fn check_second<R: Source, W: Sink>(
     Ok(true)
 }
 
-// Reads a certificate of either kind and tries its rules on a surface. Ok says that all of them hold.
-fn judge(alloc: Global, surface: &Surface, text: List<u8>) -> Result<(), Stop>
-    ensures { IsJudged (map_of surface.now) text result }
+// Tries the rules of the certificate of all bytes that were read on a surface. Ok says that all of them hold.
+fn judge(alloc: Global, surface: &Surface, reader: CertificateReader) -> Result<(), Stop>
+    ensures judged { (bytes : Items ℕ) → StandsFor reader bytes → IsJudged (map_of surface.now) bytes result }
+    ensures no_fault { result ≢ Err Stop.ReadFault }
+    ensures no_write { result ≢ Err Stop.WriteFault }
 {
-    if begins_pruning(text.as_slice()) {
-        judge_pruning(alloc, surface, text)
-    } else {
-        judge_saddle(alloc, surface, text.as_slice())
+    match reader {
+        CertificateReader::FirstLine(text) => judge_line(alloc, surface, text.as_slice()),
+        CertificateReader::Saddle(text) => judge_saddle(alloc, surface, text.as_slice()),
+        CertificateReader::Pruning(reader) => judge_pruning(alloc, surface, reader.finish(alloc)),
     }
 }
 
-// Whether the first word of the first line of a text is `pruning`.
-fn begins_pruning(text: &[u8]) -> bool
-    ensures { result ≡ begins_pruning (lines_of text.now) }
+// The same of one line.
+fn judge_line(alloc: Global, surface: &Surface, text: &[u8]) -> Result<(), Stop>
+    ensures { IsJudged (map_of surface.now) text.now result }
 {
-    let Some((line, _)) = next_line(text, 0) else {
-        return false;
-    };
-    match first_word(&text[line.start..line.end]) {
-        Some((word, _)) => word == b"pruning".as_slice(),
-        None => false,
+    if begins_pruning(text) {
+        judge_pruning(alloc, surface, read_audit(alloc, text))
+    } else {
+        judge_saddle(alloc, surface, text)
     }
 }
 
@@ -136,19 +132,20 @@ fn begins_pruning(text: &[u8]) -> bool
 fn judge_saddle(alloc: Global, surface: &Surface, text: &[u8]) -> Result<(), Stop>
     ensures { IsJudgedAs (IsOutcomeOfReading (IsVerdict (map_of surface.now)) (certificate_of text.now)) result }
 {
-    match read_certificate(alloc, text) {
+    match hd_check::read_certificate(alloc, text) {
         Ok(certificate) => stop_at(verdict_on(alloc, surface, &certificate)),
         Err(error) => Err(stop_of(error)),
     }
 }
 
-// The same of a pruning certificate. Its text may be larger than what is read of it, and is given up before
-// the rules are tried.
-fn judge_pruning(alloc: Global, surface: &Surface, text: List<u8>) -> Result<(), Stop>
-    ensures { IsJudgedAs (IsOutcomeOfReading (pruning.IsVerdict (map_of surface.now)) (audit_of text)) result }
+// The same of what was read of a pruning certificate.
+fn judge_pruning(
+    alloc: Global,
+    surface: &Surface,
+    read: Result<Audit, CertificateError>,
+) -> Result<(), Stop>
+    ensures { IsJudgedAs (IsOutcomeOfReading (pruning.IsVerdict (map_of surface.now)) read) result }
 {
-    let read = read_audit(alloc, text.as_slice());
-    drop(text);
     match read {
         Ok(audit) => match audit_verdict_on(alloc, surface, &audit) {
             Ok(verdict) => stop_at(verdict),

@@ -3,11 +3,12 @@ ghost use Rattle.std.specs.Prelude.{◌≡◌, ◌≢◌, ◌≤◌, ◌<◌, �
 ghost use Rattle.hd_base.specs.Told.{TakesFew};
 ghost use Rattle.hd_sdf_read.specs.Reader.{StandsFor, fed_of};
 ghost use Rattle.hd_run.specs.FaultCounts.{over};
-ghost use Rattle.hd_run.specs.Inputs.{HasReadStop, IsFed, IsRead, IsSecondRead, IsSurfaceRead};
-ghost use Rattle.hd_run.specs.Limits.{surface_limit};
+ghost use Rattle.hd_run.specs.Inputs.{HasReadStop, IsCertificateRead, IsFed, IsRead, IsSecondRead, IsSurfaceRead};
+ghost use Rattle.hd_run.specs.Limits.{certificate_limit, surface_limit};
 ghost use Rattle.hd_run.specs.ReadOrder.{StopsWithin, reading};
 
-use crate::limits::SURFACE_LIMIT;
+use crate::certificate_reader::CertificateReader;
+use crate::limits::{CERTIFICATE_LIMIT, SURFACE_LIMIT};
 use crate::stop::{Refusal, Stop};
 use hd_base::{ReadError, Source, read_all};
 use hd_list::{List, Memory};
@@ -105,8 +106,59 @@ fn finished(alloc: Global, reader: SdfReader) -> Result<SdfFile, Stop>
     }
 }
 
-/// The second input under this name, a script or a certificate: whole, or read to one byte past the
-/// limit.
+/// What is read of the certificate under this name. Its bytes are read piece by piece, to their end or to
+/// one past the limit, also after an offence: a fault or too many bytes behind it come first.
+pub fn read_certificate<R: Source>(
+    alloc: Global,
+    source: &mut R,
+    name: &str,
+) -> Result<CertificateReader, Stop>
+    requires { IsTrue (R.allows source.old name.now) }
+    ensures told { (bytes : Items ℕ) → R.files source.old name.now ≡ Some bytes → IsCertificateRead bytes result }
+    ensures left { StopsWithin certificate_limit name.now (reading (R.files source.old) (R.left source.old) (R.left source.new)
+        (over (R.faults source.old) (R.faults source.new))) }
+    ensures cause { HasReadStop (R.faults source.old) (R.faults source.new) result }
+{
+    if source.open(name).is_err() {
+        return Err(Stop::ReadFault);
+    }
+    read_open_certificate(alloc, source)
+}
+
+// The same of the open file. Its piece is not to stand on the stack beside that of a surface.
+#[inline(never)]
+fn read_open_certificate<R: Source>(
+    alloc: Global,
+    source: &mut R,
+) -> Result<CertificateReader, Stop>
+    requires { IsTrue (R.is_open source.old) }
+    ensures told { (bytes : Items ℕ) → R.left source.old ≡ Some bytes → IsCertificateRead bytes result }
+    ensures few { (bytes : Items ℕ) → R.left source.old ≡ Some bytes → TakesFew bytes certificate_limit (R.left source.new) }
+    ensures cause { HasReadStop (R.faults source.old) (R.faults source.new) result }
+{
+    let mut reader = CertificateReader::new(alloc);
+    let mut piece = [0u8; 65536];
+    let mut count = 0usize;
+    'pieces: loop {
+        let room = (CERTIFICATE_LIMIT + 1 - count).min(piece.len());
+        let Ok(taken) = source.read(&mut piece[..room]) else {
+            return Err(Stop::ReadFault);
+        };
+        if taken == 0 {
+            return Ok(reader);
+        }
+        reader = match reader.fed(alloc, &piece[..taken]) {
+            Ok(reader) => reader,
+            Err(Memory) => return Err(Stop::Memory),
+        };
+        count += taken;
+        if count > CERTIFICATE_LIMIT {
+            return Err(Stop::Refused(Refusal::SecondTooLong));
+        }
+    }
+}
+
+/// The script under this name: whole, or read to one byte past the limit.
 pub fn read_second<R: Source>(
     alloc: Global,
     source: &mut R,

@@ -4,6 +4,7 @@
 
 mod answers;
 mod causes;
+mod certificate_reader;
 mod certificates;
 mod check;
 mod inputs;

@@ -2,7 +2,7 @@
 ghost use Rattle.std.specs.Prelude.{◌<◌, length};
 
 use crate::shared::{Outcome, expect_bytes, expect_rows, lines_of, shown, surface, text_of};
-use hd_audit::{check_audit, make_audit, read_audit, write_audit};
+use hd_audit::{AuditReader, check_audit, make_audit, read_audit, write_audit};
 use hd_check::CertificateError;
 use hd_list::List;
 use hd_map::{DataType, Down, Side, Surface, Up, presence_of};
@@ -125,6 +125,21 @@ fn a_pruning_certificate_is_written_as_it_was_read(rt: HostRuntime) {
     let mut text = List::new(rt.alloc());
     write_audit(&mut text, &audit).expect(&rt, "memory");
     expect_bytes(&rt, text.as_slice(), AUDIT.as_bytes());
+}
+
+#[test]
+fn a_pruning_certificate_is_the_same_wherever_its_text_is_cut(rt: HostRuntime) {
+    let text = AUDIT.as_bytes();
+    for cut in 0..text.len() {
+        let (front, back) = text.split_at(cut);
+        let mut reader = AuditReader::new(rt.alloc());
+        reader.feed(rt.alloc(), front).expect(&rt, "memory");
+        reader.feed(rt.alloc(), back).expect(&rt, "memory");
+        let audit = reader.finish(rt.alloc()).expect(&rt, "a text");
+        let mut written = List::new(rt.alloc());
+        write_audit(&mut written, &audit).expect(&rt, "memory");
+        expect_bytes(&rt, written.as_slice(), text);
+    }
 }
 
 // No line of this text has its form before its last byte.

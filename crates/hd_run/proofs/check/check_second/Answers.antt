@@ -1,36 +1,31 @@
-use Rattle.std.proofs.Common.{◌≡◌, ◌∙◌, ℕ, List, Ok, Err, true, inl, refl, subst, sym}
+use Rattle.std.proofs.Common.{◌∙◌, ℕ, List, true, inl, refl, subst, sym}
 use Rattle.std.specs.Prelude.{⊤}
 use Rattle.std.specs.Io.KnownBytes.{Appends}
 use Rattle.std.proofs.KnownBytes.{Keeps-refl}
 use Rattle.hd_base.specs.Told.{AppendsPart}
-use Rattle.hd_map.specs.Surface.{map_of}
 use Rattle.hd_sdf_read.specs.FileOf.{file_of}
-use Rattle.hd_run.specs.Outcome.{IsOutcomeOfCertificate, acceptance}
-use Rattle.hd_run.specs.RunResult.{IsJudged}
 use Rattle.hd_run.specs.Texts.{accepted_text}
 use Rattle.hd_run.specs.declared.stop.Stop.TheVariants.{ReadFault, WriteFault}
 use Rattle.hd_run.proofs.Checks.{check_accepts, check_cut_short, check_judge_stops, check_second_stops, of_err, of_ok}
 use Rattle.hd_run.proofs.Readings.{stop_moved}
-use Rattle.hd_run.proofs.Stops.{judged_no_fault, judged_stopped, ok≢err, HasReadStop-ok, second_stopped, write≢read}
+use Rattle.hd_run.proofs.Stops.{judged_stopped, no_fault_moved, ok≢err, HasReadStop-ok, second_stopped, write≢read}
 use Rattle.hd_run.proofs.check.check_second.Goals as goal
 
 pub returns-in-Err-judge-clause-told : goal.returns-in-Err-judge-clause-told
 returns-in-Err-judge-clause-told g c = λ bytes second judged named.
     let read = c.in-Ok.ensures.told second named in
-    let text_is : c.in-Ok.text ≡ second = read.1 in
     check_judge_stops bytes second (file_of c.args.file.now) judged (record { saddles = c.verdict_is_determined.ensures; prunings = c.pruning_verdict_is_determined.ensures }) read.0 ⊤ c.in-Err-judge.stop (g.W.Sink.written c.args.out.now)
-    (subst (λ (text : List ℕ). IsJudged {T = ⊤} (map_of c.args.file.now.surface) text (Err c.in-Err-judge.stop)) text_is c.in-Err-judge.ensures)
+    (c.in-Err-judge.ensures.judged second read.1)
 
 pub returns-then-is_err-clause-told : goal.returns-then-is_err-clause-told
 unfolding accepted_text
 returns-then-is_err-clause-told g c = λ bytes second judged named.
     let read = c.in-Ok.ensures.told second named in
-    let text_is : c.in-Ok.text ≡ second = read.1 in
     let old = g.W.Sink.written c.args.out.now in
     let new = g.W.Sink.written c.write_all.new.sink in
     let failed = sym c.is_err.ensures.value ∙ c.if-is_err.true in
     check_cut_short bytes second (file_of c.args.file.now) judged (record { saddles = c.verdict_is_determined.ensures; prunings = c.pruning_verdict_is_determined.ensures }) read.0 old new
-    (subst (λ (text : List ℕ). IsOutcomeOfCertificate (map_of c.args.file.now.surface) text (Ok acceptance)) text_is c.in-Ok-judge.ensures)
+    (c.in-Ok-judge.ensures.judged second read.1)
     (subst (λ (text : List ℕ). AppendsPart old new text) c.as_bytes.ensures.value (of_err c.write_all.result failed c.write_all.ensures.part))
 
 pub returns-then-is_err-clause-cause : goal.returns-then-is_err-clause-cause
@@ -46,12 +41,11 @@ pub returns-clause-told : goal.returns-clause-told
 unfolding accepted_text
 returns-clause-told g c = λ bytes second judged named.
     let read = c.in-Ok.ensures.told second named in
-    let text_is : c.in-Ok.text ≡ second = read.1 in
     let old = g.W.Sink.written c.args.out.now in
     let new = g.W.Sink.written c.write_all.new.sink in
     let fine = sym c.is_err.ensures.value ∙ c.if-is_err.false in
     check_accepts bytes second (file_of c.args.file.now) judged (record { saddles = c.verdict_is_determined.ensures; prunings = c.pruning_verdict_is_determined.ensures }) read.0 old new
-    (subst (λ (text : List ℕ). IsOutcomeOfCertificate (map_of c.args.file.now.surface) text (Ok acceptance)) text_is c.in-Ok-judge.ensures)
+    (c.in-Ok-judge.ensures.judged second read.1)
     (subst (λ (text : List ℕ). Appends old new text) c.as_bytes.ensures.value (of_ok c.write_all.result fine c.write_all.ensures.all))
 
 pub returns-clause-cause : goal.returns-clause-cause
@@ -62,7 +56,7 @@ returns-clause-cause g c = λ surface saved still kept.
       write = λ e. absurd (ok≢err true WriteFault e);
       other = λ not_read not_write. (
         still,
-        HasReadStop-ok _ _ c.in-Ok.text c.in-Ok.ensures.cause,
+        HasReadStop-ok _ _ c.in-Ok.reader c.in-Ok.ensures.cause,
         of_ok c.write_all.result fine c.write_all.ensures.cause.accepted,
         kept,
       );
@@ -96,11 +90,11 @@ pub returns-in-Err-judge-clause-certificate_left : goal.returns-in-Err-judge-cla
 returns-in-Err-judge-clause-certificate_left g c = c.in-Ok.ensures.left
 
 pub returns-in-Err-judge-clause-failed : goal.returns-in-Err-judge-clause-failed
-returns-in-Err-judge-clause-failed g c = λ e. absurd (judged_no_fault ⊤ (map_of c.args.file.now.surface) c.in-Ok.text c.in-Err-judge.stop c.in-Err-judge.ensures e)
+returns-in-Err-judge-clause-failed g c = λ e. absurd (no_fault_moved c.in-Err-judge.stop c.in-Err-judge.ensures.no_fault e)
 
 pub returns-in-Err-judge-clause-cause : goal.returns-in-Err-judge-clause-cause
 returns-in-Err-judge-clause-cause g c = λ surface saved still kept.
-    judged_stopped surface _ _ saved c.in-Err-judge.stop ⊤ (map_of c.args.file.now.surface) c.in-Ok.text c.in-Err-judge.ensures still (HasReadStop-ok _ _ c.in-Ok.text c.in-Ok.ensures.cause) refl kept
+    judged_stopped surface _ _ saved c.in-Err-judge.stop c.in-Err-judge.ensures.no_fault c.in-Err-judge.ensures.no_write still (HasReadStop-ok _ _ c.in-Ok.reader c.in-Ok.ensures.cause) refl kept
 
 pub returns-then-is_err-clause-open : goal.returns-then-is_err-clause-open
 returns-then-is_err-clause-open g c = c.write_all.ensures.open

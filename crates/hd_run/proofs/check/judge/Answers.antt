@@ -1,15 +1,24 @@
-use Rattle.std.proofs.Common.{Bool, ℕ, List, ap, false, sym, subst, ◌∙◌}
-use Rattle.hd_num.specs.Lines.{lines_of}
+use Rattle.std.proofs.Common.{◌∙◌, List, ℕ, true, false, subst}
+use Rattle.hd_audit.specs.Reading.{audit_of}
+use Rattle.hd_audit.specs.Rules as pruning
 use Rattle.hd_map.specs.Surface.{map_of}
-use Rattle.hd_run.specs.Outcome.{IsOutcomeOfKind, begins_pruning}
+use Rattle.hd_run.specs.declared.certificate_reader.CertificateReader.{CertificateReader}
+use Rattle.hd_run.specs.CertificateReader.{StandsFor}
+use Rattle.hd_run.specs.Outcome.{IsOutcomeOfKind}
 use Rattle.hd_run.specs.RunResult.{IsJudgedAs}
+use Rattle.hd_run.proofs.IsOfKind.{judged_by_kind, judged_read}
 use Rattle.hd_run.proofs.check.judge.Goals as goal
 
-pub returns-then-begins_pruning : goal.returns-then-begins_pruning
-returns-then-begins_pruning c =
-    subst (λ (kind : Bool). IsJudgedAs (IsOutcomeOfKind kind (map_of c.args.surface.now) c.args.text) c.judge_pruning.result) (sym c.if-begins_pruning.true ∙ c.begins_pruning.ensures ∙ ap (λ (text : List ℕ). begins_pruning (lines_of text)) c.as_slice.ensures) c.judge_pruning.ensures
+pub returns-in-Saddle-clause-judged : goal.returns-in-Saddle-clause-judged
+returns-in-Saddle-clause-judged c = λ bytes stands.
+    let m = map_of c.args.surface.now in
+    let read = subst (λ (r : CertificateReader). StandsFor r bytes) c.in-Saddle.is stands in
+    judged_by_kind m false bytes c.judge_saddle.result read.1
+    (subst (λ (xs : List ℕ). IsJudgedAs (IsOutcomeOfKind false m xs) c.judge_saddle.result) (c.as_slice-in-Saddle.ensures ∙ read.0) c.judge_saddle.ensures)
 
-pub returns-else-begins_pruning : goal.returns-else-begins_pruning
-returns-else-begins_pruning c =
-    subst (λ (kind : Bool). IsJudgedAs (IsOutcomeOfKind kind (map_of c.args.surface.now) c.args.text) c.judge_saddle.result) (sym c.if-begins_pruning.false ∙ c.begins_pruning.ensures ∙ ap (λ (text : List ℕ). begins_pruning (lines_of text)) c.as_slice.ensures)
-    (subst (λ (text : List ℕ). IsJudgedAs (IsOutcomeOfKind false (map_of c.args.surface.now) text) c.judge_saddle.result) c.as_slice-else-begins_pruning.ensures c.judge_saddle.ensures)
+pub returns-in-Pruning-clause-judged : goal.returns-in-Pruning-clause-judged
+returns-in-Pruning-clause-judged c = λ bytes stands.
+    let m = map_of c.args.surface.now in
+    let read = subst (λ (r : CertificateReader). StandsFor r bytes) c.in-Pruning.is stands in
+    judged_by_kind m true bytes c.judge_pruning.result read.1
+    (judged_read (pruning.IsVerdict m) c.finish.result (audit_of bytes) c.judge_pruning.result (c.finish.ensures.text bytes read.0) c.judge_pruning.ensures)

@@ -1,6 +1,0 @@
-use Rattle.hd_audit.specs.Reading.{point_form}
-use Rattle.hd_check.proofs.ReadingSteps.{AreItemsBefore}
-use Rattle.hd_audit.proofs.reading.point_lines.Given as goal
-
-abbrev pub invariant-points : goal.invariant-points
-invariant-points l = AreItemsBefore point_form l.bytes l.count l.fn.start l.points l.place l.k

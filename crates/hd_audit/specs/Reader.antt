@@ -1,0 +1,20 @@
+-- What a reader of pieces stands for.
+use Rattle.std.specs.Prelude.{◌≡◌, ◌++◌, ℕ, List}
+use Rattle.hd_check.specs.declared.types.CertificateError.TheVariants.{Memory}
+use Rattle.hd_audit.specs.declared.reader.AuditReader.{AuditReader}
+use Rattle.hd_audit.specs.declared.reader.State.TheVariants.{Refused}
+use Rattle.hd_audit.specs.Pieces.{continued}
+use Rattle.hd_audit.specs.Reading.{audit_of}
+
+-- a reader stands for these bytes: with whatever follows them, they are the certificate, or have the first line without
+-- its form, that is read on from what the reader keeps
+abbrev pub StandsFor : AuditReader → List ℕ → Type 0
+StandsFor reader bytes = (more : List ℕ) → audit_of (bytes ++ more) ≡ continued reader.state more
+
+-- how many bytes were fed
+abbrev pub fed_of : AuditReader → ℕ
+fed_of reader = reader.fed
+
+-- a reader was refused its memory
+abbrev pub IsSpent : AuditReader → Type 0
+IsSpent reader = reader.state ≡ Refused Memory
