@@ -1,153 +1,139 @@
--- A map whose cells before an index are new.
-use Rattle.std.proofs.Common.{◌≡◌, ◌<◌, ◌≤◌, ◌+◌, ℕ, ℤ, Bool, true, Option, None, List, [], All, map, length, get_or, set, refl, sym, ap, subst, ◌∙◌, arith}
-use Rattle.std.specs.Prelude.{not, slice_index_or, if◌then◌else◌}
+-- A map whose cells before a profile are new.
+use Rattle.std.proofs.Common.{◌≡◌, ◌<◌, ◌≤◌, ◌+◌, ◌-◌, ◌*◌, ℕ, ℤ, Option, None, List, [], All, map, length, get_or, take, drop, inl, inr, sym, ap, subst, ◌∙◌, arith}
 use Rattle.std.specs.List.{range_with_len}
+use Rattle.std.proofs.Math.Nat.{mul-le-mul_right}
+use Rattle.std.proofs.lemmas.Bool.{cases_lt, cases_eq}
 use Rattle.std.proofs.lemmas.List.Elements.{All-nil}
 use Rattle.std.proofs.lemmas.List.FromFn.{get_or-map-range_with_len, fill_by_all}
-use Rattle.std.proofs.lemmas.List.{set-get_or, get_or_default}
+use Rattle.std.proofs.lemmas.List.{get_or-take, get_or-drop, get_or_past, length-take}
 use Rattle.hd_map.specs.declared.types.Pos.{Pos}
 use Rattle.hd_map.specs.declared.types.Cell.{Cell}
-use Rattle.hd_map.specs.declared.types.Cell.TheVariants.{Bad}
-use Rattle.hd_map.specs.declared.types.DataType.{DataType}
-use Rattle.hd_map.specs.Map.{Map, IsMap, InGrid, IsCellOf, AreCellsOf, cell_at, cell_count, place_of}
-use Rattle.hd_map.specs.Sets.{with_cell}
+use Rattle.hd_map.specs.declared.types.Cell.TheVariants.{Height, Bad}
+use Rattle.hd_map.specs.declared.types.Size.{Size}
+use Rattle.hd_map.specs.Encoding.{Encoding, values_of}
+use Rattle.hd_morph.proofs.Encodings.{values_part}
+use Rattle.hd_map.specs.Map.{Map, IsMap, IsCellOf, AreCellsOf, cell_at, cell_count, place_of, position_at}
+use Rattle.hd_map.proofs.Points.{position_at-place, position_at-inside}
+use Rattle.hd_map.specs.Sets.{AreHeightsIn, cell_with, cell_with_heights, with_heights}
+use Rattle.hd_map.proofs.Sets.{cell_in_profile, cell_off_profile}
 use Rattle.hd_morph.specs.Answer.{with_cells}
-use Rattle.hd_morph.specs.NewHeights.{cell_with, cell_after, cells_after}
+use Rattle.hd_morph.specs.NewHeights.{cell_after, cells_after}
 use Rattle.hd_morph.proofs.Listed.{get_or_cells_after, length_cells_after}
 use Rattle.hd_edit.specs.declared.change.Change.{Change}
 use Rattle.hd_edit.specs.Change.{IsChange, before_changes}
-use Rattle.hd_edit.specs.Filtered.{becomes_other, one_if_other, changed_cells}
-use Rattle.hd_edit.specs.Stroke.{same_cell, count_below}
-use Rattle.hd_edit.proofs.Strokes.{mix, mix-before, mix-from, mix-other, set_fill, count-more, count-grows, count-few}
-use Rattle.hd_edit.proofs.StrokeChanges.{same_cell-true}
-
-module _ (m : Map) (cells : List Cell) where
-  -- the new cell of an index before n, and the old one from there on
-  abbrev pub mixed : ℕ → ℕ → Cell
-  mixed n = mix n (λ k. get_or cells k Bad) (λ k. get_or m.cells k Bad)
-
-  -- the cells before n are new
-  abbrev pub partly_new : ℕ → Map
-  partly_new n = record m { cells = map (mixed n) (range_with_len 0 (cell_count m.size)) }
-
-  pub new-none : length m.cells ≡ cell_count m.size → m ≡ partly_new 0
-  new-none whole = ap (λ (cs : List Cell). record m { cells = cs }) (fill_by_all (mixed 0) m.cells (cell_count m.size) Bad whole (λ k h. sym (mix-from 0 (λ k. get_or cells k Bad) (λ k. get_or m.cells k Bad) k (omega arith))))
-
-  pub new-all : length cells ≡ cell_count m.size → (n : ℕ) → cell_count m.size ≤ n → partly_new n ≡ with_cells m cells
-  new-all whole n past = ap (λ (cs : List Cell). record m { cells = cs }) (sym (fill_by_all (mixed n) cells (cell_count m.size) Bad whole (λ k h. sym (mix-before n (λ k. get_or cells k Bad) (λ k. get_or m.cells k Bad) k (omega (arith, h, past))))))
-
-  -- a cell that is read with another default
-  read_same : (n : ℕ) (d : Cell) → n < length cells → get_or cells n Bad ≡ get_or cells n d
-  read_same n d room = get_or_default cells n Bad d room
-
-  module _ (n : ℕ) (at : Pos) (place : place_of m.size at ≡ n) (inside : n < cell_count m.size) (d : Cell) (room : n < length cells) where
-    pub new-more : partly_new (n + 1) ≡ with_cell (partly_new n) at (get_or cells n d)
-    new-more = ap (λ (cs : List Cell). record m { cells = cs }) (sym (ap (λ (k : ℕ). set (partly_new n).cells k (get_or cells n d)) place
-        ∙ set_fill (mixed n) (mixed (n + 1)) (cell_count m.size) n (get_or cells n d) Bad inside
-        (λ k other h. mix-other n (λ k. get_or cells k Bad) (λ k. get_or m.cells k Bad) k other)
-        (sym (mix-before (n + 1) (λ k. get_or cells k Bad) (λ k. get_or m.cells k Bad) n (omega arith) ∙ read_same n d room))))
-
-    pub new-here : cell_at (partly_new n) at ≡ cell_at m at
-    new-here = ap (λ (k : ℕ). get_or (partly_new n).cells k Bad) place
-        ∙ get_or-map-range_with_len (mixed n) 0 (cell_count m.size) n n Bad inside (omega arith)
-        ∙ mix-from n (λ k. get_or cells k Bad) (λ k. get_or m.cells k Bad) n (omega arith)
-        ∙ ap (λ (k : ℕ). get_or m.cells k Bad) (sym place)
-
--- a cell of the list is of the type, with each default
-pub read_cell : (t : DataType) (cells : List Cell) (n : ℕ) (d : Cell) → n < length cells → AreCellsOf t cells → IsCellOf t (get_or cells n d)
-read_cell t cells n d room are = subst (λ (c : Cell). IsCellOf t c) (get_or_default cells n Bad d room) (are n room)
-
--- the new cell at a position is that of its index
-pub new-read : (m : Map) (heights : List (Option ℤ)) (n : ℕ) (at : Pos) (old d : Cell) → place_of m.size at ≡ n → n < cell_count m.size → old ≡ cell_at m at → cell_with (slice_index_or heights n None) old ≡ get_or (cells_after m heights) n d
-new-read m heights n at old d place inside is =
-    ap (cell_with (slice_index_or heights n None)) (is ∙ ap (λ (k : ℕ). get_or m.cells k Bad) place) ∙ sym (get_or_cells_after m heights n d inside)
+use Rattle.hd_edit.specs.Profile.{AreNotedChanges}
+use Rattle.hd_edit.proofs.Strokes.{mix, mix-before, mix-from, same_fill}
 
 module _ (m : Map) (heights : List (Option ℤ)) where
-  -- the cells before an index are new, and what those were that became others is noted
-  pub record Noted (n : ℕ) (now : Map) (notes : List Change) : Type 0 where
-    pub map : now ≡ partly_new m (cells_after m heights) n
+  -- the cells, and by index what they become
+  abbrev pub old_cell : ℕ → Cell
+  old_cell k = get_or m.cells k Bad
+
+  -- the cells before an index are new
+  abbrev pub partly_new : ℕ → Map
+  partly_new n = record m { cells = map (mix n (cell_after m heights) old_cell) (range_with_len 0 (cell_count m.size)) }
+
+  new-none : (n : ℕ) → n ≡ 0 → length m.cells ≡ cell_count m.size → m ≡ partly_new n
+  new-none n none whole = ap (λ (cs : List Cell). record m { cells = cs }) (fill_by_all (mix n (cell_after m heights) old_cell) m.cells (cell_count m.size) Bad whole (λ k h. sym (mix-from n (cell_after m heights) old_cell k (omega (arith, none)))))
+
+  new-all : (n : ℕ) → cell_count m.size ≤ n → partly_new n ≡ with_cells m (cells_after m heights)
+  new-all n past = ap (λ (cs : List Cell). record m { cells = cs }) (same_fill (mix n (cell_after m heights) old_cell) (cell_after m heights) (cell_count m.size) Bad (λ k h. mix-before n (cell_after m heights) old_cell k (omega (arith, h, past))))
+
+  -- the heights of a profile
+  abbrev pub profile_of : ℕ → List (Option ℤ)
+  profile_of y = take m.size.points (drop (y * m.size.points) heights)
+
+  -- the heights for which a part of the numbers stands
+  pub profile_of-numbers : {L : Type 0} (code : Encoding L) (s : Size) (numbers : List L) (y : ℕ) → s ≡ m.size → heights ≡ values_of code numbers
+      → values_of code (take (y * s.points + s.points - y * s.points) (drop (y * s.points) numbers)) ≡ profile_of y
+  profile_of-numbers code s numbers y same are =
+      let n : ℕ = s.points in
+      let long : y * n + n - y * n ≡ n = omega arith in
+      ap (λ (k : ℕ). values_of code (take k (drop (y * n) numbers))) long ∙ values_part code (y * n) n numbers
+      ∙ ap (λ (t : Size). take t.points (drop (y * t.points) (values_of code numbers))) same ∙ ap (λ (hs : List (Option ℤ)). take m.size.points (drop (y * m.size.points) hs)) (sym are)
+
+  profile_at : (y x : ℕ) → x < m.size.points → get_or (profile_of y) x None ≡ get_or heights (y * m.size.points + x) None
+  profile_at y x inside = get_or-take m.size.points (drop (y * m.size.points) heights) x None inside ∙ get_or-drop (y * m.size.points) heights x None
+
+  module _ (y : ℕ) (some : 1 ≤ m.size.points) (inside : y < m.size.profiles) where
+    -- each of them is of the type
+    pub profile_fits : AreCellsOf m.data_type (cells_after m heights) → AreHeightsIn m.data_type (profile_of y)
+    profile_fits are x z is = elim (cases_lt x m.size.points) [
+      | inl column ↦
+          let k : ℕ = y * m.size.points + x in
+          let rows : y * m.size.points + m.size.points ≤ m.size.profiles * m.size.points = omega (arith, mul-le-mul_right m.size.points inside) in
+          let below : k < cell_count m.size = omega (arith, rows, column) in
+          let new : get_or (cells_after m heights) k Bad ≡ Height z = get_or_cells_after m heights k Bad below ∙ ap (λ (v : Option ℤ). cell_with v (old_cell k)) (sym (profile_at y x column) ∙ is) in
+          subst (λ (c : Cell). IsCellOf m.data_type c) new (are k (omega (arith, length_cells_after m heights, below)))
+      | inr past ↦
+          let none : get_or (profile_of y) x None ≡ None = get_or_past (profile_of y) x None (omega (arith, length-take m.size.points (drop (y * m.size.points) heights), past)) in
+          absurd (cc (none, is))
+    ]
+
+    -- with them the cells before the next profile are new
+    cell_next : (k : ℕ) → k < cell_count m.size → cell_with_heights (partly_new (y * m.size.points)) y (profile_of y) (position_at m.size k) ≡ mix ((y + 1) * m.size.points) (cell_after m heights) old_cell k
+    cell_next k below =
+        let p : Pos = position_at m.size k in
+        let place : place_of m.size p ≡ k = position_at-place m.size k some in
+        let column = (position_at-inside m.size k some below).column in
+        let first : ℕ = y * m.size.points in
+        let next : (y + 1) * m.size.points ≡ first + m.size.points = omega arith in
+        let was : cell_at (partly_new first) p ≡ mix first (cell_after m heights) old_cell k =
+        ap (λ (i : ℕ). get_or (partly_new first).cells i Bad) place ∙ get_or-map-range_with_len (mix first (cell_after m heights) old_cell) 0 (cell_count m.size) k k Bad below (omega arith) in
+        elim (cases_eq p.y y) [
+          | inl same ↦
+              let here : k ≡ first + p.x = sym place ∙ ap (λ (r : ℕ). r * m.size.points + p.x) same in
+              cell_in_profile (partly_new first) y (profile_of y) p same
+              ∙ ap (λ (v : Option ℤ). cell_with v (cell_at (partly_new first) p)) (profile_at y p.x column ∙ ap (λ (i : ℕ). get_or heights i None) (sym here))
+              ∙ ap (cell_with (get_or heights k None)) (was ∙ mix-from first (cell_after m heights) old_cell k (omega (arith, here)))
+              ∙ sym (mix-before ((y + 1) * m.size.points) (cell_after m heights) old_cell k (omega (arith, here, next, column)))
+          | inr apart ↦ cell_off_profile (partly_new first) y (profile_of y) p apart ∙ was ∙ elim (cases_lt p.y y) [
+            | inl above ↦
+                let rows : p.y * m.size.points + m.size.points ≤ first = omega (arith, mul-le-mul_right m.size.points above) in
+                mix-before first (cell_after m heights) old_cell k (omega (arith, rows, place, column)) ∙ sym (mix-before ((y + 1) * m.size.points) (cell_after m heights) old_cell k (omega (arith, rows, place, column, next)))
+            | inr not ↦
+                let under : y < p.y = omega (arith, not, apart) in
+                let rows : first + m.size.points ≤ p.y * m.size.points = omega (arith, mul-le-mul_right m.size.points under) in
+                mix-from first (cell_after m heights) old_cell k (omega (arith, rows, place)) ∙ sym (mix-from ((y + 1) * m.size.points) (cell_after m heights) old_cell k (omega (arith, rows, place, next)))
+          ]
+        ]
+
+    new-profile : with_heights (partly_new (y * m.size.points)) y (profile_of y) ≡ partly_new ((y + 1) * m.size.points)
+    new-profile = ap (λ (cs : List Cell). record m { cells = cs })
+        (same_fill (λ k. cell_with_heights (partly_new (y * m.size.points)) y (profile_of y) (position_at m.size k)) (mix ((y + 1) * m.size.points) (cell_after m heights) old_cell) (cell_count m.size) Bad cell_next)
+
+  -- the cells of the profiles before one are new, and what those were that became others is noted
+  pub record Noted (y : ℕ) (now : Map) (notes : List Change) : Type 0 where
+    pub map : now ≡ partly_new (y * m.size.points)
     pub before : before_changes notes now ≡ m
     pub notes_are : All (IsChange m) notes
-    pub len_is : length notes ≡ count_below (becomes_other m heights) n
+    pub few : length notes ≤ y * m.size.points
 
   -- at first nothing is
-  pub noted_first : IsMap m → Noted 0 m []
-  noted_first whole = record {
-    map = new-none m (cells_after m heights) whole.cells;
-    before = refl;
-    notes_are = All-nil (IsChange m);
-    len_is = refl;
+  pub noted_first : (notes : List Change) → IsMap m → notes ≡ [] → Noted 0 m notes
+  noted_first notes whole none = record {
+    map = new-none (0 * m.size.points) (omega arith) whole.cells;
+    before = ap (λ (cs : List Change). before_changes cs m) none;
+    notes_are = rw none (All-nil (IsChange m));
+    few = rw none (omega arith);
   }
 
-  module _ (n : ℕ) (at : Pos) (place : place_of m.size at ≡ n) (inside : n < cell_count m.size) where
-    room : n < length (cells_after m heights)
-    room = rw (length_cells_after m heights) inside
+  module _ (y : ℕ) (now : Map) (notes : List Change) (so : Noted y now notes) where
+    pub noted_size : now.size ≡ m.size
+    noted_size = ap (λ (s : Map). s.size) so.map
 
-    -- the point that comes next is as it was
-    here : cell_at (partly_new m (cells_after m heights) n) at ≡ cell_at m at
-    here = new-here m (cells_after m heights) n at place inside Bad room
+    pub noted_type : now.data_type ≡ m.data_type
+    noted_type = ap (λ (s : Map). s.data_type) so.map
 
-    module _ (now : Map) (notes : List Change) (so : Noted n now notes) where
-      -- it becomes its new cell
-      noted_new : cell_after now heights (place_of now.size at) ≡ get_or (cells_after m heights) n Bad
-      noted_new =
-          let partly = partly_new m (cells_after m heights) n in
-          ap (λ (s : Map). cell_after s heights (place_of s.size at)) so.map
-          ∙ ap (λ (k : ℕ). cell_with (slice_index_or heights k None) (cell_at partly at)) place
-          ∙ new-read m heights n at (cell_at partly at) Bad place inside here
+    -- one profile further
+    pub noted_next : (now' : Map) (most : ℕ) (notes' : List Change) → 1 ≤ m.size.points → y < m.size.profiles → most ≤ m.size.points → AreNotedChanges now (with_heights now y (profile_of y)) most notes notes' → now' ≡ with_heights now y (profile_of y) → Noted (y + 1) now' notes'
+    noted_next now' most notes' some inside columns changes sets = record {
+      map = sets ∙ ap (λ (s : Map). with_heights s y (profile_of y)) so.map ∙ new-profile y some inside;
+      before = ap (before_changes notes') sets ∙ changes.undone ∙ so.before;
+      notes_are = subst (λ (s : Map). All (IsChange s) notes') so.map changes.each;
+      few = omega (arith, changes.few, so.few, columns);
+    }
 
-      pub noted_inside : InGrid m.size at → InGrid now.size at
-      noted_inside within = subst (λ (s : Map). InGrid s.size at) (sym so.map) within
-
-      pub noted_whole : length heights ≡ cell_count m.size → length heights ≡ cell_count now.size
-      noted_whole whole = subst (λ (s : Map). length heights ≡ cell_count s.size) (sym so.map) whole
-
-      -- which is of the type
-      pub noted_fits : AreCellsOf m.data_type (cells_after m heights) → IsCellOf now.data_type (cell_after now heights (place_of now.size at))
-      noted_fits are =
-          subst (λ (s : Map). IsCellOf s.data_type (cell_after now heights (place_of now.size at))) (sym so.map)
-          (subst (λ (c : Cell). IsCellOf m.data_type c) (sym noted_new) (read_cell m.data_type (cells_after m heights) n Bad room are))
-
-      noted_other : becomes_other now heights (place_of now.size at) ≡ becomes_other m heights n
-      noted_other =
-          ap (λ (s : Map). becomes_other s heights (place_of s.size at)) so.map
-          ∙ ap (λ (c : Cell). not (same_cell c (cell_with (slice_index_or heights (place_of m.size at) None) c))) here
-          ∙ ap (becomes_other m heights) place
-
-      noted_len : length notes + one_if_other now heights at ≡ count_below (becomes_other m heights) (n + 1)
-      noted_len =
-          ap (λ (b : Bool). length notes + (if b then 1 else 0)) noted_other
-          ∙ ap (λ (l : ℕ). l + (if becomes_other m heights n then 1 else 0)) so.len_is
-          ∙ sym (count-more (becomes_other m heights) n)
-
-      -- and there is room to note what stood there
-      pub noted_room : length notes + one_if_other now heights at ≤ changed_cells m heights
-      noted_room = rw noted_len (count-grows (becomes_other m heights) (n + 1) (cell_count m.size) (omega (arith, inside)))
-
-      pub filtered-noted_notes : All (IsChange now) notes
-      filtered-noted_notes = subst (λ (s : Map). All (IsChange s) notes) (sym so.map) so.notes_are
-
-      -- one point further
-      pub noted_next : (now' : Map) (notes' : List Change) → now' ≡ with_cell now at (cell_after now heights (place_of now.size at)) → before_changes notes' now' ≡ before_changes notes now → All (IsChange now) notes'
-          → length notes' ≡ length notes + one_if_other now heights at → Noted (n + 1) now' notes'
-      noted_next now' notes' sets same are more = record {
-        map = sets ∙ ap (λ (c : Cell). with_cell now at c) noted_new
-            ∙ ap (λ (s : Map). with_cell s at (get_or (cells_after m heights) n Bad)) so.map
-            ∙ sym (new-more m (cells_after m heights) n at place inside Bad room);
-        before = same ∙ so.before;
-        notes_are = subst (λ (s : Map). All (IsChange s) notes') so.map are;
-        len_is = more ∙ noted_len;
-      }
-
-  -- past the last index all cells are new
-  pub noted_last : (n : ℕ) (now : Map) (notes : List Change) → cell_count m.size ≤ n → Noted n now notes → now ≡ with_cells m (cells_after m heights)
-  noted_last n now notes past so = so.map ∙ new-all m (cells_after m heights) (length_cells_after m heights) n past
-
-  -- no more is noted than there are cells
-  pub noted_few : (n : ℕ) (now : Map) (notes : List Change) → n ≤ cell_count m.size → Noted n now notes → length notes ≤ cell_count m.size
-  noted_few n now notes within so = let few = count-few (becomes_other m heights) n in omega (arith, so.len_is, few, within)
-
--- a cell that is set to itself stays
-pub with_cell-stays : (m : Map) (at : Pos) (c : Cell) → same_cell (cell_at m at) c ≡ true → m ≡ with_cell m at c
-with_cell-stays m at c same = ap (λ (cs : List Cell). record m { cells = cs }) (sym (set-get_or m.cells (place_of m.size at) Bad))
-    ∙ ap (λ (d : Cell). with_cell m at d) (same_cell-true (cell_at m at) c same)
+    -- past the last profile all cells are new
+    pub noted_last : m.size.profiles ≤ y → now ≡ with_cells m (cells_after m heights)
+    noted_last past = so.map ∙ new-all (y * m.size.points) (omega (arith, mul-le-mul_right m.size.points past))

@@ -1,11 +1,9 @@
 -- Notes of heights, one more or one less.
-use Rattle.std.proofs.Common.{◌≡◌, ◌+◌, ◌++◌, ◌∷◌, [], ◌∙◌, ℕ, List, All, length, append-nil, vec_len, eqb, true, suc, Vec, Global, refl, sym, ap, subst, arith}
-use Rattle.std.proofs.lemmas.Bool.{eqb-true}
+use Rattle.std.proofs.Common.{◌≡◌, ◌+◌, ◌++◌, ◌∷◌, [], ◌∙◌, ℕ, List, All, length, append-nil, suc, refl, sym, ap, subst, arith}
 use Rattle.std.proofs.lemmas.List.{get_or_append_left, length_push}
 use Rattle.hd_edit.specs.declared.change.Change.{Change}
 use Rattle.hd_edit.specs.declared.change.Was.TheVariants as was
 use Rattle.hd_edit.specs.declared.notes.HeightNote.{HeightNote}
-use Rattle.hd_edit.specs.declared.notes.NewNotes.TheInside.{Inside}
 use Rattle.hd_edit.specs.Notes.{changes_after, last_after, note_at}
 use Rattle.hd_edit.specs.SevenBytes.{widened}
 
@@ -26,36 +24,14 @@ pub no-items : {X : Type 0} (xs : List X) → length xs ≡ 0 → xs ≡ []
 no-items [] e = refl
 no-items (x ∷ xs) e = absurd (omega (arith, e))
 
--- notes in the making that can go on: where no height is noted yet, it does not matter where they begin
-pub record IsBegun (old now : Inside) : Type 0 where
-  pub last : now.last ≡ last_after now.first old.heights.items
-  pub told : changes_after now.first old.heights.items ≡ changes_after old.first old.heights.items
-  pub heights : now.heights ≡ old.heights
-  pub others : now.others ≡ old.others
-
-pub begun_here : (old now : Inside) (index : ℕ) → now ≡ record old { first = index; last = index } → true ≡ eqb (vec_len old.heights) 0 → IsBegun old now
-begun_here old now index is none =
-    let empty : old.heights.items ≡ [] = no-items old.heights.items (sym old.heights.ok.0 ∙ eqb-true (vec_len old.heights) 0 (sym none)) in
-    rw is (record {
-      last = sym (ap (last_after index) empty);
-      told = ap (changes_after index) empty ∙ sym (ap (changes_after old.first) empty);
-      heights = refl;
-      others = refl;
-    })
-
-pub begun_before : (old now : Inside) → now ≡ old → old.last ≡ last_after old.first old.heights.items → IsBegun old now
-begun_before old now is last = rw is (record { last = last; told = refl; heights = refl; others = refl })
-
 -- a height more is told as the last change, where no other change is noted
-pub height-noted : (old now : Inside) (new : List HeightNote) (note : HeightNote) (change : Change) → IsBegun old now → new ≡ now.heights.items ++ note ∷ [] → note_at now.last note ≡ change → true ≡ eqb (vec_len old.others) 0
-    → changes_after now.first new ++ now.others.items ≡ (changes_after old.first old.heights.items ++ old.others.items) ++ change ∷ []
-height-noted old now new note change begun is told none =
-    let empty : old.others.items ≡ [] = no-items old.others.items (sym old.others.ok.0 ∙ eqb-true (vec_len old.others) 0 (sym none)) in
-    ap (λ (v : Vec Change Global). changes_after now.first new ++ v.items) begun.others ∙ ap (λ (cs : List Change). changes_after now.first new ++ cs) empty ∙ append-nil (changes_after now.first new)
-    ∙ ap (changes_after now.first) (is ∙ ap (λ (v : Vec HeightNote Global). v.items ++ note ∷ []) begun.heights) ∙ changes-push now.first old.heights.items note
-    ∙ ap (λ (i : ℕ). changes_after now.first old.heights.items ++ note_at i note ∷ []) (sym begun.last)
-    ∙ ap (λ (x : Change). changes_after now.first old.heights.items ++ x ∷ []) told
-    ∙ ap (λ (cs : List Change). cs ++ change ∷ []) (begun.told ∙ sym (ap (λ (cs : List Change). changes_after old.first old.heights.items ++ cs) empty ∙ append-nil (changes_after old.first old.heights.items)))
+pub height-noted : (first last : ℕ) (old new : List HeightNote) (others : List Change) (note : HeightNote) (change : Change) → last ≡ last_after first old → new ≡ old ++ note ∷ [] → note_at last note ≡ change → others ≡ []
+    → changes_after first new ++ others ≡ (changes_after first old ++ others) ++ change ∷ []
+height-noted first last old new others note change at is told none =
+    ap (λ (cs : List Change). changes_after first new ++ cs) none ∙ append-nil (changes_after first new)
+    ∙ ap (changes_after first) is ∙ changes-push first old note
+    ∙ ap (λ (x : Change). changes_after first old ++ x ∷ []) (ap (λ (i : ℕ). note_at i note) (sym at) ∙ told)
+    ∙ ap (λ (cs : List Change). cs ++ change ∷ []) (sym (ap (λ (cs : List Change). changes_after first old ++ cs) none ∙ append-nil (changes_after first old)))
 
 -- as many changes are told as are noted
 pub length-changes : (i : ℕ) (notes : List HeightNote) → length (changes_after i notes) ≡ length notes

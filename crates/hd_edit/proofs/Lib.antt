@@ -10,5 +10,6 @@ pub mod NotedStrokes
 pub mod Logs
 pub mod Outcomes
 pub mod Determined
+pub mod ProfileChanges
 pub mod FilteredCells
 pub mod NamedElements

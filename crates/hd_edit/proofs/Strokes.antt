@@ -48,7 +48,7 @@ at_most_one true = omega arith
 at_most_one false = omega arith
 
 -- lists of two functions that agree are one
-same_fill : {X : Type 0} (f g : ℕ → X) (count : ℕ) (d : X) → ((k : ℕ) → k < count → f k ≡ g k) → map f (range_with_len 0 count) ≡ map g (range_with_len 0 count)
+pub same_fill : {X : Type 0} (f g : ℕ → X) (count : ℕ) (d : X) → ((k : ℕ) → k < count → f k ≡ g k) → map f (range_with_len 0 count) ≡ map g (range_with_len 0 count)
 same_fill f g count d same = fill_by_all g (map f (range_with_len 0 count)) count d (length-map-range_with_len f 0 count) (λ k h. get_or-map-range_with_len f 0 count k k d h (omega arith) ∙ same k h)
 
 -- a list of a function with one place set

@@ -8,4 +8,5 @@ pub mod Change
 pub mod Notes
 pub mod NewNotes
 pub mod Filtered
+pub mod Profile
 pub mod Log

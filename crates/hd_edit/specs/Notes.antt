@@ -1,9 +1,10 @@
 -- The changes that notes of heights stand for.
-use Rattle.std.specs.Prelude.{◌+◌, ◌∷◌, [], ℕ, List}
+use Rattle.std.specs.Prelude.{◌≡◌, ◌+◌, ◌++◌, ◌∷◌, [], ℕ, List}
 use Rattle.hd_edit.specs.declared.change.Change.{Change}
 use Rattle.hd_edit.specs.declared.change.Was.TheVariants as was
 use Rattle.hd_edit.specs.declared.notes.HeightNote.{HeightNote}
-use Rattle.hd_edit.specs.SevenBytes.{widened}
+use Rattle.hd_edit.specs.declared.height_bytes.OverLeast.{OverLeast}
+use Rattle.hd_edit.specs.SevenBytes.{number_of, widened}
 
 -- the change that a note tells after one at an index
 abbrev pub note_at : ℕ → HeightNote → Change
@@ -18,3 +19,9 @@ changes_after before (note ∷ notes) = note_at before note ∷ changes_after (b
 abbrev pub last_after : ℕ → List HeightNote → ℕ
 last_after before [] = before
 last_after before (note ∷ notes) = last_after (before + note.distance) notes
+
+-- after earlier changes it is noted that the cell at an index was the height this much over the least one
+abbrev pub IsNotedHeight : ℕ → ℕ → List Change → List Change → Type 0
+IsNotedHeight index number earlier notes =
+    (over : OverLeast) × (number_of over ≡ number)
+    × (notes ≡ earlier ++ (record { index = index; was = was.Height over }) ∷ [])

@@ -48,6 +48,15 @@ impl OverLeast {
         }
     }
 
+    /// The lowest four bytes of a number, where the others are 0.
+    #[inline]
+    pub fn low_of(number: u64) -> Option<[u8; 4]>
+        ensures { MatchOption result (Unit {0}) (λ low. number_of (widened low) ≡ number) }
+    {
+        let low = u32::try_from(number).ok()?.to_le_bytes();
+        Some([low[0], low[1], low[2], low[3]])
+    }
+
     /// The number of which these are the lowest four bytes, and the others 0.
     #[inline]
     pub fn of_low(low: [u8; 4]) -> OverLeast

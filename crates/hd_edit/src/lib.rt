@@ -11,6 +11,7 @@ mod laws;
 mod make;
 mod notes;
 mod paint;
+mod profile;
 mod stroke;
 
 pub use board::Board;

@@ -1,6 +1,9 @@
 // What an edit changed, as it is kept for an undo.
-ghost use Rattle.std.specs.Prelude.{◌≡◌, ◌<◌, ◌++◌, ◌∷◌, [], IfOk, MatchOption, length};
-ghost use Rattle.hd_edit.specs.Notes.{note_at};
+ghost use Rattle.std.specs.Prelude.{◌≡◌, ◌<◌, ◌+◌, ◌^◌, ◌++◌, ◌∷◌, [], IfOk, MatchOption, length};
+ghost use Rattle.std.specs.Bool.{OnTrue, OnFalse};
+ghost use Rattle.hd_edit.specs.declared.change.Was.TheVariants.{Height};
+ghost use Rattle.hd_edit.specs.Notes.{IsNotedHeight};
+ghost use Rattle.hd_edit.specs.SevenBytes.{widened};
 
 use crate::change::{Change, Was};
 use crate::height_bytes::OverLeast;
@@ -105,6 +108,16 @@ impl NewNotes {
         })
     }
 
+    /// Lets the distances of the notes begin at an index, where there is none yet.
+    pub fn start_at(&mut self, index: u32)
+        ensures { self.new ≡ self.old }
+    {
+        if self.heights.is_empty() {
+            self.first = index;
+            self.last = index;
+        }
+    }
+
     /// Notes a change after those before it, as a height where that can be.
     #[inline]
     pub fn push(&mut self, change: Change)
@@ -112,18 +125,52 @@ impl NewNotes {
         ensures changes { self.new.changes ≡ self.old.changes ++ change ∷ [] }
         ensures room { self.new.room ≡ self.old.room }
     {
-        if self.others.is_empty() {
-            if self.heights.is_empty() {
-                self.first = change.index;
-                self.last = change.index;
-            }
-            if let Some(note) = height_note(self.last, change) {
-                self.heights.push_reserved(note);
-                self.last = change.index;
-                return;
+        self.start_at(change.index);
+        if let Was::Height(over) = change.was {
+            if let Some(low) = over.low() {
+                if self.push_low(change.index, low) {
+                    return;
+                }
             }
         }
         self.others.push_reserved(change);
+    }
+
+    /// Notes after the changes before it that a cell was the height this much over the least one.
+    #[inline]
+    pub fn push_height(&mut self, index: u32, over: u64)
+        requires room { length self.old.changes < self.old.room }
+        requires over { over < 2 ^ 56 }
+        ensures changes { IsNotedHeight index over self.old.changes self.new.changes }
+        ensures room { self.new.room ≡ self.old.room }
+    {
+        if let Some(low) = OverLeast::low_of(over) {
+            if self.push_low(index, low) {
+                return;
+            }
+        }
+        let was = Was::Height(OverLeast::new(over));
+        self.others.push_reserved(Change { index, was });
+    }
+
+    // Notes a height in 6 bytes, where that can be.
+    #[inline]
+    fn push_low(&mut self, index: u32, over: [u8; 4]) -> bool
+        requires { length self.old.changes < self.old.room }
+        ensures noted { OnTrue result (self.new.changes
+            ≡ self.old.changes ++ (record { index = index; was = Height (widened over) }) ∷ []) }
+        ensures not_noted { OnFalse result (self.new ≡ self.old) }
+        ensures room { self.new.room ≡ self.old.room }
+    {
+        if !self.others.is_empty() {
+            return false;
+        }
+        let Some(distance) = distance(self.last, index) else {
+            return false;
+        };
+        self.heights.push_reserved(HeightNote { distance, over });
+        self.last = index;
+        true
     }
 
     /// The notes as they are kept. The memory that they do not use is given back.
@@ -147,15 +194,10 @@ impl NewNotes {
     }
 }
 
-// The note of a change after one at an index, where it is of a height that a note can tell.
+// How many indexes one is after another, where a note can tell that.
 #[inline]
-fn height_note(last: u32, change: Change) -> Option<HeightNote>
-    ensures { MatchOption result (Unit {0}) (λ note. note_at last note ≡ change) }
+fn distance(last: u32, index: u32) -> Option<u16>
+    ensures { MatchOption result (Unit {0}) (λ distance. last + distance ≡ index) }
 {
-    let Was::Height(height) = change.was else {
-        return None;
-    };
-    let over = height.low()?;
-    let distance = u16::try_from(change.index.checked_sub(last)?).ok()?;
-    Some(HeightNote { distance, over })
+    u16::try_from(index.checked_sub(last)?).ok()
 }

@@ -1,13 +1,13 @@
 -- Numbers of which each above a floor stands for itself.
-use Rattle.std.proofs.Common.{◌≡◌, ◌≤◌, ◌≤ℤ◌, ◌<ℤ◌, ℕ, ℤ, pos, neg_ℤ, Bool, true, false, length, Option, Some, None, inl, inr, ap, sym, ◌∙◌, arith}
+use Rattle.std.proofs.Common.{◌≡◌, ◌≤◌, ◌≤ℤ◌, ◌<ℤ◌, ◌<◌, ℕ, ℤ, pos, neg_ℤ, Bool, true, false, List, length, get_or, Option, Some, None, inl, inr, ap, sym, ◌∙◌, arith}
 use Rattle.std.specs.Prelude.{int_lt}
 use Rattle.std.proofs.lemmas.Bool.{cases_lt}
 use Rattle.std.proofs.lemmas.Int.{ints, by_lt_z}
-use Rattle.std.proofs.lemmas.List.{get_or_past}
+use Rattle.std.proofs.lemmas.List.{get_or_past, get_or-map}
 use Rattle.hd_map.specs.declared.types.Cell.{Cell}
 use Rattle.hd_map.specs.declared.types.Cell.TheVariants.{Height, Bad}
 use Rattle.hd_map.specs.declared.types.Pos.{Pos}
-use Rattle.hd_map.specs.Encoding.{Encoding, shown_over, most_filtered, wide}
+use Rattle.hd_map.specs.Encoding.{Encoding, shown_over, most_filtered, values_of, wide}
 use Rattle.hd_map.specs.Lanes.{IsBounded, IsFarProfile, IsPlainHeight, IsPlainNumber, IsNegated, minus}
 use Rattle.hd_map.specs.Map.{IsMap, Map, cell_at, greatest_height, height_at, least_height, mask_at, place_of, shown_height}
 use Rattle.hd_map.proofs.DataTypes.{type_limits}
@@ -99,3 +99,7 @@ height_near m p whole =
 -- so none of its profiles is far for them
 pub wide_never_far : (m : Map) (y : ℕ) → IsMap m → IsFarProfile wide m y → ⊥
 wide_never_far m y whole far = far.beyond (height_near m (record { x = far.column; y = y }) whole)
+
+-- the height for which a number of a row stands is the one by column
+pub value_in : {L : Type 0} (code : Encoding L) (row : List L) (x : ℕ) (number : L) → x < length row → number ≡ get_or row x number → code.shown number ≡ get_or (values_of code row) x None
+value_in code row x number inside is = ap code.shown is ∙ sym (get_or-map code.shown row x number None inside)

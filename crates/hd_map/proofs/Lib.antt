@@ -20,5 +20,6 @@ pub mod Presences
 pub mod Ranks
 pub mod Lanes
 mod Filled
-mod Sets
+pub mod Sets
 mod PackedPoints
+mod HeightsSet

@@ -69,7 +69,8 @@ module _ {H : Type 0} (height : H → ℤ) (s : Size) (t : DataType) (numbers : 
   inside : k < length marks
   inside = rw (sym (length-map marks masks) ∙ whole.masks) below
 
-  cell_read : (d : H) → cell_at kept at ≡ cell_from height (get_or numbers k d) mark
+  -- the cell is that of the number and the mark
+  pub cell_read : (d : H) → cell_at kept at ≡ cell_from height (get_or numbers k d) mark
   cell_read d = ap (λ (i : ℕ). get_or kept.cells i Bad) (sym here) ∙ get_or-zip2 (cell_from height) numbers marks k d mark Bad (rw paired inside) inside ∙ ap (cell_from height (get_or numbers k d)) (sym is)
 
   mask_read : mask_at kept at ≡ masks mark

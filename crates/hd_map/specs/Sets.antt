@@ -1,11 +1,14 @@
--- A map with one cell, one mask or its setting set, and why a set is refused.
-use Rattle.std.specs.Prelude.{◌≡◌, ◌≤◌, ◌+◌, ℕ, Bool, Result, MatchResult, slice_set}
+-- A map with one cell, one mask, the heights of a profile or its setting set, and why a set is refused.
+use Rattle.std.specs.Prelude.{◌≡◌, ◌≤◌, ◌+◌, ℕ, ℤ, Bool, List, map, Option, Some, None, Result, MatchResult, if◌then◌else◌, nat_eq, slice_index_or, slice_set}
+use Rattle.std.specs.List.{range_with_len}
 use Rattle.hd_map.specs.declared.types.Adjacency.{Adjacency}
 use Rattle.hd_map.specs.declared.types.Pos.{Pos}
 use Rattle.hd_map.specs.declared.types.Cell.{Cell}
+use Rattle.hd_map.specs.declared.types.Cell.TheVariants.{Height}
+use Rattle.hd_map.specs.declared.types.DataType.{DataType}
 use Rattle.hd_map.specs.declared.types.MapError.{MapError}
 use Rattle.hd_map.specs.declared.types.MapError.TheVariants.{Outside, HeightRange}
-use Rattle.hd_map.specs.Map.{Map, InGrid, IsCellOf, place_of}
+use Rattle.hd_map.specs.Map.{Map, InGrid, IsCellOf, cell_at, cell_count, place_of, position_at}
 
 -- the map with this cell at the position
 abbrev pub with_cell : Map → Pos → Cell → Map
@@ -14,6 +17,26 @@ with_cell m p cell = record m { cells = slice_set m.cells (place_of m.size p) ce
 -- the map with this mask at the position
 abbrev pub with_mask : Map → Pos → Bool → Map
 with_mask m p masked = record m { masks = slice_set m.masks (place_of m.size p) masked }
+
+-- a new height, and the old cell where there is none
+abbrev pub cell_with : Option ℤ → Cell → Cell
+cell_with (Some z) old = Height z
+cell_with None old = old
+
+-- the cell at a position once a profile has these heights by column; where there is none, the cell stays
+abbrev pub cell_with_heights : Map → ℕ → List (Option ℤ) → Pos → Cell
+cell_with_heights m y heights p =
+    if nat_eq p.y y then cell_with (slice_index_or heights p.x None) (cell_at m p) else cell_at m p
+
+-- the map with these heights in a profile, by column; where there is none, the cell stays
+abbrev pub with_heights : Map → ℕ → List (Option ℤ) → Map
+with_heights m y heights = record m {
+  cells = map (λ k. cell_with_heights m y heights (position_at m.size k)) (range_with_len 0 (cell_count m.size));
+}
+
+-- each of the heights is of the data type
+abbrev pub AreHeightsIn : DataType → List (Option ℤ) → Type 0
+AreHeightsIn type heights = (x : ℕ) (z : ℤ) → slice_index_or heights x None ≡ Some z → IsCellOf type (Height z)
 
 -- the map under this setting
 abbrev pub under : Adjacency → Map → Map

@@ -4,7 +4,8 @@ ghost use Rattle.std.specs.Bool.{OnTrue, OnFalse};
 ghost use Rattle.hd_map.specs.Map.{Map, IsMap, IsSize, InGrid, Present, place_of, position_at, cell_count, cell_at, mask_at, shown_height};
 ghost use Rattle.hd_map.specs.Rank.{rank};
 ghost use Rattle.hd_map.specs.Lanes.{IsFarProfile, IsRowOfHeights};
-ghost use Rattle.hd_map.specs.Sets.{SetsCell, SetsMask, under, CountsChange};
+ghost use Rattle.hd_map.specs.Encoding.{values_of};
+ghost use Rattle.hd_map.specs.Sets.{AreHeightsIn, SetsCell, SetsMask, under, with_heights, CountsChange};
 
 use crate::{Adjacency, Cell, DataType, Lane, MapError, Pos, Rank, Size};
 
@@ -74,6 +75,17 @@ pub trait Grid: Heights {
     fn set_cell(&mut self, at: Pos, cell: Cell) -> Result<(), MapError>
         requires { changes self.old < 2 ^ 63 }
         ensures sets { SetsCell (Self.map self.old) at cell result (Self.map self.new) }
+        ensures origin { comes_from self.old self.new }
+        ensures count { CountsChange (Self.map self.old) (Self.map self.new) (changes self.old) (changes self.new) };
+
+    /// Sets the heights of a profile, by column, to those for which the numbers of a row stand; where a number stands
+    /// for none, the cell stays. The masks stay.
+    fn set_heights<L: Lane>(&mut self, y: u32, row: &[L])
+        requires profile { y < (Self.map self.old).size.profiles }
+        requires columns { length row.now ≡ (Self.map self.old).size.points }
+        requires in_range { AreHeightsIn (Self.map self.old).data_type (values_of L.code row.now) }
+        requires count { changes self.old < 2 ^ 63 }
+        ensures sets { Self.map self.new ≡ with_heights (Self.map self.old) y (values_of L.code row.now) }
         ensures origin { comes_from self.old self.new }
         ensures count { CountsChange (Self.map self.old) (Self.map self.new) (changes self.old) (changes self.new) };
 

@@ -1,5 +1,5 @@
 // The marks of the points of a surface, in one byte each.
-ghost use Rattle.std.specs.Prelude.{◌≡◌, ◌&&◌, not, false, IfOk};
+ghost use Rattle.std.specs.Prelude.{◌≡◌, ◌&&◌, ◌||◌, not, false, IfOk};
 ghost use Rattle.hd_map.specs.Packing.{masks, measures};
 ghost use Rattle.hd_map.specs.UnmaskedMarks.{AreUnmasked};
 
@@ -63,6 +63,19 @@ impl Mark {
         match self {
             Mark::Shown => true,
             Mark::Masked | Mark::Unmeasured | Mark::MaskedUnmeasured => false,
+        }
+    }
+
+    /// The same of a point that is measured now, if so told.
+    #[inline]
+    pub fn measured_if(self, measured: bool) -> Mark
+        ensures measured { measures result ≡ (measured || measures self) }
+        ensures masked { masks result ≡ masks self }
+    {
+        if measured {
+            Mark::of(true, self.is_masked())
+        } else {
+            self
         }
     }
 

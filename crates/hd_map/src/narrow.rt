@@ -1,11 +1,11 @@
 // A surface whose heights take four bytes each.
-ghost use Rattle.std.specs.Prelude.{◌≡◌, ◌↔◌, ◌<◌, ◌≤◌, ◌≤ℤ◌, ◌+ℤ◌, ℕ, pos, negsuc, neg_ℤ, IfOk, IsTrue, length, replicate, false};
+ghost use Rattle.std.specs.Prelude.{◌≡◌, ◌↔◌, ◌<◌, ◌≤◌, ◌≤ℤ◌, ◌<ℤ◌, ◌+ℤ◌, ℕ, ℤ, pos, negsuc, neg_ℤ, IfOk, MatchOption, Some, IsTrue, length, replicate, false};
 ghost use Rattle.hd_map.specs.Map.{IsSize, IsMap, IsNarrow, cell_count, four_bytes, least_height, shown_height};
 ghost use Rattle.hd_map.specs.Packing.{cell_from, kept_map, masks, over_least};
 
 use crate::lane::number_of;
 use crate::mark::{Mark, unmasked_marks};
-use crate::packing::pack_narrow;
+use crate::packing::{over_least, pack_narrow};
 use crate::{
     Adjacency, Cell, Cells, DataType, Grid, Heights, Lane, MapError, Pos, Size, contains, index_of,
     is_cell_of, least_of,
@@ -191,6 +191,18 @@ impl Grid for Narrow {
         Ok(())
     }
 
+    fn set_heights<L: Lane>(&mut self, y: u32, row: &[L]) {
+        let first = y as usize * self.size.points as usize;
+        let least = self.least;
+        let heights = self.heights.as_mut_slice();
+        let marks = self.marks.as_mut_slice();
+        for x in 0..row.len() {
+            let number = row[x];
+            heights[first + x] = over_of(least, number, heights[first + x]);
+            marks[first + x] = marks[first + x].measured_if(number.is_shown());
+        }
+    }
+
     fn set_mask(&mut self, at: Pos, masked: bool) -> Result<(), MapError> {
         if !contains(self.size, at) {
             return Err(MapError::Outside(at));
@@ -215,6 +227,18 @@ fn height_over(least: i64, over: u32, mark: Mark) -> Option<i64>
     match mark {
         Mark::Shown => Some(least + over as i64),
         _ => None,
+    }
+}
+
+// How far over the least height the one is for which a number stands, or else as far as before.
+#[inline]
+fn over_of<L: Lane>(least: i64, number: L, before: u32) -> u32
+    requires { (z : ℤ) → L.code.shown number ≡ Some z → (least ≤ℤ z) × (z <ℤ (least +ℤ pos four_bytes)) }
+    ensures { MatchOption (L.code.shown number) (result ≡ before) (λ z. (least +ℤ pos result) ≡ z) }
+{
+    match number.height() {
+        Some(height) => over_least(least, height),
+        None => before,
     }
 }
 

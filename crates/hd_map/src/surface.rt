@@ -147,6 +147,13 @@ impl Grid for Surface {
         }
     }
 
+    fn set_heights<L: Lane>(&mut self, y: u32, row: &[L]) {
+        match self {
+            Surface::Narrow(surface) => surface.set_heights(y, row),
+            Surface::Wide(surface) => surface.set_heights(y, row),
+        }
+    }
+
     fn set_mask(&mut self, at: Pos, masked: bool) -> Result<(), MapError> {
         match self {
             Surface::Narrow(surface) => surface.set_mask(at, masked),

@@ -168,6 +168,17 @@ impl Grid for Wide {
         Ok(())
     }
 
+    fn set_heights<L: Lane>(&mut self, y: u32, row: &[L]) {
+        let first = y as usize * self.size.points as usize;
+        let heights = self.heights.as_mut_slice();
+        let marks = self.marks.as_mut_slice();
+        for x in 0..row.len() {
+            let number = row[x];
+            heights[first + x] = number.height().unwrap_or(heights[first + x]);
+            marks[first + x] = marks[first + x].measured_if(number.is_shown());
+        }
+    }
+
     fn set_mask(&mut self, at: Pos, masked: bool) -> Result<(), MapError> {
         if !contains(self.size, at) {
             return Err(MapError::Outside(at));

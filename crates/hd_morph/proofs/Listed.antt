@@ -12,6 +12,7 @@ use Rattle.hd_map.specs.declared.types.Cell.{Cell}
 use Rattle.hd_map.specs.declared.types.Cell.TheVariants.{Height, Bad}
 use Rattle.hd_map.specs.declared.types.DataType.{DataType}
 use Rattle.hd_map.specs.Map.{Map, IsMap, InGrid, IsCellOf, place_of, position_at, cell_count, cell_at}
+use Rattle.hd_map.specs.Sets.{cell_with}
 use Rattle.hd_map.specs.Encoding.{Encoding, values_of, number_in, wide}
 use Rattle.hd_map.specs.Lanes.{IsPlainNumber, IsPlainHeight, IsRowOfHeights, IsFarProfile}
 use Rattle.hd_map.proofs.Lanes.{height_near}
@@ -23,7 +24,7 @@ use Rattle.hd_morph.specs.Answer.{AreCellsWith, IsFirstOutside, IsOutOfRange}
 use Rattle.hd_morph.specs.Plain.{relief}
 use Rattle.hd_morph.specs.Raised.{ArePlainlyFiltered}
 use Rattle.hd_morph.specs.Listed.{AreHeightsOf, AreOfType, IsBeyond}
-use Rattle.hd_morph.specs.NewHeights.{cell_with, cell_after, cells_after, AreNewHeights}
+use Rattle.hd_morph.specs.NewHeights.{cell_after, cells_after, AreNewHeights}
 use Rattle.hd_morph.proofs.Encodings.{value_of_number, length_values}
 use Rattle.hd_morph.proofs.PlainNumbers.{mid_inside, mid_before, mid_length}
 use Rattle.hd_morph.proofs.Determined.{filtered_of_same}

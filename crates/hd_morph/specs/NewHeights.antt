@@ -1,18 +1,14 @@
 -- The new heights of a map: what its cells become, and what a filter makes of them.
-use Rattle.std.specs.Prelude.{◌≡◌, ℕ, ℤ, List, map, length, slice_index_or, Option, Some, None, Result, MatchResult}
+use Rattle.std.specs.Prelude.{◌≡◌, ℕ, ℤ, List, map, length, slice_index_or, Option, None, Result, MatchResult}
 use Rattle.std.specs.List.{range_with_len}
 use Rattle.hd_map.specs.declared.types.Cell.{Cell}
-use Rattle.hd_map.specs.declared.types.Cell.TheVariants.{Height, Bad}
+use Rattle.hd_map.specs.declared.types.Cell.TheVariants.{Bad}
 use Rattle.hd_map.specs.Map.{Map, cell_count}
+use Rattle.hd_map.specs.Sets.{cell_with}
 use Rattle.hd_morph.specs.declared.errors.MorphError.{MorphError}
 use Rattle.hd_morph.specs.Element.{ElementTable}
 use Rattle.hd_morph.specs.declared.filter.Filter.{Filter}
 use Rattle.hd_morph.specs.Answer.{AreFilteredCells, IsFilterRefusal}
-
--- a new height, and the old cell where there is none
-abbrev pub cell_with : Option ℤ → Cell → Cell
-cell_with (Some z) old = Height z
-cell_with None old = old
 
 -- what the cell at an index becomes
 abbrev pub cell_after : Map → List (Option ℤ) → ℕ → Cell

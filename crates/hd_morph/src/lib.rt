@@ -28,4 +28,4 @@ pub use laws::{
     accepted_cells_make_a_map, dilation_and_erosion_are_adjoint, filter_is_determined,
     filtered_again_is_the_same,
 };
-pub use new_heights::NewHeights;
+pub use new_heights::{NewHeights, Numbers};

@@ -1,11 +1,11 @@
 // The new heights of a filtered map.
 ghost use Rattle.std.specs.Prelude.{◌≡◌, ◌<◌, None, length, slice_index_or};
-ghost use Rattle.hd_morph.specs.NewHeights.{cell_with};
+ghost use Rattle.hd_map.specs.Sets.{cell_with};
 
 use hd_map::{Cell, Lane};
 use std::marker::Model;
 
-/// Heights as plain numbers of either type.
+/// The heights as the numbers that stand for them, in 32 bits each or in 64.
 #[derive(Debug, Drop)]
 pub enum Numbers {
     Narrow(Vec<i32>),
@@ -38,6 +38,14 @@ impl NewHeights {
         ensures { result ≡ heights_in numbers }
     {
         NewHeights { numbers }
+    }
+
+    /// The numbers that stand for the heights.
+    #[inline]
+    pub fn numbers(&self) -> &Numbers
+        ensures { heights_in result.now ≡ self.now }
+    {
+        &self.numbers
     }
 
     /// The cell of a point with its new height. Where it has none, it keeps this old cell.

@@ -6,7 +6,9 @@ ghost use Rattle.hd_map.specs.declared.types.DataType.TheVariants.{I8};
 ghost use Rattle.hd_map.specs.Map.{IsCellOf};
 
 use hd_edit::{Board, Edit, EditError};
-use hd_map::{Adjacency, Cell, DataType, Grid, Heights, MapError, Pos, Size, contains, is_cell_of};
+use hd_map::{
+    Adjacency, Cell, DataType, Grid, Heights, Lane, MapError, Pos, Size, contains, is_cell_of,
+};
 
 // A grid of one point, which counts its changes.
 #[derive(Drop)]
@@ -75,6 +77,16 @@ impl Grid for Dot {
         }
         self.cell = cell;
         Ok(())
+    }
+
+    fn set_heights<L: Lane>(&mut self, _y: u32, row: &[L]) {
+        if let Some(height) = row[0].height() {
+            let cell = Cell::Height(height);
+            if cell != self.cell {
+                self.changes += 1;
+            }
+            self.cell = cell;
+        }
     }
 
     fn set_mask(&mut self, at: Pos, masked: bool) -> Result<(), MapError> {

@@ -1,17 +1,22 @@
 -- What a change of a map in tiles leaves.
-use Rattle.std.proofs.Common.{◌≡◌, ◌≢◌, ℕ, ◌+◌, inl, inr, Bool, false, List, set, refl, sym, ◌∙◌, ap, subst, arith}
+use Rattle.std.proofs.Common.{◌≡◌, ◌≢◌, ◌<◌, ℕ, ℤ, ◌+◌, ◌⊎◌, inl, inr, Bool, false, List, Option, Some, None, get_or, set, refl, sym, ◌∙◌, ap, subst, arith}
+use Rattle.std.proofs.lemmas.Bool.{cases_eq}
+use Rattle.std.proofs.lemmas.Int.{by_lt_z, ints}
 use Rattle.std.proofs.lemmas.List.{get_or-set_same, get_or-set_other, set-get_or}
 use Rattle.std.proofs.lemmas.Option.{same_Some}
 use Rattle.hd_map.specs.declared.types.Adjacency.{Adjacency}
 use Rattle.hd_map.specs.declared.types.Pos.{Pos}
 use Rattle.hd_map.specs.declared.types.Size.{Size}
 use Rattle.hd_map.specs.declared.types.Cell.{Cell}
-use Rattle.hd_map.specs.declared.types.Cell.TheVariants.{Bad}
+use Rattle.hd_map.specs.declared.types.Cell.TheVariants.{Height, Bad}
 use Rattle.hd_map.specs.Map.{Map, IsMap, IsCellOf, InGrid, cell_at, mask_at, place_of}
-use Rattle.hd_map.specs.Sets.{with_cell, with_mask, under}
+use Rattle.hd_map.specs.Sets.{cell_with, cell_with_heights, with_cell, with_heights, with_mask, under}
 use Rattle.hd_map.proofs.Points.{same_place, place_inside}
+use Rattle.hd_map.proofs.Sets.{cell_at_heights, cell_in_profile, cell_off_profile, heights_same}
+use Rattle.hd_tiles.specs.Profile.{AllStay, Changes, IsRoundChange, SomeChanges}
 use Rattle.hd_tiles.specs.Tile.{IsRound, Agree}
-use Rattle.hd_tiles.specs.Stamps.{ComesFrom, AreUpTo, Rise, Touches, TouchesRound, TouchesAll, AreStamped}
+use Rattle.hd_tiles.specs.Stamps.{ComesFrom, AreUpTo, Rise, Touches, TouchesRound, TouchesProfile, TouchesAll, AreStamped}
+use Rattle.hd_tiles.proofs.Stamping.{stamped-as}
 
 -- a map in a tile that neither holds the position nor one round it is left by a change at the position
 module _ (m : Map) (t tile : ℕ) (p : Pos) (inside : InGrid m.size p) (far : IsRound m.size t tile p → ⊥) where
@@ -47,6 +52,20 @@ mask_stands m p b inside same =
     let place = place_of m.size p in
     let masks : set m.masks place b ≡ m.masks = ap (λ (x : Bool). set m.masks place x) same ∙ set-get_or m.masks place false in
     (inside, ap (λ (xs : List Bool). record m { masks = xs }) (sym masks))
+
+-- whether a cell becomes another by a new height
+cases_stay : (new : Option ℤ) (old : Cell) → (cell_with new old ≡ old) ⊎ (cell_with new old ≡ old → ⊥)
+cases_stay None old = inl refl
+cases_stay (Some z) Bad = inr (λ e. absurd (cc e))
+cases_stay (Some z) (Height h) = by_lt_z z h
+    (λ below. inr (λ e. let same : z ≡ h = cc in omega (arith, ints, below, same)))
+    (λ not_below. by_lt_z h z
+    (λ above. inr (λ e. let same : z ≡ h = cc in omega (arith, ints, above, same)))
+    (λ not_above. inl (ap Height (omega (arith, ints, not_below, not_above)))))
+
+-- heights by which no cell of the profile becomes another leave the map
+pub profile_stands : (m : Map) (y : ℕ) (heights : List (Option ℤ)) (points : ℕ) → IsMap m → points ≡ m.size.points → AllStay m y heights 0 points → m ≡ with_heights m y heights
+profile_stands m y heights points whole same stay = sym (heights_same m y whole heights (λ x below. stay x (omega arith) (rw same below)))
 
 -- the stamps of touched tiles were not above the count, and are one above it now
 module _ (Touched : ℕ → Type 0) (count : ℕ) (before after : List ℕ) (low : AreUpTo count before) (stamped : AreStamped Touched (count + 1) before after) where
@@ -116,6 +135,72 @@ module _ (old new : Map) (t count : ℕ) (before after : List ℕ) (low : AreUpT
 
       pub mask-touches : TouchesRound t p old new before after
       mask-touches = touches-changed Here count before after low here old new mask_differs
+
+  module _ (whole : IsMap old) (y : ℕ) (heights : List (Option ℤ)) (points : ℕ) (same : points ≡ old.size.points) (is : new ≡ with_heights old y heights)
+      (stamped : AreStamped (IsRoundChange old y heights t 0 points) (count + 1) before after) where
+    -- the new cell at a column of the profile
+    cell_new : (x : ℕ) → InGrid old.size (record { x = x; y = y }) → cell_at new (record { x = x; y = y }) ≡ cell_with (get_or heights x None) (cell_at old (record { x = x; y = y }))
+    cell_new x inside = ap (λ (m : Map). cell_at m (record { x = x; y = y })) is ∙ cell_at_heights old y heights (record { x = x; y = y }) inside ∙ cell_in_profile old y heights (record { x = x; y = y }) refl
+
+    -- the cells in a tile that is not touched stay
+    cell_stays : (tile : ℕ) → (IsRoundChange old y heights t 0 points tile → ⊥) → (q : Pos) → InGrid old.size q → IsRound old.size t tile q → cell_with_heights old y heights q ≡ cell_at old q
+    cell_stays tile far q within round = elim (cases_eq q.y y) [
+      | inr other ↦ cell_off_profile old y heights q other
+      | inl row ↦ cell_in_profile old y heights q row ∙ elim (cases_stay (get_or heights q.x None) (cell_at old q)) [
+        | inl stays ↦ stays
+        | inr changes ↦ absurd (far (record {
+          column = q.x;
+          not_before = omega arith;
+          below = rw same within.column;
+          changes = subst (λ (j : ℕ). Changes old j heights q.x) row changes;
+          round = subst (λ (j : ℕ). IsRound old.size t tile (record { x = q.x; y = j })) row round;
+        }))
+      ]
+    ]
+
+    profile_leaves : (tile : ℕ) → (IsRoundChange old y heights t 0 points tile → ⊥) → Agree old (with_heights old y heights) t tile
+    profile_leaves tile far = record {
+      size = refl;
+      adjacency = refl;
+      cells = λ q within round. sym (cell_at_heights old y heights q within ∙ cell_stays tile far q within round);
+      masks = λ q within round. refl;
+    }
+
+    pub profile-comes : ComesFrom old t before new t after
+    profile-comes =
+        changed-comes (IsRoundChange old y heights t 0 points) count before after low stamped old new t (ap (λ (m : Map). m.size) (sym is)) (λ tile far. subst (λ (m : Map). Agree old m t tile) (sym is) (profile_leaves tile far))
+
+    abbrev AtProfile : ℕ → Type 0
+    AtProfile tile = (p : Pos) × InGrid old.size p × (p.y ≡ y) × (cell_at new p ≢ cell_at old p) × IsRound old.size t tile p
+
+    module _ (row : y < old.size.profiles) where
+      in_row : (x : ℕ) → x < points → InGrid old.size (record { x = x; y = y })
+      in_row x below = record { column = rw (← same) below; profile = row }
+
+      at_profile : (tile : ℕ) → IsRoundChange old y heights t 0 points tile → AtProfile tile
+      at_profile tile r = (record { x = r.column; y = y }, in_row r.column r.below, refl, (λ e. r.changes (sym (cell_new r.column (in_row r.column r.below)) ∙ e)), r.round)
+
+      from_profile : (tile : ℕ) → AtProfile tile → IsRoundChange old y heights t 0 points tile
+      from_profile tile at =
+          let p : Pos = at.0 in
+          let here : record { x = p.x; y = y } ≡ p = ap (λ (j : ℕ). record { x = p.x; y = j }) (sym at.2) in
+          let below : p.x < points = rw same at.1.column in
+          record {
+            column = p.x;
+            not_before = omega arith;
+            below = below;
+            changes = λ stays. at.3 (subst (λ (q : Pos). cell_at new q ≡ cell_at old q) here (cell_new p.x (in_row p.x below) ∙ stays));
+            round = subst (λ (q : Pos). IsRound old.size t tile q) (sym here) at.4;
+          }
+
+      -- the map becomes another where a cell does
+      pub profile_differs : SomeChanges old y heights points → new ≡ old → ⊥
+      profile_differs some e =
+          some.changes (sym (cell_new some.column (in_row some.column some.below)) ∙ ap (λ (m : Map). cell_at m (record { x = some.column; y = y })) e)
+
+      pub profile-touches : SomeChanges old y heights points → TouchesProfile t y old new before after
+      profile-touches some =
+          touches-changed AtProfile count before after low (stamped-as (count + 1) (IsRoundChange old y heights t 0 points) before after stamped AtProfile (λ tile within. from_profile tile) at_profile) old new (profile_differs some)
 
   module _ (stamped : AreStamped (λ tile. Unit {0}) (count + 1) before after) (a : Adjacency) (is : new ≡ under a old) (other : a ≡ old.adjacency → ⊥) where
     setting_differs : new ≡ old → ⊥

@@ -3,3 +3,4 @@ pub mod TilesAlong
 pub mod Corners
 pub mod Stamping
 pub mod ComesFrom
+pub mod Profiles

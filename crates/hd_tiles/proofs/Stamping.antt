@@ -1,5 +1,5 @@
 -- Tiles that are stamped one after the other.
-use Rattle.std.proofs.Common.{ℕ, zero, suc, ◌≡◌, ◌<◌, ◌⊎◌, inl, inr, List, [], ◌∷◌, length, set, Some, slice_get, refl, sym, ◌∙◌, ap}
+use Rattle.std.proofs.Common.{ℕ, zero, suc, ◌≡◌, ◌<◌, ◌⊎◌, inl, inr, List, [], ◌∷◌, length, set, Some, slice_get, refl, sym, ◌∙◌, ap, ap₂, arith}
 use Rattle.std.proofs.lemmas.Bool.{cases_eq}
 use Rattle.std.proofs.lemmas.List.{get_or-set_same}
 use Rattle.std.proofs.lemmas.Option.{slice_get_within, slice_get-get_or, same_Some}
@@ -18,6 +18,13 @@ module _ {X : Type 0} where
   get-set_other (x ∷ xs) zero (suc k) v apart = refl
   get-set_other (x ∷ xs) (suc i) zero v apart = refl
   get-set_other (x ∷ xs) (suc i) (suc k) v apart = get-set_other xs i k v (λ e. apart (ap suc e))
+
+  -- lists of one length that are read alike are one
+  same-reads : (xs ys : List X) → length xs ≡ length ys → ((k : ℕ) → slice_get xs k ≡ slice_get ys k) → xs ≡ ys
+  same-reads [] [] long alike = refl
+  same-reads [] (y ∷ ys) long alike = absurd (omega (arith, long))
+  same-reads (x ∷ xs) [] long alike = absurd (omega (arith, long))
+  same-reads (x ∷ xs) (y ∷ ys) long alike = ap₂ (λ v vs. v ∷ vs) (same_Some x y (alike 0)) (same-reads xs ys (omega (arith, long)) (λ k. alike (suc k)))
 
 module _ (stamp : ℕ) where
   -- none is stamped yet
@@ -61,3 +68,28 @@ module _ (stamp : ℕ) where
       either = so.either;
       others = λ tile not. so.others tile (λ done. not (from tile done));
     }
+
+  -- where no tile is to be stamped, none is
+  pub stamped-nowhere : (Touched : ℕ → Type 0) (xs ys : List ℕ) → AreStamped Touched stamp xs ys → ((tile : ℕ) → Touched tile → ⊥) → ys ≡ xs
+  stamped-nowhere Touched xs ys so none = same-reads ys xs so.whole (λ tile. so.others tile (none tile))
+
+  -- stamped twice, tiles of either kind are
+  pub stamped-onward : (First Second : ℕ → Type 0) (xs ys zs : List ℕ) → AreStamped First stamp xs ys → AreStamped Second stamp ys zs → AreStamped (λ tile. First tile ⊎ Second tile) stamp xs zs
+  stamped-onward First Second xs ys zs one other = record {
+    whole = other.whole ∙ one.whole;
+    touched = λ tile now either read. elim (other.either tile) [
+      | inl new ↦ same_Some now stamp (sym read ∙ new)
+      | inr old ↦ elim either [
+        | inl first ↦ one.touched tile now first (sym old ∙ read)
+        | inr second ↦ other.touched tile now second read
+      ]
+    ];
+    either = λ tile. elim (other.either tile) [
+      | inl new ↦ inl new
+      | inr old ↦ elim (one.either tile) [
+        | inl new ↦ inl (old ∙ new)
+        | inr before ↦ inr (old ∙ before)
+      ]
+    ];
+    others = λ tile not. other.others tile (λ second. not (inr second)) ∙ one.others tile (λ first. not (inl first));
+  }

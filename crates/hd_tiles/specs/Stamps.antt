@@ -1,7 +1,7 @@
 -- The stamps of the tiles of a map, and how they change with it.
-use Rattle.std.specs.Prelude.{◌≡◌, ◌<◌, ◌≤◌, ◌⊎◌, ℕ, Bool, List, length, Some, slice_get}
+use Rattle.std.specs.Prelude.{◌≡◌, ◌≢◌, ◌<◌, ◌≤◌, ◌⊎◌, ℕ, Bool, List, length, Some, slice_get}
 use Rattle.hd_map.specs.declared.types.Pos.{Pos}
-use Rattle.hd_map.specs.Map.{Map, IsMap, cell_count}
+use Rattle.hd_map.specs.Map.{Map, InGrid, IsMap, cell_at, cell_count}
 use Rattle.hd_tiles.specs.Tile.{IsTileSide, tile_count, IsRound, Agree}
 
 -- a map in tiles, with a stamp for each tile, and by index whether a position may be looked at
@@ -41,6 +41,12 @@ pub record Touches (Touched : ℕ → Type 0) (old new : Map) (before after : Li
 -- positions round it
 abbrev pub TouchesRound : ℕ → Pos → Map → Map → List ℕ → List ℕ → Type 0
 TouchesRound t p old new before after = Touches (λ tile. IsRound old.size t tile p) old new before after
+
+-- a change of the heights of a profile touches each tile that holds a point of it whose cell becomes another, or
+-- one of the eight positions round such a point
+abbrev pub TouchesProfile : ℕ → ℕ → Map → Map → List ℕ → List ℕ → Type 0
+TouchesProfile t y old new before after =
+    Touches (λ tile. (p : Pos) × InGrid old.size p × (p.y ≡ y) × (cell_at new p ≢ cell_at old p) × IsRound old.size t tile p) old new before after
 
 -- a change of the setting touches every tile
 abbrev pub TouchesAll : Map → Map → List ℕ → List ℕ → Type 0

@@ -2,6 +2,7 @@
 //! looks at the points are counted.
 #![tactic(auto)]
 
+mod change;
 mod looked;
 mod steps;
 mod tiles;

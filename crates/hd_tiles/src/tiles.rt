@@ -1,10 +1,11 @@
 // A grid in tiles.
 ghost use Rattle.std.specs.Prelude.{◌≡◌, ◌<◌, ◌≤◌, ◌^◌, IfOk, length};
-ghost use Rattle.hd_map.specs.Sets.{SetsCell, SetsMask, under, CountsChange};
+ghost use Rattle.hd_map.specs.Encoding.{values_of};
+ghost use Rattle.hd_map.specs.Sets.{AreHeightsIn, SetsCell, SetsMask, under, with_heights, CountsChange};
 ghost use Rattle.hd_tiles.specs.Tile.{IsTileSide, tile_count};
-ghost use Rattle.hd_tiles.specs.Stamps.{AreUpTo, TouchesRound, TouchesAll};
+ghost use Rattle.hd_tiles.specs.Stamps.{AreUpTo, TouchesRound, TouchesProfile, TouchesAll};
 
-use crate::touch::{touch_all, touch_round};
+use crate::touch::{touch_all, touch_changes, touch_round};
 use crate::{Looked, Steps, Tiling};
 use hd_list::Memory;
 use hd_map::{Adjacency, Cell, DataType, Grid, Heights, Lane, MapError, Pos, Size, contains};
@@ -13,7 +14,8 @@ use std::sync::ledger::Ledger;
 
 /// A grid in square tiles, which counts its changes. The stamp of a tile is the number of the last change
 /// that touched it, and 0 before the first: a change of a cell or a mask touches each tile that holds the
-/// point or one of the eight positions round it, and a change of the setting every tile.
+/// point or one of the eight positions round it, a change of the heights of a profile does so for each of
+/// its points whose cell becomes another, and a change of the setting touches every tile.
 #[derive(Drop)]
 pub struct Tiles<G: Grid> {
     grid: G,
@@ -139,6 +141,23 @@ impl<G: Grid> Grid for Tiles<G> {
         self.changes += 1;
         touch_round(&mut self.stamps, self.tiling, at, self.changes);
         Ok(())
+    }
+
+    fn set_heights<L: Lane>(&mut self, y: u32, row: &[L])
+        requires profile { y < (G.map self.old.grid).size.profiles }
+        requires columns { length row.now ≡ (G.map self.old.grid).size.points }
+        requires in_range { AreHeightsIn (G.map self.old.grid).data_type (values_of L.code row.now) }
+        requires count { self.old.changes < 2 ^ 63 }
+        ensures sets { (G.map self.new.grid) ≡ with_heights (G.map self.old.grid) y (values_of L.code row.now) }
+        ensures origin { ComesFrom (G.map self.old.grid) self.old.tiling.side self.old.stamps.items (G.map self.new.grid) self.new.tiling.side self.new.stamps.items }
+        ensures count { CountsChange (G.map self.old.grid) (G.map self.new.grid) self.old.changes self.new.changes }
+        ensures touched { TouchesProfile self.old.tiling.side y (G.map self.old.grid) (G.map self.new.grid) self.old.stamps.items self.new.stamps.items }
+    {
+        let stamp = self.changes + 1;
+        if touch_changes(&mut self.stamps, self.tiling, &self.grid, y, row, stamp) {
+            self.grid.set_heights(y, row);
+            self.changes = stamp;
+        }
     }
 
     #[inline]

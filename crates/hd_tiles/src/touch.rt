@@ -1,11 +1,15 @@
 // The tiles that a change touches.
-ghost use Rattle.std.specs.Prelude.{◌≡◌, ◌<◌, ◌≤◌, ◌+◌, ◌-◌, ◌/◌, length, min};
+ghost use Rattle.std.specs.Prelude.{◌≡◌, ◌<◌, ◌≤◌, ◌+◌, ◌-◌, ◌*◌, ◌/◌, length, min};
+ghost use Rattle.std.specs.Bool.{OnFalse, OnTrue};
+ghost use Rattle.hd_map.specs.Encoding.{values_of};
 ghost use Rattle.hd_map.specs.Map.{InGrid};
+ghost use Rattle.hd_tiles.specs.Profile.{AllStay, IsRoundChange, SomeChanges};
 ghost use Rattle.hd_tiles.specs.Tile.{IsTileSide, IsRound, tile_count};
 ghost use Rattle.hd_tiles.specs.Stamps.{AreStamped};
 
 use crate::Tiling;
-use hd_map::Pos;
+use crate::change::{first_change, last_change};
+use hd_map::{Grid, Lane, Pos};
 
 // Of parts of this side along a line, the one that holds the place before this one, which lies in the
 // given part, or this one where it is the first.
@@ -62,6 +66,63 @@ pub fn touch_round(stamps: &mut Vec<u64>, tiling: Tiling, at: Pos, stamp: u64)
     stamps[(top + right) as usize] = stamp;
     stamps[(bottom + left) as usize] = stamp;
     stamps[(bottom + right) as usize] = stamp;
+}
+
+// Puts a stamp on each tile that holds a point of the profile in this part of it whose cell becomes another by the
+// numbers of the row, or one of the eight positions round such a point, and tells whether there is one. These are the
+// tiles round the first such point and round the last.
+fn touch_part<G: Grid, L: Lane>(
+    stamps: &mut Vec<u64>,
+    tiling: Tiling,
+    grid: &G,
+    y: u32,
+    row: &[L],
+    part: u32,
+    stamp: u64,
+) -> bool
+    requires same_size { tiling.size ≡ (G.map grid.now).size }
+    requires tiles { length stamps.old.items ≡ tile_count tiling.size tiling.side }
+    requires profile { y < tiling.size.profiles }
+    requires columns { length row.now ≡ tiling.size.points }
+    requires part { part * tiling.side < tiling.size.points }
+    ensures stamped { AreStamped (IsRoundChange (G.map grid.now) y (values_of L.code row.now) tiling.side (part * tiling.side) (min tiling.size.points (part * tiling.side + tiling.side))) stamp stamps.old.items stamps.new.items }
+    ensures some { OnTrue result (SomeChanges (G.map grid.now) y (values_of L.code row.now) tiling.size.points) }
+    ensures none { OnFalse result (AllStay (G.map grid.now) y (values_of L.code row.now) (part * tiling.side) (min tiling.size.points (part * tiling.side + tiling.side))) }
+{
+    let from = part * tiling.side();
+    let to = tiling.size().points.min(from + tiling.side());
+    let Some(first) = first_change(grid, y, row, from, to) else {
+        return false;
+    };
+    let last = last_change(grid, y, row, first, to);
+    touch_round(stamps, tiling, Pos { x: first, y }, stamp);
+    touch_round(stamps, tiling, Pos { x: last, y }, stamp);
+    true
+}
+
+/// Puts a stamp on each tile that holds a point of the profile whose cell becomes another by the numbers of the row, or
+/// one of the eight positions round such a point, and tells whether there is one.
+pub fn touch_changes<G: Grid, L: Lane>(
+    stamps: &mut Vec<u64>,
+    tiling: Tiling,
+    grid: &G,
+    y: u32,
+    row: &[L],
+    stamp: u64,
+) -> bool
+    requires same_size { tiling.size ≡ (G.map grid.now).size }
+    requires tiles { length stamps.old.items ≡ tile_count tiling.size tiling.side }
+    requires profile { y < tiling.size.profiles }
+    requires columns { length row.now ≡ tiling.size.points }
+    ensures stamped { AreStamped (IsRoundChange (G.map grid.now) y (values_of L.code row.now) tiling.side 0 tiling.size.points) stamp stamps.old.items stamps.new.items }
+    ensures some { OnTrue result (SomeChanges (G.map grid.now) y (values_of L.code row.now) tiling.size.points) }
+    ensures none { OnFalse result (AllStay (G.map grid.now) y (values_of L.code row.now) 0 tiling.size.points) }
+{
+    let mut some = false;
+    for part in 0..tiling.across() {
+        some = touch_part(stamps, tiling, grid, y, row, part, stamp) | some;
+    }
+    some
 }
 
 /// Puts a stamp on every tile.

@@ -3,7 +3,8 @@ use Rattle.std.specs.Prelude.{slice_index_or}
 use Rattle.std.specs.List.{range_with_len}
 use Rattle.hd_map.specs.declared.types.Size.{Size}
 use Rattle.hd_map.specs.Map.{place_of, cell_at, cell_count}
-use Rattle.hd_morph.specs.NewHeights.{cell_with, cell_after}
+use Rattle.hd_map.specs.Sets.{cell_with}
+use Rattle.hd_morph.specs.NewHeights.{cell_after}
 use Rattle.hd_morph.proofs.Listed.{cells_none, cells_more}
 use Rattle.hd_morph.proofs.cells.cells_with.Goals as goal
 
