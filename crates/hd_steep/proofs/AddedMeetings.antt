@@ -37,6 +37,12 @@ of_covers side a b x y (inr of) covers = inr (covers.a ∙ of.0, covers.b ∙ of
 pub lies_once : (m : Map) (side : SideName) (u : Pos) (j k : ℕ) → LiesIn m side u j → LiesIn m side u k → j ≡ k
 lies_once m side u j k one other = one.index_is ∙ ap (λ (r : Rank). r.index) (root-unique m side (rank m u) one.root other.root one.is_root other.is_root) ∙ sym other.index_is
 
+-- the higher of the ranks of two positions, as a test tells it
+pub higher_one : (m : Map) (side : SideName) (u v : Pos) (one other at : Rank) (b : Bool) → one ≡ rank m u → other ≡ rank m v → b ≡ below_by side one other → ((b ≡ true) × (at ≡ other)) ⊎ ((b ≡ false) × (at ≡ one))
+    → at ≡ higher_by side (rank m u) (rank m v)
+higher_one m side u v one other at b is is' test (inl (holds, there)) = (let e : below_by side (rank m u) (rank m v) ≡ true = rw (← is, ← is') (sym test ∙ holds) in rw e (there ∙ is'))
+higher_one m side u v one other at b is is' test (inr (fails, there)) = (let e : below_by side (rank m u) (rank m v) ≡ false = rw (← is, ← is') (sym test ∙ fails) in rw e (there ∙ is))
+
 module _ (m : Map) (side : SideName) where
   -- nothing is added for none
   pub adds_none : (xs : List Meeting) → Adds m side (λ u v. ⊥) xs xs

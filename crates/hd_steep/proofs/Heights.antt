@@ -25,25 +25,26 @@ later-is Dales a b ordered = grind (arith, ints, nat_tests)
 later-is Hills a b ordered = grind (arith, ints, nat_tests)
 
 module _ (m : Map) (side : SideName) (whole : IsMap m) (at : Pos) (here : Present m at) (r c : ℕ) (w : Rank) (low : IsLow m side (IsAtPlace r c) w) where
+  -- where the rank at a place has the height of a point, it is that of a point
+  rank_level : w.height ≡ (rank m at).height → (q : Pos) × IsAtPlace r c q × Present m q × (w.index ≡ place_of m.size q)
+  rank_level same = elim low.origin [
+    | inl none ↦ absurd (point_apart m side whole (rank m at) at here refl (sym same ∙ ap (λ (x : Rank). x.height) none))
+    | inr one ↦ (one.at, one.chosen, one.present, ap (λ (x : Rank). x.index) one.low_is)
+  ]
+
   -- the rank at a place before that of a point
   rank_before : ((q : Pos) → IsAtPlace r c q → Present m q → place_of m.size q < place_of m.size at) → earlier_below side w (rank m at) ≡ below_by side w (rank m at)
-  rank_before before = earlier-is side w (rank m at) (λ same. elim low.origin [
-    | inl none ↦ absurd (point_apart m side whole (rank m at) at here refl (sym same ∙ ap (λ (x : Rank). x.height) none))
-    | inr one ↦
-        let less = before one.at one.chosen one.present in
-        let index : w.index ≡ place_of m.size one.at = ap (λ (x : Rank). x.index) one.low_is in
-        omega (arith, less, index)
-  ])
+  rank_before before = earlier-is side w (rank m at) (λ same. (
+      let (q, place, present, index) = rank_level same in
+      let less = before q place present in
+      omega (arith, less, index)))
 
   -- and after it
   rank_after : ((q : Pos) → IsAtPlace r c q → Present m q → place_of m.size at < place_of m.size q) → later_below side w (rank m at) ≡ below_by side w (rank m at)
-  rank_after after = later-is side w (rank m at) (λ same. elim low.origin [
-    | inl none ↦ absurd (point_apart m side whole (rank m at) at here refl (sym same ∙ ap (λ (x : Rank). x.height) none))
-    | inr one ↦
-        let more = after one.at one.chosen one.present in
-        let index : w.index ≡ place_of m.size one.at = ap (λ (x : Rank). x.index) one.low_is in
-        omega (arith, more, index)
-  ])
+  rank_after after = later-is side w (rank m at) (λ same. (
+      let (q, place, present, index) = rank_level same in
+      let more = after q place present in
+      omega (arith, more, index)))
 
 module _ (m : Map) (side : SideName) (whole : IsMap m) (at : Pos) (here : Present m at) (above level below : List Rank)
     (upper : IsRowOf m side at.y above) (middle : IsRowOf m side (at.y + 1) level) (lower : IsRowOf m side (at.y + 2) below) where

@@ -1,8 +1,9 @@
 -- Profiles as rows of keys, and three of them that roll over the map.
 use borrow.Rule.Slice.PartMut.{put_mid}
-use Rattle.std.proofs.Common.{◌≡◌, ◌<◌, ◌≤◌, ◌+◌, ◌-◌, ◌*◌, ◌⊎◌, ℕ, List, length, inl, inr, ap, sym, subst, ◌∙◌, arith, rules}
+use Rattle.std.proofs.Common.{◌≡◌, ◌<◌, ◌≤◌, ◌+◌, ◌-◌, ◌*◌, ◌⊎◌, ◌++◌, ◌∷◌, [], ℕ, List, length, inl, inr, refl, ap, sym, subst, ◌∙◌, arith, rules}
 use Rattle.std.proofs.lemmas.Bool.{cases_eq, cases_lt}
-use Rattle.std.proofs.lemmas.List.{get_or_past, places}
+use Rattle.std.proofs.Math.Seq.{get_or-append_seam}
+use Rattle.std.proofs.lemmas.List.{get_or_append_left, get_or_past, length-append, places}
 use Rattle.hd_map.specs.declared.types.Pos.{Pos}
 use Rattle.hd_map.specs.declared.types.SideName.{SideName}
 use Rattle.hd_map.specs.Encoding.{Encoding, most_filtered, number_in}
@@ -33,6 +34,22 @@ module _ {L : Type 0} (code : Encoding L) where
 
   mid_length : (a k : ℕ) (xs ys : List L) → a + k ≤ length xs → length ys ≡ k → length (put_mid a k xs ys) ≡ length xs
   mid_length a k xs ys room size = search (rules, places)
+
+  -- a row without places, and one with a further one
+  pub empty_none : IsEmpty code 0 []
+  empty_none = record { whole = refl; none = λ k. refl }
+
+  pub empty_push : (count : ℕ) (keys : List L) → IsEmpty code count keys → IsEmpty code (count + 1) (keys ++ code.missing ∷ [])
+  empty_push count keys empty = record {
+    whole = length-append keys (code.missing ∷ []) ∙ ap (λ n. n + 1) empty.whole;
+    none = λ k. elim (cases_lt k (length keys)) [
+      | inl before ↦ get_or_append_left keys (code.missing ∷ []) code.missing k before ∙ empty.none k
+      | inr past ↦ elim (cases_eq k (length keys)) [
+        | inl same ↦ rw same (get_or-append_seam keys code.missing [] code.missing)
+        | inr other ↦ get_or_past (keys ++ code.missing ∷ []) k code.missing (omega (arith, past, other, length-append keys (code.missing ∷ [])))
+      ]
+    ];
+  }
 
   -- a row in which no point is present has an empty place on each side
   pub empty_framed : (points : ℕ) (keys : List L) → IsEmpty code (points + 2) keys → AreFramed code points keys

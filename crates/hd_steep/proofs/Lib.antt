@@ -11,6 +11,7 @@ pub mod FirstLink
 pub mod Following
 pub mod Pits
 pub mod PitNumbers
+mod EndLinks
 pub mod Labels
 pub mod Numbered
 pub mod Joining

@@ -1,9 +1,10 @@
 -- By column which of the eight places round it are lower than the point there.
-use Rattle.std.proofs.Common.{◌≡◌, ◌<◌, ◌≤◌, ◌+◌, ◌-◌, ◌++◌, ◌&&◌, ℕ, Bool, true, false, List, [], ◌∷◌, length, get_or, take, drop, inl, inr, ◌∙◌, sym, ap, subst, refl, length-append, arith}
+use Rattle.std.proofs.Common.{◌≡◌, ◌<◌, ◌≤◌, ◌+◌, ◌-◌, ◌++◌, ◌&&◌, ℕ, Bool, true, false, List, [], ◌∷◌, length, get_or, set, take, drop, inl, inr, ◌∙◌, sym, ap, subst, refl, length-append, arith}
 use Rattle.std.specs.Prelude.{Contains, is_some, if◌then◌else◌}
 use Rattle.std.proofs.lemmas.Bool.{and_from, and_parts, both_ways, cases_eq}
 use Rattle.std.proofs.lemmas.List.Elements.{Contains-push, Contains-push_cases, Contains-append_left}
 use Rattle.std.proofs.lemmas.List.{get_or_default, get_or-take, get_or-drop}
+use Rattle.hd_map.specs.declared.types.Rank.{Rank}
 use Rattle.hd_map.specs.declared.types.SideName.{SideName}
 use Rattle.hd_map.specs.Encoding.{Encoding, number_in}
 use Rattle.hd_map.proofs.Items.{Contains-none}
@@ -11,19 +12,36 @@ use Rattle.hd_steep.specs.declared.lower_places.LowerPlaces.{LowerPlaces}
 use Rattle.hd_steep.specs.declared.rolling.Rows.{Rows}
 use Rattle.hd_steep.specs.declared.row.Row.{Row}
 use Rattle.hd_steep.specs.KeyRows.{ranks_of}
-use Rattle.hd_steep.specs.Keys.{rank_of}
-use Rattle.hd_steep.specs.LowerPlaces.{AreEarlierBelow, AreLaterBelow, AreListedBefore, AreLowerPlaces, AreWide, HasColumns}
+use Rattle.hd_steep.specs.Keys.{IsKey, rank_of}
+use Rattle.hd_steep.specs.LowerPlaces.{AreEarlierBelow, AreLaterBelow, AreListedBefore, AreLowerPlaces, AreTested, AreWide, HasColumns, IsWide}
 use Rattle.hd_steep.specs.Lowest.{earlier_below, later_below}
 use Rattle.hd_steep.specs.Ring.{is_marked}
 use Rattle.hd_steep.specs.Rows.{rank_in}
 use Rattle.hd_steep.proofs.Keys.{rank_at_key}
+use Rattle.hd_steep.proofs.Marks.{marks_more}
 
 module _ {L : Type 0} (code : Encoding L) (keys : List L) (shift width : ℕ) (room : shift + width ≤ length keys) where
   -- what is read in a part of a row is a key of the row
-  pub part_at : (x : ℕ) (key : L) → x < width → key ≡ get_or (take (shift + width - shift) (drop shift keys)) x key → key ≡ number_in code keys (x + shift)
+  part_at : (x : ℕ) (key : L) → x < width → key ≡ get_or (take (shift + width - shift) (drop shift keys)) x key → key ≡ number_in code keys (x + shift)
   part_at x key inside read =
       read ∙ get_or-take (shift + width - shift) (drop shift keys) x key (omega (arith, inside)) ∙ get_or-drop shift keys x key
       ∙ get_or_default keys (shift + x) key code.missing (omega (arith, inside, room)) ∙ ap (number_in code keys) (omega arith)
+
+-- so it is where the row is wide enough, and is a key then
+pub wide_at : {L : Type 0} → (code : Encoding L) (columns shift : ℕ) (keys : List L) → IsWide code columns keys → shift ≤ 2 → (x : ℕ) (key : L) → x < columns
+    → key ≡ get_or (take (shift + columns - shift) (drop shift keys)) x key → (key ≡ number_in code keys (x + shift)) × IsKey code key
+wide_at code columns shift keys wide near x key inside read =
+    let long = wide.whole in
+    let is : key ≡ number_in code keys (x + shift) = part_at code keys shift columns (omega (arith, long, near)) x key inside read in
+    (is, subst (IsKey code) (sym is) (wide.each (x + shift)))
+
+-- one more column is tested
+pub tested_more : {L : Type 0} → (code : Encoding L) (side : SideName) (below : Rank → Rank → Bool) (keys : List L) (shift : ℕ) (level : List L) (marks : List Bool) (x : ℕ) (key own : L) (mark : Bool) → x < length marks
+    → key ≡ number_in code keys (x + shift) → own ≡ number_in code level (x + 1) → ((i j : ℕ) → mark ≡ below (rank_of code side i key) (rank_of code side j own))
+    → AreTested code side below keys shift level x marks → AreTested code side below keys shift level (x + 1) (set marks x mark)
+tested_more code side below keys shift level marks x key own mark inside key_is own_is told before =
+    marks_more (λ k b. (i j : ℕ) → b ≡ below (rank_of code side i (number_in code keys (k + shift))) (rank_of code side j (number_in code level (k + 1)))) marks x mark inside before
+    (λ i j. rw (← key_is, ← own_is) (told i j))
 
 module _ {L : Type 0} (code : Encoding L) (side : SideName) (columns : ℕ) (rows : Rows L) (wide : AreWide code columns rows) (x : ℕ) (inside : x < columns) where
   -- the rank in the middle

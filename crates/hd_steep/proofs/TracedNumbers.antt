@@ -17,8 +17,8 @@ use Rattle.hd_steep.specs.Crossings.{IsNumberAt, IsNumberOf, pit_at}
 use Rattle.hd_steep.specs.Links.{no_link, AreLinks, HasPointAt, IsRootAt}
 use Rattle.hd_steep.specs.Numbering.{root_of, AreWrittenAtPits, IsLabelOf}
 use Rattle.hd_steep.specs.Tracing.{AreTracedNumbers, IsWrittenAt}
-use Rattle.hd_steep.proofs.Following.{IsOnWay, way_start, way_more, way_end}
-use Rattle.hd_steep.proofs.PitNumbers.{listed_pit, own_stays, root_at, root_below, root_own}
+use Rattle.hd_steep.proofs.Following.{IsOnWay, way_more, way_end}
+use Rattle.hd_steep.proofs.PitNumbers.{listed_pit, own_or_not, root_at, root_below, root_own}
 use Rattle.hd_steep.proofs.Pits.{pits_few}
 use Rattle.hd_steep.proofs.Ways.{depth_at}
 
@@ -120,42 +120,36 @@ module _ (m : Map) (side : SideName) where
     ]
 
   module _ (links : List ℕ) (are_links : AreLinks m side links) (whole : IsMap m) where
-    -- what has its own index as its link is a pit
-    pub own_link : (k : ℕ) → k < length links → slice_index links k ≡ k → IsRootAt m side k k
-    own_link k inside stays =
-        let some : slice_index links k ≡ no_link → ⊥ = λ none. (let long = are_links.whole in let cells = whole.size.cells in omega (arith, inside, long, cells, stays, none)) in
-        way_end m side links are_links whole k k (way_start m side links are_links whole k inside some) stays
-
-    -- each index is that of a pit, or not
-    own_or_not : (k : ℕ) → k < length links → IsRootAt m side k k ⊎ (IsRootAt m side k k → ⊥)
-    own_or_not k inside = elim (cases_eq (slice_index links k) k) [
-      | inl stays ↦ inl (own_link k inside stays)
-      | inr moves ↦ inr (λ own. moves (own_stays m side links k are_links own))
-    ]
-
-    -- where there is no number, the link leads on
-    pub unknown_moves : (pits : List Rank) (numbers : List ℕ) (start here : ℕ) → AreTracedNumbers m side pits numbers → IsOnWay m side start here → slice_index numbers here ≡ no_link
-        → slice_index links here ≡ here → ⊥
-    unknown_moves pits numbers start here traced way unknown stays =
-        traced.own here (root_own m side start here (way_end m side links are_links whole start here way stays)) unknown
+    -- where there is no number, a way goes on along the link
+    pub way_on : (pits : List Rank) (numbers : List ℕ) (start here : ℕ) → AreTracedNumbers m side pits numbers → IsOnWay m side start here → slice_index numbers here ≡ no_link
+        → IsOnWay m side start (slice_index links here) × (depth_at m side (slice_index links here) < depth_at m side here)
+    way_on pits numbers start here traced way unknown = way_more m side links are_links whole start here way
+        (λ stays. traced.own here (root_own m side start here (way_end m side links are_links whole start here way stays)) unknown)
 
     module _ (pits : List Rank) (are : ArePits m side pits) where
       -- a number is not the one that stands where none is known
       number_some : (n : ℕ) → n < length pits → n ≢ no_link
       number_some n inside none = let few = pits_few m side pits are in let cells = whole.size.cells in omega (arith, inside, few, cells, none)
 
+      -- at the index of a pit its number is written
+      written_own : (old numbers : List ℕ) (k : ℕ) → AreWrittenAtPits m side pits 0 old numbers → IsRootAt m side k k → root_of pits (slice_index numbers k) ≡ Some k
+      written_own old numbers k written own =
+          let (n, is, root) = written.own k own in
+          let e : slice_index numbers k ≡ n = omega (arith, is) in
+          ap (root_of pits) e ∙ root
+
       -- the numbers of the pits, where no others are known
       pub traced_none : (old numbers : List ℕ) → length old ≡ cell_count m.size → ((k : ℕ) → k < length old → slice_index old k ≡ no_link)
-          → AreWrittenAtPits m side pits old numbers → AreTracedNumbers m side pits numbers
+          → AreWrittenAtPits m side pits 0 old numbers → AreTracedNumbers m side pits numbers
       traced_none old numbers long none written = record {
         whole = written.whole ∙ long;
         each = λ k inside.
             let before : k < length old = rw (← written.whole) inside in
-            elim (own_or_not k (rw (are_links.whole, ← long) before)) [
-              | inl own ↦ inr (rw (written.own k own) own)
+            elim (own_or_not m side links are_links whole k (rw (are_links.whole, ← long) before)) [
+              | inl own ↦ inr (rw (written_own old numbers k written own) own)
               | inr not ↦ inl (written.other k not ∙ none k before)
             ];
-        own = λ k own. number_some (slice_index numbers k) (root_below pits (slice_index numbers k) k (written.own k own));
+        own = λ k own. number_some (slice_index numbers k) (root_below pits (slice_index numbers k) k (written_own old numbers k written own));
       }
 
       -- the number at an index is written there, and is that of the point to which its link leads
@@ -165,7 +159,7 @@ module _ (m : Map) (side : SideName) where
           let has = number_point pits here n is in
           let inside = number_below pits numbers here n traced is in
           let way = way_from here has in
-          let more = way_more m side links are_links whole here here way (unknown_moves pits numbers here here traced way unknown) in
+          let more = way_on pits numbers here here traced way unknown in
           let there : Rank = more.0.at in
           let first : IsNumberOf m side pits more.0.first n = number_of_rank pits more.0.first here n more.0.first_point more.0.first_is is in (
             record {

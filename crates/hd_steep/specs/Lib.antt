@@ -12,6 +12,7 @@ pub mod Ring
 pub mod Crossed
 pub mod Crossings
 pub mod Numbering
+pub mod Ends
 pub mod Reached
 pub mod Descents
 pub mod Descended

@@ -1,5 +1,5 @@
 -- Links by index, along which each point leads to its root.
-use Rattle.std.specs.Prelude.{◌≡◌, ◌↔◌, ◌⊎◌, ◌<◌, ℕ, true, List, length, slice_index}
+use Rattle.std.specs.Prelude.{◌≡◌, ◌↔◌, ◌<◌, ℕ, true, List, length, slice_index}
 use Rattle.hd_map.specs.declared.types.Rank.{Rank}
 use Rattle.hd_map.specs.declared.types.SideName.{SideName}
 use Rattle.hd_map.specs.Map.{Map, cell_count}
@@ -51,16 +51,3 @@ pub record IsRootAt (m : Map) (side : SideName) (k root : ℕ) : Type 0 where
   pub to : Rank
   pub is_root : IsRoot m side at to
   pub root_is : root ≡ to.index
-
--- the link of an index is that of the root of the point that has it; where no point has it, there is no link
-abbrev pub IsRootLink : Map → SideName → ℕ → ℕ → Type 0
-IsRootLink m side k link = IsRootAt m side k link ⊎ (NoPointAt m k × (link ≡ no_link))
-
--- each link is that to the root
-pub record AreRootLinks (m : Map) (side : SideName) (links : List ℕ) : Type 0 where
-  pub whole : length links ≡ cell_count m.size
-  pub each : (k : ℕ) → k < length links → IsRootLink m side k (slice_index links k)
-
--- where an old link is that to the root, so is the new one
-abbrev pub KeepRootLinks : Map → SideName → List ℕ → List ℕ → Type 0
-KeepRootLinks m side old new = (k : ℕ) → IsRootLink m side k (slice_index old k) → IsRootLink m side k (slice_index new k)

@@ -2,6 +2,7 @@
 use Rattle.std.specs.Prelude.{◌≡◌, ◌<◌, ◌≤◌, ◌+◌, ℕ, Bool, true, List, [], ◌∷◌, length, is_some, Contains}
 use Rattle.std.specs.Bool.{OnFalse}
 use Rattle.hd_map.specs.declared.types.Adjacency.{Adjacency}
+use Rattle.hd_map.specs.declared.types.Rank.{Rank}
 use Rattle.hd_map.specs.declared.types.SideName.{SideName}
 use Rattle.hd_map.specs.Encoding.{Encoding, number_in}
 use Rattle.hd_steep.specs.declared.lower_places.LowerPlaces.{LowerPlaces}
@@ -53,15 +54,18 @@ module _ {L : Type 0} (code : Encoding L) where
     pub few : length columns ≤ n
 
   module _ (side : SideName) where
+    -- by column, before one, what a test tells of the key so much further on in a row and of the one in the middle, at any indexes
+    abbrev pub AreTested : (Rank → Rank → Bool) → List L → ℕ → List L → ℕ → List Bool → Type 0
+    AreTested below keys shift level n marks =
+        (k : ℕ) → k < n → (i j : ℕ) → is_marked marks k ≡ below (rank_of code side i (number_in code keys (k + shift))) (rank_of code side j (number_in code level (k + 1)))
+
     -- by column whether the key so much further on in a row is that of a point below the one in the middle, which comes after it
     abbrev pub AreEarlierBelow : List L → ℕ → List L → List Bool → Type 0
-    AreEarlierBelow keys shift level lower =
-        (k : ℕ) → k < length lower → (i j : ℕ) → is_marked lower k ≡ earlier_below side (rank_of code side i (number_in code keys (k + shift))) (rank_of code side j (number_in code level (k + 1)))
+    AreEarlierBelow keys shift level lower = AreTested (earlier_below side) keys shift level (length lower) lower
 
     -- the same where the one in the middle comes before it
     abbrev pub AreLaterBelow : List L → ℕ → List L → List Bool → Type 0
-    AreLaterBelow keys shift level lower =
-        (k : ℕ) → k < length lower → (i j : ℕ) → is_marked lower k ≡ later_below side (rank_of code side i (number_in code keys (k + shift))) (rank_of code side j (number_in code level (k + 1)))
+    AreLaterBelow keys shift level lower = AreTested (later_below side) keys shift level (length lower) lower
 
     -- by column of the middle one of three rows which of the eight places round it are lower
     pub record AreLowerPlaces (columns : ℕ) (rows : Rows L) (places : LowerPlaces) : Type 0 where

@@ -1,12 +1,12 @@
 -- The regions of a map by the numbers of their pits.
-use Rattle.std.specs.Prelude.{◌≡◌, ◌<◌, ◌≤◌, ℕ, List, length, map, Option, Some, None, slice_get, slice_index, slice_index_or, nat_lt, MatchOption, if◌then◌else◌}
+use Rattle.std.specs.Prelude.{◌≡◌, ◌<◌, ◌+◌, ℕ, List, length, map, Option, Some, None, slice_get, slice_index, nat_lt, MatchOption, if◌then◌else◌}
 use Rattle.std.specs.Option.{option_map}
 use Rattle.hd_map.specs.declared.types.Rank.{Rank}
 use Rattle.hd_map.specs.declared.types.SideName.{SideName}
 use Rattle.hd_map.specs.Map.{Map, cell_count}
 use Rattle.hd_map.specs.Pruning.{ArePits}
 use Rattle.hd_map.specs.Region.{AreRegions}
-use Rattle.hd_steep.specs.Links.{NoPointAt, IsRootAt, IsRootLink}
+use Rattle.hd_steep.specs.Links.{NoPointAt, IsRootAt}
 
 -- the pits in position order, and by index the number of the pit in whose region the point lies
 pub record Numbering : Type 0 where
@@ -25,37 +25,15 @@ roots_of regions = map (root_of regions.pits) regions.numbers
 abbrev pub number_of : List Rank → ℕ → Option ℕ
 number_of pits n = if nat_lt n (length pits) then Some n else None
 
--- at the index of a pit stands its number, and at the others the link to the root
-pub record IsNumberOfPit (m : Map) (side : SideName) (pits : List Rank) (k n : ℕ) : Type 0 where
-  pub own : IsRootAt m side k k → root_of pits n ≡ Some k
-  pub other : (IsRootAt m side k k → ⊥) → IsRootLink m side k n
-
--- at the index of each pit its number is written, and what stands at the others stays
-pub record AreWrittenAtPits (m : Map) (side : SideName) (pits : List Rank) (old new : List ℕ) : Type 0 where
+-- at the index of each pit its number is written, counted from the first one, and what stands at the others stays
+pub record AreWrittenAtPits (m : Map) (side : SideName) (pits : List Rank) (first : ℕ) (old new : List ℕ) : Type 0 where
   pub whole : length new ≡ length old
-  pub own : (k : ℕ) → IsRootAt m side k k → root_of pits (slice_index new k) ≡ Some k
+  pub own : (k : ℕ) → IsRootAt m side k k → (n : ℕ) × (slice_index new k ≡ first + n) × (root_of pits n ≡ Some k)
   pub other : (k : ℕ) → (IsRootAt m side k k → ⊥) → slice_index new k ≡ slice_index old k
-
--- at all indexes
-pub record AreNumbersOfPits (m : Map) (side : SideName) (pits : List Rank) (numbers : List ℕ) : Type 0 where
-  pub whole : length numbers ≡ cell_count m.size
-  pub each : (k : ℕ) → k < length numbers → IsNumberOfPit m side pits k (slice_index numbers k)
 
 -- the label of an index: that of the root of the point that has it, and none where no point has it
 abbrev pub IsLabelOf : Map → SideName → ℕ → Option ℕ → Type 0
 IsLabelOf m side k label = MatchOption label (NoPointAt m k) (λ root. IsRootAt m side k root)
-
--- the labels of the indexes before one, and what stands from it on; the next pit is the first that is not before it
-pub record AreLabelledTo (m : Map) (side : SideName) (pits : List Rank) (i next : ℕ) (numbers : List ℕ) : Type 0 where
-  pub whole : length numbers ≡ cell_count m.size
-  pub past : (j : ℕ) (d : Rank) → j < next → j < length pits → (slice_index_or pits j d).index < i
-  pub ahead : (j : ℕ) (d : Rank) → next ≤ j → j < length pits → i ≤ (slice_index_or pits j d).index
-  pub before : (k : ℕ) → k < i → IsLabelOf m side k (root_of pits (slice_index numbers k))
-  pub after : (k : ℕ) → i ≤ k → k < length numbers → IsNumberOfPit m side pits k (slice_index numbers k)
-
--- the next pit is not before this index
-abbrev pub NextIsFrom : List Rank → ℕ → ℕ → Type 0
-NextIsFrom pits next end = (d : Rank) → next < length pits → end ≤ (slice_index_or pits next d).index
 
 -- at each index stands the number of the pit
 pub record AreNumbers (m : Map) (side : SideName) (pits : List Rank) (numbers : List ℕ) : Type 0 where

@@ -4,6 +4,7 @@ ghost use Rattle.hd_map.specs.Map.{InGrid, cell_count, place_of};
 ghost use Rattle.hd_steep.specs.FirstLinks.{AreFirstLinks, IsFirstLink, IsRenewedAt};
 ghost use Rattle.hd_steep.specs.Numbering.{AreNumbered};
 
+use crate::ends::room_for_ends;
 use crate::links::{NO_LINK, first_links};
 use crate::lowest::lowest_round;
 use crate::numbering::{Regions, number_by_links};
@@ -33,7 +34,7 @@ impl FirstLinks {
     pub fn new<S: Side, G: Heights>(alloc: Global, grid: &G) -> Result<FirstLinks, Memory>
         ensures { IfOk result (AreFirstLinks (G.map grid.now) S.NAME) }
     {
-        let links = first_links::<S, G>(alloc, grid)?;
+        let links = first_links::<S, G>(alloc, grid, 0)?;
         Ok(FirstLinks { links })
     }
 
@@ -61,7 +62,11 @@ impl FirstLinks {
         requires { AreFirstLinks (G.map grid.now) S.NAME self.now }
         ensures { IfOk result (AreNumbered (G.map grid.now) S.NAME) }
     {
-        let links = Vec::from_slice(alloc, &self.links)?;
+        let mut links = Vec::with_capacity(
+            alloc,
+            self.links.len() + room_for_ends(self.links.len()),
+        )?;
+        links.extend_from_slice(&self.links)?;
         number_by_links::<S, G>(alloc, grid, links)
     }
 }

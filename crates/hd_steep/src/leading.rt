@@ -1,155 +1,84 @@
-// Links led on to the roots, in place: most of them by sweeps that do not branch, the rest by walks.
-ghost use Rattle.std.specs.Prelude.{◌≡◌, ◌<◌, ◌≢◌, IfOk, OnOk, length, slice_index};
-ghost use Rattle.std.specs.Bool.{OnTrue, OnFalse};
-ghost use Rattle.hd_map.specs.Pruning.{ArePits};
-ghost use Rattle.hd_map.specs.Region.{IsPit};
-ghost use Rattle.hd_steep.specs.Links.{no_link, AreLinks, AreRootLinks, IsRootAt, IsRootLink, KeepRootLinks};
+// Links led on to ends, in place: most of them by two sweeps, the rest by walks.
+ghost use Rattle.std.specs.Prelude.{◌≡◌, ◌<◌, ◌≤◌, length, slice_index};
+ghost use Rattle.hd_map.specs.Map.{cell_count};
+ghost use Rattle.hd_steep.specs.Ends.{AreEndLinks, AreLed, KeepEnds, LeadsToEnd};
 
-use crate::links::NO_LINK;
-use hd_list::Memory;
-use hd_map::{Heights, Rank, Side, position_of, rank_of};
-use std::alloc::Global;
+use hd_map::{Heights, Rank, Side};
 
-/// Heights without any order have about one pit for nine points: memory is reserved for as many.
-pub const POINTS_A_PIT: usize = 8;
-
-/// Leads links on along their ways, most of them to the roots.
-///
-/// Where a sweep leads few of them on, as on a rough map, the ways are short, and it leaves little to be walked.
-/// Where it leads on more than half, two more sweeps follow.
-pub fn lead_on<S: Side, G: Heights>(grid: &G, links: &mut [u32])
-    requires { AreLinks (G.map grid.now) S.NAME links.old }
-    ensures { AreLinks (G.map grid.now) S.NAME links.new }
+/// Leads each link on by one link, from the first point to the last: a way against this order leads to its end by it.
+pub fn sweep<S: Side, G: Heights>(_grid: &G, _pits: &[Rank], links: &mut [u32], count: usize)
+    requires links { AreEndLinks (G.map _grid.now) S.NAME _pits.now links.old }
+    requires count { count ≡ cell_count (G.map _grid.now).size }
+    ensures { AreEndLinks (G.map _grid.now) S.NAME _pits.now links.new }
 {
-    let led = sweep::<S, G>(grid, links);
-    if led > links.len() / 2 {
-        sweep_back::<S, G>(grid, links);
-        sweep::<S, G>(grid, links);
+    for index in 0..count {
+        links[index] = links[links[index] as usize];
     }
 }
 
-// Leads each link on by one link, from the first point to the last, and counts those that change by that.
-fn sweep<S: Side, G: Heights>(grid: &G, links: &mut [u32]) -> usize
-    requires { AreLinks (G.map grid.now) S.NAME links.old }
-    ensures { AreLinks (G.map grid.now) S.NAME links.new }
+/// Leads the link of each point to its end: on by one link, from the last point to the first, and by a walk where that is
+/// not enough.
+pub fn lead_to_ends<S: Side, G: Heights>(grid: &G, pits: &[Rank], links: &mut [u32], count: usize)
+    requires links { AreEndLinks (G.map grid.now) S.NAME pits.now links.old }
+    requires count { count ≡ cell_count (G.map grid.now).size }
+    ensures links { AreEndLinks (G.map grid.now) S.NAME pits.now links.new }
+    ensures led { AreLed (G.map grid.now) links.new }
 {
-    let mut led = 0;
-    for index in 0..links.len() {
-        led += usize::from(lead_once::<S, G>(grid, links, index));
-    }
-    led
-}
-
-// Leads each link on by one link, from the last point to the first.
-fn sweep_back<S: Side, G: Heights>(grid: &G, links: &mut [u32])
-    requires { AreLinks (G.map grid.now) S.NAME links.old }
-    ensures { AreLinks (G.map grid.now) S.NAME links.new }
-{
-    for index in (0..links.len()).rev() {
-        lead_once::<S, G>(grid, links, index);
+    for index in (0..count).rev() {
+        let link = links[links[index] as usize];
+        links[index] = link;
+        if (link as usize) < count {
+            let end = end_from::<S, G>(grid, pits, links, count, index);
+            lead_to::<S, G>(grid, pits, links, count, index, end);
+        }
     }
 }
 
-// Leads the link at an index on by one link, and tells whether it changes by that.
-#[inline]
-fn lead_once<S: Side, G: Heights>(_grid: &G, links: &mut [u32], index: usize) -> bool
-    requires links { AreLinks (G.map _grid.now) S.NAME links.old }
-    requires inside { index < length links.old }
-    ensures { AreLinks (G.map _grid.now) S.NAME links.new }
+// The end to which the way of the point at an index leads, by walking along the links.
+fn end_from<S: Side, G: Heights>(
+    _grid: &G,
+    _pits: &[Rank],
+    links: &[u32],
+    count: usize,
+    start: usize,
+) -> usize
+    requires links { AreEndLinks (G.map _grid.now) S.NAME _pits.now links.now }
+    requires count { count ≡ cell_count (G.map _grid.now).size }
+    requires inside { start < count }
+    ensures past { count ≤ result }
+    ensures inside { result < length links.now }
+    ensures end { LeadsToEnd (G.map _grid.now) S.NAME _pits.now start result }
 {
-    let link = links[index];
-    let onward = if link == NO_LINK {
-        index
-    } else {
-        link as usize
-    };
-    links[index] = links[onward];
-    links[index] != link
+    let mut here = links[start] as usize;
+    'walk: while here < count {
+        here = links[here] as usize;
+    }
+    here
 }
 
-/// Leads the link of each point to its root, and lists the pits in position order.
-///
-/// It takes 16 bytes a pit, at first for one of eight points. `Memory` comes where these are refused.
-pub fn lead_to_roots<S: Side, G: Heights>(
-    alloc: Global,
-    grid: &G,
+// Leads each point on the way from an index to this end.
+fn lead_to<S: Side, G: Heights>(
+    _grid: &G,
+    _pits: &[Rank],
     links: &mut [u32],
-) -> Result<Vec<Rank>, Memory>
-    requires { AreLinks (G.map grid.now) S.NAME links.old }
-    ensures links { OnOk result (AreRootLinks (G.map grid.now) S.NAME links.new) }
-    ensures pits { IfOk result (λ pits. ArePits (G.map grid.now) S.NAME pits.items) }
-{
-    let mut pits = Vec::with_capacity(alloc, links.len() / POINTS_A_PIT)?;
-    for index in 0..links.len() {
-        if lead_one::<S, G>(grid, links, index) {
-            pits.push(pit_at::<S, G>(grid, index as u32))?;
-        }
-    }
-    Ok(pits)
-}
-
-/// The pit of an index.
-pub fn pit_at<S: Side, G: Heights>(grid: &G, index: u32) -> Rank
-    requires { IsRootAt (G.map grid.now) S.NAME index index }
-    ensures pit { IsPit (G.map grid.now) S.NAME result }
-    ensures index { result.index ≡ index }
-{
-    rank_of(grid, position_of(grid.size(), index))
-}
-
-// Leads the link at an index to the root, and those of the points on its way; and tells whether it is
-// that of a pit.
-#[inline]
-fn lead_one<S: Side, G: Heights>(grid: &G, links: &mut [u32], index: usize) -> bool
-    requires links { AreLinks (G.map grid.now) S.NAME links.old }
-    requires inside { index < length links.old }
-    ensures links { AreLinks (G.map grid.now) S.NAME links.new }
-    ensures led { IsRootLink (G.map grid.now) S.NAME index (slice_index links.new index) }
-    ensures kept { KeepRootLinks (G.map grid.now) S.NAME links.old links.new }
-    ensures pit { OnTrue result (IsRootAt (G.map grid.now) S.NAME index index) }
-    ensures other { OnFalse result (IsRootAt (G.map grid.now) S.NAME index index → ⊥) }
-{
-    let link = links[index];
-    if link == NO_LINK {
-        return false;
-    }
-    if links[link as usize] == link {
-        return link as usize == index;
-    }
-    let root = root_from::<S, G>(grid, links, index as u32);
-    lead_to::<S, G>(grid, links, index as u32, root);
-    false
-}
-
-// The index of the root of the point at an index, by walking along the links.
-fn root_from<S: Side, G: Heights>(_grid: &G, links: &[u32], start: u32) -> u32
-    requires links { AreLinks (G.map _grid.now) S.NAME links.now }
-    requires inside { start < length links.now }
-    requires point { slice_index links.now start ≢ no_link }
-    ensures { IsRootAt (G.map _grid.now) S.NAME start result }
+    count: usize,
+    start: usize,
+    end: usize,
+)
+    requires links { AreEndLinks (G.map _grid.now) S.NAME _pits.now links.old }
+    requires count { count ≡ cell_count (G.map _grid.now).size }
+    requires start { start < count }
+    requires past { count ≤ end }
+    requires inside { end < length links.old }
+    requires end { LeadsToEnd (G.map _grid.now) S.NAME _pits.now start end }
+    ensures links { AreEndLinks (G.map _grid.now) S.NAME _pits.now links.new }
+    ensures led { count ≤ slice_index links.new start }
+    ensures kept { KeepEnds (G.map _grid.now) links.old links.new }
 {
     let mut here = start;
-    'walk: loop {
-        let onward = links[here as usize];
-        if onward == here {
-            return here;
-        }
-        here = onward;
-    }
-}
-
-// Links each point on the way from an index to its root to that root.
-fn lead_to<S: Side, G: Heights>(_grid: &G, links: &mut [u32], start: u32, root: u32)
-    requires links { AreLinks (G.map _grid.now) S.NAME links.old }
-    requires root { IsRootAt (G.map _grid.now) S.NAME start root }
-    ensures links { AreLinks (G.map _grid.now) S.NAME links.new }
-    ensures led { IsRootLink (G.map _grid.now) S.NAME start (slice_index links.new start) }
-    ensures kept { KeepRootLinks (G.map _grid.now) S.NAME links.old links.new }
-{
-    let mut here = start;
-    'walk: while here != root {
-        let onward = links[here as usize];
-        links[here as usize] = root;
+    'walk: while here < count {
+        let onward = links[here] as usize;
+        links[here] = end as u32;
         here = onward;
     }
 }

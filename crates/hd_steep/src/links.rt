@@ -1,7 +1,8 @@
 // The first link of each point, to its next, and of a pit to itself. Profiles are looked at by
 // threes, so that each height is read once.
-ghost use Rattle.std.specs.Prelude.{◌≡◌, ◌<◌, ◌*◌, IfOk, MatchOption, length};
+ghost use Rattle.std.specs.Prelude.{◌≡◌, ◌<◌, ◌≤◌, ◌*◌, IfOk, MatchOption, length};
 ghost use Rattle.hd_map.specs.declared.types.Rank.{Rank};
+ghost use Rattle.hd_map.specs.Map.{most_cells};
 ghost use Rattle.hd_steep.specs.FirstLinks.{AreFirstLinks, AreFirstLinksFrom};
 ghost use Rattle.hd_steep.specs.KeyRows.{AreRowsRound};
 ghost use Rattle.hd_steep.specs.Keys.{IsBeyond};
@@ -17,24 +18,34 @@ use std::alloc::Global;
 pub const NO_LINK: u32 = u32::MAX;
 
 /// By index the link of each present point to the lowest of itself and its neighbours, and
-/// `NO_LINK` for the others.
+/// `NO_LINK` for the others. There is room for this many more.
 ///
-/// It takes 4 bytes a point and 16 a column, or 28 a column where a height is more than 2 ^ 29 steps from zero. `Memory`
-/// comes where these are refused.
-pub fn first_links<S: Side, G: Heights>(alloc: Global, grid: &G) -> Result<Vec<u32>, Memory>
+/// It takes 4 bytes a point, 4 for each more, and 16 a column, or 28 a column where a height is more than 2 ^ 29 steps
+/// from zero. `Memory` comes where these are refused.
+pub fn first_links<S: Side, G: Heights>(
+    alloc: Global,
+    grid: &G,
+    more: usize,
+) -> Result<Vec<u32>, Memory>
+    requires { more ≤ most_cells }
     ensures { IfOk result (λ links. AreFirstLinks (G.map grid.now) S.NAME links.items) }
 {
-    if let Some(links) = linked::<S, i32, G>(alloc, grid)? {
+    if let Some(links) = linked::<S, i32, G>(alloc, grid, more)? {
         return Ok(links);
     }
-    match linked::<S, i64, G>(alloc, grid)? {
+    match linked::<S, i64, G>(alloc, grid, more)? {
         Some(links) => Ok(links),
         None => unreachable!(),
     }
 }
 
 // The first links by keys of one type, unless a height is too far from zero for these.
-fn linked<S: Side, L: Lane, G: Heights>(alloc: Global, grid: &G) -> Result<Option<Vec<u32>>, Memory>
+fn linked<S: Side, L: Lane, G: Heights>(
+    alloc: Global,
+    grid: &G,
+    more: usize,
+) -> Result<Option<Vec<u32>>, Memory>
+    requires { more ≤ most_cells }
     ensures { let m = G.map grid.now in IfOk result (λ found. MatchOption found (IsBeyond L.code m)
         (λ links. AreFirstLinks m S.NAME links.items)) }
 {
@@ -43,7 +54,7 @@ fn linked<S: Side, L: Lane, G: Heights>(alloc: Global, grid: &G) -> Result<Optio
     let Some(mut rows) = Rows::<L>::before::<S, G>(alloc, grid, 0)? else {
         return Ok(None);
     };
-    let mut links = Vec::with_capacity(alloc, width * size.profiles as usize)?;
+    let mut links = Vec::with_capacity(alloc, width * size.profiles as usize + more)?;
     let mut row = vec![in alloc; NO_LINK; width]?;
     'profiles: for y in 0..size.profiles {
         if !rows.advance::<S, G>(grid, y) {

@@ -3,16 +3,17 @@ ghost use Rattle.std.specs.Prelude.{◌≡◌, ◌<◌, IfOk, length, slice_get,
 ghost use Rattle.hd_steep.specs.FirstLinks.{AreFirstLinks};
 ghost use Rattle.hd_steep.specs.Numbering.{AreNumbered, number_of, root_of, roots_of};
 
-use crate::leading::{lead_on, lead_to_roots};
+use crate::ends::{add_ends, number_by_ends, room_for_ends};
+use crate::leading::{lead_to_ends, sweep};
 use crate::links::first_links;
-use crate::numbers::{number_pits, number_points};
+use crate::pit_list::list_pits;
 use hd_list::{List, Memory};
 use hd_map::{Heights, Rank, Side};
 use std::alloc::Global;
 use std::marker::Model;
 
 /// The regions of a side of a grid: its pits in position order, and by index the number of the pit in
-/// whose region the point lies, counted from 0. It takes 4 bytes a point and 16 a pit.
+/// whose region the point lies, counted from 0. It takes 4 bytes a point and 20 a pit.
 #[derive(Drop)]
 pub struct Regions {
     pits: Vec<Rank>,
@@ -78,19 +79,21 @@ impl Regions {
 
 /// The regions of a side of a grid.
 ///
-/// Measured, it takes 4 bytes a point, 16 a pit, at first for one of eight points, and 16 a column,
+/// Measured, it takes 4 bytes a point, 20 a pit, at first for one of eight points, and 16 a column,
 /// or 28 a column where a height is more than 2 ^ 29 steps from zero, and time in proportion to the
 /// points, however long the ways are. `Memory` comes where memory is refused. Dales and hills are
 /// those of ISO 25178-2; that each point has one steepest way is this project's own rule.
 pub fn find_regions<S: Side, G: Heights>(alloc: Global, grid: &G) -> Result<Regions, Memory>
     ensures { IfOk result (AreNumbered (G.map grid.now) S.NAME) }
 {
-    let links = first_links::<S, G>(alloc, grid)?;
+    let size = grid.size();
+    let count = size.points as usize * size.profiles as usize;
+    let links = first_links::<S, G>(alloc, grid, room_for_ends(count))?;
     number_by_links::<S, G>(alloc, grid, links)
 }
 
-/// The regions of a side of a grid, to whose pits these first links lead. `Memory` comes where 16 bytes a pit, at first
-/// for one of eight points, are refused.
+/// The regions of a side of a grid, to whose pits these first links lead. It takes 16 bytes a pit, at first for one of
+/// eight points, and 4 for a pit more than there is room for with the links. `Memory` comes where these are refused.
 pub(crate) fn number_by_links<S: Side, G: Heights>(
     alloc: Global,
     grid: &G,
@@ -99,11 +102,13 @@ pub(crate) fn number_by_links<S: Side, G: Heights>(
     requires { AreFirstLinks (G.map grid.now) S.NAME links.items }
     ensures { IfOk result (AreNumbered (G.map grid.now) S.NAME) }
 {
+    let count = links.len();
+    let pits = list_pits::<S, G>(alloc, grid, &links)?;
     let mut numbers = links;
-    lead_on::<S, G>(grid, &mut numbers);
-    let pits = lead_to_roots::<S, G>(alloc, grid, &mut numbers)?;
-    number_pits::<S, G>(grid, &pits, &mut numbers);
-    number_points::<S, G>(grid, &pits, &mut numbers);
+    add_ends::<S, G>(grid, &pits, &mut numbers)?;
+    sweep::<S, G>(grid, &pits, &mut numbers, count);
+    lead_to_ends::<S, G>(grid, &pits, &mut numbers, count);
+    number_by_ends::<S, G>(grid, &pits, &mut numbers, count);
     Ok(Regions { pits, numbers })
 }
 

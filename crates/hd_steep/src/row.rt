@@ -25,8 +25,11 @@ impl<L: Lane> Row<L> {
         ensures first { IfOk result (λ row. row.first ≡ 0) }
         ensures keys { IfOk result (λ row. IsEmpty L.code (points + 2) row.keys.items) }
     {
-        let mut keys = vec![in alloc; L::missing(); points as usize + 2]?;
-        fill_missing(&mut keys);
+        let places = points as usize + 2;
+        let mut keys = Vec::with_capacity(alloc, places)?;
+        for _place in 0..places {
+            keys.push(L::missing())?;
+        }
         Ok(Row { first: 0, keys })
     }
 

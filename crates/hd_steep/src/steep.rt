@@ -47,7 +47,7 @@ pub fn root<S: Side, G: Heights>(alloc: Global, grid: &G, at: Pos) -> Pos
 /// By index the index of the pit in whose region the point lies, and none for points that are not
 /// present.
 ///
-/// Measured, it takes 12 bytes a point, 16 a pit, at first for one of eight points, and 16 a column,
+/// Measured, it takes 12 bytes a point, 20 a pit, at first for one of eight points, and 16 a column,
 /// or 28 a column where a height is more than 2 ^ 29 steps from zero, and time in proportion to the
 /// points, however long the ways are. `Memory` comes where memory is refused. Dales and hills are
 /// those of ISO 25178-2; that each point has one steepest way is this project's own rule.

@@ -10,9 +10,8 @@ ghost use Rattle.hd_steep.specs.Tracing.{AreTracedNumbers, IsTraced, IsWrittenAt
 
 use crate::descent::Descent;
 use crate::kept_links::FirstLinks;
-use crate::leading::{POINTS_A_PIT, pit_at};
 use crate::links::NO_LINK;
-use crate::numbers::write_at_pits;
+use crate::pit_list::{list_pits, write_at_pits};
 use hd_list::{List, Memory};
 use hd_map::{Heights, Link, Rank, Side, position_of, rank_of};
 use std::alloc::Global;
@@ -50,7 +49,7 @@ impl Tracing {
         let links = links.as_slice();
         let pits = list_pits::<S, G>(alloc, grid, links)?;
         let mut numbers = vec![in alloc; NO_LINK; links.len()]?;
-        write_at_pits::<S, G>(grid, &pits, &mut numbers);
+        write_at_pits::<S, G>(grid, &pits, 0, &mut numbers);
         Ok(Tracing {
             pits,
             numbers,
@@ -114,24 +113,6 @@ impl Tracing {
         } = self;
         (List::from_vec(pits), crossings)
     }
-}
-
-// The pits in position order: the points whose links lead to themselves.
-fn list_pits<S: Side, G: Heights>(
-    alloc: Global,
-    grid: &G,
-    links: &[u32],
-) -> Result<Vec<Rank>, Memory>
-    requires { AreLinks (G.map grid.now) S.NAME links.now }
-    ensures { IfOk result (λ pits. ArePits (G.map grid.now) S.NAME pits.items) }
-{
-    let mut pits = Vec::with_capacity(alloc, links.len() / POINTS_A_PIT)?;
-    for index in 0..links.len() {
-        if links[index] as usize == index {
-            pits.push(pit_at::<S, G>(grid, index as u32))?;
-        }
-    }
-    Ok(pits)
 }
 
 // The number of the pit in whose region the point of an index lies.

@@ -1,13 +1,7 @@
-use Rattle.std.proofs.Common.{◌≡◌, ◌<◌, ◌+◌, ℕ}
-use Rattle.hd_map.specs.Encoding.{number_in}
-use Rattle.hd_steep.specs.Keys.{rank_of}
+use Rattle.hd_steep.specs.LowerPlaces.{AreTested}
 use Rattle.hd_steep.specs.Lowest.{earlier_below}
-use Rattle.hd_steep.specs.Ring.{is_marked}
 use Rattle.hd_steep.proofs.lower_places.tell_earlier.Given as goal
 
 -- the columns so far
 abbrev pub invariant-loop-x : goal.invariant-loop-x
-invariant-loop-x g l =
-    let code = g.L.Lane.code in
-    let side = g.S.Side.NAME in
-    (k : ℕ) → k < l.x → (i j : ℕ) → is_marked l.lower k ≡ earlier_below side (rank_of code side i (number_in code l.keys (k + l.shift))) (rank_of code side j (number_in code l.level (k + 1)))
+invariant-loop-x g l = AreTested g.L.Lane.code g.S.Side.NAME (earlier_below g.S.Side.NAME) l.keys l.shift l.level l.x l.lower

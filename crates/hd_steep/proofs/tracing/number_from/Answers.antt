@@ -1,6 +1,5 @@
 use Rattle.hd_steep.specs.Links.{HasPointAt}
-use Rattle.hd_steep.proofs.Following.{way_more}
-use Rattle.hd_steep.proofs.TracedNumbers.{number_along, number_known, unknown_moves, way_from}
+use Rattle.hd_steep.proofs.TracedNumbers.{number_along, number_known, way_from, way_on}
 use Rattle.hd_steep.proofs.tracing.number_from.Goals as goal
 
 pub walk-init : goal.walk-init
@@ -18,18 +17,8 @@ returns-then-number g c =
 
 pub walk-smaller : goal.walk-smaller
 walk-smaller g c =
-    let m = g.G.Heights.map c.args._grid.now in
-    let side = g.S.Side.NAME in
-    let whole = g.met.G.Heights.whole c.args._grid.now in
-    let links = c.args.links.now in
-    let moves = unknown_moves m side links c.requires.links whole c.args._pits.now c.args.numbers.now c.args.start c.walk.here c.requires.numbers c.walk.invariant c.if-number.false in
-    (way_more m side links c.requires.links whole c.args.start c.walk.here c.walk.invariant moves).1
+    (way_on (g.G.Heights.map c.args._grid.now) g.S.Side.NAME c.args.links.now c.requires.links (g.met.G.Heights.whole c.args._grid.now) c.args._pits.now c.args.numbers.now c.args.start c.walk.here c.requires.numbers c.walk.invariant c.if-number.false).1
 
 pub walk-preserved : goal.walk-preserved
 walk-preserved g c =
-    let m = g.G.Heights.map c.args._grid.now in
-    let side = g.S.Side.NAME in
-    let whole = g.met.G.Heights.whole c.args._grid.now in
-    let links = c.args.links.now in
-    let moves = unknown_moves m side links c.requires.links whole c.args._pits.now c.args.numbers.now c.args.start c.walk.here c.requires.numbers c.walk.invariant c.if-number.false in
-    (way_more m side links c.requires.links whole c.args.start c.walk.here c.walk.invariant moves).0
+    (way_on (g.G.Heights.map c.args._grid.now) g.S.Side.NAME c.args.links.now c.requires.links (g.met.G.Heights.whole c.args._grid.now) c.args._pits.now c.args.numbers.now c.args.start c.walk.here c.requires.numbers c.walk.invariant c.if-number.false).0

@@ -22,8 +22,8 @@ returns-clause-traced g c =
     let numbers = c.write_at_pits.new.numbers in
     let none : List ℕ = replicate (length links) no_link in
     let before : c.deref_mut.result.now ≡ none = c.deref_mut.ensures.value ∙ c.in_ok-numbers.ensures.items_if_clones_equal (λ y e. e) ∙ ap (λ (xs : List ℕ). replicate (length xs) no_link) c.as_slice-links.ensures in
-    let written : AreWrittenAtPits m side pits none numbers = subst (λ (xs : List ℕ). AreWrittenAtPits m side pits xs numbers) before
-    (subst (λ (ranks : List Rank). AreWrittenAtPits m side ranks c.deref_mut.result.now numbers) c.deref.ensures.value c.write_at_pits.ensures) in
+    let written : AreWrittenAtPits m side pits 0 none numbers = subst (λ (xs : List ℕ). AreWrittenAtPits m side pits 0 xs numbers) before
+    (subst (λ (ranks : List Rank). AreWrittenAtPits m side ranks 0 c.deref_mut.result.now numbers) c.deref.ensures.value c.write_at_pits.ensures) in
     let long : length none ≡ length links = length-replicate (length links) no_link in
     let traced = traced_none m side links (first-links m side links c.requires) (g.met.G.Heights.whole c.args.grid.now) pits c.in_ok-pits.ensures none numbers (long ∙ c.requires.whole)
     (λ k inside. get_or-replicate (length links) k no_link 0 (rw (← long) inside)) written in

@@ -6,7 +6,7 @@ use Rattle.hd_map.specs.Map.{Present, position_at, cell_count}
 use Rattle.hd_map.specs.Rank.{rank}
 use Rattle.hd_map.specs.Region.{IsPit}
 use Rattle.hd_steep.proofs.PitNumbers.{root_inside, own_position}
-use Rattle.hd_steep.proofs.leading.pit_at.Goals as goal
+use Rattle.hd_steep.proofs.pit_list.pit_at.Goals as goal
 
 pub position_of-requires : goal.position_of-requires
 position_of-requires g c =

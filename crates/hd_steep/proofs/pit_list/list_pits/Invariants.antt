@@ -1,5 +1,5 @@
 use Rattle.hd_steep.proofs.Pits.{ArePitsBefore}
-use Rattle.hd_steep.proofs.tracing.list_pits.Given as goal
+use Rattle.hd_steep.proofs.pit_list.list_pits.Given as goal
 
 -- the pits so far
 abbrev pub invariant-loop-index : goal.invariant-loop-index

@@ -1,5 +1,0 @@
-use Rattle.hd_steep.specs.Links.{AreLinks}
-use Rattle.hd_steep.proofs.leading.sweep_back.Given as goal
-
-abbrev pub invariant-loop-index : goal.invariant-loop-index
-invariant-loop-index g l = AreLinks (g.G.Heights.map l.grid) g.S.Side.NAME l.links
