@@ -113,6 +113,12 @@ with_part below e [] = join_of e ∷ []
 with_part below e (x ∷ []) = if below x.saddle e.saddle then (x ∷ join_of e ∷ []) else (grown below x e ∷ [])
 with_part below e (x ∷ y ∷ ys) = x ∷ with_part below e (y ∷ ys)
 
+-- whether a part at this saddle becomes a join of its own
+abbrev pub opens_join : (Rank → Rank → Bool) → Rank → List Joining → Bool
+opens_join below saddle [] = true
+opens_join below saddle (x ∷ []) = below x.saddle saddle
+opens_join below saddle (x ∷ y ∷ ys) = opens_join below saddle (y ∷ ys)
+
 -- the rise over what was passed since the last pit, if anything was
 abbrev pub over : (Rank → Rank → Bool) → Option (Option Rank) → Option Rank → Option Rank
 over below None rise = rise

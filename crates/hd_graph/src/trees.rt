@@ -1,11 +1,11 @@
 // Change trees.
-ghost use Rattle.std.specs.Prelude.{◌≡◌, ◌<◌, ◌++◌, ◌∷◌, [], IfOk, OnOk, length};
+ghost use Rattle.std.specs.Prelude.{◌≡◌, ◌<◌, ◌++◌, ◌∷◌, [], IfOk, OnOk, length, true};
 ghost use Rattle.std.specs.List.Sorted.{IsSortedBy};
 ghost use Rattle.std.specs.Ordering.{is_lt};
 ghost use Rattle.hd_map.specs.ChangeTree.{IsTree, IsChangeTree};
 ghost use Rattle.hd_map.specs.Map.{IsMap, Map};
 ghost use Rattle.hd_map.specs.Rank.{below_by};
-ghost use Rattle.hd_graph.specs.Parts.{AreGrouped, comes_before, join_of, left_of, right_of, rise_of, rises_of as rises_of_merges, rise_parts, with_low, with_part};
+ghost use Rattle.hd_graph.specs.Parts.{AreGrouped, comes_before, join_of, left_of, opens_join, right_of, rise_of, rises_of as rises_of_merges, rise_parts, with_low, with_part};
 ghost use Rattle.hd_graph.specs.Tells.{AreMergesOf, IsPitOn, IsSaddleOn, TellsSaddles, joins_of};
 
 use crate::graph::Low;
@@ -74,7 +74,7 @@ fn group_merges<S: Side>(alloc: Global, lows: &[Low], merges: &[Merge]) -> Resul
 {
     let mut joins = Vec::with_capacity(alloc, merges.len())?;
     for merge in merges {
-        add_rise_parts::<S>(alloc, &mut joins, rise_of(lows, *merge))?;
+        add_merge_parts::<S>(alloc, &mut joins, rise_of(lows, *merge))?;
     }
     Ok(joins)
 }
@@ -102,6 +102,34 @@ fn group<S: Side>(alloc: Global, rises: &[Rise]) -> Result<Vec<Join>, Memory>
         add_rise_parts::<S>(alloc, &mut joins, *rise)?;
     }
     Ok(joins)
+}
+
+// Adds the parts on the two sides of the rise of a merge. Mostly they are a join of their own.
+fn add_merge_parts<S: Side>(alloc: Global, joins: &mut Vec<Join>, rise: Rise) -> Result<(), Memory>
+    requires { below_by S.NAME rise.left rise.right ≡ true }
+    ensures { OnOk result (joins_of joins.new.items ≡ with_part (below_by S.NAME) (right_of rise) (with_part (below_by S.NAME) (left_of rise) (joins_of joins.old.items))) }
+{
+    if !opens_join::<S>(joins, rise.saddle) {
+        return add_rise_parts::<S>(alloc, joins, rise);
+    }
+    let mut parts = List::with_capacity(alloc, 2)?;
+    parts.push(rise.left)?;
+    parts.push(rise.right)?;
+    joins.push(Join {
+        saddle: rise.saddle,
+        parts,
+    })?;
+    Ok(())
+}
+
+// Whether a part at this saddle becomes a join of its own.
+fn opens_join<S: Side>(joins: &[Join], saddle: Rank) -> bool
+    ensures { result ≡ opens_join (below_by S.NAME) saddle (joins_of joins.now) }
+{
+    match joins.last() {
+        Some(last) => S::below(last.saddle, saddle),
+        None => true,
+    }
 }
 
 // Adds the parts on the two sides of a rise.

@@ -5,6 +5,7 @@ ghost use Rattle.hd_map.specs.declared.types.Rank.{Rank};
 ghost use Rattle.hd_map.specs.Map.{Present};
 ghost use Rattle.hd_map.specs.Rank.{below_by, IsPoint};
 ghost use Rattle.hd_map.specs.Region.{AreRegions, IsRoot, LowerNeighbour};
+ghost use Rattle.hd_prune.specs.Around.{IsLowerNeighbourAt};
 ghost use Rattle.hd_survey.specs.Falls.{ranks_below, ranks_of};
 
 use crate::view::SideView;
@@ -61,13 +62,40 @@ impl<'a, S: Side, G: Heights, V: SideView<S>> Around for Falls<'a, S, G, V> {
 
     fn around(&self, saddle: Rank, k: u32) -> Option<(Rank, Rank)> {
         let lower = lower_neighbours::<S, G>(self.alloc, self.grid, saddle);
-        if k as usize >= lower.len() {
-            return None;
-        }
-        let rank = lower[k as usize].rank;
-        let root = root_of::<S, G, V>(self.grid, self.view, rank);
-        Some((rank, root))
+        fall_at::<S, G, V>(self.grid, self.view, saddle, &lower, k as usize)
     }
+
+    fn all_around(&self, saddle: Rank) -> [Option<(Rank, Rank)>; 9] {
+        let lower = lower_neighbours::<S, G>(self.alloc, self.grid, saddle);
+        let mut all = [None; 9];
+        for k in 0..9usize {
+            all[k] = fall_at::<S, G, V>(self.grid, self.view, saddle, &lower, k);
+        }
+        all
+    }
+}
+
+// Of the neighbours below a saddle, the one at a place, with the pit in whose region it lies.
+#[inline]
+fn fall_at<S: Side, G: Heights, V: SideView<S>>(
+    grid: &G,
+    view: &V,
+    _saddle: Rank,
+    lower: &SmallVec<Lower, 8>,
+    k: usize,
+) -> Option<(Rank, Rank)>
+    requires view { V.map view.now ≡ G.map grid.now }
+    requires regions { (roots : Items (Option ℕ)) × AreRegions (G.map grid.now) S.NAME roots }
+    requires each { (q : Rank) → Contains (ranks_of lower.now.items) q ↔ LowerNeighbour (G.map grid.now) S.NAME _saddle q }
+    requires in_order { AllPairs (λ a b. below_by S.NAME a b ≡ true) (ranks_of lower.now.items) }
+    ensures { IsLowerNeighbourAt (G.map grid.now) S.NAME _saddle k result }
+{
+    if k >= lower.len() {
+        return None;
+    }
+    let rank = lower[k].rank;
+    let root = root_of::<S, G, V>(grid, view, rank);
+    Some((rank, root))
 }
 
 /// A neighbour below a point.

@@ -54,9 +54,8 @@ pub fn features<S: Side, G: Heights, V: SideView<S>>(
     )
 }
 
-/// The same regions by their pits and local heights alone, as if they had no points: nothing is counted. The
-/// merges of the pits and the kept ones are added to what was found.
-/// `Memory` comes where the kept pits or the list are refused their memory.
+/// The same regions by their pits and local heights alone, as if they had no points: nothing is counted. The kept pits
+/// are added to what was found. `Memory` comes where these or the list are refused their memory.
 pub fn heights_alone<S: Side, G: Heights>(
     alloc: Global,
     grid: &G,

@@ -7,7 +7,7 @@ ghost use Rattle.hd_map.specs.HeightRange.{range_of};
 ghost use Rattle.hd_map.specs.Rank.{rank};
 ghost use Rattle.hd_map.specs.Region.{IsRoot};
 ghost use Rattle.hd_prune.specs.Answer.{IsPruned};
-ghost use Rattle.hd_survey.specs.Findings.{AreFindings, AreKeptAt, ArePitMerges, WasPrunedAt};
+ghost use Rattle.hd_survey.specs.Findings.{AreFindings, AreKeptAt, AreKeptPits, ArePitMerges, WasPrunedAt};
 
 use crate::grid_view::GridView;
 use crate::kept::{KeptPits, keep_pits};
@@ -118,10 +118,7 @@ impl<S: Side> Findings<S> {
         if self.merges.is_some() {
             return Ok(());
         }
-        let merges = match &self.regions {
-            Some(regions) => merges_of_regions::<S, G>(alloc, grid, regions)?,
-            None => GridView::<S, G>::new(alloc, grid)?.into_merges()?,
-        };
+        let merges = self.merges_anew(alloc, grid)?;
         self.add_merges(grid, merges);
         Ok(())
     }
@@ -166,9 +163,9 @@ impl<S: Side> Findings<S> {
         }
     }
 
-    /// Finds the pits that the pruning at a percent keeps, where they are not those that were found last, and for
-    /// them the merges of the pits. The range is that of the heights of the grid. `Memory` comes where the merges
-    /// or the kept pits are refused their memory.
+    /// Finds the pits that the pruning at a percent keeps, where they are not those that were found last. The range is
+    /// that of the heights of the grid. `Memory` comes where the merges, by which they are found, or the kept pits are
+    /// refused their memory.
     pub fn find_kept<G: Heights>(
         &mut self,
         alloc: Global,
@@ -184,10 +181,44 @@ impl<S: Side> Findings<S> {
         if are_kept_at(&self.kept, percent) {
             return Ok(());
         }
-        self.find_merges(alloc, grid)?;
-        let kept = keep_pits::<S, G>(alloc, grid, self.merges(), percent, range)?;
+        // Most scripts ask for one percent. Where one asks for a second, more may follow, and the merges stay.
+        if self.kept.is_some() {
+            self.find_merges(alloc, grid)?;
+        }
+        let kept = self.kept_at(alloc, grid, percent, range)?;
         self.kept = Some(kept);
         Ok(())
+    }
+
+    // The pits that the pruning at a percent keeps, by the merges that were found, or else by some that are given up.
+    fn kept_at<G: Heights>(
+        &self,
+        alloc: Global,
+        grid: &G,
+        percent: Percent,
+        range: Option<HeightRange>,
+    ) -> Result<KeptPits, Memory>
+        requires findings { AreFindings (G.map grid.now) S.NAME self.now }
+        requires range { range ≡ range_of (present_heights (G.map grid.now)) }
+        ensures pits { IfOk result (λ kept. AreKeptPits (G.map grid.now) S.NAME percent.thousandths kept.pits) }
+        ensures percent { IfOk result (λ kept. kept.percent ≡ percent) }
+    {
+        if let Some(merges) = &self.merges {
+            return keep_pits::<S, G>(alloc, grid, merges, percent, range);
+        }
+        let merges = self.merges_anew(alloc, grid)?;
+        keep_pits::<S, G>(alloc, grid, &merges, percent, range)
+    }
+
+    // The merges of the pits, found anew.
+    fn merges_anew<G: Heights>(&self, alloc: Global, grid: &G) -> Result<PitMerges, Memory>
+        requires { AreFindings (G.map grid.now) S.NAME self.now }
+        ensures { IfOk result (ArePitMerges (G.map grid.now) S.NAME) }
+    {
+        match &self.regions {
+            Some(regions) => merges_of_regions::<S, G>(alloc, grid, regions),
+            None => GridView::<S, G>::new(alloc, grid)?.into_merges(),
+        }
     }
 
     /// The kept pits that were found last.

@@ -21,7 +21,7 @@ loop-merge-preserved g c =
     let n : ℕ = c.loop-merge.merge-index in
     let inside : n < length merges = omega arith in
     subst (λ js. AreGrouped below (rise_parts (take (n + 1) (rises_of lows merges))) js)
-    (sym (c.in_ok-add_rise_parts.ensures ∙ ap (λ x. with_part below (right_of x) (with_part below (left_of x) (joins_of c.loop-merge.joins.items))) c.rise_of.ensures))
+    (sym (c.in_ok-add_merge_parts.ensures ∙ ap (λ x. with_part below (right_of x) (with_part below (left_of x) (joins_of c.loop-merge.joins.items))) c.rise_of.ensures))
     (merges-more c.requires.0 g.S.Side.NAME lows merges c.requires.1 n d inside (joins_of c.loop-merge.joins.items) c.loop-merge.invariant)
 
 pub returns : goal.returns

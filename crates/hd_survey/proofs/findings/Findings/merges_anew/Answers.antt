@@ -1,6 +1,6 @@
 use Rattle.std.proofs.Common.{subst, sym}
 use Rattle.hd_survey.specs.Findings.{AreFindings, Found}
-use Rattle.hd_survey.proofs.findings.Findings.find_merges.Goals as goal
+use Rattle.hd_survey.proofs.findings.Findings.merges_anew.Goals as goal
 
 pub merges_of_regions-requires : goal.merges_of_regions-requires
 merges_of_regions-requires g c =
