@@ -16,7 +16,7 @@ use Rattle.hd_run.specs.declared.stop.Stop.TheVariants.{Memory, ReadFault, Write
 use Rattle.hd_run.specs.Limits.{script_limit}
 use Rattle.hd_run.specs.FaultCounts.{Count, Stays}
 use Rattle.hd_run.specs.ReadOrder.{Reading, SecondComesLast, StopsWithin}
-use Rattle.hd_run.specs.Inputs.{IsSurfaceRead, IsSecondRead}
+use Rattle.hd_run.specs.Inputs.{IsSurfaceRead, IsScriptRead}
 use Rattle.hd_run.specs.Outcome.{RunOutcome, Work, Inputs, IsTheRunOutcome, surface_of, lines_to_answer, both_inputs, inputs_of, answered, IsOutcomeOfRun, IsOutcomeOfInputs, IsOutcomeOfLines}
 use Rattle.hd_run.specs.RunResult.{IsRun, IsBegun, AnswersAndSaves}
 use Rattle.hd_run.specs.Saving.{Saving}
@@ -75,7 +75,7 @@ module _ (request : RunRequest) (surface script : List ℕ) where
     surface_stops (Refused refusal) told h = (refused_is refusal (inputs_of-surface refusal h), Keeps-refl told)
 
     -- a script that is not read stops a run
-    pub script_stops : (name : List ℕ) (file : File) (stop : Stop) (told : Option (List ℕ)) → surface_of surface ≡ Ok file → request.script ≡ Some name → IsSecondRead script_limit script (Err stop)
+    pub script_stops : (name : List ℕ) (file : File) (stop : Stop) (told : Option (List ℕ)) → surface_of surface ≡ Ok file → request.script ≡ Some name → IsScriptRead script (Err stop)
         → IsRun request surface script stays s (Err stop) told told
     script_stops name file Memory told read named h = inl (Keeps-refl told)
     script_stops name file ReadFault told read named h = Keeps-refl told

@@ -3,7 +3,6 @@ use Rattle.std.specs.Prelude.{◌≡◌, ◌≢◌, ◌<◌, ◌≤◌, ℕ, Lis
 use Rattle.hd_base.specs.Causes.{Rose}
 use Rattle.hd_sdf_read.specs.declared.file.SdfFile.{SdfFile}
 use Rattle.hd_sdf_read.specs.FileOf.{file_of}
-use Rattle.hd_run.specs.declared.stop.Refusal.{Refusal}
 use Rattle.hd_run.specs.declared.stop.Refusal.TheVariants.{SecondTooLong, SurfaceTooLong}
 use Rattle.hd_run.specs.declared.stop.Stop.{Stop}
 use Rattle.hd_run.specs.declared.stop.Stop.TheVariants.{Memory, ReadFault, WriteFault, Refused}
@@ -12,7 +11,7 @@ use Rattle.hd_sdf_read.specs.Reader.{StandsFor}
 use Rattle.hd_sdf_read.specs.declared.reader.SdfReader.{SdfReader}
 use Rattle.hd_run.specs.declared.certificate_reader.CertificateReader.{CertificateReader}
 use Rattle.hd_run.specs.CertificateReader as certificate
-use Rattle.hd_run.specs.Limits.{certificate_limit, surface_limit}
+use Rattle.hd_run.specs.Limits.{certificate_limit, script_limit, surface_limit}
 use Rattle.hd_run.specs.Outcome.{surface_of}
 
 -- what the answer tells of the surface's bytes
@@ -23,17 +22,13 @@ IsSurfaceRead bytes (Err Memory) = ⊤
 IsSurfaceRead bytes (Err ReadFault) = ⊤
 IsSurfaceRead bytes (Err WriteFault) = ⊥
 
--- what the answer tells of an input's bytes, by their limit and the refusal of more
-abbrev pub IsRead : ℕ → Refusal → List ℕ → Result (List ℕ) Stop → Type 0
-IsRead limit too_long bytes (Ok read) = (length bytes ≤ limit) × (read ≡ bytes)
-IsRead limit too_long bytes (Err (Refused refusal)) = (limit < length bytes) × (refusal ≡ too_long)
-IsRead limit too_long bytes (Err Memory) = ⊤
-IsRead limit too_long bytes (Err ReadFault) = ⊤
-IsRead limit too_long bytes (Err WriteFault) = ⊥
-
--- what it tells of the second input's bytes
-abbrev pub IsSecondRead : ℕ → List ℕ → Result (List ℕ) Stop → Type 0
-IsSecondRead limit bytes result = IsRead limit SecondTooLong bytes result
+-- what it tells of a script's bytes: they are read, or they are too many
+abbrev pub IsScriptRead : List ℕ → Result (List ℕ) Stop → Type 0
+IsScriptRead bytes (Ok read) = (length bytes ≤ script_limit) × (read ≡ bytes)
+IsScriptRead bytes (Err (Refused refusal)) = (script_limit < length bytes) × (refusal ≡ SecondTooLong)
+IsScriptRead bytes (Err Memory) = ⊤
+IsScriptRead bytes (Err ReadFault) = ⊤
+IsScriptRead bytes (Err WriteFault) = ⊥
 
 -- what it tells of a certificate's bytes: a reader stands for them, or they are too many
 abbrev pub IsCertificateRead : List ℕ → Result CertificateReader Stop → Type 0

@@ -1,14 +1,14 @@
-// Reading the surface file and the second input.
+// Reading the surface file, the script and the certificate.
 ghost use Rattle.std.specs.Prelude.{◌≡◌, ◌≢◌, ◌≤◌, ◌<◌, ◌+◌, ◌-◌, ◌^◌, ◌++◌, [], ℕ, List as Items, length, Some, Err, IsTrue, IfOk, OnOk};
 ghost use Rattle.hd_base.specs.Told.{TakesFew};
 ghost use Rattle.hd_sdf_read.specs.Reader.{StandsFor, fed_of};
 ghost use Rattle.hd_run.specs.FaultCounts.{over};
-ghost use Rattle.hd_run.specs.Inputs.{HasReadStop, IsCertificateRead, IsFed, IsRead, IsSecondRead, IsSurfaceRead};
-ghost use Rattle.hd_run.specs.Limits.{certificate_limit, surface_limit};
+ghost use Rattle.hd_run.specs.Inputs.{HasReadStop, IsCertificateRead, IsFed, IsScriptRead, IsSurfaceRead};
+ghost use Rattle.hd_run.specs.Limits.{certificate_limit, script_limit, surface_limit};
 ghost use Rattle.hd_run.specs.ReadOrder.{StopsWithin, reading};
 
 use crate::certificate_reader::CertificateReader;
-use crate::limits::{CERTIFICATE_LIMIT, SURFACE_LIMIT};
+use crate::limits::{CERTIFICATE_LIMIT, SCRIPT_LIMIT, SURFACE_LIMIT};
 use crate::stop::{Refusal, Stop};
 use hd_base::{ReadError, Source, read_all};
 use hd_list::{List, Memory};
@@ -159,43 +159,18 @@ fn read_open_certificate<R: Source>(
 }
 
 /// The script under this name: whole, or read to one byte past the limit.
-pub fn read_second<R: Source>(
-    alloc: Global,
-    source: &mut R,
-    name: &str,
-    limit: usize,
-) -> Result<List<u8>, Stop>
-    requires limit { limit < 2 ^ 64 - 1 }
-    requires allowed { IsTrue (R.allows source.old name.now) }
-    ensures told { (bytes : Items ℕ) → R.files source.old name.now ≡ Some bytes → IsSecondRead limit bytes result }
-    ensures within { IfOk result (λ read. length read ≤ limit) }
-    ensures left { StopsWithin limit name.now (reading (R.files source.old) (R.left source.old) (R.left source.new)
+pub fn read_script<R: Source>(alloc: Global, source: &mut R, name: &str) -> Result<List<u8>, Stop>
+    requires { IsTrue (R.allows source.old name.now) }
+    ensures told { (bytes : Items ℕ) → R.files source.old name.now ≡ Some bytes → IsScriptRead bytes result }
+    ensures within { IfOk result (λ read. length read ≤ script_limit) }
+    ensures left { StopsWithin script_limit name.now (reading (R.files source.old) (R.left source.old) (R.left source.new)
         (over (R.faults source.old) (R.faults source.new))) }
     ensures cause { HasReadStop (R.faults source.old) (R.faults source.new) result }
 {
-    read_input(alloc, source, name, limit, Refusal::SecondTooLong)
-}
-
-// The bytes under this name: whole, or read to one byte past the limit and refused.
-fn read_input<S: Source>(
-    alloc: Global,
-    source: &mut S,
-    name: &str,
-    limit: usize,
-    too_long: Refusal,
-) -> Result<List<u8>, Stop>
-    requires limit { limit < 2 ^ 64 - 1 }
-    requires allowed { IsTrue (S.allows source.old name.now) }
-    ensures told { (bytes : Items ℕ) → S.files source.old name.now ≡ Some bytes → IsRead limit too_long bytes result }
-    ensures within { IfOk result (λ read. length read ≤ limit) }
-    ensures left { StopsWithin limit name.now (reading (S.files source.old) (S.left source.old) (S.left source.new)
-        (over (S.faults source.old) (S.faults source.new))) }
-    ensures cause { HasReadStop (S.faults source.old) (S.faults source.new) result }
-{
-    match read_all(alloc, source, name, limit) {
+    match read_all(alloc, source, name, SCRIPT_LIMIT) {
         Ok(bytes) => Ok(bytes),
         Err(ReadError::Memory) => Err(Stop::Memory),
         Err(ReadError::ReadFault) => Err(Stop::ReadFault),
-        Err(ReadError::TooLong(_)) => Err(Stop::Refused(too_long)),
+        Err(ReadError::TooLong(_)) => Err(Stop::Refused(Refusal::SecondTooLong)),
     }
 }

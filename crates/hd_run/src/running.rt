@@ -15,8 +15,7 @@ ghost use Rattle.hd_run.specs.RunResult.{AnswersAndSaves, HasRunStop, HasSinkSto
 ghost use Rattle.hd_run.specs.Saving.{SavesLast, saving};
 
 use crate::answers::answer_lines;
-use crate::inputs::{read_second, read_surface};
-use crate::limits::SCRIPT_LIMIT;
+use crate::inputs::{read_script, read_surface};
 use crate::save::save_file;
 use crate::stop::Stop;
 use hd_base::{Sink, Source};
@@ -76,7 +75,7 @@ pub fn run<S: Source, R: Source, W: Sink, V: Sink>(
     let Some(name) = job.script else {
         return answer_all(alloc, file, job, b"dales".as_slice(), out, saved);
     };
-    let lines = match read_second(alloc, script, name, SCRIPT_LIMIT) {
+    let lines = match read_script(alloc, script, name) {
         Ok(lines) => lines,
         Err(stop) => {
             drop(file);

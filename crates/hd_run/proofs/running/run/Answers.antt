@@ -46,29 +46,29 @@ returns-in_default-clause-failed g c = λ bytes told e. absurd (HasSinkStop-no_r
 pub returns-in_default-clause-saved : goal.returns-in_default-clause-saved
 returns-in_default-clause-saved g c = c.answer_all.ensures.saved _ _ (HasReadStop-ok _ _ c.in-Ok.file c.in-Ok.ensures.cause) refl
 
-pub returns-in-Err-read_second-clause-told : goal.returns-in-Err-read_second-clause-told
-returns-in-Err-read_second-clause-told g c = λ bytes second told named.
+pub returns-in-Err-read_script-clause-told : goal.returns-in-Err-read_script-clause-told
+returns-in-Err-read_script-clause-told g c = λ bytes second told named.
     let name_is : option_copied c.args.job.now.script ≡ Some c.in-Some.name.now = ap option_copied c.in-Some.is in
-    script_stops (run_request_of c.args.job.now) bytes second _ _ c.in-Some.name.now (file_of c.in-Ok.file) c.in-Err-read_second.stop (g.W.Sink.written c.args.out.now) (c.in-Ok.ensures.told bytes told) name_is
-    (c.in-Err-read_second.ensures.told second (named c.in-Some.name.now name_is))
+    script_stops (run_request_of c.args.job.now) bytes second _ _ c.in-Some.name.now (file_of c.in-Ok.file) c.in-Err-read_script.stop (g.W.Sink.written c.args.out.now) (c.in-Ok.ensures.told bytes told) name_is
+    (c.in-Err-read_script.ensures.told second (named c.in-Some.name.now name_is))
 
-pub returns-in-Err-read_second-clause-order : goal.returns-in-Err-read_second-clause-order
-returns-in-Err-read_second-clause-order g c =
+pub returns-in-Err-read_script-clause-order : goal.returns-in-Err-read_script-clause-order
+returns-in-Err-read_script-clause-order g c =
     second_after (option_copied c.args.job.now.script) _ _ c.args.script.now _ c.in-Some.name.now (file_of c.in-Ok.file) (ap option_copied c.in-Some.is) (HasReadStop-ok _ _ c.in-Ok.file c.in-Ok.ensures.cause) c.in-Ok.ensures.told
 
-pub returns-in-Err-read_second-clause-failed : goal.returns-in-Err-read_second-clause-failed
-returns-in-Err-read_second-clause-failed g c = λ bytes told e.
-    inr (file_of c.in-Ok.file, c.in-Ok.ensures.told bytes told, (stop_moved _ _ c.in-Err-read_second.stop c.in-Err-read_second.ensures.cause).fault e)
+pub returns-in-Err-read_script-clause-failed : goal.returns-in-Err-read_script-clause-failed
+returns-in-Err-read_script-clause-failed g c = λ bytes told e.
+    inr (file_of c.in-Ok.file, c.in-Ok.ensures.told bytes told, (stop_moved _ _ c.in-Err-read_script.stop c.in-Err-read_script.ensures.cause).fault e)
 
-pub returns-in-Err-read_second-clause-saved : goal.returns-in-Err-read_second-clause-saved
-returns-in-Err-read_second-clause-saved g c = last_unreached _ _ _ _ _ _ _ c.in-Err-read_second.stop refl refl refl
+pub returns-in-Err-read_script-clause-saved : goal.returns-in-Err-read_script-clause-saved
+returns-in-Err-read_script-clause-saved g c = last_unreached _ _ _ _ _ _ _ c.in-Err-read_script.stop refl refl refl
 
 pub returns-clause-told : goal.returns-clause-told
 returns-clause-told g c = λ bytes second told named.
     let request = run_request_of c.args.job.now in
     let file = file_of c.in-Ok.file in
     let name_is : option_copied c.args.job.now.script ≡ Some c.in-Some.name.now = ap option_copied c.in-Some.is in
-    let script = c.in-Ok-read_second.ensures.told second (named c.in-Some.name.now name_is) in
+    let script = c.in-Ok-read_script.ensures.told second (named c.in-Some.name.now name_is) in
     let lines = lines_of c.as_slice-2.result.now in
     let lines_is : lines ≡ lines_of second = ap lines_of (c.as_slice-2.ensures ∙ script.1) in
     run_answered request bytes second c.answers_are_determined.ensures (record { file = file; lines = lines }) (c.answer_keeps_a_state.ensures.first file (surface-whole c.in-Ok.file.surface))
@@ -81,15 +81,15 @@ returns-clause-order g c =
 
 pub returns-clause-script_left : goal.returns-clause-script_left
 returns-clause-script_left g c = λ name named.
-    let read = reading (g.R.Source.files c.args.script.now) (g.R.Source.left c.args.script.now) (g.R.Source.left c.read_second.new.source)
-    (over (g.R.Source.faults c.args.script.now) (g.R.Source.faults c.read_second.new.source)) in
-    second_read (option_copied c.args.job.now.script) c.in-Some.name.now name script_limit read (ap option_copied c.in-Some.is) named c.in-Ok-read_second.ensures.left
+    let read = reading (g.R.Source.files c.args.script.now) (g.R.Source.left c.args.script.now) (g.R.Source.left c.read_script.new.source)
+    (over (g.R.Source.faults c.args.script.now) (g.R.Source.faults c.read_script.new.source)) in
+    second_read (option_copied c.args.job.now.script) c.in-Some.name.now name script_limit read (ap option_copied c.in-Some.is) named c.in-Ok-read_script.ensures.left
 
 pub returns-clause-failed : goal.returns-clause-failed
 returns-clause-failed g c = λ bytes told e. absurd (HasSinkStop-no_read_fault _ _ c.answer_all-2.result c.answer_all-2.ensures.cause e)
 
 pub returns-clause-saved : goal.returns-clause-saved
-returns-clause-saved g c = c.answer_all-2.ensures.saved _ _ (HasReadStop-ok _ _ c.in-Ok.file c.in-Ok.ensures.cause) (HasReadStop-ok _ _ c.in-Ok-read_second.lines c.in-Ok-read_second.ensures.cause)
+returns-clause-saved g c = c.answer_all-2.ensures.saved _ _ (HasReadStop-ok _ _ c.in-Ok.file c.in-Ok.ensures.cause) (HasReadStop-ok _ _ c.in-Ok-read_script.lines c.in-Ok-read_script.ensures.cause)
 
 pub returns-in-Err-clause-open : goal.returns-in-Err-clause-open
 returns-in-Err-clause-open g c = c.requires.open
@@ -121,23 +121,23 @@ returns-in_default-clause-script_left g c = λ name named. inl refl
 pub returns-in_default-clause-cause : goal.returns-in_default-clause-cause
 returns-in_default-clause-cause g c = answering_stopped _ _ _ _ c.answer_all.result (HasReadStop-ok _ _ c.in-Ok.file c.in-Ok.ensures.cause) refl c.answer_all.ensures.cause
 
-pub returns-in-Err-read_second-clause-open : goal.returns-in-Err-read_second-clause-open
-returns-in-Err-read_second-clause-open g c = c.requires.open
+pub returns-in-Err-read_script-clause-open : goal.returns-in-Err-read_script-clause-open
+returns-in-Err-read_script-clause-open g c = c.requires.open
 
-pub returns-in-Err-read_second-clause-unwritten : goal.returns-in-Err-read_second-clause-unwritten
-returns-in-Err-read_second-clause-unwritten g c = λ e. Keeps-refl (g.W.Sink.written c.args.out.now)
+pub returns-in-Err-read_script-clause-unwritten : goal.returns-in-Err-read_script-clause-unwritten
+returns-in-Err-read_script-clause-unwritten g c = λ e. Keeps-refl (g.W.Sink.written c.args.out.now)
 
-pub returns-in-Err-read_second-clause-surface_left : goal.returns-in-Err-read_second-clause-surface_left
-returns-in-Err-read_second-clause-surface_left g c = c.in-Ok.ensures.left
+pub returns-in-Err-read_script-clause-surface_left : goal.returns-in-Err-read_script-clause-surface_left
+returns-in-Err-read_script-clause-surface_left g c = c.in-Ok.ensures.left
 
-pub returns-in-Err-read_second-clause-script_left : goal.returns-in-Err-read_second-clause-script_left
-returns-in-Err-read_second-clause-script_left g c = λ name named.
-    let read = reading (g.R.Source.files c.args.script.now) (g.R.Source.left c.args.script.now) (g.R.Source.left c.read_second.new.source)
-    (over (g.R.Source.faults c.args.script.now) (g.R.Source.faults c.read_second.new.source)) in
-    second_read (option_copied c.args.job.now.script) c.in-Some.name.now name script_limit read (ap option_copied c.in-Some.is) named c.in-Err-read_second.ensures.left
+pub returns-in-Err-read_script-clause-script_left : goal.returns-in-Err-read_script-clause-script_left
+returns-in-Err-read_script-clause-script_left g c = λ name named.
+    let read = reading (g.R.Source.files c.args.script.now) (g.R.Source.left c.args.script.now) (g.R.Source.left c.read_script.new.source)
+    (over (g.R.Source.faults c.args.script.now) (g.R.Source.faults c.read_script.new.source)) in
+    second_read (option_copied c.args.job.now.script) c.in-Some.name.now name script_limit read (ap option_copied c.in-Some.is) named c.in-Err-read_script.ensures.left
 
-pub returns-in-Err-read_second-clause-cause : goal.returns-in-Err-read_second-clause-cause
-returns-in-Err-read_second-clause-cause g c = second_stopped _ _ _ _ c.in-Err-read_second.stop (HasReadStop-ok _ _ c.in-Ok.file c.in-Ok.ensures.cause) c.in-Err-read_second.ensures.cause refl refl
+pub returns-in-Err-read_script-clause-cause : goal.returns-in-Err-read_script-clause-cause
+returns-in-Err-read_script-clause-cause g c = second_stopped _ _ _ _ c.in-Err-read_script.stop (HasReadStop-ok _ _ c.in-Ok.file c.in-Ok.ensures.cause) c.in-Err-read_script.ensures.cause refl refl
 
 pub returns-clause-open : goal.returns-clause-open
 returns-clause-open g c = c.answer_all-2.ensures.open
@@ -149,4 +149,4 @@ pub returns-clause-surface_left : goal.returns-clause-surface_left
 returns-clause-surface_left g c = c.in-Ok.ensures.left
 
 pub returns-clause-cause : goal.returns-clause-cause
-returns-clause-cause g c = answering_stopped _ _ _ _ c.answer_all-2.result (HasReadStop-ok _ _ c.in-Ok.file c.in-Ok.ensures.cause) (HasReadStop-ok _ _ c.in-Ok-read_second.lines c.in-Ok-read_second.ensures.cause) c.answer_all-2.ensures.cause
+returns-clause-cause g c = answering_stopped _ _ _ _ c.answer_all-2.result (HasReadStop-ok _ _ c.in-Ok.file c.in-Ok.ensures.cause) (HasReadStop-ok _ _ c.in-Ok-read_script.lines c.in-Ok-read_script.ensures.cause) c.answer_all-2.ensures.cause
