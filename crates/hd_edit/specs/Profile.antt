@@ -12,7 +12,7 @@ use Rattle.hd_edit.specs.Change.{IsCellThatWas, IsChange, before_changes}
 abbrev pub IsToldCell : Option ℤ → Cell → Type 0
 IsToldCell told cell = (z : ℤ) → told ≡ Some z → cell ≡ Height z
 
--- after earlier changes it is noted what the cell at an index was, if the new one is another
+-- after earlier changes it is noted what the cell at an index was; where the new one is the same, it need not be
 abbrev pub IsNotedCell : DataType → ℕ → Cell → Cell → List Change → List Change → Type 0
 IsNotedCell type index old new earlier notes =
     ((old ≡ new) × (notes ≡ earlier))
