@@ -58,13 +58,13 @@ module _ (m : Map) (y : ℕ) (heights : List (Option ℤ)) (whole : IsMap m) whe
           }
           | inr other ↦
               let c : Change = record { index = index; was = other.0 } in
-              let was : IsCellThatWas m.data_type other.0 cell = subst (λ (t : DataType). IsCellThatWas t other.0 cell) same other.1 in
+              let was : IsCellThatWas m.data_type other.0 cell = subst (λ (t : DataType). IsCellThatWas t other.0 cell) same other.2 in
               record {
-                undone = before-cell now after notes notes' at index cell new other.0 other.2 place was as_now one_more ∙ so.undone;
-                each = rw other.2 (All-push (IsChange old) notes c so.each (record {
+                undone = before-cell now after notes notes' at index cell new other.0 other.3 place was as_now one_more ∙ so.undone;
+                each = rw other.3 (All-push (IsChange old) notes c so.each (record {
                   inside = rw (old_size, place) (place_inside m.size at inside);
                   height = rw old_type (was-of m.data_type other.0 cell was (cell_of m whole at inside));
                 }));
-                few = let len = ap (λ (cs : List Change). length cs) other.2 in omega (arith, len, length_push notes c, so.few);
+                few = let len = ap (λ (cs : List Change). length cs) other.3 in omega (arith, len, length_push notes c, so.few);
               }
         ]

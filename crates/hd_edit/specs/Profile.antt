@@ -1,5 +1,5 @@
 -- The notes of what the cells of a profile were that became others.
-use Rattle.std.specs.Prelude.{◌≡◌, ◌≤◌, ◌+◌, ◌⊎◌, ◌++◌, ◌∷◌, [], ℕ, ℤ, List, length, Option, Some, All}
+use Rattle.std.specs.Prelude.{◌≡◌, ◌≢◌, ◌≤◌, ◌+◌, ◌⊎◌, ◌++◌, ◌∷◌, [], ℕ, ℤ, List, length, Option, Some, All}
 use Rattle.hd_map.specs.declared.types.Cell.{Cell}
 use Rattle.hd_map.specs.declared.types.Cell.TheVariants.{Height}
 use Rattle.hd_map.specs.declared.types.DataType.{DataType}
@@ -12,11 +12,11 @@ use Rattle.hd_edit.specs.Change.{IsCellThatWas, IsChange, before_changes}
 abbrev pub IsToldCell : Option ℤ → Cell → Type 0
 IsToldCell told cell = (z : ℤ) → told ≡ Some z → cell ≡ Height z
 
--- after earlier changes it is noted what the cell at an index was; where the new one is the same, it need not be
+-- after earlier changes it is noted what the cell at an index was, exactly if the new one is another
 abbrev pub IsNotedCell : DataType → ℕ → Cell → Cell → List Change → List Change → Type 0
 IsNotedCell type index old new earlier notes =
     ((old ≡ new) × (notes ≡ earlier))
-    ⊎ ((w : Was) × IsCellThatWas type w old × (notes ≡ earlier ++ (record { index = index; was = w }) ∷ []))
+    ⊎ ((w : Was) × (old ≢ new) × IsCellThatWas type w old × (notes ≡ earlier ++ (record { index = index; was = w }) ∷ []))
 
 -- after earlier changes those are noted, at most so many, by which an old map becomes a new one
 pub record AreNotedChanges (old new : Map) (most : ℕ) (earlier notes : List Change) : Type 0 where
