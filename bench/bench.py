@@ -19,25 +19,24 @@ import tempfile
 
 ROOT = pathlib.Path(__file__).resolve().parent.parent
 GNU_TIME = '/usr/bin/time'
-sys.path.insert(0, str(ROOT / 'examples'))
+sys.path.insert(0, str(ROOT / 'samples'))
 import make  # noqa: E402
 
 HEAD = """# Times
 
-What `bench/bench.py` printed last, on a machine of {processors} processors ({machine}): the seconds of the processor, the least of {rounds} rounds. A job has one thread. It is no test and no promise: times differ from machine to machine. The ratios tell a later loss of speed: that of `read` is to `wc -w` of the same file, those of the other jobs are to `read` of the same surface. MB is the greatest memory of the job.
+Printed by `bench/bench.py` on a machine of {processors} processors ({machine}): a job's processor seconds, the least of {rounds} rounds, and its greatest memory in MB. Each job has one thread. No test and no promise: times differ between machines. The ratio is to `read` of the same surface, that of `read` to `wc -w` of the file, so it tells a later loss of speed anywhere.
 
-The surfaces are independent heights (noise), where nearly each ninth point is a pit, and a smooth surface (waves). The jobs are
+Noise is independent heights, of which nearly each ninth is a pit; waves are smooth. The jobs:
 
-- `read`: a script without lines, so the surface is read and nothing is answered;
-- `dales`, `tree`, `prune`, `param`: the lines `dales`, `tree D`, `prune D 5%` and `param S10z`;
-- `four` and `six`: a line `neighbours 4` or `6`, and `dales`; `decimal`: `dales` of the same heights with six places;
-- `lines`: the line `lines D 5%`; `values`: lines `height` for Sp, Sv, Sa and Smr, and `hist`, `perc` and `fill`;
-- `open, flat` and `open, ball`: an opening by an element of 15 by 15 points, of zeros and of a ball of radius 12;
-- `save`: reading, and saving the file;
-- `certificate`: the saddle of the two deepest dales, printed with its certificate; `check`: that certificate, checked;
-- `audit`: the line `audit D 5%`, which prints a certificate of a pruning; `check audit`: that certificate, checked;
-- `demo`: a demonstration of as many points, which are noise too, with 200 edits;
-- `sets`: 200,000 lines `set` and a line `dales`; `edits`: 300 pairs of `set` and `label`, and `dales` after every tenth, in tiles of 16.
+- `read`: a script without lines
+- `dales`, `tree`, `prune`, `param`, `lines`, `audit`: the lines `dales`, `tree D`, `prune D 5%`, `param S10z`, `lines D 5%`, `audit D 5%`
+- `four`, `six`: `neighbours 4` or `6`, then `dales`; `decimal`: `dales` of heights with six places
+- `values`: `height` for Sp, Sv, Sa and Smr, then `hist`, `perc` and `fill`
+- `open, flat`, `open, ball`: an opening by 15 by 15 points, zeros or a ball of radius 12
+- `save`: read and save
+- `certificate`: the saddle of the two deepest dales; `check`, `check audit`: the certificates, checked
+- `demo`: as many points, with 200 edits
+- `sets`: 200,000 lines `set`, then `dales`; `edits`: 300 pairs of `set` and `label`, with `dales` after every tenth, in tiles of 16
 """
 
 
@@ -153,13 +152,13 @@ def memory_of(words):
 
 
 def measured(binary, folder, kind, n, rounds):
-    """Of each job on a surface its seconds, their ratio, and its memory, as cells of a table."""
+    """Of each job on a surface its seconds, their ratio, and its memory."""
     surface = f'{folder}/surface.sdf'
     make.write_surface(surface, 'bench', ('1e-6', '1e-6'), 6, n, n, rows(kind, n))
     beside, cells = seconds_of(['wc', '-w', surface], rounds), {}
     for name, words in jobs(binary, folder, surface, kind, n):
         seconds = seconds_of(words, rounds)
-        cells[name] = f'{seconds:.3f} | {seconds / beside:.1f} | {memory_of(words)}'
+        cells[name] = f'{seconds:.3f}', f'{seconds / beside:.1f}', memory_of(words)
         if name == 'read':
             beside = seconds
     return cells
@@ -168,22 +167,24 @@ def measured(binary, folder, kind, n, rounds):
 def print_table(binary, kind, sizes, rounds):
     with tempfile.TemporaryDirectory() as folder:
         columns = [measured(binary, folder, kind, n, rounds) for n in sizes]
-    print(f'\n## {kind.capitalize()}\n')
-    print('| Job |' + ''.join(f' {n} by {n}: seconds | ratio | MB |' for n in sizes))
-    print('|---' * (1 + 3 * len(sizes)) + '|')
+    print(f'\n## {kind.capitalize()}\n\n```')
+    print(' ' * 11 + ''.join(f'{f"{n} by {n}":>24}' for n in sizes))
+    print(f'{"job":11}' + f'{"seconds":>11}{"ratio":>7}{"MB":>6}' * len(sizes))
     for name in columns[0]:
-        print(f'| {name} |' + ''.join(f' {cells[name]} |' for cells in columns), flush=True)
+        print(f'{name:11}' + ''.join('{:>11}{:>7}{:>6}'.format(*cells[name]) for cells in columns), flush=True)
+    print('```')
 
 
 def main():
     words = argparse.ArgumentParser(description=__doc__, formatter_class=argparse.RawDescriptionHelpFormatter)
-    words.add_argument('--binary', default=str(ROOT / 'crates/hilldale/out/hilldale'))
+    words.add_argument('--binary', help='the program; else that of the sources that are here')
     words.add_argument('--rounds', type=int, default=5)
     words.add_argument('sizes', nargs='*', type=int)
     given = words.parse_args()
+    binary = given.binary or subprocess.check_output([ROOT / 'release/program'], text=True).strip()
     print(HEAD.format(processors=os.cpu_count(), machine=platform.machine(), rounds=given.rounds), end='')
     for kind in ('noise', 'waves'):
-        print_table(given.binary, kind, given.sizes or [512, 1024, 2048], given.rounds)
+        print_table(binary, kind, given.sizes or [512, 1024, 2048], given.rounds)
 
 
 main()

@@ -33,7 +33,7 @@ pub struct AuditReader {
 impl AuditReader {
     ghost use Rattle.std.specs.Prelude.{◌++◌, [], List as Items, OnErr, OnOk};
     ghost use Rattle.std.specs.Result.{IsErr};
-    ghost use Rattle.hd_audit.specs.Reader.{IsSpent, StandsFor, fed_of};
+    ghost use Rattle.hd_audit.specs.Reader.{IsRefusedWith, IsSpent, StandsFor, StaysRefused, fed_of};
     ghost use Rattle.hd_audit.specs.Reading.{audit_of};
 
     /// A reader before the first piece.
@@ -47,13 +47,14 @@ impl AuditReader {
         }
     }
 
-    /// Reads on in the next piece. An offence is kept, and told at the end. After `Memory` each later
-    /// call answers `Memory`.
+    /// Reads on in the next piece. An offence is kept whatever comes after it, and told at the end. After
+    /// `Memory` each later call answers `Memory`.
     pub fn feed(&mut self, alloc: Global, piece: &[u8]) -> Result<(), Memory>
         requires { fed_of self.old + length piece.now < 2 ^ 63 }
         ensures ok { OnOk result ((bytes : Items ℕ) → StandsFor self.old bytes → StandsFor self.new (bytes ++ piece.now)) }
         ensures err { OnErr result (IsSpent self.new) }
         ensures again { IsSpent self.old → IsErr result }
+        ensures stays { StaysRefused self.old self.new }
         ensures fed { fed_of self.new ≡ fed_of self.old + length piece.now }
     {
         let old = replace(&mut self.state, State::Refused(CertificateError::Memory));
@@ -69,11 +70,11 @@ impl AuditReader {
     /// # Errors
     ///
     /// `BadLine` with the number of the first line that has not its form in its place. `Memory` may come
-    /// in place of any other answer.
+    /// in place of any other answer but that of an offence that is kept.
     pub fn finish(self, alloc: Global) -> Result<Audit, CertificateError>
         ensures text { (bytes : Items ℕ) → StandsFor self bytes
             → (result ≡ Err CertificateError.Memory) ⊎ (result ≡ audit_of bytes) }
-        ensures again { IsSpent self → result ≡ Err CertificateError.Memory }
+        ensures again { (error : CertificateError) → IsRefusedWith self error → result ≡ Err error }
     {
         let AuditReader { state, .. } = self;
         match state {

@@ -3,27 +3,27 @@ use Rattle.std.specs.Prelude.{◌≡◌, ◌-◌, ◌&&◌, ◌||◌, ◌==◌, 
 use Rattle.std.specs.Option.{option_map, unwrap_or}
 use Rattle.std.specs.Io.KnownBytes.{append_known, IsAtEnd}
 use Rattle.std.proofs.lemmas.Bool.{true≢false}
-use Rattle.hd_base.specs.Causes.{one_more}
+use Rattle.hd_base.specs.Faults.{FaultState}
 use Rattle.hd_base.specs.Told.{Told}
 
--- a source of files: the bytes that are left of the open one, and how often it failed
+-- a source of files: the bytes that are left of the open one, and its faults
 pub record FileSourceState : Type 0 where
   pub reading : Option Told
-  pub fault_count : ℕ
+  pub faults : FaultState
 
 -- a sink that gathers: the bytes that its writer got, those that are gathered after them, how many
 -- of all these were written since the sink was opened, whether a flush came after the last of them,
--- and how often it failed
+-- and its faults
 pub record StdoutState : Type 0 where
   pub got : Told
   pub gathered : List ℕ
   pub taken : ℕ
   pub has_flushed : Bool
-  pub fault_count : ℕ
+  pub faults : FaultState
 
 -- a sink of files: whether one is open, the bytes that it got, how many of them were written since
 -- it was opened, whether a flush came after the last of them, whether it is a new file that waits for
--- its place, whether it was one and is removed, and how often the sink failed
+-- its place, whether it was one and is removed, and the faults of the sink
 pub record FileSinkState : Type 0 where
   pub has_file : Bool
   pub got : Told
@@ -31,7 +31,7 @@ pub record FileSinkState : Type 0 where
   pub has_flushed : Bool
   pub is_pending : Bool
   pub is_lost : Bool
-  pub fault_count : ℕ
+  pub faults : FaultState
 
 -- the bytes that the writer got, and then those that are gathered
 abbrev pub in_all : StdoutState → Told
@@ -62,12 +62,12 @@ abbrev pub placed_sink : FileSinkState → Told → FileSinkState
 placed_sink s got = record s { got = got; has_flushed = true; is_pending = false }
 
 -- a sink of files after a write or a flush that failed: no later call puts anything in its place
-abbrev pub lost_sink : FileSinkState → Told → FileSinkState
-lost_sink s got = record s {
+abbrev pub lost_sink : FileSinkState → Told → FaultState → FileSinkState
+lost_sink s got faults = record s {
   got = got;
   is_pending = false;
   is_lost = s.is_lost || s.is_pending;
-  fault_count = one_more s.fault_count;
+  faults = faults;
 }
 
 -- the last of the bytes, by their count

@@ -1,4 +1,6 @@
+pub mod Access
 pub mod Causes
+pub mod Faults
 pub mod Told
 pub mod Adapters
 pub mod MemSource

@@ -1,6 +1,8 @@
 // The faults of a source or a sink.
 ghost use Rattle.std.specs.Prelude.{◌≡◌, ◌<◌, ◌↔◌, IsErr, IsSome};
-ghost use Rattle.hd_base.specs.Causes.{HasCause, one_more};
+ghost use Rattle.std.specs.Option.{option_map};
+ghost use Rattle.hd_base.specs.Causes.{HasCause};
+ghost use Rattle.hd_base.specs.Faults.{no_fault, faulted};
 
 use crate::Failed;
 use std::io;
@@ -14,11 +16,12 @@ pub(crate) struct Faults {
 }
 
 impl Model for Faults {
-    ghost use Rattle.std.specs.Prelude.{◌<◌, ◌↔◌, ℕ, IsSome};
+    ghost use Rattle.std.specs.Prelude.{◌<◌, ◌↔◌, IsSome};
+    ghost use Rattle.hd_base.specs.Faults.{FaultState};
 
-    ghost Value = { ℕ };
+    ghost Value = { FaultState };
 
-    ghost view = { λ f. f.count };
+    ghost view = { λ f. record { count = f.count; last = f.last } };
 
     ghost invariant = { λ f. IsSome f.last ↔ (0 < f.count) };
 }
@@ -26,7 +29,7 @@ impl Model for Faults {
 impl Faults {
     /// No fault yet.
     pub(crate) fn none() -> Self
-        ensures { result ≡ 0 }
+        ensures { result ≡ no_fault }
     {
         Faults {
             count: 0,
@@ -36,7 +39,8 @@ impl Faults {
 
     /// The error of the last fault.
     pub(crate) fn last(&self) -> Option<io::Error>
-        ensures { IsSome result ↔ (0 < self.now) }
+        ensures value { result ≡ self.now.last }
+        ensures some { IsSome result ↔ (0 < self.now.count) }
     {
         self.last
     }
@@ -46,7 +50,8 @@ impl Faults {
         &self,
         name: &'a Option<String>,
     ) -> Option<(io::Error, Option<&'a str>)>
-        ensures { IsSome result ↔ (0 < self.now) }
+        ensures error { option_map (λ told. told.0) result ≡ self.now.last }
+        ensures some { IsSome result ↔ (0 < self.now.count) }
     {
         match self.last {
             Some(error) => Some((error, name.as_deref())),
@@ -57,8 +62,8 @@ impl Faults {
     /// Counts a fault with its error, and answers it.
     pub(crate) fn fail<T>(&mut self, error: io::Error) -> Result<T, Failed>
         ensures err { IsErr result }
-        ensures count { self.new ≡ one_more self.old }
-        ensures cause { HasCause self.old self.new result }
+        ensures state { self.new ≡ faulted self.old error }
+        ensures cause { HasCause self.old.count self.new.count result }
     {
         self.count = self.count.saturating_add(1);
         self.last = Some(error);

@@ -2,13 +2,15 @@
 ghost use Rattle.std.specs.Prelude.{◌≡◌, ◌+◌, ◌<◌, ◌≤◌, ◌↔◌, [], length, None, Some, true, false, IfOk, OnOk, OnErr, IsErr, IsSome, IsTrue, MatchResult};
 ghost use Rattle.std.specs.Io.{WritesAtMost};
 ghost use Rattle.std.specs.Io.KnownBytes.{WriteAppends, Keeps};
-ghost use Rattle.hd_base.specs.Causes.{HasCause, one_more};
+ghost use Rattle.std.specs.Option.{option_map};
+ghost use Rattle.hd_base.specs.Causes.{HasCause};
+ghost use Rattle.hd_base.specs.Faults.{faulted, no_fault};
 ghost use Rattle.hd_base.specs.Adapters.{AreToldAlike, is_in_place, last_told, lost_sink, opened_sink, placed_sink};
 ghost use Rattle.hd_base.specs.Told.{OnTold};
 
 use crate::faults::Faults;
 use crate::new_file::{NewFile, hand_on, open_to_write};
-use crate::{Failed, Sink};
+use crate::{Failed, SetOwner, Sink};
 use std::alloc::Global;
 use std::io;
 use std::io::{ErrorKind, Write};
@@ -19,7 +21,8 @@ use std::rt::Files;
 ///
 /// What has a length is not written at its place: the bytes go to a new file beside it, and a flush
 /// gives this the place, so that until then the file that stands there is as it was. What has none,
-/// as a pipe or a device, is written directly.
+/// as a pipe or a device, is written directly. What is the standard output or the standard error,
+/// and no character device, is not opened.
 ///
 /// The sink tells what was written to the open file where the file tells its bytes, and counts each
 /// fault. A write that takes nothing of a piece with some bytes is a fault. After a fault of a new
@@ -54,7 +57,7 @@ impl<'a, R: Files> Model for FileSink<'a, R> {
       has_flushed = s.has_flushed;
       is_pending = is_some s.pending;
       is_lost = s.is_lost;
-      fault_count = s.faults;
+      faults = s.faults;
     } };
 
     ghost invariant = { λ s. AreToldAlike R.File.contents };
@@ -72,7 +75,7 @@ impl<'a, R: Files> FileSink<'a, R> {
           has_flushed = true;
           is_pending = false;
           is_lost = false;
-          fault_count = 0;
+          faults = no_fault;
         } }
     {
         FileSink {
@@ -91,7 +94,8 @@ impl<'a, R: Files> FileSink<'a, R> {
     /// The error of the last fault, and the name that was opened last, where memory was there to
     /// keep it.
     pub fn last_fault(&self) -> Option<(io::Error, Option<&str>)>
-        ensures { IsSome result ↔ (0 < self.now.fault_count) }
+        ensures error { option_map (λ told. told.0) result ≡ self.now.faults.last }
+        ensures some { IsSome result ↔ (0 < self.now.faults.count) }
     {
         self.faults.last_at(&self.name)
     }
@@ -99,8 +103,8 @@ impl<'a, R: Files> FileSink<'a, R> {
     // Counts a fault of the open file. A new one is removed, and lost.
     fn lose<T>(&mut self, error: io::Error) -> Result<T, Failed>
         ensures err { IsErr result }
-        ensures state { self.new ≡ lost_sink self.old self.old.got }
-        ensures cause { HasCause self.old.fault_count self.new.fault_count result }
+        ensures state { self.new ≡ lost_sink self.old self.old.got (faulted self.old.faults error) }
+        ensures cause { HasCause self.old.faults.count self.new.faults.count result }
     {
         if let Some(pending) = self.pending.take() {
             pending.remove(self.files);
@@ -110,10 +114,13 @@ impl<'a, R: Files> FileSink<'a, R> {
     }
 }
 
-impl<'a, R: Files> Sink for FileSink<'a, R> {
+impl<'a, R: Files> Sink for FileSink<'a, R>
+where
+    R::File: SetOwner,
+{
     ghost is_open = { λ s. s.has_file };
 
-    ghost faults = { λ s. s.fault_count };
+    ghost faults = { λ s. s.faults.count };
 
     ghost allows = { λ _ _. true };
 
@@ -126,8 +133,8 @@ impl<'a, R: Files> Sink for FileSink<'a, R> {
         ensures file { OnOk result ((file : R.File) × (self.new.got ≡ R.File.contents file)) }
         ensures empty { OnOk result (OnTold (last_told self.old.taken self.old.got)
             (last_told self.new.taken self.new.got ≡ Some [])) }
-        ensures err { OnErr result (self.new ≡ record self.old { fault_count = one_more self.old.fault_count }) }
-        ensures cause { HasCause self.old.fault_count self.new.fault_count result }
+        ensures err { OnErr result (self.new ≡ record self.old { faults = self.new.faults }) }
+        ensures cause { HasCause self.old.faults.count self.new.faults.count result }
     {
         self.name = String::from_str(self.alloc, name).ok();
         let (file, pending) = match open_to_write(self.alloc, self.files, name) {
@@ -156,9 +163,10 @@ impl<'a, R: Files> Sink for FileSink<'a, R> {
         ensures unflushed { IfOk result (λ n. 0 < n → self.new.has_flushed ≡ false) }
         ensures pending { OnOk result (self.new.is_pending ≡ self.old.is_pending) }
         ensures kept { OnOk result (self.new.is_lost ≡ self.old.is_lost) }
-        ensures err { OnErr result (self.new ≡ lost_sink self.old self.new.got) }
+        ensures no_fault { OnOk result (self.new.faults ≡ self.old.faults) }
+        ensures err { OnErr result (self.new ≡ lost_sink self.old self.new.got self.new.faults) }
         ensures lost { IsTrue self.old.is_lost → IsErr result }
-        ensures cause { HasCause self.old.fault_count self.new.fault_count result }
+        ensures cause { HasCause self.old.faults.count self.new.faults.count result }
     {
         let Some(file) = &mut self.file else {
             unreachable!()
@@ -184,11 +192,11 @@ impl<'a, R: Files> Sink for FileSink<'a, R> {
         ensures flushed { OnOk result (IsTrue self.new.has_flushed) }
         ensures placed { OnOk result (IsTrue (is_in_place self.new)) }
         ensures ok { OnOk result (self.new ≡ placed_sink self.old self.new.got) }
-        ensures err { OnErr result (self.new ≡ lost_sink self.old self.new.got) }
+        ensures err { OnErr result (self.new ≡ lost_sink self.old self.new.got self.new.faults) }
         ensures lost { IsTrue self.old.is_lost → IsErr result }
         ensures bytes { Keeps self.old.got self.new.got }
         ensures taken { self.new.taken ≡ self.old.taken }
-        ensures cause { HasCause self.old.fault_count self.new.fault_count result }
+        ensures cause { HasCause self.old.faults.count self.new.faults.count result }
     {
         let Some(file) = &mut self.file else {
             unreachable!()

@@ -1,6 +1,8 @@
 // A source over the files of a runtime.
 ghost use Rattle.std.specs.Prelude.{◌≡◌, ◌<◌, ◌↔◌, Some, None, IsSome, true, is_some, unwrap_or, OnOk, OnErr};
-ghost use Rattle.hd_base.specs.Causes.{HasCause, one_more};
+ghost use Rattle.std.specs.Option.{option_map};
+ghost use Rattle.hd_base.specs.Causes.{HasCause};
+ghost use Rattle.hd_base.specs.Faults.{no_fault};
 ghost use Rattle.hd_base.specs.Adapters.{left-untold};
 
 use crate::faults::Faults;
@@ -33,14 +35,14 @@ impl<'a, R: Files> Model for FileSource<'a, R> {
 
     ghost view = { λ s. record {
       reading = option_map R.File.remaining s.file;
-      fault_count = s.faults;
+      faults = s.faults;
     } };
 }
 
 impl<'a, R: Files> FileSource<'a, R> {
     /// A source with no file open, that has not failed.
     pub fn new(alloc: Global, files: &'a R) -> Self
-        ensures { result ≡ record { reading = None; fault_count = 0 } }
+        ensures { result ≡ record { reading = None; faults = no_fault } }
     {
         FileSource {
             files,
@@ -54,7 +56,8 @@ impl<'a, R: Files> FileSource<'a, R> {
     /// The error of the last fault, and the name that was opened last, where memory was there to
     /// keep it.
     pub fn last_fault(&self) -> Option<(io::Error, Option<&str>)>
-        ensures { IsSome result ↔ (0 < self.now.fault_count) }
+        ensures error { option_map (λ told. told.0) result ≡ self.now.faults.last }
+        ensures some { IsSome result ↔ (0 < self.now.faults.count) }
     {
         self.faults.last_at(&self.name)
     }
@@ -63,7 +66,7 @@ impl<'a, R: Files> FileSource<'a, R> {
 impl<'a, R: Files> Source for FileSource<'a, R> {
     ghost is_open = { λ s. is_some s.reading };
 
-    ghost faults = { λ s. s.fault_count };
+    ghost faults = { λ s. s.faults.count };
 
     ghost allows = { λ _ _. true };
 
@@ -73,8 +76,8 @@ impl<'a, R: Files> Source for FileSource<'a, R> {
 
     fn open(&mut self, name: &str) -> Result<(), Failed>
         ensures file { OnOk result ((file : R.File) × (self.new.reading ≡ Some (R.File.remaining file))) }
-        ensures err { OnErr result (self.new ≡ record self.old { fault_count = one_more self.old.fault_count }) }
-        ensures cause { HasCause self.old.fault_count self.new.fault_count result }
+        ensures err { OnErr result (self.new ≡ record self.old { faults = self.new.faults }) }
+        ensures cause { HasCause self.old.faults.count self.new.faults.count result }
     {
         self.name = String::from_str(self.alloc, name).ok();
         let file = match OpenOptions::new().read(true).open(self.files, name) {

@@ -4,13 +4,16 @@
 //! Those in memory tell each byte; those over readers and writers of the library tell what these do.
 #![tactic(auto)]
 
+mod access;
 mod faults;
 mod file_sink;
 mod file_source;
 mod mem_sink;
 mod mem_source;
 mod new_file;
+mod outputs;
 mod schedule;
+mod set_owner;
 mod sink;
 mod source;
 mod stdout_sink;
@@ -20,6 +23,7 @@ pub use file_source::FileSource;
 pub use hd_list::{List, Memory};
 pub use mem_sink::MemSink;
 pub use mem_source::MemSource;
+pub use set_owner::SetOwner;
 pub use sink::{Sink, WriteFault, write_all};
 pub use source::{Failed, ReadError, Source, read_all};
 pub use stdout_sink::StdoutSink;

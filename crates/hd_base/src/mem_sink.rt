@@ -32,7 +32,7 @@ impl Model for MemSink {
       piece = s.piece;
       fails = s.schedule.fails;
       calls = s.schedule.calls;
-      fault_count = s.schedule.faults;
+      fault_count = s.schedule.faults.count;
     } };
 
     ghost invariant = { λ s. (0 < s.piece) × (vec_len s.bytes + s.room ≤ vec_capacity s.bytes) };

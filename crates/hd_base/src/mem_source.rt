@@ -33,7 +33,7 @@ impl Model for MemSource {
       piece = s.piece;
       fails = s.schedule.fails;
       calls = s.schedule.calls;
-      fault_count = s.schedule.faults;
+      fault_count = s.schedule.faults.count;
     } };
 
     ghost invariant = { λ s. 0 < s.piece };

@@ -1,6 +1,9 @@
 // Files that are written beside the one whose place they take.
 ghost use Rattle.std.specs.Io.KnownBytes.{Keeps};
 
+use crate::SetOwner;
+use crate::access::Access;
+use crate::outputs::{refuse_open_file, refuse_outputs};
 use std::alloc::Global;
 use std::fs::{Metadata, OpenFile, OpenOptions, Permissions};
 use std::io;
@@ -40,19 +43,23 @@ pub(crate) fn open_to_write<R: Files>(
     alloc: Global,
     files: &R,
     name: &str,
-) -> io::Result<(R::File, Option<NewFile>)> {
+) -> io::Result<(R::File, Option<NewFile>)>
+where
+    R::File: SetOwner,
+{
     let found = found_at(files, name)?;
-    if found.as_ref().is_some_and(|found| !found.is_file()) {
-        return open_in_place(files, name);
+    if let Some(found) = &found {
+        refuse_outputs(files, found)?;
+        if !found.is_file() {
+            return open_in_place(files, name);
+        }
     }
-    let Some(target) = target_of(alloc, files, name)? else {
-        return open_in_place(files, name);
+    let target = target_of(alloc, files, name)?;
+    let old = match found {
+        Some(_) => Some(open_old(files, target.as_str())?.1),
+        None => None,
     };
-    if found.is_some() {
-        // One that may not be written to is not replaced either.
-        OpenOptions::new().write(true).open(files, target.as_str())?;
-    }
-    let (file, new) = create_beside(alloc, files, target, found.as_ref())?;
+    let (file, new) = create_beside(alloc, files, target, old.as_ref())?;
     Ok((file, Some(new)))
 }
 
@@ -80,11 +87,23 @@ fn has_no_store(kind: ErrorKind) -> bool {
     kind == ErrorKind::InvalidInput || kind == ErrorKind::Unsupported
 }
 
-// Opens what stands under a name, and empties it where it has a length.
+// Opens what has no length. By now it may be a file that has one.
 fn open_in_place<R: Files>(files: &R, name: &str) -> io::Result<(R::File, Option<NewFile>)> {
-    let mut how = OpenOptions::new();
-    how.write(true).create(true).truncate(true);
-    Ok((how.open(files, name)?, None))
+    let (file, found) = open_old(files, name)?;
+    if found.is_file() {
+        let message = "it became a file while it was opened";
+        return Err(io::Error::new(ErrorKind::ResourceBusy, message));
+    }
+    Ok((file, None))
+}
+
+// Opens what stands under a name, whose bytes stay, and tells what it is. What may not be written to
+// is not opened, and so not replaced.
+fn open_old<R: Files>(files: &R, name: &str) -> io::Result<(R::File, Metadata)> {
+    let file = OpenOptions::new().write(true).open(files, name)?;
+    let found = file.metadata()?;
+    refuse_outputs(files, &found)?;
+    Ok((file, found))
 }
 
 // What a name leads to, through links; none where nothing is there.
@@ -96,17 +115,14 @@ fn found_at<R: Files>(files: &R, name: &str) -> io::Result<Option<Metadata>> {
     }
 }
 
-// The name that links lead to. A link of the system's own folders may lead to what has no name, as
-// the standard output: there it is none.
-fn target_of<R: Files>(alloc: Global, files: &R, name: &str) -> io::Result<Option<PathBuf>> {
+// The name that links lead to, one after the other.
+fn target_of<R: Files>(alloc: Global, files: &R, name: &str) -> io::Result<PathBuf> {
     let mut path = PathBuf::from_str(alloc, name)?;
     for _ in 0..MOST_LINKS {
-        if !is_link(files, path.as_str())? {
-            return Ok(Some(path));
-        }
-        if path.as_str().starts_with("/dev/") || path.as_str().starts_with("/proc/") {
-            return Ok(None);
-        }
+        let Some(link) = link_at(files, path.as_str())? else {
+            return Ok(path);
+        };
+        refuse_open_file(files, &link)?;
         let text = files.read_link(alloc, path.as_str())?;
         path.pop();
         path.push(text)?;
@@ -114,36 +130,48 @@ fn target_of<R: Files>(alloc: Global, files: &R, name: &str) -> io::Result<Optio
     Err(io::Error::from(ErrorKind::FilesystemLoop))
 }
 
-fn is_link<R: Files>(files: &R, name: &str) -> io::Result<bool> {
+// The link that stands under a name; none where no link does.
+fn link_at<R: Files>(files: &R, name: &str) -> io::Result<Option<Metadata>> {
     match files.symlink_metadata(name) {
-        Ok(found) => Ok(found.is_symlink()),
-        Err(error) if error.kind() == ErrorKind::NotFound => Ok(false),
+        Ok(found) if found.is_symlink() => Ok(Some(found)),
+        Ok(_) => Ok(None),
+        Err(error) if error.kind() == ErrorKind::NotFound => Ok(None),
         Err(error) => Err(error),
     }
 }
 
-// A new file in the folder of a name, with the owner, where the system allows it, and the permissions
-// of the file that is found there.
+// A new file in the folder of a name, to take the place of an old one, where there is one.
 fn create_beside<R: Files>(
     alloc: Global,
     files: &R,
     target: PathBuf,
-    found: Option<&Metadata>,
-) -> io::Result<(R::File, NewFile)> {
-    let mode = found.map(|found| found.mode() & 0o777);
-    let (file, name) = create_numbered(alloc, files, target.as_str(), mode.unwrap_or(0o666))?;
+    old: Option<&Metadata>,
+) -> io::Result<(R::File, NewFile)>
+where
+    R::File: SetOwner,
+{
+    // Until the owner and the group are those of the old file, no one else may open the new one.
+    let mode = old.map_or(0o666, |old| old.mode() & 0o700);
+    let (file, name) = create_numbered(alloc, files, target.as_str(), mode)?;
     let new = NewFile { name, target };
-    if let Some(found) = found {
-        let (owner, group) = (Some(found.uid()), Some(found.gid()));
-        files.chown(new.name.as_str(), owner, group).ok();
-    }
-    if let Some(mode) = mode {
-        if let Err(error) = file.set_permissions(Permissions::from_mode(mode)) {
+    if let Some(old) = old {
+        if let Err(error) = hand_down(old, &file) {
             new.remove(files);
             return Err(error);
         }
     }
     Ok((file, new))
+}
+
+// Gives a new file the group and the owner of an old one, each where the system allows it, and the
+// permissions that go with those it then has.
+fn hand_down<F: OpenFile + SetOwner>(old: &Metadata, file: &F) -> io::Result<()> {
+    file.set_owner(None, Some(old.gid())).ok();
+    file.set_owner(Some(old.uid()), None).ok();
+    let new = file.metadata()?;
+    let access = Access::of_mode(old.mode());
+    let access = access.handed_on(new.uid() == old.uid(), new.gid() == old.gid());
+    file.set_permissions(Permissions::from_mode(access.mode()))
 }
 
 // A new file whose name is a given one and a number, the first that no file has.

@@ -2,6 +2,7 @@
 ghost use Rattle.std.specs.Prelude.{◌≡◌, ◌↔◌, IsErr, OnErr};
 ghost use Rattle.std.specs.List.{Contains};
 ghost use Rattle.hd_base.specs.Causes.{HasCause, one_more};
+ghost use Rattle.hd_base.specs.Faults.{no_fault};
 
 use crate::faults::Faults;
 use crate::{Failed, List};
@@ -20,7 +21,7 @@ pub(crate) struct Schedule {
 impl Schedule {
     /// Fails the calls of these numbers.
     pub(crate) fn new(fails: List<u64>) -> Self
-        ensures { result ≡ record { fails = fails; calls = 0; faults = 0 } }
+        ensures { result ≡ record { fails = fails; calls = 0; faults = no_fault } }
     {
         Schedule {
             fails,
@@ -34,8 +35,8 @@ impl Schedule {
         ensures listed { IsErr result ↔ Contains self.old.fails self.old.calls }
         ensures number { self.new.calls ≡ one_more self.old.calls }
         ensures fails { self.new.fails ≡ self.old.fails }
-        ensures fault { OnErr result (self.new.faults ≡ one_more self.old.faults) }
-        ensures cause { HasCause self.old.faults self.new.faults result }
+        ensures fault { OnErr result (self.new.faults.count ≡ one_more self.old.faults.count) }
+        ensures cause { HasCause self.old.faults.count self.new.faults.count result }
     {
         let fails = self.fails.as_slice().contains(&self.calls);
         self.calls = self.calls.saturating_add(1);
@@ -50,8 +51,8 @@ impl Schedule {
         ensures err { IsErr result }
         ensures calls { self.new.calls ≡ self.old.calls }
         ensures fails { self.new.fails ≡ self.old.fails }
-        ensures fault { self.new.faults ≡ one_more self.old.faults }
-        ensures cause { HasCause self.old.faults self.new.faults result }
+        ensures fault { self.new.faults.count ≡ one_more self.old.faults.count }
+        ensures cause { HasCause self.old.faults.count self.new.faults.count result }
     {
         self.faults.fail(io::Error::from(ErrorKind::Other))
     }

@@ -3,6 +3,7 @@ ghost use Rattle.std.specs.Prelude.{◌≡◌, ◌+◌, ◌<◌, ◌≤◌, ◌�
 ghost use Rattle.std.specs.Io.{WritesAtMost};
 ghost use Rattle.std.specs.Io.KnownBytes.{WriteAppends, Keeps};
 ghost use Rattle.hd_base.specs.Causes.{HasCause};
+ghost use Rattle.hd_base.specs.Faults.{no_fault};
 ghost use Rattle.hd_base.specs.Adapters.{in_all, is_handed_on, last_told};
 
 use crate::faults::Faults;
@@ -40,7 +41,7 @@ impl<W: Write + Drop> Model for StdoutSink<W> {
       gathered = writer_buffer s.to;
       taken = s.taken;
       has_flushed = s.has_flushed;
-      fault_count = s.faults;
+      faults = s.faults;
     } };
 }
 
@@ -55,7 +56,7 @@ impl<W: Write + Drop> StdoutSink<W> {
           gathered = [];
           taken = 0;
           has_flushed = true;
-          fault_count = 0;
+          faults = no_fault;
         }) }
     {
         match BufWriter::with_capacity(alloc, GATHERED, to) {
@@ -71,7 +72,8 @@ impl<W: Write + Drop> StdoutSink<W> {
 
     /// The error of the last fault.
     pub fn last_fault(&self) -> Option<io::Error>
-        ensures { IsSome result ↔ (0 < self.now.fault_count) }
+        ensures error { result ≡ self.now.faults.last }
+        ensures some { IsSome result ↔ (0 < self.now.faults.count) }
     {
         self.faults.last()
     }
@@ -80,7 +82,7 @@ impl<W: Write + Drop> StdoutSink<W> {
 impl<W: Write + Drop> Sink for StdoutSink<W> {
     ghost is_open = { λ _. true };
 
-    ghost faults = { λ s. s.fault_count };
+    ghost faults = { λ s. s.faults.count };
 
     ghost allows = { λ _ _. true };
 
@@ -91,7 +93,7 @@ impl<W: Write + Drop> Sink for StdoutSink<W> {
     fn open(&mut self, _name: &str) -> Result<(), Failed>
         ensures accepted { IsOk result }
         ensures same { self.new ≡ record self.old { taken = 0 } }
-        ensures cause { HasCause self.old.fault_count self.new.fault_count result }
+        ensures cause { HasCause self.old.faults.count self.new.faults.count result }
     {
         self.taken = 0;
         Ok(())
@@ -105,7 +107,7 @@ impl<W: Write + Drop> Sink for StdoutSink<W> {
         ensures taken { MatchResult result (λ n. self.new.taken ≡ self.old.taken + n)
             (λ _. self.new.taken ≡ self.old.taken) }
         ensures unflushed { IfOk result (λ n. 0 < n → is_handed_on self.new ≡ false) }
-        ensures cause { HasCause self.old.fault_count self.new.fault_count result }
+        ensures cause { HasCause self.old.faults.count self.new.faults.count result }
     {
         let room = usize::MAX - self.taken;
         let part = &piece[..piece.len().min(GATHERED - 1).min(room)];
@@ -124,7 +126,7 @@ impl<W: Write + Drop> Sink for StdoutSink<W> {
         ensures flushed { OnOk result (IsTrue (is_handed_on self.new)) }
         ensures bytes { Keeps (in_all self.old) (in_all self.new) }
         ensures taken { self.new.taken ≡ self.old.taken }
-        ensures cause { HasCause self.old.fault_count self.new.fault_count result }
+        ensures cause { HasCause self.old.faults.count self.new.faults.count result }
     {
         if let Err(error) = self.to.flush() {
             return self.faults.fail(error);

@@ -1,8 +1,9 @@
 -- The pairs of neighbours of a tile, each tried once, and the passes from them.
-use Rattle.std.proofs.Common.{◌≡◌, ◌≢◌, ◌<◌, ◌≤◌, ◌+◌, ◌*◌, ℕ, zero, suc, ◌⊎◌, inl, inr, List, [], length, map, Option, Some, slice_get, refl, sym, ◌∙◌, ap, subst, arith}
-use Rattle.std.specs.Prelude.{Contains}
+use Rattle.std.proofs.Common.{◌≡◌, ◌≢◌, ◌<◌, ◌≤◌, ◌+◌, ◌*◌, ℕ, zero, suc, ◌⊎◌, inl, inr, List, [], get_or, length, map, Option, Some, None, slice_get, refl, sym, ◌∙◌, ap, subst, arith}
+use Rattle.std.specs.Prelude.{AllPairs, Contains}
+use Rattle.std.proofs.lemmas.List.{get_or-map, length-map}
 use Rattle.std.proofs.lemmas.Bool.{cases_eq, cases_lt}
-use Rattle.std.proofs.lemmas.Option.{same_Some, slice_get_within}
+use Rattle.std.proofs.lemmas.Option.{same_Some, slice_get-get_or, slice_get_within}
 use Rattle.hd_map.specs.declared.types.Pass.{Pass}
 use Rattle.hd_map.specs.declared.types.Pos.{Pos}
 use Rattle.hd_map.specs.declared.types.Rank.{Rank}
@@ -15,8 +16,9 @@ use Rattle.hd_map.specs.Rank.{rank, below_by}
 use Rattle.hd_map.proofs.Gather.{same_pos}
 use Rattle.hd_map.proofs.Items.{Contains-map, map-Contains}
 use Rattle.hd_map.proofs.Points.{present_or_not, neighbour-sym}
-use Rattle.hd_graph.proofs.Basins.{higher-sym}
+use Rattle.hd_map.proofs.Higher.{higher-sym}
 use Rattle.hd_steep.specs.Lowest.{IsAtPlace, IsLow}
+use Rattle.hd_steep.specs.Rows.{past_end}
 use Rattle.hd_tiles.specs.Tile.{tile_of}
 use Rattle.hd_basin.specs.declared.frame.Frame.{Frame}
 use Rattle.hd_basin.specs.declared.meetings.Meeting.{Meeting}
@@ -26,7 +28,7 @@ use Rattle.hd_basin.specs.Built.{HasPasses, IsRightPass}
 use Rattle.hd_basin.specs.Frames.{InFrame}
 use Rattle.hd_basin.specs.Inside.{AreNamed, IsStep, IsTried, IsPairAt, MeetsPair, IsMet, AreMet, join_of, label_at, place_of_frame, step_right, step_down}
 use Rattle.hd_basin.specs.Meetings.{AreChained, AreKept}
-use Rattle.hd_basin.specs.Parts.{IsBetween, low_or_none, pass_named}
+use Rattle.hd_basin.specs.Parts.{IsBetween, JoinOthers, low_or_none, pass_named}
 use Rattle.hd_basin.specs.Sinks.{IsArea, at_place}
 use Rattle.hd_basin.proofs.Areas.{area-in, area-tile, area-fits, tile-of_point}
 use Rattle.hd_basin.proofs.ChainedMeetings.{kept-notes}
@@ -34,7 +36,7 @@ use Rattle.hd_basin.proofs.Frames.{frame_step, frame-in_grid}
 use Rattle.hd_basin.proofs.BuiltSeams.{same-pass}
 use Rattle.hd_basin.proofs.PointRoots.{read-contains}
 use Rattle.hd_basin.proofs.AreLinks.{low-own}
-use Rattle.hd_basin.proofs.FlatLists.{Contains-at}
+use Rattle.hd_basin.proofs.FlatLists.{Contains-at, map-twice}
 use Rattle.hd_basin.proofs.SinkLaws.{sink-unique, sink-tile}
 use Rattle.hd_basin.proofs.InStep.{meeting-sym}
 
@@ -426,6 +428,35 @@ module _ (m : Map) (side : SideName) (t tile : ℕ) (f : Frame) (some : 1 ≤ t)
         let is = named-pass x u v (ap (slice_get nodes) k.3 ∙ u_at) (ap (slice_get nodes) k.4 ∙ v_at) in
         (pass_of x, map-Contains (pass_named nodes) (map join_of list) (join_of x) (map-Contains join_of list x (read-contains list k.0 x k.2)), x.at, inl is)
 
+    -- two nodes with one sink have one number
+    number-one : (i j : ℕ) (u v : Node) → slice_get nodes i ≡ Some u → slice_get nodes j ≡ Some v → low_or_none (slice_get nodes i) ≡ low_or_none (slice_get nodes j) → i ≡ j
+    number-one i j u v u_at v_at same = named.distinct i j u v u_at v_at (sym (ap low_or_none u_at) ∙ same ∙ ap low_or_none v_at)
+
+    -- the passes of two meetings join others
+    meetings-differ : (i j : ℕ) (x y : Meeting) → slice_get list i ≡ Some x → slice_get list j ≡ Some y → i < j → JoinOthers (pass_of x) (pass_of y)
+    meetings-differ i j x y at there less =
+        let mt = meets-of i x at in
+        let nt = meets-of j y there in
+        let one = (kept.each i x at).pair.less in
+        let other = (kept.each j y there).pair.less in (
+          λ a b. (let same = kept.once i j x y at there (number-one x.a y.a mt.u nt.u mt.u_at nt.u_at a) (number-one x.b y.b mt.v nt.v mt.v_at nt.v_at b) in omega (arith, same, less)),
+          λ a b. (let up = number-one x.a y.b mt.u nt.v mt.u_at nt.v_at a in let down = number-one x.b y.a mt.v nt.u mt.v_at nt.u_at b in omega (arith, up, down, one, other)),
+        )
+
+    passes-once : AllPairs (λ p q. JoinOthers p q) passes
+    passes-once = subst (λ (ps : List Pass). AllPairs (λ p q. JoinOthers p q) ps) (map-twice (pass_named nodes) join_of list) (λ i j d less below.
+        let long = length-map list pass_of in
+        let far : j < length list = omega (arith, below, long) in
+        let near : i < length list = omega (arith, far, less) in
+        let x : Meeting = get_or list i blank in
+        let y : Meeting = get_or list j blank in
+        subst (λ (p : Pass). JoinOthers p (get_or (map pass_of list) j d)) (sym (get_or-map pass_of list i blank d near))
+        (subst (λ (q : Pass). JoinOthers (pass_of x) q) (sym (get_or-map pass_of list j blank d far))
+        (meetings-differ i j x y (slice_get-get_or list i blank near) (slice_get-get_or list j blank far) less)))
+      where
+        blank : Meeting
+        blank = record { a = 0; b = 0; at = past_end; before = None }
+
     pub passes-all : HasPasses m side t tile passes
     passes-all = record {
       inside = pass-right;
@@ -439,6 +470,7 @@ module _ (m : Map) (side : SideName) (t tile : ℕ) (f : Frame) (some : 1 ≤ t)
                 let p = pass-of met.1 met.0 met.3 met.2 w met.5 met.4 all in
                 (p.0, p.1, p.2, between-sym p.0 a b p.2 (subst (λ (z : Rank). IsBetween p.0 z a p.2) met.7 (subst (λ (z : Rank). IsBetween p.0 met.3.low z p.2) met.6 p.3))))
           ]);
+      once = passes-once;
     }
       where
         between-sym : (p : Pass) (a b w : Rank) → IsBetween p b a w → IsBetween p a b w

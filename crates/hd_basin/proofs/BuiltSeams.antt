@@ -1,6 +1,7 @@
 -- The passes and the seams of a tile that is seen anew, from the seams at its points.
-use Rattle.std.proofs.Common.{◌≡◌, ◌≢◌, ◌≤◌, ◌*◌, ℕ, inl, inr, Bool, true, false, List, Some, slice_get, refl, sym, ◌∙◌, ap, subst}
-use Rattle.std.specs.Prelude.{Contains, if◌then◌else◌}
+use Rattle.std.proofs.Common.{◌≡◌, ◌≢◌, ◌≤◌, ◌*◌, ℕ, inl, inr, Bool, true, false, List, Some, get_or, slice_get, refl, sym, ◌∙◌, ap, subst, arith}
+use Rattle.std.specs.Prelude.{AllPairs, Contains, if◌then◌else◌}
+use Rattle.std.proofs.lemmas.List.Elements.{Contains-get_or}
 use Rattle.hd_map.specs.declared.types.Pass.{Pass}
 use Rattle.hd_map.specs.declared.types.Pos.{Pos}
 use Rattle.hd_map.specs.declared.types.Rank.{Rank}
@@ -11,7 +12,7 @@ use Rattle.hd_map.specs.Passes.{higher_by}
 use Rattle.hd_map.specs.Rank.{rank, below_by, IsPoint}
 use Rattle.hd_map.specs.SideLaws.{below_by-order}
 use Rattle.hd_map.proofs.Points.{same_index}
-use Rattle.hd_graph.proofs.Basins.{not_above-below}
+use Rattle.hd_map.proofs.Higher.{not_above-below}
 use Rattle.hd_tiles.specs.Tile.{tile_of}
 use Rattle.hd_basin.specs.declared.frame.Frame.{Frame}
 use Rattle.hd_basin.specs.declared.part.Part.{Part}
@@ -19,7 +20,7 @@ use Rattle.hd_basin.specs.declared.part.Seam.{Seam}
 use Rattle.hd_basin.specs.Basin.{IsSinkOf, IsBasinMeeting, IsBasinPass, tile_at}
 use Rattle.hd_basin.specs.Built.{IsAsked, IsBuilt, IsKnown, IsNoded, IsRightPass}
 use Rattle.hd_basin.specs.Seams.{AreCandidates, IsCandidate, KeepLowest, pass_between}
-use Rattle.hd_basin.specs.Parts.{IsBetween, IsFresh, IsSeamOf, place_in_tile}
+use Rattle.hd_basin.specs.Parts.{IsBetween, IsFresh, IsSeamOf, JoinOthers, place_in_tile}
 use Rattle.hd_basin.specs.Sinks.{IsArea}
 use Rattle.hd_basin.proofs.Areas.{area-in, area-below, area-at, tile-of_point}
 use Rattle.hd_basin.proofs.SinkLaws.{sink-unique, sink-is_sink, sink-tile}
@@ -176,16 +177,30 @@ module _ (m : Map) (side : SideName) (t tile : ℕ) (stamps : List ℕ) (parts :
         j.stamp,
       )
 
+  -- no two of what is kept join the same two basins
+  kept-once : AllPairs (λ (s u : Seam). JoinOthers s.pass u.pass) kept
+  kept-once = λ i j d less below.
+      let s : Seam = get_or kept i d in
+      let u : Seam = get_or kept j d in
+      let one = joint-of s (k.some s (Contains-get_or kept i d (omega (arith, less, below)))) in
+      let other = joint-of u (k.some u (Contains-get_or kept j d below)) in (
+        λ a b. k.once i j d less below (ap (λ (r : Rank). r.index) a, ap (λ (r : Rank). r.index) b),
+        λ a b. not_both side s.pass.a s.pass.b one.3.ordered (subst (λ (z : Rank). below_by side s.pass.b z ≡ true) (sym a) (subst (λ (z : Rank). below_by side z u.pass.b ≡ true) (sym b) other.3.ordered)),
+      )
+
   pub joined-built : (part : Part) → IsNoded m side t tile part → part.seams ≡ kept → IsBuilt m side t stamps parts tile part
   joined-built part noded seams = record {
     nodes = noded.nodes;
     once = noded.once;
     sinks = noded.sinks;
+    names = noded.names;
     labels = noded.labels;
     inside = noded.passes.inside;
     inside_all = noded.passes.inside_all;
+    inside_once = noded.passes.once;
     across = λ s has. (let kept_has = subst (λ (xs : List Seam). Contains xs s) seams has in let u = seam-of s kept_has in (kept-right s kept_has, u.0, u.1, u.2));
     across_all = λ a b u own fresh apart mt. (
         let s = kept-found a b u own fresh apart mt in
         (s.0, subst (λ (xs : List Seam). Contains xs s.0) (sym seams) s.1, s.0.pass.at, s.2));
+    across_once = subst (λ (xs : List Seam). AllPairs (λ (s u : Seam). JoinOthers s.pass u.pass) xs) (sym seams) kept-once;
   }

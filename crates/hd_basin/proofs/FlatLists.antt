@@ -1,5 +1,5 @@
 -- Lists of lists put together: how they grow, what they have, and pairs of it.
-use Rattle.std.proofs.Common.{◌≡◌, ◌<◌, ◌≤◌, ◌+◌, ℕ, zero, suc, List, [], ◌∷◌, ◌++◌, ◌-◌, length, length-append, get_or, take, map, Some, inl, inr, refl, sym, ◌∙◌, ap, subst, arith, slice_get}
+use Rattle.std.proofs.Common.{◌≡◌, ◌≢◌, ◌<◌, ◌≤◌, ◌+◌, ℕ, zero, suc, List, [], ◌∷◌, ◌++◌, ◌-◌, length, length-append, get_or, take, map, Some, inl, inr, refl, sym, ◌∙◌, ap, subst, arith, slice_get}
 use Rattle.std.specs.Prelude.{Contains, AllPairs}
 use Rattle.std.specs.List.{flat_map}
 use Rattle.std.proofs.Math.Seq.{get_or-append_right}
@@ -7,7 +7,7 @@ use Rattle.std.proofs.lemmas.Bool.{cases_lt}
 use Rattle.std.proofs.lemmas.List.{take_more, map-append, append_assoc, flat_map_more, get_or_append_left, take_all}
 use Rattle.std.proofs.lemmas.List.Kept.{AllPairs-cons}
 use Rattle.std.proofs.lemmas.List.Elements.{Contains-append_left, Contains-append_right, Contains-append_cases, Contains-get_or}
-use Rattle.std.proofs.lemmas.Option.{same_Some}
+use Rattle.std.proofs.lemmas.Option.{same_Some, slice_get_within, get_or_from_slice_get}
 use Rattle.hd_map.proofs.Items.{Contains-head, Contains-tail, Contains-cases, Contains-none, Contains-map, AllPairs-first, AllPairs-tail}
 
 module _ {X Y : Type 0} (f : X → Y) where
@@ -50,7 +50,7 @@ module _ {X Y : Type 0} (f : X → List Y) where
 
 module _ {X : Type 0} (R : X → X → Type 0) where
   -- the pairs of two lists, one after the other
-  AllPairs-append : (xs ys : List X) → AllPairs R xs → AllPairs R ys → ((x y : X) → Contains xs x → Contains ys y → R x y) → AllPairs R (xs ++ ys)
+  pub AllPairs-append : (xs ys : List X) → AllPairs R xs → AllPairs R ys → ((x y : X) → Contains xs x → Contains ys y → R x y) → AllPairs R (xs ++ ys)
   AllPairs-append xs ys one other between i j d less below =
       let total : length (xs ++ ys) ≡ length xs + length ys = length-append xs ys in
       elim (cases_lt j (length xs)) [
@@ -93,3 +93,21 @@ AllPairs-map f Q R (x ∷ xs) h pairs = AllPairs-cons R (f x) (map f xs)
     let r = Contains-map f xs (get_or (map f xs) k d) (Contains-get_or (map f xs) k d inside) in
     subst (R (f x)) r.2 (h x r.0 (Contains-head x xs) (Contains-tail x r.0 xs r.1) (AllPairs-first Q x r.0 xs pairs r.1))))
     (AllPairs-map f Q R xs (λ y z at_y at_z q. h y z (Contains-tail x y xs at_y) (Contains-tail x z xs at_z) q) (AllPairs-tail Q x xs pairs))
+
+-- two items of a list whose items are all so in pairs
+pub pair-at : {X : Type 0} (R : X → X → Type 0) (xs : List X) → AllPairs R xs → (j k : ℕ) (x y : X) → j < k → slice_get xs j ≡ Some x → slice_get xs k ≡ Some y → R x y
+pair-at R xs pairs j k x y less at there =
+    subst (λ z. R z y) (get_or_from_slice_get xs j x x at) (subst (λ z. R (get_or xs j x) z) (get_or_from_slice_get xs k y x there) (pairs j k x less (slice_get_within xs k y there)))
+
+-- in a list in which no two items have one value, items with one value are one
+pub same-of_distinct : {X V : Type 0} (f : X → V) (xs : List X) (x y : X) → AllPairs (λ a b. f a ≢ f b) xs → Contains xs x → Contains xs y → f x ≡ f y → x ≡ y
+same-of_distinct f xs x y distinct has other same =
+    let i = Contains-at xs x has in
+    let j = Contains-at xs y other in
+    elim (cases_lt i.0 j.0) [
+      | inl less ↦ absurd (pair-at (λ a b. f a ≢ f b) xs distinct i.0 j.0 x y less i.1 j.1 same)
+      | inr not_less ↦ elim (cases_lt j.0 i.0) [
+        | inl less ↦ absurd (pair-at (λ a b. f a ≢ f b) xs distinct j.0 i.0 y x less j.1 i.1 (sym same))
+        | inr not_more ↦ (let one : i.0 ≡ j.0 = omega (arith, not_less, not_more) in same_Some x y (sym i.1 ∙ ap (slice_get xs) one ∙ j.1))
+      ]
+    ]

@@ -12,7 +12,7 @@ use Rattle.hd_tiles.specs.Tile.{tile_of, tile_count}
 use Rattle.hd_tiles.proofs.Corners.{tile_inside}
 use Rattle.hd_basin.specs.Basin.{tile_at}
 use Rattle.hd_basin.specs.InStep.{IsInStep, IsPoolOf, KeepsSeen}
-use Rattle.hd_basin.specs.Parts.{Pool, IsFresh, IsLinked, IsSeamOf}
+use Rattle.hd_basin.specs.Parts.{Pool, IsFresh, IsLinked, IsSeamOf, IsSound}
 use Rattle.hd_basin.proofs.Areas.{tile-of_point}
 use Rattle.hd_basin.proofs.SinkLaws.{sink-tile}
 use Rattle.hd_basin.proofs.Replacing.{both_ends, seam_ends}
@@ -30,12 +30,12 @@ keeps-onward stamps a b c first second = record {
 pub keeps-itself : (stamps : List ℕ) (a : Pool) → KeepsSeen stamps a a
 keeps-itself stamps a = record { fresh = λ tile fresh. fresh; known = λ tile seen part at is. inr (part, at, is) }
 
-module _ (m : Map) (side : SideName) (stamps : List ℕ) (pool : Pool) (step : IsInStep m side stamps pool) (some : 1 ≤ pool.side) (whole : length pool.parts ≡ tile_count pool.size pool.side)
+module _ (m : Map) (side : SideName) (stamps : List ℕ) (pool : Pool) (sound : IsSound pool) (step : IsInStep m side stamps pool) (some : 1 ≤ pool.side)
     (all : (tile : ℕ) → tile < length pool.parts → IsFresh stamps pool.parts tile) where
   tile_fresh : (p : Pos) → InGrid m.size p → IsFresh stamps pool.parts (tile_of m.size pool.side p)
   tile_fresh p inside =
       let below = tile_inside m.size pool.side p some inside in
-      let count : tile_count m.size pool.side ≡ length pool.parts = ap (λ (s : Size). tile_count s pool.side) (sym step.size) ∙ sym whole in
+      let count : tile_count m.size pool.side ≡ length pool.parts = ap (λ (s : Size). tile_count s pool.side) (sym step.size) ∙ sym sound.whole in
       all _ (omega (arith, below, count))
 
   point_fresh : (r : Rank) → IsPoint m r → IsFresh stamps pool.parts (tile_at m.size pool.side r)
@@ -46,12 +46,12 @@ module _ (m : Map) (side : SideName) (stamps : List ℕ) (pool : Pool) (step : I
 
   link_fresh : (a b w : Rank) → IsLinked pool.parts a b w → IsFresh stamps pool.parts (tile_at m.size pool.side a) × IsFresh stamps pool.parts (tile_at m.size pool.side b)
   link_fresh a b w (inl x) =
-      let r = step.sound.inside x.tile x.part x.pass x.at x.has in
+      let r = sound.inside x.tile x.part x.pass x.at x.has in
       let ends = both_ends (λ z. tile_at m.size pool.side z ≡ x.tile) x.pass a b w x.between (at_size x.pass.a x.tile r.0) (at_size x.pass.b x.tile r.1) in
       let fresh = all x.tile (slice_get_within pool.parts x.tile x.part x.at) in
       (subst (IsFresh stamps pool.parts) (sym ends.0) fresh, subst (IsFresh stamps pool.parts) (sym ends.1) fresh)
   link_fresh a b w (inr x) =
-      let of = subst (λ (s : Size). IsSeamOf s pool.side x.tile x.seam) step.size (step.sound.across x.tile x.part x.seam x.at x.has) in
+      let of = subst (λ (s : Size). IsSeamOf s pool.side x.tile x.seam) step.size (sound.across x.tile x.part x.seam x.at x.has) in
       let here = all x.tile (slice_get_within pool.parts x.tile x.part x.at) in
       let there = all x.seam.with (slice_get_within pool.parts x.seam.with x.other x.with_at) in
       elim (seam_ends m pool.side x.tile x.seam a b w x.between of) [
@@ -64,6 +64,7 @@ module _ (m : Map) (side : SideName) (stamps : List ℕ) (pool : Pool) (step : I
       let old = step.has.right in
       record {
         size = step.size;
+        once = sound.once;
         has = record {
           right = record {
             nodes = λ tile n u has. old.nodes tile n (all tile (slice_get_within pool.parts tile has.part has.at)) has;

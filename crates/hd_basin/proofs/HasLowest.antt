@@ -1,12 +1,16 @@
 -- The lowest seam under each key, with one more seam, and all of them.
-use Rattle.std.proofs.Common.{◌≡◌, ℕ, ◌⊎◌, inl, inr, true, false, List, [], ◌∷◌, ◌++◌, map, Option, Some, None, refl, sym, ◌∙◌, ap, subst}
-use Rattle.std.specs.Prelude.{Contains, if◌then◌else◌}
+use Rattle.std.proofs.Common.{◌≡◌, ℕ, ◌⊎◌, inl, inr, true, false, List, [], ◌∷◌, ◌++◌, get_or, map, Option, Some, None, refl, sym, ◌∙◌, ap, subst, arith}
+use Rattle.std.specs.Prelude.{AllPairs, Contains, if◌then◌else◌}
 use Rattle.std.specs.BTreeMap.{BTreeMap, IsOrdered, Updates, get, is_at}
 use Rattle.std.specs.Cmp.{IsTotalOrder, on_total}
+use Rattle.std.specs.declared.cmp.Ordering.TheVariants.{Less}
+use Rattle.std.specs.List.Sorted.{IsStrictlySortedBy}
 use Rattle.std.specs.Ordering.{is_eq, nat_cmp}
 use Rattle.std.proofs.lemmas.Bool.{cases_eq}
 use Rattle.std.proofs.lemmas.Cmp.{nat_cmp_total, then_total}
-use Rattle.std.proofs.lemmas.List.Elements.{Contains-push, Contains-push_cases, Contains-append_left}
+use Rattle.std.proofs.lemmas.List.Elements.{All-contains, All-from_recursion, Contains-get_or, Contains-push, Contains-push_cases, Contains-append_left}
+use Rattle.std.proofs.lemmas.List.Kept.{AllPairs-cons}
+use Rattle.std.proofs.lemmas.Map.Keys.{sorted_head, sorted_tail}
 use Rattle.std.proofs.lemmas.Map.Lookups.{CmpEqualImpliesEq, exact_pairs, exact_unsigned}
 use Rattle.std.proofs.lemmas.Map.Views.{tells_apart, btree_map_get_iff}
 use Rattle.std.proofs.lemmas.Option.{same_Some}
@@ -17,8 +21,9 @@ use Rattle.hd_map.specs.SideLaws.{below_by-order}
 use Rattle.hd_map.proofs.Items.{Contains-map, map-Contains}
 use Rattle.hd_map.proofs.Order.{below-not_above, not_above-refl, not_above-trans}
 use Rattle.hd_basin.specs.declared.part.Seam.{Seam}
-use Rattle.hd_basin.specs.Seams.{KeepLowest}
+use Rattle.hd_basin.specs.Seams.{HaveSameEnds, KeepLowest}
 use Rattle.hd_basin.specs.Lowest.{HasLowest, key_of, lower_of, pair_cmp}
+use Rattle.hd_basin.proofs.FlatLists.{AllPairs-map}
 
 pair-total : IsTotalOrder pair_cmp
 pair-total = then_total (on_total (λ (x : ℕ × ℕ). x.0) nat_cmp_total) (on_total (λ (x : ℕ × ℕ). x.1) nat_cmp_total)
@@ -112,6 +117,19 @@ module _ (side : SideName) (all : List Seam) (table next : ℕ × ℕ → Option
 pub lowest-updates : (side : SideName) (all : List Seam) (old new : BTreeMap (ℕ × ℕ) Seam) (s : Seam) → HasLowest side all (get pair_cmp old) → Updates pair_cmp old new (key_of s) (Some (lower_of side (get pair_cmp old (key_of s)) s)) → HasLowest side (all ++ s ∷ []) (get pair_cmp new)
 lowest-updates side all old new s has u = lowest-more side all (get pair_cmp old) (get pair_cmp new) s has u.1 (λ k other. u.2 k (key_apart (key_of s) k other))
 
+-- a key is not below itself
+key-once : (k q : ℕ × ℕ) → pair_cmp k q ≡ Less → k ≡ q → ⊥
+key-once k q less same = (let one : pair_cmp k k ≡ Less = subst (λ (x : ℕ × ℕ). pair_cmp k x ≡ Less) (sym same) less in let other = pair-total.antisymm k k in cc)
+
+-- so the keys of a map differ
+keys-differ : (entries : List ((ℕ × ℕ) × Seam)) → IsStrictlySortedBy pair_cmp (map (λ (e : (ℕ × ℕ) × Seam). e.0) entries) → AllPairs (λ (e f : (ℕ × ℕ) × Seam). e.0 ≡ f.0 → ⊥) entries
+keys-differ [] sorted = λ i j d less below. absurd (omega arith)
+keys-differ (e ∷ es) sorted = AllPairs-cons (λ (e f : (ℕ × ℕ) × Seam). e.0 ≡ f.0 → ⊥) e es
+    (λ k d inside. key-once e.0 (get_or es k d).0 (
+    let head = All-from_recursion (λ (y : ℕ × ℕ). pair_cmp e.0 y ≡ Less) (map (λ (f : (ℕ × ℕ) × Seam). f.0) es) (sorted_head pair_cmp e.0 (map (λ (f : (ℕ × ℕ) × Seam). f.0) es) sorted) in
+    All-contains (λ (y : ℕ × ℕ). pair_cmp e.0 y ≡ Less) (map (λ (f : (ℕ × ℕ) × Seam). f.0) es) (get_or es k d).0 head (map-Contains (λ (f : (ℕ × ℕ) × Seam). f.0) es (get_or es k d) (Contains-get_or es k d inside))))
+    (keys-differ es (sorted_tail pair_cmp e.0 (map (λ (f : (ℕ × ℕ) × Seam). f.0) es) sorted))
+
 -- the values of such a table are the lowest seams
 pub lowest-kept : (side : SideName) (all : List Seam) (table : BTreeMap (ℕ × ℕ) Seam) → IsOrdered pair_cmp table → HasLowest side all (get pair_cmp table) → (kept : List Seam) → kept ≡ map (λ (e : (ℕ × ℕ) × Seam). e.1) table.entries → KeepLowest side all kept
 lowest-kept side all table ordered has kept are = record {
@@ -125,8 +143,15 @@ lowest-kept side all table ordered has kept are = record {
       let f = has.found (key_of u) s.0 s.1 in
       let entry = (btree_map_get_iff pair-total pair-exact table ordered (key_of u) s.0).0 s.1 in
       (s.0, subst (λ (xs : List Seam). Contains xs s.0) (sym are) (map-Contains (λ (e : (ℕ × ℕ) × Seam). e.1) table.entries (key_of u, s.0) entry), (ap (λ (x : ℕ × ℕ). x.0) f.1, ap (λ (x : ℕ × ℕ). x.1) f.1)));
+  once = subst (λ (xs : List Seam). AllPairs (λ (s u : Seam). HaveSameEnds s u → ⊥) xs) (sym are)
+      (AllPairs-map (λ (e : (ℕ × ℕ) × Seam). e.1) (λ (e f : (ℕ × ℕ) × Seam). e.0 ≡ f.0 → ⊥) (λ (s u : Seam). HaveSameEnds s u → ⊥) table.entries
+      (λ e f at there apart same. apart (sym (key_is e at) ∙ ap (λ (x : ℕ). (x, (e.1).pass.b.index)) same.0 ∙ ap (λ (y : ℕ). ((f.1).pass.a.index, y)) same.1 ∙ key_is f there))
+      (keys-differ table.entries ordered));
 }
   where
+    key_is : (e : (ℕ × ℕ) × Seam) → Contains table.entries e → key_of e.1 ≡ e.0
+    key_is e at = (has.found e.0 e.1 ((btree_map_get_iff pair-total pair-exact table ordered e.0 e.1).1 at)).1
+
     read : (s : Seam) → Contains kept s → (k : ℕ × ℕ) × (get pair_cmp table k ≡ Some s)
     read s at =
         let e = Contains-map (λ (e : (ℕ × ℕ) × Seam). e.1) table.entries s (subst (λ (xs : List Seam). Contains xs s) are at) in

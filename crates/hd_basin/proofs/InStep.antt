@@ -11,7 +11,7 @@ use Rattle.hd_tiles.specs.Tile.{tile_of}
 use Rattle.hd_basin.specs.Basin.{tile_at}
 use Rattle.hd_map.specs.Rank.{Near}
 use Rattle.hd_map.proofs.Points.{neighbour-sym}
-use Rattle.hd_graph.proofs.Basins.{higher-sym}
+use Rattle.hd_map.proofs.Higher.{higher-sym}
 use Rattle.hd_basin.specs.Basin.{IsBasinMeeting, IsBasinPass}
 use Rattle.hd_tiles.specs.Stamps.{ComesFrom}
 use Rattle.std.proofs.lemmas.Option.{slice_get_within, slice_get-get_or}

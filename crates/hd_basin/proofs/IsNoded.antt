@@ -18,11 +18,12 @@ use Rattle.hd_basin.specs.Built.{HasPasses, IsNoded}
 use Rattle.hd_basin.specs.Inside.{AreNamed, place_of_frame}
 use Rattle.hd_basin.specs.Edge.{IsEdge}
 use Rattle.hd_basin.specs.Gathering.{IsTaken, Gathers, home_of, IsNamed, IsGathered}
-use Rattle.hd_basin.specs.Parts.{low_of, node_at, pass_named, place_in_tile}
+use Rattle.hd_basin.specs.Parts.{JoinBelow, low_of, node_at, pass_named, place_in_tile}
 use Rattle.hd_basin.specs.Sinks.{IsArea, at_place, no_node}
-use Rattle.hd_basin.proofs.Areas.{area-in, area-below, area-at, tile-of_point}
+use Rattle.hd_basin.proofs.Areas.{area-in, area-below, area-at, area-grid, tile-of_point}
 use Rattle.hd_basin.proofs.Sums.{sums-same}
-use Rattle.hd_basin.proofs.Frames.{frame_step}
+use Rattle.hd_basin.proofs.FlatLists.{Contains-at}
+use Rattle.hd_basin.proofs.Frames.{frame_step, step-in_frame}
 use Rattle.hd_basin.proofs.Views.{Keeps, keeps-sym, node_kept, label_kept, sink_kept, meeting_kept, pass_kept}
 use Rattle.hd_basin.proofs.PointRoots.{read-contains}
 use Rattle.hd_basin.proofs.SinkLaws.{sink-unique, sink-own, sink-tile}
@@ -31,10 +32,6 @@ use Rattle.hd_basin.proofs.SinkLaws.{sink-unique, sink-own, sink-tile}
 sunk-point : (m : Map) (side : SideName) (t : ℕ) (r s : Rank) (path : List Rank) → AreNextsInside m side t r path s → IsPoint m r
 sunk-point m side t r s [] nexts = nexts.1.point
 sunk-point m side t r s (q ∷ path) nexts = (let near = nexts.0.lower.near in record { at = near.from; present = near.neighbour.from; rank_is = near.from_rank })
-
--- what is in a list stands at a number
-contains-at : {X : Type 0} (xs : List X) (x : X) → Contains xs x → (i : ℕ) × (slice_get xs i ≡ Some x)
-contains-at xs x h = (h.0, slice_get-get_or xs h.0 x h.1 ∙ ap (λ y. Some y) h.2)
 
 module _ (m : Map) (side : SideName) (t tile : ℕ) (f : Frame) (some : 1 ≤ t) (area : IsArea m.size t tile f) (small : f.columns * f.rows ≤ 65536)
     (ns : List Node) (numbers ls : List ℕ) (g : IsGathered m side t tile f (f.columns * f.rows) ns numbers ls) where
@@ -118,10 +115,25 @@ module _ (m : Map) (side : SideName) (t tile : ℕ) (f : Frame) (some : 1 ≤ t)
     distinct = λ i j n u at there same. same_Some i j (sym (g.homes i n at) ∙ ap (λ (s : Rank). slice_get numbers (home_of m t s)) same ∙ g.homes j u there);
   }
 
-  pub gathered-noded : (part : Part) → part.nodes ≡ ns → part.labels.items ≡ ls → HasPasses m side t tile (map (pass_named ns) part.joins) → IsNoded m side t tile part
-  gathered-noded part nodes labels passes = record {
+  -- a label that is there is below their number
+  label-below : (label : ℕ) → Contains ls label → label ≢ no_node → label < length ns
+  label-below label has there =
+      let i = Contains-at ls label has in
+      let below : i.0 < all = (let inside = slice_get_within ls i.0 label i.1 in let count = g.labels_count in omega (arith, inside, count)) in
+      let name = subst (λ (k : ℕ). IsNamed m side t ns (at_place f i.0) k) (get_or_from_slice_get ls i.0 label no_node i.1) (g.labels i.0 below) in
+      elim (present_or_not m (at_place f i.0) (area-grid m.size t tile f some area (at_place f i.0) (step-in_frame f i.0 below))) [
+        | inl here ↦ (let n = name.there here in slice_get_within ns label n.0 n.1)
+        | inr absent ↦ absurd (there (name.none absent))
+      ]
+
+  pub gathered-noded : (part : Part) → part.nodes ≡ ns → part.labels.items ≡ ls → HasPasses m side t tile (map (pass_named ns) part.joins) → JoinBelow (length ns) part.joins → IsNoded m side t tile part
+  gathered-noded part nodes labels passes joined = record {
+    names = record {
+      labels = λ label has there. subst (λ (xs : List Node). label < length xs) (sym nodes) (label-below label (subst (λ (xs : List ℕ). Contains xs label) labels has) there);
+      passes = subst (λ (xs : List Node). JoinBelow (length xs) part.joins) (sym nodes) joined;
+    };
     passes = subst (λ (xs : List Node). HasPasses m side t tile (map (pass_named xs) part.joins)) (sym nodes) passes;
-    nodes = λ n has. (let i = contains-at ns n (subst (λ (xs : List Node). Contains xs n) nodes has) in node-right i.0 n i.1);
+    nodes = λ n has. (let i = Contains-at ns n (subst (λ (xs : List Node). Contains xs n) nodes has) in node-right i.0 n i.1);
     once = subst (λ (xs : List Node). AllPairs (λ (n u : Node). n.low ≢ u.low) xs) (sym nodes) once;
     sinks = λ s at sink. (let n = sink-noded s at sink in (n.0, subst (λ (xs : List Node). Contains xs n.0) (sym nodes) n.1, n.2));
     labels = λ p inside at.
@@ -144,6 +156,7 @@ noded-kept m n side t tile k part h =
     record {
       nodes = λ x has. (let u = h.nodes x has in (node_kept n m side t tile back x u.1 u.0, u.1));
       once = h.once;
+      names = h.names;
       passes = record {
         inside = λ p has. (
             let u = h.passes.inside p has in (
@@ -152,6 +165,7 @@ noded-kept m n side t tile k part h =
               ap (λ (z : Size). tile_at z t p.b) k.size ∙ u.2,
             ));
         inside_all = λ a b w own other apart mt. h.passes.inside_all a b w (ap (λ (z : Size). tile_at z t a) (sym k.size) ∙ own) (ap (λ (z : Size). tile_at z t b) (sym k.size) ∙ other) apart (meeting_kept m n side t tile tile k k a b w own other mt);
+        once = h.passes.once;
       };
       sinks = λ s at sink. h.sinks s (ap (λ (z : Size). tile_at z t s) (sym k.size) ∙ at) (sink_kept m n side t tile k s at sink);
       labels = λ p inside at.

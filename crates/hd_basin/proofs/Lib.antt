@@ -8,7 +8,6 @@ pub mod Unseen
 pub mod Replacing
 pub mod StaleCount
 pub mod FreshPools
-pub mod NodesOfKeys
 pub mod Frames
 pub mod Edges
 pub mod Lists
@@ -24,6 +23,7 @@ pub mod IsNoded
 pub mod BuiltSeams
 pub mod AreMet
 pub mod FlatLists
+pub mod ListedOnce
 pub mod PoolGraph
 pub mod ExtentSums
 pub mod GatheredExtents

@@ -3,7 +3,6 @@ use Rattle.std.proofs.Common.{◌≡◌, ◌≢◌, ℕ, true, false, List, [], 
 use Rattle.std.specs.Prelude.{◌↔◌, Contains, AllPairs, MatchOption}
 use Rattle.std.specs.List.{flat_map}
 use Rattle.std.specs.Option.{is_none}
-use Rattle.std.proofs.lemmas.Bool.Decides.{nat_tests}
 use Rattle.std.proofs.lemmas.List.Elements.{Contains-append_left, Contains-append_right, Contains-append_cases, All-tail, All-cons, All-nil}
 use Rattle.hd_map.specs.declared.types.Pass.{Pass}
 use Rattle.hd_map.specs.declared.types.Pos.{Pos}
@@ -17,7 +16,7 @@ use Rattle.hd_map.specs.Rank.{rank, IsPoint, Near, below_by}
 use Rattle.hd_map.specs.Region.{IsPit}
 use Rattle.hd_map.specs.SideLaws.{below_by-order}
 use Rattle.hd_map.specs.Walks.{HasPass, AreJoinedWithin}
-use Rattle.hd_map.proofs.Items.{Contains-map, map-Contains, Contains-cases, Contains-none, Contains-head}
+use Rattle.hd_map.proofs.Items.{Contains-map, map-Contains, Contains-head}
 use Rattle.hd_map.proofs.Levels.{path-from_reach, same_or_not}
 use Rattle.hd_map.proofs.Points.{same_index, Near-from}
 use Rattle.hd_map.proofs.Saddles.{near-sym}
@@ -25,16 +24,18 @@ use Rattle.hd_map.proofs.Order.{not_above-refl, below-apart, below-not_above}
 use Rattle.hd_graph.specs.declared.graph.Low.{Low}
 use Rattle.hd_graph.specs.Basins.{AreBasins, AreLowsOf}
 use Rattle.hd_graph.specs.Graph.{IsGraph, Net}
-use Rattle.hd_graph.proofs.Basins.{basins-graph, higher-sym, not_above-below}
+use Rattle.hd_graph.proofs.Basins.{basins-graph}
+use Rattle.hd_map.proofs.Higher.{higher-sym, not_above-below}
 use Rattle.hd_basin.specs.declared.node.Node.{Node}
 use Rattle.hd_basin.specs.declared.part.Part.{Part}
 use Rattle.hd_basin.specs.declared.part.Seam.{Seam}
 use Rattle.hd_basin.specs.Basin.{AreNextsInside, IsSinkOf, IsLabel, FlowsTo, tile_at}
 use Rattle.hd_basin.specs.InStep.{IsPoolOf, HasMap}
 use Rattle.hd_basin.specs.Graph.{as_low, lows_in, in_order, was_seen_with, pass_of, passes_in}
-use Rattle.hd_basin.specs.Parts.{inner_passes, Pool, HasNode, IsLinked, IsBetween, is_seen_with, label_of}
+use Rattle.hd_basin.specs.Parts.{inner_passes, Pool, HasNode, IsLinked, IsBetween, IsSound, label_of}
 use Rattle.hd_basin.specs.Reading.{IsGraphOf}
 use Rattle.hd_basin.proofs.FlatLists.{Contains-flat, flat-Contains, Contains-at, AllPairs-flat, AllPairs-map}
+use Rattle.hd_basin.proofs.ListedOnce.{listed-once, live-part, live-pass}
 use Rattle.hd_basin.proofs.PointRoots.{read-contains}
 use Rattle.hd_basin.proofs.SinkLaws.{sink-unique, sink-own, sink-is_sink, sink-settles}
 use Rattle.hd_basin.proofs.StaleCount.{seen_with}
@@ -65,21 +66,6 @@ order-low side p apart = elim (below_by side p.b p.a) as (λ v. below_by side p.
 order-of : (side : SideName) (p : Pass) (a b w : Rank) → below_by side a b ≡ true → IsBetween p a b w → in_order side p ≡ record { a = a; b = b; at = w }
 order-of side p a b w low (inl e) = ap (in_order side) e ∙ rw (below-not_above (below_by side) (below_by-order side) a b low) refl
 order-of side p a b w low (inr e) = ap (in_order side) e ∙ rw low refl
-
--- a seam is not void where its other tile was seen with its stamp
-live-part : (o : Option Part) (stamp : ℕ) → was_seen_with o stamp ≡ true → (other : Part) × (o ≡ Some other) × (other.seen ≡ Some stamp)
-live-part None stamp e = absurd cc
-live-part (Some other) stamp e = (other, refl, live other.seen e)
-  where
-    live : (o : Option ℕ) → is_seen_with o stamp ≡ true → o ≡ Some stamp
-    live None e = absurd cc
-    live (Some seen) e = (let same : seen ≡ stamp = grind (arith, nat_tests) in ap (λ (k : ℕ). Some k) same)
-
-live-pass : (side : SideName) (parts : List Part) (s : Seam) (p : Pass) → Contains (pass_of side parts s) p → (p ≡ in_order side s.pass) × (was_seen_with (slice_get parts s.with) s.stamp ≡ true)
-live-pass side parts s p = elim (was_seen_with (slice_get parts s.with) s.stamp) as (λ v. was_seen_with (slice_get parts s.with) s.stamp ≡ v → Contains (cond v (in_order side s.pass ∷ []) []) p → (p ≡ in_order side s.pass) × (was_seen_with (slice_get parts s.with) s.stamp ≡ true)) [
-  | true ↦ λ e h. (elim (Contains-cases (in_order side s.pass) p [] h) [ inl same ↦ same | inr none ↦ absurd (Contains-none p none) ], e)
-  | false ↦ λ e h. absurd (Contains-none p h)
-] refl
 
 pass-live : (side : SideName) (parts : List Part) (s : Seam) (other : Part) → slice_get parts s.with ≡ Some other → other.seen ≡ Some s.stamp → Contains (pass_of side parts s) (in_order side s.pass)
 pass-live side parts s other at seen =
@@ -203,14 +189,17 @@ module _ (m : Map) (side : SideName) (pool : Pool) (of : IsPoolOf m side pool) w
         | inr e ↦ apart (ap (λ (z : Pass). z.a) (is) ∙ sym (ap (λ (z : Pass). z.b) e) ∙ sym same ∙ ap (λ (z : Pass). z.a) e ∙ sym (ap (λ (z : Pass). z.b) is))
       ]
 
-  pub pool-graph : IsGraphOf m side pool.side (record { lows = flat_map lows_in pool.parts; passes = flat_map (passes_in side pool.parts) pool.parts })
-  pool-graph = record {
+  pub pool-graph : IsSound pool → IsGraphOf m side pool.side (record { lows = flat_map lows_in pool.parts; passes = flat_map (passes_in side pool.parts) pool.parts })
+  pool-graph sound = record {
     basins = pool-basins;
     lows = pool-lows;
-    each = pool-pass;
-    all = λ a b w low meet.
-        let l = of.has.right.meetings a b w tt tt (below-apart (below_by side) (below_by-order side) a b low) meet in
-        (record { a = a; b = b; at = l.0 }, listed-linked side pool.parts a b l.0 low l.1, refl, refl);
+    passes = record {
+      each = pool-pass;
+      all = λ a b w low meet.
+          let l = of.has.right.meetings a b w tt tt (below-apart (below_by side) (below_by-order side) a b low) meet in
+          (record { a = a; b = b; at = l.0 }, listed-linked side pool.parts a b l.0 low l.1, refl, refl);
+      once = λ i j d less below. (listed-once side pool sound i j d less below).0;
+    };
   }
 
 -- such lows and passes are crossings
@@ -218,9 +207,9 @@ module _ (m : Map) (side : SideName) (t : ℕ) (net : Net) (is : IsGraphOf m sid
   -- where two basins meet, a pass that is not above the meeting joins them
   joined_at : (a b w : Rank) → below_by side a b ≡ true → IsMeeting m side (IsSinkOf m side t) a b w → (u : Rank) × Contains net.passes (record { a = a; b = b; at = u }) × IsNotAbove (below_by side) u w
   joined_at a b w low meet =
-      let p = is.all a b w low meet in
+      let p = is.passes.all a b w low meet in
       let same : p.0 ≡ record { a = a; b = b; at = (p.0).at } = named p.0 p.2 p.3 in
-      ((p.0).at, subst (λ (q : Pass). Contains net.passes q) same p.1, (is.each p.0 p.1).lowest w (subst (λ v. IsMeeting m side (IsSinkOf m side t) v (p.0).b w) (sym p.2) (subst (λ v. IsMeeting m side (IsSinkOf m side t) a v w) (sym p.3) meet)))
+      ((p.0).at, subst (λ (q : Pass). Contains net.passes q) same p.1, (is.passes.each p.0 p.1).lowest w (subst (λ v. IsMeeting m side (IsSinkOf m side t) v (p.0).b w) (sym p.2) (subst (λ v. IsMeeting m side (IsSinkOf m side t) a v w) (sym p.3) meet)))
     where
       named : (q : Pass) → q.a ≡ a → q.b ≡ b → q ≡ record { a = a; b = b; at = q.at }
       named q e f = ap (λ v. record { a = v; b = q.b; at = q.at }) e ∙ ap (λ v. record { a = a; b = v; at = q.at }) f
@@ -230,8 +219,8 @@ module _ (m : Map) (side : SideName) (t : ℕ) (net : Net) (is : IsGraphOf m sid
 
   pub graph-crossings : AreCrossings m side (IsSinkOf m side t) net.passes
   graph-crossings = record {
-    ends = λ p at. (is.each p at).ends;
-    meets = λ p at. (is.each p at).meeting;
+    ends = λ p at. (is.passes.each p at).ends;
+    meets = λ p at. (is.passes.each p at).meeting;
     enough = λ a b w meet. elim (same_or_not (below_by side) (below_by-order side) a b) [
       | inl e ↦ ([], e, All-nil (λ u. IsNotAbove (below_by side) u w))
       | inr apart ↦ elim (below_by side a b) as (λ v. below_by side a b ≡ v → AreJoinedWithin (below_by side) net.passes w a b) [
@@ -245,8 +234,8 @@ module _ (m : Map) (side : SideName) (t : ℕ) (net : Net) (is : IsGraphOf m sid
       one_stride a b w u has low = (record { to = b; at = u } ∷ [], (has, refl), All-cons (λ v. IsNotAbove (below_by side) v w) u [] low (All-nil (λ v. IsNotAbove (below_by side) v w)))
 
 -- the lists of a pool are a graph
-pub pool-is_graph : (side : SideName) (pool : Pool) → HasMap side pool → IsGraph (below_by side) (flat_map lows_in pool.parts) (flat_map (passes_in side pool.parts) pool.parts)
-pool-is_graph side pool has =
+pub pool-is_graph : (side : SideName) (pool : Pool) → IsSound pool → HasMap side pool → IsGraph (below_by side) (flat_map lows_in pool.parts) (flat_map (passes_in side pool.parts) pool.parts)
+pool-is_graph side pool sound has =
     let net : Net = record { lows = flat_map lows_in pool.parts; passes = flat_map (passes_in side pool.parts) pool.parts } in
-    let is = pool-graph has.map side pool has.pool_of in
+    let is = pool-graph has.map side pool has.pool_of sound in
     basins-graph has.map side (IsSinkOf has.map side pool.side) is.basins net.passes (graph-crossings has.map side pool.side net is) has.whole net.lows is.lows (lows-different has.map side pool has.pool_of)

@@ -1,6 +1,7 @@
 -- One tile of a pool is replaced by what was made of it anew.
-use Rattle.std.proofs.Common.{◌≡◌, ◌≢◌, ◌<◌, ℕ, ◌⊎◌, inl, inr, List, length, Option, Some, set, slice_get, refl, sym, ◌∙◌, ap, subst, arith}
+use Rattle.std.proofs.Common.{◌≡◌, ◌≢◌, ◌<◌, ℕ, ◌⊎◌, inl, inr, List, length, Option, Some, None, set, slice_get, refl, sym, ◌∙◌, ap, subst, arith}
 use Rattle.std.specs.Prelude.{Contains, AllPairs}
+use Rattle.std.proofs.Math.ListN.{length-set}
 use Rattle.std.proofs.lemmas.Bool.{cases_eq}
 use Rattle.std.proofs.lemmas.Option.{same_Some}
 use Rattle.hd_map.specs.declared.types.Pass.{Pass}
@@ -8,18 +9,23 @@ use Rattle.hd_map.specs.declared.types.Pos.{Pos}
 use Rattle.hd_map.specs.declared.types.Rank.{Rank}
 use Rattle.hd_map.specs.declared.types.SideName.{SideName}
 use Rattle.hd_map.specs.declared.types.Size.{Size}
-use Rattle.hd_map.specs.Map.{Map}
+use Rattle.hd_map.specs.Map.{Map, Present, position_at}
+use Rattle.hd_map.specs.Rank.{rank}
+use Rattle.hd_map.proofs.Points.{place_inside, rank_position}
 use Rattle.hd_tiles.specs.Tile.{tile_of}
 use Rattle.hd_tiles.proofs.Stamping.{get-set_same, get-set_other}
 use Rattle.hd_basin.specs.declared.node.Node.{Node}
 use Rattle.hd_basin.specs.declared.part.Part.{Part}
 use Rattle.hd_basin.specs.declared.part.Seam.{Seam}
-use Rattle.hd_basin.specs.Basin.{IsBasinPass, IsLabel, tile_at}
+use Rattle.hd_basin.specs.Basin.{IsBasinPass, IsLabel, IsSinkOf, tile_at}
 use Rattle.hd_basin.specs.Built.{IsBuilt, IsRightPass}
 use Rattle.hd_basin.specs.InStep.{IsInStep, KeepsSeen}
-use Rattle.hd_basin.specs.Parts.{inner_passes, Pool, IsBetween, IsLinked, IsFresh, IsSeamOf, AreSound, HasNode, label_of, low_of, node_at, place_in_tile}
+use Rattle.hd_basin.specs.Parts.{inner_passes, Pool, IsBetween, IsLinked, IsFresh, IsSeamOf, IsSound, IsUnderKey, JoinOthers, JoinsNodes, HasNode, NameNodes, label_of, low_of, node_at, place_in_tile}
 use Rattle.hd_basin.specs.Pool.{IsRightOn, IsTileRight}
+use Rattle.hd_basin.proofs.FlatLists.{same-of_distinct}
 use Rattle.hd_basin.proofs.InStep.{right-extended, pass-sym}
+use Rattle.hd_basin.proofs.PointRoots.{read-contains}
+use Rattle.hd_basin.proofs.SinkLaws.{sink-is_sink, sink-own, sink-unique}
 
 -- the pool of a grid of the map's size
 abbrev pub pool_of : Map → ℕ → List Part → Pool
@@ -64,7 +70,7 @@ seam_ends m t tile s a b w (inr e) of = elim of.ends [
 ]
 
 module _ (m : Map) (side : SideName) (t : ℕ) (stamps : List ℕ) (parts : List Part) (tile stamp : ℕ) (part : Part)
-    (step : IsInStep m side stamps (pool_of m t parts)) (built : IsBuilt m side t stamps parts tile part)
+    (sound : IsSound (pool_of m t parts)) (step : IsInStep m side stamps (pool_of m t parts)) (built : IsBuilt m side t stamps parts tile part)
     (now : slice_get stamps tile ≡ Some stamp) (seen : part.seen ≡ Some stamp) (stale : IsFresh stamps parts tile → ⊥) (inside : tile < length parts) where
   abbrev after : List Part
   after = set parts tile part
@@ -108,7 +114,7 @@ module _ (m : Map) (side : SideName) (t : ℕ) (stamps : List ℕ) (parts : List
   -- a seam of another tile to this one is void
   void : (x : ℕ) (p : Part) (s : Seam) → slice_get parts x ≡ Some p → Contains p.seams s → s.with ≡ tile → Some stamp ≡ Some s.stamp → ⊥
   void x p s at has e value =
-      let was = step.sound.since x p s at has in
+      let was = sound.since x p s at has in
       let low = was.4 in
       let high = step.not_ahead tile was.1 stamp was.0 (ap (slice_get parts) (sym e) ∙ was.2) was.3 now in
       let same : stamp ≡ s.stamp = same_Some stamp s.stamp value in
@@ -132,17 +138,17 @@ module _ (m : Map) (side : SideName) (t : ℕ) (stamps : List ℕ) (parts : List
           elim (seam_ends m t tile x.seam a b w x.between r.1) [ inl h ↦ absurd (one h.0) | inr h ↦ absurd (other h.0) ])
       | inr far ↦ (
           let at = sym (away x.tile far) ∙ x.at in
-          let apart : x.seam.with ≢ tile = λ e. elim (seam_ends m t x.tile x.seam a b w x.between (step.sound.across x.tile x.part x.seam at x.has)) [ inl h ↦ other (h.1 ∙ e) | inr h ↦ one (h.1 ∙ e) ] in
+          let apart : x.seam.with ≢ tile = λ e. elim (seam_ends m t x.tile x.seam a b w x.between (sound.across x.tile x.part x.seam at x.has)) [ inl h ↦ other (h.1 ∙ e) | inr h ↦ one (h.1 ∙ e) ] in
           inr (record { tile = x.tile; part = x.part; seam = x.seam; other = x.other; at = at; has = x.has; between = x.between; with_at = sym (away x.seam.with apart) ∙ x.with_at; since = x.since }))
     ]
 
     link-on : IsLinked parts a b w → IsLinked after a b w
     link-on (inl x) =
-        let r = step.sound.inside x.tile x.part x.pass x.at x.has in
+        let r = sound.inside x.tile x.part x.pass x.at x.has in
         let far : x.tile ≢ tile = λ e. one ((both_ends (λ r. tile_at m.size t r ≡ x.tile) x.pass a b w x.between r.0 r.1).0 ∙ e) in
         inl (record { tile = x.tile; part = x.part; pass = x.pass; at = away x.tile far ∙ x.at; has = x.has; between = x.between })
     link-on (inr x) =
-        let ends = seam_ends m t x.tile x.seam a b w x.between (step.sound.across x.tile x.part x.seam x.at x.has) in
+        let ends = seam_ends m t x.tile x.seam a b w x.between (sound.across x.tile x.part x.seam x.at x.has) in
         let far : x.tile ≢ tile = λ e. elim ends [ inl h ↦ one (h.0 ∙ e) | inr h ↦ other (h.0 ∙ e) ] in
         let apart : x.seam.with ≢ tile = λ e. elim ends [ inl h ↦ other (h.1 ∙ e) | inr h ↦ one (h.1 ∙ e) ] in
         inr (record { tile = x.tile; part = x.part; seam = x.seam; other = x.other; at = away x.tile far ∙ x.at; has = x.has; between = x.between; with_at = away x.seam.with apart ∙ x.with_at; since = x.since })
@@ -175,14 +181,14 @@ module _ (m : Map) (side : SideName) (t : ℕ) (stamps : List ℕ) (parts : List
     new_pass (inl x) = elim (cases_eq x.tile tile) [
       | inl e ↦ right-between m side t x.pass a b w x.between (built.inside x.pass (subst (λ (p : Part). Contains (inner_passes p) x.pass) (new_part x.tile x.part e x.at) x.has)).0
       | inr far ↦ (
-          let r = step.sound.inside x.tile x.part x.pass (sym (away x.tile far) ∙ x.at) x.has in
+          let r = sound.inside x.tile x.part x.pass (sym (away x.tile far) ∙ x.at) x.has in
           absurd (far (sym (both_ends (λ r. tile_at m.size t r ≡ x.tile) x.pass a b w x.between r.0 r.1).0 ∙ at_tile)))
     ]
     new_pass (inr x) = elim (cases_eq x.tile tile) [
       | inl e ↦ right-between m side t x.seam.pass a b w x.between (built.across x.seam (subst (λ (p : Part). Contains p.seams x.seam) (new_part x.tile x.part e x.at) x.has)).0
       | inr far ↦ (
           let at = sym (away x.tile far) ∙ x.at in
-          elim (seam_ends m t x.tile x.seam a b w x.between (step.sound.across x.tile x.part x.seam at x.has)) [
+          elim (seam_ends m t x.tile x.seam a b w x.between (sound.across x.tile x.part x.seam at x.has)) [
             | inl h ↦ absurd (far (sym h.0 ∙ at_tile))
             | inr h ↦ (
                 let with_tile : x.seam.with ≡ tile = sym h.1 ∙ at_tile in
@@ -209,15 +215,108 @@ module _ (m : Map) (side : SideName) (t : ℕ) (stamps : List ℕ) (parts : List
     both_ways = linked-sym after;
   }
 
-  sound : AreSound (pool_of m t after)
-  sound = record {
+  -- two nodes of the tile with one sink are one
+  own-node : (n : Node) (point : Present m (position_at m.size n.low.index)) (o : Option Node) → Contains part.nodes n → IsSinkOf m side t (rank m (position_at m.size n.low.index)) n.low
+      → node_at (Some part) (place_in_tile m.size t (position_at m.size n.low.index)) ≡ o → IsLabel m side t (position_at m.size n.low.index) (low_of o) → o ≡ Some n
+  own-node n point None has of e label = absurd (label point)
+  own-node n point (Some u) has of e label =
+      let low : u.low ≡ n.low = sink-unique m side t (rank m (position_at m.size n.low.index)) u.low n.low label.1 of in
+      ap (λ (x : Node). Some x) (same-of_distinct (λ (x : Node). x.low) part.nodes u n built.once (read-contains part.nodes _ u e) has low)
+
+  -- each of its nodes stands under its key
+  new_keyed : (n : Node) → Contains part.nodes n → IsUnderKey (pool_of m t after) tile n
+  new_keyed n has =
+      let node = built.nodes n has in
+      let point = node.0.sink.point in
+      let below = place_inside m.size point.at point.present.in_grid in
+      let index : n.low.index ≡ (rank m point.at).index = ap (λ (r : Rank). r.index) point.rank_is in
+      let there : point.at ≡ position_at m.size n.low.index = sym (rank_position m n.low point.at point.present point.rank_is) in
+      let present : Present m (position_at m.size n.low.index) = subst (Present m) there point.present in
+      let at : tile_at m.size t n.low ≡ tile = sym node.0.tile ∙ node.1 in
+      let low : n.low ≡ rank m (position_at m.size n.low.index) = point.rank_is ∙ ap (rank m) there in
+      let own : IsSinkOf m side t (rank m (position_at m.size n.low.index)) n.low = subst (λ (r : Rank). IsSinkOf m side t r n.low) low (sink-own m side t n.low node.0.sink) in
+      let place : ℕ = place_in_tile m.size t (position_at m.size n.low.index) in
+      record {
+        tile_is = node.1;
+        in_tile = at;
+        in_grid = omega (arith, below, index);
+        named = ap (λ (o : Option Part). node_at o place) (ap (slice_get after) at ∙ here)
+            ∙ own-node n present (node_at (Some part) place) has own refl (built.labels (position_at m.size n.low.index) present.in_grid at);
+      }
+
+  -- and those of the other tiles stand as they stood
+  old_keyed : (j : ℕ) (n : Node) → j ≢ tile → IsUnderKey (pool_of m t parts) j n → IsUnderKey (pool_of m t after) j n
+  old_keyed j n far was = record {
+    tile_is = was.tile_is;
+    in_tile = was.in_tile;
+    in_grid = was.in_grid;
+    named = ap (λ (o : Option Part). node_at o (place_in_tile m.size t (position_at m.size n.low.index))) (away (tile_at m.size t n.low) (λ e. far (sym was.in_tile ∙ e))) ∙ was.named;
+  }
+
+  -- a seam of the tile is between one of its nodes and one of a fresh tile
+  new_joined : (s : Seam) → Contains part.seams s → JoinsNodes after tile s
+  new_joined s has =
+      let r = built.across s has in
+      let mt = r.0.meeting in
+      let a = sink-is_sink m side t mt.from s.pass.a mt.from_in in
+      let b = sink-is_sink m side t mt.to s.pass.b mt.to_in in
+      elim r.1.ends [
+        | inl h ↦ (
+            let own = built.sinks s.pass.a h.0 a in
+            let other = step.has.right.sinks s.pass.b (subst (IsFresh stamps parts) (sym h.1) r.2) b in
+            record {
+              own = own.0;
+              other = other.node;
+              own_has = record { part = part; at = here; has = own.1 };
+              other_has = node-on s.with other.node (fresh-other s.with r.2) (subst (λ (k : ℕ). HasNode parts k other.node) h.1 other.has);
+              between = inl (sym (ends_are (own.0).low other.node.low own.2 other.low));
+            })
+        | inr h ↦ (
+            let own = built.sinks s.pass.b h.0 b in
+            let other = step.has.right.sinks s.pass.a (subst (IsFresh stamps parts) (sym h.1) r.2) a in
+            record {
+              own = own.0;
+              other = other.node;
+              own_has = record { part = part; at = here; has = own.1 };
+              other_has = node-on s.with other.node (fresh-other s.with r.2) (subst (λ (k : ℕ). HasNode parts k other.node) h.1 other.has);
+              between = inr (sym (ends_are other.node.low (own.0).low other.low own.2));
+            })
+      ]
+    where
+      ends_are : (a b : Rank) → a ≡ s.pass.a → b ≡ s.pass.b → ◌≡◌ {A = Pass} (record { a = a; b = b; at = s.pass.at }) (record { a = s.pass.a; b = s.pass.b; at = s.pass.at })
+      ends_are a b e f = cc
+
+  -- and a seam of another tile that is not void is between the nodes that it was between
+  old_joined : (j : ℕ) (p other : Part) (s : Seam) → j ≢ tile → slice_get parts j ≡ Some p → Contains p.seams s → slice_get after s.with ≡ Some other → other.seen ≡ Some s.stamp → JoinsNodes after j s
+  old_joined j p other s far at has there known = elim (cases_eq s.with tile) [
+    | inl e ↦ absurd (void j p s at has e (sym seen ∙ ap (λ (x : Part). x.seen) (sym (new_part s.with other e there)) ∙ known))
+    | inr apart ↦ (
+        let was = sound.joined j p other s at has (sym (away s.with apart) ∙ there) known in
+        record { own = was.own; other = was.other; own_has = node-on j was.own far was.own_has; other_has = node-on s.with was.other apart was.other_has; between = was.between })
+  ]
+
+  pub replaced-sound : IsSound (pool_of m t after)
+  replaced-sound = record {
+    whole = length-set parts tile part ∙ sound.whole;
+    names = λ j p at. elim (cases_eq j tile) [
+      | inl e ↦ subst NameNodes (sym (new_part j p e at)) built.names
+      | inr far ↦ sound.names j p (sym (away j far) ∙ at)
+    ];
+    keyed = λ j n has. elim (cases_eq j tile) [
+      | inl e ↦ subst (λ (k : ℕ). IsUnderKey (pool_of m t after) k n) (sym e) (new_keyed n (subst (λ (x : Part). Contains x.nodes n) (new_part j has.part e has.at) has.has))
+      | inr far ↦ old_keyed j n far (sound.keyed j n (node-back j n far has))
+    ];
+    joined = λ j p other s at has there known. elim (cases_eq j tile) [
+      | inl e ↦ subst (λ (k : ℕ). JoinsNodes after k s) (sym e) (new_joined s (subst (λ (x : Part). Contains x.seams s) (new_part j p e at) has))
+      | inr far ↦ old_joined j p other s far (sym (away j far) ∙ at) has there known
+    ];
     inside = λ j p pass at has. elim (cases_eq j tile) [
       | inl e ↦ (let r = built.inside pass (subst (λ (x : Part). Contains (inner_passes x) pass) (new_part j p e at) has) in (r.1 ∙ sym e, r.2 ∙ sym e))
-      | inr far ↦ step.sound.inside j p pass (sym (away j far) ∙ at) has
+      | inr far ↦ sound.inside j p pass (sym (away j far) ∙ at) has
     ];
     across = λ j p s at has. elim (cases_eq j tile) [
       | inl e ↦ subst (λ (k : ℕ). IsSeamOf m.size t k s) (sym e) (built.across s (subst (λ (x : Part). Contains x.seams s) (new_part j p e at) has)).1
-      | inr far ↦ step.sound.across j p s (sym (away j far) ∙ at) has
+      | inr far ↦ sound.across j p s (sym (away j far) ∙ at) has
     ];
     since = λ j p s at has. elim (cases_eq j tile) [
       | inl e ↦ (
@@ -226,7 +325,7 @@ module _ (m : Map) (side : SideName) (t : ℕ) (stamps : List ℕ) (parts : List
           let value : f.stamp ≡ s.stamp = same_Some f.stamp s.stamp (sym f.now ∙ r.3) in
           (f.part, f.stamp, away s.with (fresh-other s.with f) ∙ f.at, f.seen, omega (arith, value)))
       | inr far ↦ (
-          let was = step.sound.since j p s (sym (away j far) ∙ at) has in
+          let was = sound.since j p s (sym (away j far) ∙ at) has in
           elim (cases_eq s.with tile) [
             | inl e ↦ (
                 let low = was.4 in
@@ -235,12 +334,31 @@ module _ (m : Map) (side : SideName) (t : ℕ) (stamps : List ℕ) (parts : List
             | inr apart ↦ (was.0, was.1, away s.with apart ∙ was.2, was.3, was.4)
           ])
     ];
+    once = record {
+      inside = λ j p at. elim (cases_eq j tile) [
+        | inl e ↦ subst (λ (x : Part). AllPairs (λ p q. JoinOthers p q) (inner_passes x)) (sym (new_part j p e at)) built.inside_once
+        | inr far ↦ sound.once.inside j p (sym (away j far) ∙ at)
+      ];
+      across = λ j p at. elim (cases_eq j tile) [
+        | inl e ↦ subst (λ (x : Part). AllPairs (λ (s u : Seam). JoinOthers s.pass u.pass) x.seams) (sym (new_part j p e at)) built.across_once
+        | inr far ↦ sound.once.across j p (sym (away j far) ∙ at)
+      ];
+      one_way = λ i j p q s u at there has other to back since known. elim (cases_eq i tile) [
+        | inl e ↦ elim (cases_eq j tile) [
+          | inl f ↦ (built.across s (subst (λ (x : Part). Contains x.seams s) (new_part i p e at) has)).1.apart (to ∙ f)
+          | inr far ↦ void j q u (sym (away j far) ∙ there) other (back ∙ e) (sym seen ∙ ap (λ (x : Part). x.seen) (sym (new_part i p e at)) ∙ known)
+        ]
+        | inr far ↦ elim (cases_eq j tile) [
+          | inl f ↦ void i p s (sym (away i far) ∙ at) has (to ∙ f) (sym seen ∙ ap (λ (x : Part). x.seen) (sym (new_part j q f there)) ∙ since)
+          | inr apart ↦ sound.once.one_way i j p q s u (sym (away i far) ∙ at) (sym (away j apart) ∙ there) has other to back since known
+        ]
+      ];
+    };
   }
 
   pub replaced-in_step : IsInStep m side stamps (pool_of m t after)
   replaced-in_step = record {
     size = refl;
-    sound = sound;
     not_ahead = λ j s k p at is there. elim (cases_eq j tile) [
       | inl e ↦ (
           let value : s ≡ stamp = same_Some s stamp (sym is ∙ ap (λ (x : Part). x.seen) (new_part j p e at) ∙ seen) in

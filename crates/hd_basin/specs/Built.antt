@@ -16,37 +16,43 @@ use Rattle.hd_basin.specs.declared.ends.End.{End}
 use Rattle.hd_basin.specs.declared.frame.Frame.{Frame}
 use Rattle.hd_basin.specs.Seams.{IsCandidate}
 use Rattle.hd_basin.specs.Sinks.{at_place}
-use Rattle.hd_basin.specs.Parts.{inner_passes, IsBetween, IsFresh, IsSeamOf, label_of, low_of, node_at, place_in_tile}
+use Rattle.hd_basin.specs.Parts.{inner_passes, IsBetween, IsFresh, IsSeamOf, JoinOthers, NameNodes, label_of, low_of, node_at, place_in_tile}
 
 -- a pass is that between the basins of its two ends
 abbrev pub IsRightPass : Map → SideName → ℕ → Pass → Type 0
 IsRightPass m side t p = IsBasinPass m side t p.a p.b p.at
 
--- its nodes, its labels and its passes are those of the map, and its seams those to the fresh tiles
+-- its nodes, its labels and its passes are those of the map, and its seams those to the fresh tiles; no two basins are
+-- joined twice
 pub record IsBuilt (m : Map) (side : SideName) (t : ℕ) (stamps : List ℕ) (parts : List Part) (tile : ℕ) (part : Part) : Type 0 where
   pub nodes : (n : Node) → Contains part.nodes n → IsNode m side t n × (n.tile ≡ tile)
   pub once : AllPairs (λ (n u : Node). n.low ≢ u.low) part.nodes
   pub sinks : (s : Rank) → tile_at m.size t s ≡ tile → IsSink m side t s → (n : Node) × Contains part.nodes n × (n.low ≡ s)
+  pub names : NameNodes part
   pub labels : (p : Pos) → InGrid m.size p → tile_of m.size t p ≡ tile → IsLabel m side t p (low_of (node_at (Some part) (place_in_tile m.size t p)))
   pub inside : (p : Pass) → Contains (inner_passes part) p → IsRightPass m side t p × (tile_at m.size t p.a ≡ tile) × (tile_at m.size t p.b ≡ tile)
   pub inside_all : (a b u : Rank) → tile_at m.size t a ≡ tile → tile_at m.size t b ≡ tile → a ≢ b → IsBasinMeeting m side t a b u
       → (p : Pass) × Contains (inner_passes part) p × (w : Rank) × IsBetween p a b w
+  pub inside_once : AllPairs (λ p q. JoinOthers p q) (inner_passes part)
   pub across : (s : Seam) → Contains part.seams s → IsRightPass m side t s.pass × IsSeamOf m.size t tile s
       × IsFresh stamps parts s.with × (slice_get stamps s.with ≡ Some s.stamp)
   pub across_all : (a b u : Rank) → tile_at m.size t a ≡ tile → IsFresh stamps parts (tile_at m.size t b) → a ≢ b → IsBasinMeeting m side t a b u
       → (s : Seam) × Contains part.seams s × (w : Rank) × IsBetween s.pass a b w
+  pub across_once : AllPairs (λ (s u : Seam). JoinOthers s.pass u.pass) part.seams
 
--- the passes are those between two basins of the tile
+-- the passes are those between two basins of the tile, one for each two
 pub record HasPasses (m : Map) (side : SideName) (t tile : ℕ) (passes : List Pass) : Type 0 where
   pub inside : (p : Pass) → Contains passes p → IsRightPass m side t p × (tile_at m.size t p.a ≡ tile) × (tile_at m.size t p.b ≡ tile)
   pub inside_all : (a b u : Rank) → tile_at m.size t a ≡ tile → tile_at m.size t b ≡ tile → a ≢ b → IsBasinMeeting m side t a b u
       → (p : Pass) × Contains passes p × (w : Rank) × IsBetween p a b w
+  pub once : AllPairs (λ p q. JoinOthers p q) passes
 
 -- its nodes, its labels and the passes between its basins are those of the map
 pub record IsNoded (m : Map) (side : SideName) (t tile : ℕ) (part : Part) : Type 0 where
   pub nodes : (n : Node) → Contains part.nodes n → IsNode m side t n × (n.tile ≡ tile)
   pub once : AllPairs (λ (n u : Node). n.low ≢ u.low) part.nodes
   pub sinks : (s : Rank) → tile_at m.size t s ≡ tile → IsSink m side t s → (n : Node) × Contains part.nodes n × (n.low ≡ s)
+  pub names : NameNodes part
   pub labels : (p : Pos) → InGrid m.size p → tile_of m.size t p ≡ tile → IsLabel m side t p (low_of (node_at (Some part) (place_in_tile m.size t p)))
   pub passes : HasPasses m side t tile (inner_passes part)
 

@@ -6,7 +6,7 @@ use Rattle.hd_map.specs.Map.{Map, IsMap, InGrid}
 use Rattle.hd_tiles.specs.Tile.{IsRound}
 use Rattle.hd_basin.specs.declared.node.Node.{Node}
 use Rattle.hd_basin.specs.declared.part.Part.{Part}
-use Rattle.hd_basin.specs.Parts.{Pool, HasNode, IsLinked, IsFresh, AreSound, label_of}
+use Rattle.hd_basin.specs.Parts.{Pool, HasNode, IsLinked, IsFresh, JoinOnce, label_of}
 use Rattle.hd_basin.specs.Pool.{IsRightOn}
 
 -- of some tiles all that the pool has is that of the map, each node once
@@ -19,14 +19,14 @@ pub record HasRight (m : Map) (side : SideName) (Seen : ℕ → Type 0) (pool : 
 -- was seen, and of the passes between two of them, what the pool has is that of the map
 pub record IsInStep (m : Map) (side : SideName) (stamps : List ℕ) (pool : Pool) : Type 0 where
   pub size : pool.size ≡ m.size
-  pub sound : AreSound pool
   pub not_ahead : (tile seen now : ℕ) (part : Part) → slice_get pool.parts tile ≡ Some part → part.seen ≡ Some seen
       → slice_get stamps tile ≡ Some now → seen ≤ now
   pub has : HasRight m side (IsFresh stamps pool.parts) pool
 
--- the pool is that of the whole map
+-- the pool is that of the whole map, and no two basins have two passes
 pub record IsPoolOf (m : Map) (side : SideName) (pool : Pool) : Type 0 where
   pub size : pool.size ≡ m.size
+  pub once : JoinOnce pool.parts
   pub has : HasRight m side (λ tile. Unit {0}) pool
 
 -- there is a map that it is the pool of

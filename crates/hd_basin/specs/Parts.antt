@@ -1,16 +1,18 @@
 -- What a pool keeps, tile by tile.
-use Rattle.std.specs.Prelude.{◌≡◌, ◌≢◌, ◌≤◌, ◌⊎◌, ◌+◌, ◌-◌, ◌*◌, ◌/◌, ◌%◌, ℕ, Bool, false, List, [], ◌∷◌, length, map, min, nat_eq, Option, Some, None, Contains, slice_get, slice_index_or, if◌then◌else◌}
+use Rattle.std.specs.Prelude.{◌≡◌, ◌≢◌, ◌<◌, ◌≤◌, ◌⊎◌, ◌+◌, ◌-◌, ◌*◌, ◌/◌, ◌%◌, ℕ, Bool, false, List, [], ◌∷◌, length, map, min, nat_eq, Option, Some, None, AllPairs, Contains, slice_get, slice_index_or, if◌then◌else◌}
 use Rattle.hd_map.specs.declared.types.Pos.{Pos}
 use Rattle.hd_map.specs.declared.types.Rank.{Rank}
 use Rattle.hd_map.specs.declared.types.Size.{Size}
 use Rattle.hd_map.specs.declared.types.Pass.{Pass}
 use Rattle.hd_basin.specs.declared.part.Seam.{Seam}
+use Rattle.hd_map.specs.Map.{cell_count, position_at}
 use Rattle.hd_steep.specs.Rows.{past_end}
-use Rattle.hd_tiles.specs.Tile.{tile_of}
+use Rattle.hd_tiles.specs.Tile.{tile_of, tile_count}
 use Rattle.hd_basin.specs.Basin.{tile_at}
 use Rattle.hd_basin.specs.declared.node.Node.{Node}
 use Rattle.hd_basin.specs.declared.part.Join.{Join}
 use Rattle.hd_basin.specs.declared.part.Part.{Part}
+use Rattle.hd_basin.specs.Sinks.{no_node}
 
 -- the pool of a grid of this size in tiles of this side
 pub record Pool : Type 0 where
@@ -111,18 +113,61 @@ abbrev pub is_seen_with : Option ℕ → ℕ → Bool
 is_seen_with None stamp = false
 is_seen_with (Some seen) stamp = nat_eq seen stamp
 
+-- two passes do not join the same two basins, whichever of them each names first
+abbrev pub JoinOthers : Pass → Pass → Type 0
+JoinOthers p q = (p.a ≡ q.a → p.b ≡ q.b → ⊥) × (p.a ≡ q.b → p.b ≡ q.a → ⊥)
+
+-- each two basins are joined once at most: by one pass of a tile, or by one seam that is not void
+pub record JoinOnce (parts : List Part) : Type 0 where
+  pub inside : (tile : ℕ) (part : Part) → slice_get parts tile ≡ Some part → AllPairs (λ p q. JoinOthers p q) (inner_passes part)
+  pub across : (tile : ℕ) (part : Part) → slice_get parts tile ≡ Some part → AllPairs (λ (s u : Seam). JoinOthers s.pass u.pass) part.seams
+  pub one_way : (i j : ℕ) (p q : Part) (s u : Seam) → slice_get parts i ≡ Some p → slice_get parts j ≡ Some q → Contains p.seams s → Contains q.seams u
+      → s.with ≡ j → u.with ≡ i → q.seen ≡ Some s.stamp → p.seen ≡ Some u.stamp → ⊥
+
 -- how many tiles have another stamp than the one that they were seen with
 abbrev pub stale_count : List ℕ → List Part → ℕ
 stale_count [] parts = 0
 stale_count (stamp ∷ stamps) [] = 0
 stale_count (stamp ∷ stamps) (part ∷ parts) = (if is_seen_with part.seen stamp then 0 else 1) + stale_count stamps parts
 
--- the passes of each tile join two of its basins, and its seams one of them and one of another tile, whose seen
--- stamp has not fallen since
-pub record AreSound (pool : Pool) : Type 0 where
+-- the numbers of both nodes of each pass are below a count
+abbrev pub JoinBelow : ℕ → List Join → Type 0
+JoinBelow count joins = (j : Join) → Contains joins j → (j.a < count) × (j.b < count)
+
+-- each label of a tile names one of its nodes, or none, and each pass inside it names two of them
+pub record NameNodes (part : Part) : Type 0 where
+  pub labels : (label : ℕ) → Contains part.labels.items label → label ≢ no_node → label < length part.nodes
+  pub passes : JoinBelow (length part.nodes) part.joins
+
+-- the node stands under its key, which is the index of its sink: the tile that lists it has the sink, and names the
+-- node there
+pub record IsUnderKey (pool : Pool) (tile : ℕ) (n : Node) : Type 0 where
+  pub tile_is : n.tile ≡ tile
+  pub in_tile : tile_at pool.size pool.side n.low ≡ tile
+  pub in_grid : n.low.index < cell_count pool.size
+  pub named : node_of pool.size pool.side pool.parts (position_at pool.size n.low.index) ≡ Some n
+
+-- the seam is between a node of the tile and one of the other tile
+pub record JoinsNodes (parts : List Part) (tile : ℕ) (seam : Seam) : Type 0 where
+  pub own : Node
+  pub other : Node
+  pub own_has : HasNode parts tile own
+  pub other_has : HasNode parts seam.with other
+  pub between : IsBetween seam.pass own.low other.low seam.pass.at
+
+-- what a pool is, of whatever maps its tiles were seen: each node stands under a key that its tile lists, each label
+-- names a node of its own tile, and each pass and each seam that is not void names two nodes, which are joined by no
+-- other one; the seen stamp of a seam's other tile has not fallen since
+pub record IsSound (pool : Pool) : Type 0 where
+  pub whole : length pool.parts ≡ tile_count pool.size pool.side
+  pub names : (tile : ℕ) (part : Part) → slice_get pool.parts tile ≡ Some part → NameNodes part
+  pub keyed : (tile : ℕ) (n : Node) → HasNode pool.parts tile n → IsUnderKey pool tile n
   pub inside : (tile : ℕ) (part : Part) (pass : Pass) → slice_get pool.parts tile ≡ Some part → Contains (inner_passes part) pass
       → (tile_at pool.size pool.side pass.a ≡ tile) × (tile_at pool.size pool.side pass.b ≡ tile)
   pub across : (tile : ℕ) (part : Part) (seam : Seam) → slice_get pool.parts tile ≡ Some part → Contains part.seams seam
       → IsSeamOf pool.size pool.side tile seam
+  pub joined : (tile : ℕ) (part other : Part) (seam : Seam) → slice_get pool.parts tile ≡ Some part → Contains part.seams seam
+      → slice_get pool.parts seam.with ≡ Some other → other.seen ≡ Some seam.stamp → JoinsNodes pool.parts tile seam
   pub since : (tile : ℕ) (part : Part) (seam : Seam) → slice_get pool.parts tile ≡ Some part → Contains part.seams seam
       → (other : Part) × (seen : ℕ) × (slice_get pool.parts seam.with ≡ Some other) × (other.seen ≡ Some seen) × (seam.stamp ≤ seen)
+  pub once : JoinOnce pool.parts

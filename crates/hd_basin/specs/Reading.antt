@@ -1,12 +1,11 @@
 -- What is read off the pool of a whole map.
-use Rattle.std.specs.Prelude.{◌≡◌, ◌≢◌, ◌<◌, ℕ, List, MatchOption, Option, Contains, AllPairs, true}
+use Rattle.std.specs.Prelude.{◌≡◌, ◌≢◌, ◌<◌, ℕ, List, MatchOption, Option, Contains, AllPairs}
 use Rattle.hd_map.specs.declared.types.Pos.{Pos}
 use Rattle.hd_map.specs.declared.types.Rank.{Rank}
-use Rattle.hd_map.specs.declared.types.Pass.{Pass}
 use Rattle.hd_map.specs.declared.types.SideName.{SideName}
 use Rattle.hd_map.specs.Map.{Map, Present}
-use Rattle.hd_map.specs.Passes.{IsPass, IsMeeting}
-use Rattle.hd_map.specs.Rank.{rank, below_by}
+use Rattle.hd_map.specs.Passes.{ArePasses}
+use Rattle.hd_map.specs.Rank.{rank}
 use Rattle.hd_map.specs.Region.{IsPit, IsRoot}
 use Rattle.hd_graph.specs.Basins.{AreBasins, AreLowsOf}
 use Rattle.hd_graph.specs.Graph.{Net}
@@ -25,13 +24,12 @@ RootIs m side p result = MatchOption result (Present m p → ⊥) (λ q. Present
 abbrev pub NodeIs : Pool → ℕ → Option Node → Type 0
 NodeIs pool key result = MatchOption result ((tile : ℕ) (n : Node) → HasNode pool.parts tile n → n.low.index ≢ key) (λ n. (n.low.index ≡ key) × ((tile : ℕ) × HasNode pool.parts tile n))
 
--- the graph of the local basins: they are basins, the lows are their sinks, and the passes are those between them
+-- the graph of the local basins: they are basins, the lows are their sinks, and the passes are those between them, one
+-- for each two that meet
 pub record IsGraphOf (m : Map) (side : SideName) (t : ℕ) (net : Net) : Type 0 where
   pub basins : AreBasins m side (IsSinkOf m side t)
   pub lows : AreLowsOf m side (IsSinkOf m side t) net.lows
-  pub each : (p : Pass) → Contains net.passes p → IsPass m side (IsSinkOf m side t) p
-  pub all : (a b w : Rank) → below_by side a b ≡ true → IsMeeting m side (IsSinkOf m side t) a b w
-      → (p : Pass) × Contains net.passes p × (p.a ≡ a) × (p.b ≡ b)
+  pub passes : ArePasses m side (IsSinkOf m side t) net.passes
 
 -- the region of a pit, by what its points sum up to
 pub record IsExtent (m : Map) (side : SideName) (e : Extent) : Type 0 where

@@ -1,5 +1,5 @@
 -- The places where a basin of a tile meets another: each pair of neighbours with a point in the tile.
-use Rattle.std.specs.Prelude.{◌≡◌, ◌≢◌, ℕ, List, Some, Contains, slice_get, if◌then◌else◌}
+use Rattle.std.specs.Prelude.{◌≡◌, ◌≢◌, ℕ, List, Some, AllPairs, Contains, slice_get, if◌then◌else◌}
 use Rattle.hd_map.specs.declared.types.Pass.{Pass}
 use Rattle.hd_map.specs.declared.types.Pos.{Pos}
 use Rattle.hd_map.specs.declared.types.Rank.{Rank}
@@ -40,8 +40,9 @@ pub record AreCandidates (m : Map) (side : SideName) (t tile : ℕ) (stamps : Li
 abbrev pub HaveSameEnds : Seam → Seam → Type 0
 HaveSameEnds s u = (s.pass.a.index ≡ u.pass.a.index) × (s.pass.b.index ≡ u.pass.b.index)
 
--- of the seams with the same ends one of the lowest is kept
+-- of the seams with the same ends one of the lowest is kept, and no other
 pub record KeepLowest (side : SideName) (all kept : List Seam) : Type 0 where
   pub some : (s : Seam) → Contains kept s → Contains all s
   pub lowest : (s u : Seam) → Contains kept s → Contains all u → HaveSameEnds s u → IsNotAbove (below_by side) s.pass.at u.pass.at
   pub each : (u : Seam) → Contains all u → (s : Seam) × Contains kept s × HaveSameEnds s u
+  pub once : AllPairs (λ (s u : Seam). HaveSameEnds s u → ⊥) kept

@@ -1,12 +1,14 @@
 // The pool of the local basins of a map.
-ghost use Rattle.std.specs.Prelude.{◌≡◌, ◌≢◌, ◌<◌, ◌≤◌, ◌+◌, ◌*◌, ◌^◌, ◌-◌, ℕ, List, IfOk, OnOk, OnErr, Some, true, Contains, slice_get, slice_index, length};
+ghost use Rattle.std.specs.Prelude.{◌≡◌, ◌≢◌, ◌<◌, ◌≤◌, ◌+◌, ◌*◌, ◌^◌, ◌-◌, ℕ, List, IfOk, OnOk, OnErr, Some, None, true, Contains, slice_get, slice_index, length};
 ghost use Rattle.std.specs.List.{flat_map};
 ghost use Rattle.hd_map.specs.declared.types.Pos.{Pos};
 ghost use Rattle.hd_map.specs.Map.{Map, IsMap, IsSize, InGrid, cell_count, place_of};
 ghost use Rattle.hd_map.specs.Region.{IsRoot};
 ghost use Rattle.hd_tiles.specs.Tile.{IsTileSide, IsRound, tile_count};
 ghost use Rattle.hd_basin.specs.InStep.{IsInStep, IsPoolOf, HasMap, HasSeenAll, KeepsSeen, IsBesideStale};
-ghost use Rattle.hd_basin.specs.Parts.{HasNode, IsFresh, node_of, stale_count};
+ghost use Rattle.hd_basin.specs.declared.node.Node.{Node};
+ghost use Rattle.hd_basin.specs.declared.part.Part.{Part};
+ghost use Rattle.hd_basin.specs.Parts.{HasNode, IsFresh, IsSound, node_of, stale_count};
 ghost use Rattle.hd_basin.specs.Built.{IsBuilt};
 ghost use Rattle.hd_basin.specs.Extents.{AreGathered, HavePits, nodes_in};
 ghost use Rattle.hd_basin.specs.Reading.{RootIs, NodeIs, IsGraphOf, AreExtents};
@@ -29,8 +31,9 @@ use std::alloc::Global;
 use std::marker::{Model, PhantomData};
 use std::sync::ledger::Ledger;
 
-/// A pool of the local basins of a map in tiles, with the passes between them. Contracts see it as the
-/// size, the side of the tiles and what is kept of each tile.
+/// A pool of the local basins of a map in tiles, with the passes between them. Each node stands under a key
+/// that its tile lists, each label names a node of its own tile, and each pass that is not void names two
+/// nodes. Contracts see it as the size, the side of the tiles and what is kept of each tile.
 #[derive(Drop)]
 pub struct Basins<S: Side> {
     alloc: Global,
@@ -40,26 +43,28 @@ pub struct Basins<S: Side> {
 }
 
 impl<S: Side> Model for Basins<S> {
-    ghost use Rattle.std.specs.Prelude.{◌≡◌, length};
     ghost use Rattle.hd_map.specs.Map.{IsSize};
-    ghost use Rattle.hd_tiles.specs.Tile.{IsTileSide, IsRound, tile_count};
-    ghost use Rattle.hd_basin.specs.Parts.{Pool};
+    ghost use Rattle.hd_tiles.specs.Tile.{IsTileSide};
+    ghost use Rattle.hd_basin.specs.Parts.{IsSound, Pool};
 
     ghost Value = { Pool };
 
     ghost view = { λ b. record { size = b.tiling.size; side = b.tiling.side; parts = b.parts.items } };
 
-    ghost invariant = { λ b. length b.parts.items ≡ tile_count b.tiling.size b.tiling.side };
+    ghost invariant = { λ b. IsSound (record { size = b.tiling.size; side = b.tiling.side; parts = b.parts.items }) };
 }
 
 impl<S: Side> Basins<S> {
-    /// A pool of a grid of this size in tiles of this side, from 8 to 256 points, that has seen no tile.
+    /// A pool of a grid of this size in tiles of this side, from 8 to 256 points, that holds no node and has
+    /// seen no tile.
     /// `Memory` comes where it is refused its memory.
     pub fn new(alloc: Global, size: Size, side: u32) -> Result<Basins<S>, Memory>
         requires limits { IsSize size }
         requires side { IsTileSide side }
         ensures size { IfOk result (λ pool. pool.size ≡ size) }
         ensures side { IfOk result (λ pool. pool.side ≡ side) }
+        ensures empty { IfOk result (λ pool. (tile : ℕ) (n : Node) → HasNode pool.parts tile n → ⊥) }
+        ensures unseen { IfOk result (λ pool. (tile : ℕ) (part : Part) → slice_get pool.parts tile ≡ Some part → part.seen ≡ None) }
         ensures in_step { IfOk result (λ pool. (m : Map) (stamps : List ℕ) → m.size ≡ size → IsInStep m S.NAME stamps pool) }
     {
         let tiling = Tiling::new(size, side);
@@ -113,6 +118,7 @@ impl<S: Side> Basins<S> {
         requires tile { tile < length self.old.parts }
         requires leave { (p : Pos) → IsBesideStale (T.map tiles.now) (T.stamps tiles.now) self.old p → slice_get (T.leave tiles.now) (place_of (T.map tiles.now).size p) ≡ Some true }
         ensures fresh { OnOk result (IsFresh (T.stamps tiles.now) self.new.parts tile) }
+        ensures sound { IsSound self.new }
         ensures in_step { IsInStep (T.map tiles.now) S.NAME (T.stamps tiles.now) self.new }
         ensures kept { KeepsSeen (T.stamps tiles.now) self.old self.new }
         ensures side { self.new.side ≡ self.old.side }
@@ -159,9 +165,8 @@ impl<S: Side> Basins<S> {
         )
     }
 
-    /// The node of a key, and none where no node has it. The pool is that of a whole map.
+    /// The node of a key, and none where no node has it.
     pub fn node(&self, key: NodeKey) -> Option<Node>
-        requires { HasMap S.NAME self.now }
         ensures { NodeIs self.now key.key result }
     {
         let size = self.tiling.size();

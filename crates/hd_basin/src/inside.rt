@@ -5,7 +5,7 @@ ghost use Rattle.hd_map.specs.declared.types.Rank.{Rank};
 ghost use Rattle.hd_basin.specs.Built.{HasPasses};
 ghost use Rattle.hd_basin.specs.Frames.{InFrame};
 ghost use Rattle.hd_basin.specs.Inside.{AreMet, AreNamed, IsPairAt, IsStep, join_of, label_at, place_of_frame, step_down, step_right};
-ghost use Rattle.hd_basin.specs.Parts.{pass_named};
+ghost use Rattle.hd_basin.specs.Parts.{JoinBelow, pass_named};
 ghost use Rattle.hd_basin.specs.Round.{AreRanks};
 ghost use Rattle.hd_basin.specs.Sinks.{IsArea};
 
@@ -33,7 +33,8 @@ pub fn passes_inside<S: Side, G: Heights>(
     requires area { IsArea (G.map grid.now).size _tiling.side _tile area }
     requires ranks { AreRanks (G.map grid.now) S.NAME area ((area.rows + 2) * (area.columns + 2)) ranks.now }
     requires named { AreNamed (G.map grid.now) S.NAME _tiling.side area nodes.now labels.now }
-    ensures { IfOk result (λ joins. HasPasses (G.map grid.now) S.NAME _tiling.side _tile (map (pass_named nodes.now) joins)) }
+    ensures passes { IfOk result (λ joins. HasPasses (G.map grid.now) S.NAME _tiling.side _tile (map (pass_named nodes.now) joins)) }
+    ensures named { IfOk result (λ joins. JoinBelow (length nodes.now) joins) }
 {
     let mut meetings = Meetings::new(alloc, nodes.len())?;
     for row in 0..area.rows {

@@ -50,6 +50,8 @@ impl Part {
     /// What a pool keeps of a tile that it has not seen.
     pub fn unseen(alloc: Global) -> Part
         ensures seen { result.seen ≡ None }
+        ensures nodes { result.nodes ≡ [] }
+        ensures labels { result.labels.items ≡ [] }
         ensures joins { result.joins ≡ [] }
         ensures seams { result.seams ≡ [] }
     {

@@ -98,12 +98,6 @@ none_of word = if bytes_eq word (codes "none") then Some None else None
 abbrev pub saddle_of_words : List ℕ → List ℕ → List ℕ → Option (Option (Pos × ℤ))
 saddle_of_words x y height = saddle_of_parts (point_of_counts (count_of x) (count_of y)) (i64_of (whole_of height))
 
--- one word, `none`
-abbrev pub none_form : List (List ℕ) → Option (Option (Pos × ℤ))
-none_form [] = None
-none_form (word ∷ []) = none_of word
-none_form (a ∷ b ∷ more) = None
-
 -- `none`, or `X Y HEIGHT`
 abbrev pub saddle_words : List (List ℕ) → Option (Option (Pos × ℤ))
 saddle_words [] = None

@@ -1,7 +1,7 @@
 // What the words of a line give, where they have their form.
 ghost use Rattle.std.specs.Prelude.{◌≡◌, All, map};
 ghost use Rattle.hd_num.specs.Span.{IsPart, text_at};
-ghost use Rattle.hd_check.specs.Reading.{adjacency_of, count_form, end_form, end_point_form, head_form, head_of, none_form, none_of, point_form, saddle_form, saddle_of_words, saddle_words, side_of};
+ghost use Rattle.hd_check.specs.Reading.{adjacency_of, count_form, end_form, end_point_form, head_form, head_of, none_of, point_form, saddle_form, saddle_of_words, saddle_words, side_of};
 ghost use Rattle.hd_num.specs.Whole.{i64_of, whole_of};
 
 use crate::lines::part;
@@ -109,21 +109,11 @@ fn saddle_or_none(line: &[u8], words: &[Span]) -> Option<Option<(Pos, i64)>>
     requires { All (IsPart line.now) words.now }
     ensures { result ≡ saddle_words (map (text_at line.now) words.now) }
 {
-    let [x, y, height] = words else {
-        return none_words(line, words);
-    };
-    saddle_of(part(line, *x), part(line, *y), part(line, *height))
-}
-
-// That there is no saddle, of the one word `none`.
-fn none_words(line: &[u8], words: &[Span]) -> Option<Option<(Pos, i64)>>
-    requires { All (IsPart line.now) words.now }
-    ensures { result ≡ none_form (map (text_at line.now) words.now) }
-{
-    let [word] = words else {
-        return None;
-    };
-    none_word(part(line, *word))
+    match words {
+        [word] => none_word(part(line, *word)),
+        [x, y, height] => saddle_of(part(line, *x), part(line, *y), part(line, *height)),
+        _ => None,
+    }
 }
 
 // That there is no saddle, of `none`.

@@ -1,9 +1,9 @@
 -- The lines of a summary, one after another, and what a demo determines.
 use Rattle.std.proofs.Common.{◌≡◌, ◌+◌, ◌++◌, ◌∙◌, ℕ, zero, suc, List, [], ◌∷◌, Result, Ok, Err, refl, sym, ap, subst, arith, append_assoc, append-nil}
 use Rattle.std.specs.Prelude.{IfOk}
-use Rattle.hd_engine.specs.State.{State, IsState}
-use Rattle.hd_engine.specs.Answers.{IsAnswer}
-use Rattle.hd_engine.specs.Reply.{Reply}
+use Rattle.hd_session.specs.State.{State, IsState}
+use Rattle.hd_session.specs.Answers.{IsAnswer}
+use Rattle.hd_session.specs.Reply.{Reply}
 use Rattle.hd_words.specs.declared.demo.Demo.{Demo}
 use Rattle.hd_demo.specs.DemoText.{AddsRow, AddsRows, AddsTold, AreEdits, AreRowTexts, IsDemoText, IsRowText, IsTheDemoText, IsTold, Row, demo_state, edits_line, row_text, summary_rows, title, value_in}
 use Rattle.hd_demo.specs.Generator.{drawn_edit}

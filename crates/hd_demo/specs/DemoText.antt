@@ -2,9 +2,9 @@
 use Rattle.std.specs.Prelude.{◌≡◌, ◌-◌, ◌++◌, ℕ, zero, suc, List, [], ◌∷◌, length, codes, decimal, slice_get, unwrap_or}
 use Rattle.std.specs.List.{before_first}
 use Rattle.hd_num.specs.Lines.{is_line_feed, words_of}
-use Rattle.hd_engine.specs.Answers.{IsAnswer}
-use Rattle.hd_engine.specs.Reply.{Reply}
-use Rattle.hd_engine.specs.State.{State, first_state}
+use Rattle.hd_session.specs.Answers.{IsAnswer}
+use Rattle.hd_session.specs.Reply.{Reply}
+use Rattle.hd_session.specs.State.{State, first_state}
 use Rattle.hd_words.specs.declared.demo.Demo.{Demo}
 use Rattle.hd_demo.specs.Generator.{drawn_edit, drawn_file}
 

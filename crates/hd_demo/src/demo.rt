@@ -7,23 +7,23 @@ ghost use Rattle.hd_demo.specs.Generator.{drawn};
 
 use crate::generator::{Draws, drawn_edit, drawn_file};
 use crate::summary::push_summary;
-use hd_engine::{Session, answer_is_determined, answer_keeps_a_state};
 use hd_list::{List, Memory};
 use hd_num::{push_text, push_unsigned};
+use hd_session::{SurfaceSession, answer_is_determined, answer_keeps_a_state};
 use hd_words::Demo;
 use std::alloc::Global;
 
 /// What a demo prints: its numbers, the summary of its surface, how many edits there are, and the
 /// summary after them. `Memory` comes where the surface, an answer or the text is refused its
 /// memory.
-pub fn demo_text(alloc: Global, demo: Demo) -> Result<List<u8>, Memory>
+pub fn demo_text<E: SurfaceSession>(alloc: Global, demo: Demo) -> Result<List<u8>, Memory>
     requires { IsDemo demo }
     ensures { IfOk result (λ text. IsTheDemoText demo text) }
 {
     demo_text_is_determined();
     let mut draws = Draws { last: demo.number };
     let file = drawn_file(alloc, demo.size, &mut draws)?;
-    let mut session = Session::new(alloc, file, demo.tile)?;
+    let mut session = E::on_file(alloc, file, demo.tile)?;
     let text = told_text(alloc, &mut session, draws, demo);
     drop(session);
     text
@@ -38,16 +38,16 @@ fn demo_text_is_determined()
 }
 
 // What a demo prints, told by a session on its surface.
-fn told_text(
+fn told_text<E: SurfaceSession>(
     alloc: Global,
-    session: &mut Session,
+    session: &mut E,
     draws: Draws,
     demo: Demo,
 ) -> Result<List<u8>, Memory>
     requires demo { IsDemo demo }
-    requires fresh { session.old.asked ≡ 0 }
+    requires fresh { E.asked session.old ≡ 0 }
     requires drawn { draws.last ≡ drawn demo.number (cell_count demo.size) }
-    ensures { IfOk result (λ text. AddsTold demo session.old.state (title demo) text) }
+    ensures { IfOk result (λ text. AddsTold demo (E.state session.old) (title demo) text) }
 {
     let mut text = List::new(alloc);
     push_title(&mut text, demo)?;
@@ -78,17 +78,17 @@ fn push_spaced(out: &mut List<u8>, number: u32) -> Result<(), Memory>
 }
 
 // Adds the summary of a demo's surface, how many edits there are, and the summary after them.
-fn push_told(
+fn push_told<E: SurfaceSession>(
     alloc: Global,
     out: &mut List<u8>,
-    session: &mut Session,
+    session: &mut E,
     draws: Draws,
     demo: Demo,
 ) -> Result<(), Memory>
     requires demo { IsDemo demo }
-    requires fresh { session.old.asked ≡ 0 }
+    requires fresh { E.asked session.old ≡ 0 }
     requires drawn { draws.last ≡ drawn demo.number (cell_count demo.size) }
-    ensures { OnOk result (AddsTold demo session.old.state out.old out.new) }
+    ensures { OnOk result (AddsTold demo (E.state session.old) out.old out.new) }
 {
     push_summary(alloc, out, session)?;
     make_edits(alloc, session, draws, demo)?;
@@ -98,17 +98,22 @@ fn push_told(
 }
 
 // Makes the edits of a demo, whose draws come after those of its surface.
-fn make_edits(alloc: Global, session: &mut Session, draws: Draws, demo: Demo) -> Result<(), Memory>
+fn make_edits<E: SurfaceSession>(
+    alloc: Global,
+    session: &mut E,
+    draws: Draws,
+    demo: Demo,
+) -> Result<(), Memory>
     requires demo { IsDemo demo }
-    requires asked { session.old.asked + demo.edits ≤ 16777216 }
+    requires asked { E.asked session.old + demo.edits ≤ 16777216 }
     requires drawn { draws.last ≡ drawn demo.number (cell_count demo.size) }
-    ensures edits { OnOk result (AreEdits demo session.old.state demo.edits session.new.state) }
-    ensures asked { OnOk result (session.new.asked ≡ session.old.asked + demo.edits) }
+    ensures edits { OnOk result (AreEdits demo (E.state session.old) demo.edits (E.state session.new)) }
+    ensures asked { OnOk result (E.asked session.new ≡ E.asked session.old + demo.edits) }
 {
     let mut draws = draws;
     'edits: for _ in 0..demo.edits {
         let line = drawn_edit(alloc, demo.size, &mut draws)?;
-        session.answer(1, line.as_slice())?;
+        session.answer_line(1, line.as_slice())?;
     }
     Ok(())
 }

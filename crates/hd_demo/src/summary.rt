@@ -4,18 +4,22 @@ ghost use Rattle.std.specs.List.{before_first};
 ghost use Rattle.hd_num.specs.Lines.{is_line_feed};
 ghost use Rattle.hd_demo.specs.DemoText.{AddsRow, AddsRows, row, summary_rows, value_in};
 
-use hd_engine::Session;
 use hd_list::{List, Memory};
 use hd_num::{next_line, push_text, split_words};
+use hd_session::SurfaceSession;
 use std::alloc::Global;
 
 /// Adds the summary of a session's surface: how many dales and hills there are, how many of them
 /// are left after pruning at 5%, and the values of the parameters Spd and S10z. Six lines are asked
 /// of the session, or fewer where one of them is refused its memory.
-pub fn push_summary(alloc: Global, out: &mut List<u8>, session: &mut Session) -> Result<(), Memory>
-    requires asked { session.old.asked + 6 ≤ 16777216 }
-    ensures summary { OnOk result (AddsRows session.old.state summary_rows out.old out.new session.new.state) }
-    ensures asked { OnOk result (session.new.asked ≡ session.old.asked + 6) }
+pub fn push_summary<E: SurfaceSession>(
+    alloc: Global,
+    out: &mut List<u8>,
+    session: &mut E,
+) -> Result<(), Memory>
+    requires asked { E.asked session.old + 6 ≤ 16777216 }
+    ensures summary { OnOk result (AddsRows (E.state session.old) summary_rows out.old out.new (E.state session.new)) }
+    ensures asked { OnOk result (E.asked session.new ≡ E.asked session.old + 6) }
 {
     push_row(alloc, out, session, "dales", "dales")?;
     push_row(alloc, out, session, "hills", "hills")?;
@@ -27,18 +31,18 @@ pub fn push_summary(alloc: Global, out: &mut List<u8>, session: &mut Session) ->
 }
 
 // Adds a line of a summary: what is told, and the value of the answer to a question.
-fn push_row(
+fn push_row<E: SurfaceSession>(
     alloc: Global,
     out: &mut List<u8>,
-    session: &mut Session,
+    session: &mut E,
     label: &str,
     question: &str,
 ) -> Result<(), Memory>
-    requires asked { session.old.asked < 16777216 }
-    ensures row { OnOk result (AddsRow session.old.state (row label.now question.now) out.old out.new session.new.state) }
-    ensures asked { session.new.asked ≡ session.old.asked + 1 }
+    requires asked { E.asked session.old < 16777216 }
+    ensures row { OnOk result (AddsRow (E.state session.old) (row label.now question.now) out.old out.new (E.state session.new)) }
+    ensures asked { E.asked session.new ≡ E.asked session.old + 1 }
 {
-    let answer = session.answer(1, question.as_bytes())?;
+    let answer = session.answer_line(1, question.as_bytes())?;
     push_text(out, label.as_bytes())?;
     push_text(out, b" ".as_slice())?;
     push_value(alloc, out, answer.text.as_slice())?;

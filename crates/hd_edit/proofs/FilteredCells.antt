@@ -33,10 +33,10 @@ module _ (m : Map) (heights : List (Option ℤ)) where
   abbrev pub partly_new : ℕ → Map
   partly_new n = record m { cells = map (mix n (cell_after m heights) old_cell) (range_with_len 0 (cell_count m.size)) }
 
-  new-none : (n : ℕ) → n ≡ 0 → length m.cells ≡ cell_count m.size → m ≡ partly_new n
+  pub new-none : (n : ℕ) → n ≡ 0 → length m.cells ≡ cell_count m.size → m ≡ partly_new n
   new-none n none whole = ap (λ (cs : List Cell). record m { cells = cs }) (fill_by_all (mix n (cell_after m heights) old_cell) m.cells (cell_count m.size) Bad whole (λ k h. sym (mix-from n (cell_after m heights) old_cell k (omega (arith, none)))))
 
-  new-all : (n : ℕ) → cell_count m.size ≤ n → partly_new n ≡ with_cells m (cells_after m heights)
+  pub new-all : (n : ℕ) → cell_count m.size ≤ n → partly_new n ≡ with_cells m (cells_after m heights)
   new-all n past = ap (λ (cs : List Cell). record m { cells = cs }) (same_fill (mix n (cell_after m heights) old_cell) (cell_after m heights) (cell_count m.size) Bad (λ k h. mix-before n (cell_after m heights) old_cell k (omega (arith, h, past))))
 
   -- the heights of a profile
@@ -98,7 +98,7 @@ module _ (m : Map) (heights : List (Option ℤ)) where
           ]
         ]
 
-    new-profile : with_heights (partly_new (y * m.size.points)) y (profile_of y) ≡ partly_new ((y + 1) * m.size.points)
+    pub new-profile : with_heights (partly_new (y * m.size.points)) y (profile_of y) ≡ partly_new ((y + 1) * m.size.points)
     new-profile = ap (λ (cs : List Cell). record m { cells = cs })
         (same_fill (λ k. cell_with_heights (partly_new (y * m.size.points)) y (profile_of y) (position_at m.size k)) (mix ((y + 1) * m.size.points) (cell_after m heights) old_cell) (cell_count m.size) Bad cell_next)
 

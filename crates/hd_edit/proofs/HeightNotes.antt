@@ -4,7 +4,7 @@ use Rattle.std.proofs.lemmas.List.{get_or_append_left, length_push}
 use Rattle.hd_edit.specs.declared.change.Change.{Change}
 use Rattle.hd_edit.specs.declared.change.Was.TheVariants as was
 use Rattle.hd_edit.specs.declared.notes.HeightNote.{HeightNote}
-use Rattle.hd_edit.specs.Notes.{changes_after, last_after, note_at}
+use Rattle.hd_edit.specs.Notes.{BeginsUnfit, FitsAfter, changes_after, last_after, note_at}
 use Rattle.hd_edit.specs.SevenBytes.{widened}
 
 -- one more is told from the last
@@ -47,3 +47,15 @@ notes-popped first last old new others left note at is none none' =
     ∙ ap (changes_after first) is ∙ changes-push first new note
     ∙ ap (λ (i : ℕ). changes_after first new ++ record { index = i; was = was.Height (widened note.over) } ∷ []) (sym same)
     ∙ ap (λ (cs : List Change). cs ++ record { index = last; was = was.Height (widened note.over) } ∷ []) (sym (append-nil (changes_after first new)) ∙ ap (λ (cs : List Change). changes_after first new ++ cs) (sym none'))
+
+-- the first of further changes stays the first when one more comes, and when the last goes
+pub unfit-none : (last : ℕ) → BeginsUnfit last []
+unfit-none last = λ first more e. absurd (cc e)
+
+pub unfit-push : (last : ℕ) (others : List Change) (change : Change) → (others ≡ [] → FitsAfter last change → ⊥) → BeginsUnfit last others → BeginsUnfit last (others ++ change ∷ [])
+unfit-push last [] change unfit begins = λ first more e. (let same : change ≡ first = cc e in subst (λ (c : Change). FitsAfter last c → ⊥) same (unfit refl))
+unfit-push last (other ∷ others) change unfit begins = λ first more e. (let same : other ≡ first = cc e in begins first others (ap (λ (c : Change). c ∷ others) same))
+
+pub unfit-pop : (last : ℕ) (others : List Change) (change : Change) → BeginsUnfit last (others ++ change ∷ []) → BeginsUnfit last others
+unfit-pop last [] change begins = unfit-none last
+unfit-pop last (other ∷ others) change begins = λ first more e. (let same : other ≡ first = cc e in begins first (others ++ change ∷ []) (ap (λ (c : Change). c ∷ (others ++ change ∷ [])) same))

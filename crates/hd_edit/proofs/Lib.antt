@@ -7,6 +7,7 @@ pub mod HeightNotes
 pub mod StrokeChanges
 pub mod CountedChanges
 pub mod NotedStrokes
+pub mod Entries
 pub mod Logs
 pub mod Outcomes
 pub mod Determined

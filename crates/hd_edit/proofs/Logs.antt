@@ -8,14 +8,14 @@ use Rattle.circular_buffer.specs.Buffer.{Buffer, buffer, keep_last, last_item}
 use Rattle.hd_map.specs.declared.types.Adjacency.{Adjacency}
 use Rattle.hd_map.specs.Map.{Map}
 use Rattle.hd_map.specs.Sets.{under}
-use Rattle.hd_edit.specs.declared.change.Change.{Change}
-use Rattle.hd_edit.specs.Change.{before_changes, AreChanges}
+use Rattle.hd_edit.specs.declared.entry.Entry.{Entry}
+use Rattle.hd_edit.specs.Entry.{before_entry, IsEntry}
 use Rattle.hd_edit.specs.Board.{log_places, kept_after}
 use Rattle.hd_edit.specs.Log.{first_map, earlier_maps, IsLog, IsLogIn}
-use Rattle.hd_edit.proofs.Changes.{kind_stays, under_before}
+use Rattle.hd_edit.proofs.Entries.{entry_kind, under_entry}
 
 -- one map for each entry
-pub length-earlier : (es : List (List Change)) (m : Map) → length (earlier_maps es m) ≡ length es
+pub length-earlier : (es : List Entry) (m : Map) → length (earlier_maps es m) ≡ length es
 length-earlier [] m = refl
 length-earlier (e ∷ es) m = ap suc (length-earlier es m)
 
@@ -25,47 +25,47 @@ first_push [] x m = refl
 first_push (y ∷ xs) x m = refl
 
 -- the last entry gives the last map, from which the others are told
-pub earlier-push : (es : List (List Change)) (e : List Change) (m : Map) → earlier_maps (es ++ e ∷ []) m ≡ earlier_maps es (before_changes e m) ++ before_changes e m ∷ []
+pub earlier-push : (es : List Entry) (e : Entry) (m : Map) → earlier_maps (es ++ e ∷ []) m ≡ earlier_maps es (before_entry e m) ++ before_entry e m ∷ []
 earlier-push [] e m = refl
-earlier-push (x ∷ es) e m = rw (earlier-push es e m, first_push (earlier_maps es (before_changes e m)) (before_changes e m) m)
+earlier-push (x ∷ es) e m = rw (earlier-push es e m, first_push (earlier_maps es (before_entry e m)) (before_entry e m) m)
 
 -- a setting of the present map is one of all
 first_under : (adjacency : Adjacency) (xs : List Map) (m : Map) → first_map (map (under adjacency) xs) (under adjacency m) ≡ under adjacency (first_map xs m)
 first_under adjacency [] m = refl
 first_under adjacency (x ∷ xs) m = refl
 
-pub earlier-under : (adjacency : Adjacency) (es : List (List Change)) (m : Map) → earlier_maps es (under adjacency m) ≡ map (under adjacency) (earlier_maps es m)
+pub earlier-under : (adjacency : Adjacency) (es : List Entry) (m : Map) → earlier_maps es (under adjacency m) ≡ map (under adjacency) (earlier_maps es m)
 earlier-under adjacency [] m = refl
-earlier-under adjacency (e ∷ es) m = rw (earlier-under adjacency es m, first_under adjacency (earlier_maps es m) m, under_before adjacency e (first_map (earlier_maps es m) m)) refl
+earlier-under adjacency (e ∷ es) m = rw (earlier-under adjacency es m, first_under adjacency (earlier_maps es m) m, under_entry adjacency e (first_map (earlier_maps es m) m)) refl
 
 -- without the first entries the first maps are gone
-earlier-drop : (k : ℕ) (es : List (List Change)) (m : Map) → earlier_maps (drop k es) m ≡ drop k (earlier_maps es m)
+earlier-drop : (k : ℕ) (es : List Entry) (m : Map) → earlier_maps (drop k es) m ≡ drop k (earlier_maps es m)
 earlier-drop zero es m = refl
 earlier-drop (suc k) [] m = refl
 earlier-drop (suc k) (e ∷ es) m = earlier-drop k es m
 
 -- an entry more, of which the last 32 are kept
-pub earlier-kept : (es es' : List (List Change)) (e : List Change) (capacity : ℕ) (m m' : Map) → es' ≡ keep_last capacity (es ++ e ∷ []) → capacity ≡ log_places → before_changes e m' ≡ m
+pub earlier-kept : (es es' : List Entry) (e : Entry) (capacity : ℕ) (m m' : Map) → es' ≡ keep_last capacity (es ++ e ∷ []) → capacity ≡ log_places → before_entry e m' ≡ m
     → earlier_maps es' m' ≡ kept_after (earlier_maps es m) m
 earlier-kept es es' e capacity m m' kept places before =
     let maps = earlier_maps es m ++ m ∷ [] in
     let told : earlier_maps (es ++ e ∷ []) m' ≡ maps = earlier-push es e m' ∙ ap (λ (b : Map). earlier_maps es b ++ b ∷ []) before in
     let lengths : length (es ++ e ∷ []) ≡ length maps = length_push es e ∙ sym (length_push (earlier_maps es m) m ∙ ap (λ (n : ℕ). n + 1) (length-earlier es m)) in
-    ap (λ (xs : List (List Change)). earlier_maps xs m') (kept ∙ ap (λ (n : ℕ). keep_last n (es ++ e ∷ [])) places)
+    ap (λ (xs : List Entry). earlier_maps xs m') (kept ∙ ap (λ (n : ℕ). keep_last n (es ++ e ∷ [])) places)
     ∙ earlier-drop (length (es ++ e ∷ []) - log_places) (es ++ e ∷ []) m'
     ∙ ap (λ (n : ℕ). drop (n - log_places) (earlier_maps (es ++ e ∷ []) m')) lengths
     ∙ ap (λ (xs : List Map). drop (length maps - log_places) xs) told
 
 -- and it is a log of the map that the entry makes
-pub log-kept : (log log' : Buffer (List Change)) (e : List Change) (m m' : Map) → IsLog m log → log' ≡ buffer (keep_last log.capacity (log.items ++ e ∷ [])) log.capacity
-    → AreChanges m' e → m'.size ≡ m.size → m'.data_type ≡ m.data_type → IsLog m' log'
+pub log-kept : (log log' : Buffer Entry) (e : Entry) (m m' : Map) → IsLog m log → log' ≡ buffer (keep_last log.capacity (log.items ++ e ∷ [])) log.capacity
+    → IsEntry m' e → m'.size ≡ m.size → m'.data_type ≡ m.data_type → IsLog m' log'
 log-kept log log' e m m' is kept are size type =
     let all = log.items ++ e ∷ [] in
-    let before : All (AreChanges m') log.items = rw (size, type) is.each in
+    let before : All (IsEntry m') log.items = rw (size, type) is.each in
     rw kept (record {
       places = is.places;
       few = omega (arith, is.places, length-drop (length all - log.capacity) all);
-      each = All-drop (AreChanges m') (length all - log.capacity) all (All-push (AreChanges m') log.items e before are);
+      each = All-drop (IsEntry m') (length all - log.capacity) all (All-push (IsEntry m') log.items e before are);
     })
 
 -- a list and its last item
@@ -87,16 +87,16 @@ pub last_of : {X : Type 0} (P : X → Type 0) (xs : List X) (x : X) → Some x �
 last_of P xs x last are = subst P (get_or_from_slice_get xs (length xs - 1) x x (sym last)) (are (length xs - 1) x (slice_get_within xs (length xs - 1) x (sym last)))
 
 -- without its last entry the log gives the maps before the one that the entry is undone to
-pub earlier-undone : (es es' : List (List Change)) (e : List Change) (m m' : Map) → Some e ≡ last_item es → es' ≡ take (length es - 1) es → m' ≡ before_changes e m → earlier_maps es m ≡ earlier_maps es' m' ++ m' ∷ []
+pub earlier-undone : (es es' : List Entry) (e : Entry) (m m' : Map) → Some e ≡ last_item es → es' ≡ take (length es - 1) es → m' ≡ before_entry e m → earlier_maps es m ≡ earlier_maps es' m' ++ m' ∷ []
 earlier-undone es es' e m m' last left is =
-    ap (λ (xs : List (List Change)). earlier_maps xs m) (last_split es e last ∙ ap (λ (xs : List (List Change)). xs ++ e ∷ []) (sym left)) ∙ earlier-push es' e m ∙ ap (λ (b : Map). earlier_maps es' b ++ b ∷ []) (sym is)
+    ap (λ (xs : List Entry). earlier_maps xs m) (last_split es e last ∙ ap (λ (xs : List Entry). xs ++ e ∷ []) (sym left)) ∙ earlier-push es' e m ∙ ap (λ (b : Map). earlier_maps es' b ++ b ∷ []) (sym is)
 
 -- and it is a log of that map
-pub log-undone : (log log' : Buffer (List Change)) (e : List Change) (m m' : Map) → IsLog m log → log' ≡ buffer (take (length log.items - 1) log.items) log.capacity → m' ≡ before_changes e m → IsLog m' log'
-log-undone log log' e m m' is left before = rw (left, before) (kind_stays (λ size type. IsLogIn size type (buffer (take (length log.items - 1) log.items) log.capacity)) e m (record {
+pub log-undone : (log log' : Buffer Entry) (e : Entry) (m m' : Map) → IsLog m log → log' ≡ buffer (take (length log.items - 1) log.items) log.capacity → m' ≡ before_entry e m → IsLog m' log'
+log-undone log log' e m m' is left before = rw (left, before) (entry_kind (λ size type. IsLogIn size type (buffer (take (length log.items - 1) log.items) log.capacity)) e m (record {
   places = is.places;
-  few = omega (arith, is.few, length-take {A = List Change});
-  each = All-take (AreChanges m) (length log.items - 1) log.items is.each;
+  few = omega (arith, is.few, length-take {A = Entry});
+  each = All-take (IsEntry m) (length log.items - 1) log.items is.each;
 }))
 
 module _ {X : Type 0} where

@@ -8,5 +8,7 @@ pub mod Change
 pub mod Notes
 pub mod NewNotes
 pub mod Filtered
+pub mod Entry
+pub mod Exchange
 pub mod Profile
 pub mod Log

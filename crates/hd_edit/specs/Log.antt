@@ -4,8 +4,8 @@ use Rattle.circular_buffer.specs.Buffer.{Buffer}
 use Rattle.hd_map.specs.declared.types.Size.{Size}
 use Rattle.hd_map.specs.declared.types.DataType.{DataType}
 use Rattle.hd_map.specs.Map.{Map}
-use Rattle.hd_edit.specs.declared.change.Change.{Change}
-use Rattle.hd_edit.specs.Change.{before_changes, AreChangesIn}
+use Rattle.hd_edit.specs.declared.entry.Entry.{Entry}
+use Rattle.hd_edit.specs.Entry.{before_entry, IsEntryIn}
 use Rattle.hd_edit.specs.Board.{log_places}
 
 -- the first of the maps, or the present one
@@ -14,15 +14,15 @@ first_map [] m = m
 first_map (e ∷ es) m = e
 
 -- the maps before each entry, the newest last, told from the present map and the entries
-abbrev pub earlier_maps : List (List Change) → Map → List Map
+abbrev pub earlier_maps : List Entry → Map → List Map
 earlier_maps [] m = []
-earlier_maps (e ∷ es) m = before_changes e (first_map (earlier_maps es m) m) ∷ earlier_maps es m
+earlier_maps (e ∷ es) m = before_entry e (first_map (earlier_maps es m) m) ∷ earlier_maps es m
 
--- a log of at most 32 entries, each of changes of a map of this size and type
-pub record IsLogIn (size : Size) (type : DataType) (log : Buffer (List Change)) : Type 0 where
+-- a log of at most 32 entries, each of an edit of a map of this size and type
+pub record IsLogIn (size : Size) (type : DataType) (log : Buffer Entry) : Type 0 where
   pub places : log.capacity ≡ log_places
   pub few : length log.items ≤ log_places
-  pub each : All (AreChangesIn size type) log.items
+  pub each : All (IsEntryIn size type) log.items
 
-abbrev pub IsLog : Map → Buffer (List Change) → Type 0
+abbrev pub IsLog : Map → Buffer Entry → Type 0
 IsLog m = IsLogIn m.size m.data_type

@@ -4,10 +4,9 @@ ghost use Rattle.hd_map.specs.Sets.{under};
 ghost use Rattle.hd_edit.specs.Elements.{elements_with, line_of};
 ghost use Rattle.hd_edit.specs.Board.{BoardState, IsEdited, Applies, kept_after, Undoes, RisesUpTo};
 
-use crate::change::put_back;
 use crate::elements::Elements;
+use crate::entry::{Entry, put_back};
 use crate::make::make;
-use crate::notes::Notes;
 use crate::{Edit, EditError, ElementLine, LogEnds};
 use circular_buffer::HeapCircularBuffer;
 use hd_list::{List, Memory};
@@ -26,7 +25,7 @@ pub struct Board<G: Grid> {
     alloc: Global,
     grid: G,
     elements: Elements,
-    log: HeapCircularBuffer<Notes>,
+    log: HeapCircularBuffer<Entry>,
 }
 
 impl<G: Grid> Model for Board<G> {
@@ -120,8 +119,8 @@ impl<G: Grid> Board<G> {
         ensures origin { G.comes_from self.old.grid self.new.grid }
         ensures count { RisesUpTo (2 ^ 27) (G.changes self.old.grid) (G.changes self.new.grid) }
     {
-        let changes = make(self.alloc, &mut self.grid, &self.elements, edit)?;
-        self.log.push_back(changes);
+        let entry = make(self.alloc, &mut self.grid, &self.elements, edit)?;
+        self.log.push_back(entry);
         Ok(())
     }
 
@@ -169,8 +168,8 @@ impl<G: Grid> Board<G> {
         ensures origin { G.comes_from self.old.grid self.new.grid }
         ensures count { RisesUpTo (2 ^ 22) (G.changes self.old.grid) (G.changes self.new.grid) }
     {
-        if let Some(changes) = self.log.pop_back() {
-            put_back(&mut self.grid, changes);
+        if let Some(entry) = self.log.pop_back() {
+            put_back(&mut self.grid, entry);
         }
     }
 }

@@ -148,7 +148,7 @@ fn put_was<G: Grid>(grid: &mut G, change: Change)
 }
 
 /// Undoes the changes of an edit, the last first.
-pub fn put_back<G: Grid>(grid: &mut G, changes: Notes)
+pub fn put_changes_back<G: Grid>(grid: &mut G, changes: Notes)
     requires changes { AreChanges (G.map grid.old) changes }
     requires count { G.changes grid.old + length changes < 2 ^ 63 }
     ensures map { G.map grid.new ≡ before_changes changes (G.map grid.old) }

@@ -1,5 +1,5 @@
 // How far a height is over the least one of its data type.
-ghost use Rattle.std.specs.Prelude.{◌≡◌, ◌<◌, ◌^◌};
+ghost use Rattle.std.specs.Prelude.{◌≡◌, ◌<◌, ◌≤◌, ◌^◌};
 
 /// How far a height is over the least one of its data type, which is less than 2 ^ 56, in seven bytes,
 /// the lowest first.
@@ -35,10 +35,10 @@ impl OverLeast {
         u64::from_le_bytes([a, b, c, d, e, f, g, 0])
     }
 
-    /// The lowest four of the bytes, where the others are 0.
+    /// The lowest four of the bytes, exactly where the others are 0.
     #[inline]
     pub fn low(self) -> Option<[u8; 4]>
-        ensures { MatchOption result (Unit {0}) (λ low. widened low ≡ self) }
+        ensures { MatchOption result (2 ^ 32 ≤ number_of self) (λ low. widened low ≡ self) }
     {
         let [a, b, c, d, e, f, g] = self.bytes;
         if e == 0 && f == 0 && g == 0 {
@@ -48,10 +48,10 @@ impl OverLeast {
         }
     }
 
-    /// The lowest four bytes of a number, where the others are 0.
+    /// The lowest four bytes of a number, exactly where the others are 0.
     #[inline]
     pub fn low_of(number: u64) -> Option<[u8; 4]>
-        ensures { MatchOption result (Unit {0}) (λ low. number_of (widened low) ≡ number) }
+        ensures { MatchOption result (2 ^ 32 ≤ number) (λ low. number_of (widened low) ≡ number) }
     {
         let low = u32::try_from(number).ok()?.to_le_bytes();
         Some([low[0], low[1], low[2], low[3]])

@@ -5,6 +5,8 @@ mod board;
 mod change;
 mod edit;
 mod elements;
+mod entry;
+mod exchange;
 mod filter;
 mod height_bytes;
 mod laws;

@@ -1,14 +1,14 @@
-// An edit of a grid, and what it changed.
+// An edit of a grid, and what undoes it.
 ghost use Rattle.std.specs.Prelude.{◌≡◌, ◌<◌, ◌≤◌, ◌+◌, ◌^◌, MatchResult, IfOk, OnErr, Ok, Some, None};
 ghost use Rattle.hd_map.specs.Map.{cell_count};
 ghost use Rattle.hd_edit.specs.Edit.{rectangle_refusal};
 ghost use Rattle.hd_edit.specs.Board.{IsEdited, IsRefusalBy, RisesUpTo};
-ghost use Rattle.hd_edit.specs.Change.{AreChanges, before_changes};
+ghost use Rattle.hd_edit.specs.Entry.{IsEntry, before_entry};
 ghost use Rattle.hd_edit.specs.Stroke.{IsRectangle, IsStroked, stroke_parts};
 
 use crate::elements::Elements;
+use crate::entry::Entry;
 use crate::filter::{filtered, put_heights};
-use crate::notes::Notes;
 use crate::paint::{count_changes, stroke_points};
 use crate::stroke::Stroke;
 use crate::{Edit, EditError};
@@ -50,20 +50,20 @@ fn check_rectangle(size: Size, from: Pos, to: Pos) -> Result<(), EditError>
     Ok(())
 }
 
-// Strokes a rectangle, and tells what that changed.
+// Strokes a rectangle, and tells what undoes that.
 fn stroke_grid<G: Grid>(
     alloc: Global,
     grid: &mut G,
     from: Pos,
     to: Pos,
     stroke: Stroke,
-) -> Result<Notes, EditError>
+) -> Result<Entry, EditError>
     requires { G.changes grid.old < 2 ^ 62 }
     ensures edit { let IsOutcome = IsStroked (G.map grid.old) from to stroke in
         MatchResult result (λ _. IsOutcome (Ok (G.map grid.new))) (IsRefusalBy IsOutcome) }
     ensures refused { OnErr result (grid.new ≡ grid.old) }
-    ensures before { IfOk result (λ changes. before_changes changes (G.map grid.new) ≡ G.map grid.old) }
-    ensures changes { IfOk result (AreChanges (G.map grid.new)) }
+    ensures before { IfOk result (λ entry. before_entry entry (G.map grid.new) ≡ G.map grid.old) }
+    ensures entry { IfOk result (IsEntry (G.map grid.new)) }
     ensures size { (G.map grid.new).size ≡ (G.map grid.old).size }
     ensures data_type { (G.map grid.new).data_type ≡ (G.map grid.old).data_type }
     ensures origin { G.comes_from grid.old grid.new }
@@ -75,46 +75,46 @@ fn stroke_grid<G: Grid>(
         Err(at) => return Err(EditError::HeightRange(at)),
     };
     let changes = stroke_points(alloc, grid, from, to, stroke, count)?;
-    Ok(changes)
+    Ok(Entry::Changes(changes))
 }
 
-// Filters a grid, and tells what that changed.
+// Filters a grid, and tells what undoes that.
 fn filter_grid<G: Grid>(
     alloc: Global,
     grid: &mut G,
     elements: &Elements,
     edit: &Edit,
-) -> Result<Notes, EditError>
+) -> Result<Entry, EditError>
     requires filter { stroke_parts edit.now ≡ None }
     requires count { G.changes grid.old < 2 ^ 62 }
     ensures edit { let IsOutcome = IsEdited elements.now (G.map grid.old) edit.now in
         MatchResult result (λ _. IsOutcome (Ok (G.map grid.new))) (IsRefusalBy IsOutcome) }
     ensures refused { OnErr result (grid.new ≡ grid.old) }
-    ensures before { IfOk result (λ changes. before_changes changes (G.map grid.new) ≡ G.map grid.old) }
-    ensures changes { IfOk result (AreChanges (G.map grid.new)) }
+    ensures before { IfOk result (λ entry. before_entry entry (G.map grid.new) ≡ G.map grid.old) }
+    ensures entry { IfOk result (IsEntry (G.map grid.new)) }
     ensures size { (G.map grid.new).size ≡ (G.map grid.old).size }
     ensures data_type { (G.map grid.new).data_type ≡ (G.map grid.old).data_type }
     ensures origin { G.comes_from grid.old grid.new }
     ensures count { RisesUpTo (cell_count (G.map grid.old).size) (G.changes grid.old) (G.changes grid.new) }
 {
     let heights = filtered(alloc, grid, elements, edit)?;
-    let changes = put_heights(alloc, grid, &heights)?;
-    Ok(changes)
+    let entry = put_heights(alloc, grid, &heights)?;
+    Ok(entry)
 }
 
-/// Makes an edit, and tells what it changed. Its memory is taken before anything is changed.
+/// Makes an edit, and tells what undoes it. Its memory is taken before anything is changed.
 pub fn make<G: Grid>(
     alloc: Global,
     grid: &mut G,
     elements: &Elements,
     edit: &Edit,
-) -> Result<Notes, EditError>
+) -> Result<Entry, EditError>
     requires { G.changes grid.old < 2 ^ 62 }
     ensures edit { let IsOutcome = IsEdited elements.now (G.map grid.old) edit.now in
         MatchResult result (λ _. IsOutcome (Ok (G.map grid.new))) (IsRefusalBy IsOutcome) }
     ensures refused { OnErr result (grid.new ≡ grid.old) }
-    ensures before { IfOk result (λ changes. before_changes changes (G.map grid.new) ≡ G.map grid.old) }
-    ensures changes { IfOk result (AreChanges (G.map grid.new)) }
+    ensures before { IfOk result (λ entry. before_entry entry (G.map grid.new) ≡ G.map grid.old) }
+    ensures entry { IfOk result (IsEntry (G.map grid.new)) }
     ensures size { (G.map grid.new).size ≡ (G.map grid.old).size }
     ensures data_type { (G.map grid.new).data_type ≡ (G.map grid.old).data_type }
     ensures origin { G.comes_from grid.old grid.new }

@@ -1,8 +1,7 @@
 // What an edit changed, as it is kept for an undo.
 ghost use Rattle.std.specs.Prelude.{◌≡◌, ◌<◌, ◌+◌, ◌^◌, ◌++◌, ◌∷◌, [], IfOk, MatchOption, length};
-ghost use Rattle.std.specs.Bool.{OnTrue, OnFalse};
 ghost use Rattle.hd_edit.specs.declared.change.Was.TheVariants.{Height};
-ghost use Rattle.hd_edit.specs.Notes.{IsNotedHeight};
+ghost use Rattle.hd_edit.specs.Notes.{IsLow, IsNotedHeight, IsShortlyAfter};
 ghost use Rattle.hd_edit.specs.SevenBytes.{widened};
 
 use crate::change::{Change, Was};
@@ -39,13 +38,14 @@ pub struct Notes {
 impl Model for Notes {
     ghost use Rattle.std.specs.Prelude.{◌≡◌, ◌++◌, List as Items};
     ghost use Rattle.hd_edit.specs.declared.change.Change.{Change as NotedChange};
-    ghost use Rattle.hd_edit.specs.Notes.{changes_after, last_after};
+    ghost use Rattle.hd_edit.specs.Notes.{BeginsUnfit, changes_after, last_after};
 
     ghost Value = { Items NotedChange };
 
     ghost view = { λ n. changes_after n.first n.heights.items ++ n.others.items };
 
-    ghost invariant = { λ n. n.last ≡ last_after n.first n.heights.items };
+    ghost invariant = { λ n.
+        (n.last ≡ last_after n.first n.heights.items) × BeginsUnfit n.last n.others.items };
 }
 
 impl Notes {
@@ -80,7 +80,7 @@ pub struct NewNotes {
 impl Model for NewNotes {
     ghost use Rattle.std.specs.Prelude.{◌≡◌, ◌++◌, vec_capacity};
     ghost use Rattle.hd_edit.specs.NewNotes.{NewNotesState};
-    ghost use Rattle.hd_edit.specs.Notes.{changes_after, last_after};
+    ghost use Rattle.hd_edit.specs.Notes.{BeginsUnfit, changes_after, last_after};
 
     ghost Value = { NewNotesState };
 
@@ -90,7 +90,8 @@ impl Model for NewNotes {
     } };
 
     ghost invariant = { λ n.
-        (n.last ≡ last_after n.first n.heights.items) × (vec_capacity n.others ≡ vec_capacity n.heights) };
+        (n.last ≡ last_after n.first n.heights.items) × (vec_capacity n.others ≡ vec_capacity n.heights)
+        × BeginsUnfit n.last n.others.items };
 }
 
 impl NewNotes {
@@ -108,17 +109,17 @@ impl NewNotes {
         })
     }
 
-    /// Lets the distances of the notes begin at an index, where there is none yet.
+    /// Lets the distances of the notes begin at an index, where there is no note yet.
     pub fn start_at(&mut self, index: u32)
         ensures { self.new ≡ self.old }
     {
-        if self.heights.is_empty() {
+        if self.heights.is_empty() && self.others.is_empty() {
             self.first = index;
             self.last = index;
         }
     }
 
-    /// Notes a change after those before it, as a height where that can be.
+    /// Notes a change after those before it, as a height exactly where that can be.
     #[inline]
     pub fn push(&mut self, change: Change)
         requires { length self.old.changes < self.old.room }
@@ -128,12 +129,11 @@ impl NewNotes {
         self.start_at(change.index);
         if let Was::Height(over) = change.was {
             if let Some(low) = over.low() {
-                if self.push_low(change.index, low) {
-                    return;
-                }
+                self.push_low(change.index, low);
+                return;
             }
         }
-        self.others.push_reserved(change);
+        self.push_other(change);
     }
 
     /// Notes after the changes before it that a cell was the height this much over the least one.
@@ -145,32 +145,43 @@ impl NewNotes {
         ensures room { self.new.room ≡ self.old.room }
     {
         if let Some(low) = OverLeast::low_of(over) {
-            if self.push_low(index, low) {
-                return;
-            }
+            self.push_low(index, low);
+            return;
         }
         let was = Was::Height(OverLeast::new(over));
-        self.others.push_reserved(Change { index, was });
+        self.push_other(Change { index, was });
     }
 
-    // Notes a height in 6 bytes, where that can be.
+    // Notes a height that four bytes tell, in 6 bytes exactly where that can be.
     #[inline]
-    fn push_low(&mut self, index: u32, over: [u8; 4]) -> bool
+    fn push_low(&mut self, index: u32, over: [u8; 4])
         requires { length self.old.changes < self.old.room }
-        ensures noted { OnTrue result (self.new.changes
-            ≡ self.old.changes ++ (record { index = index; was = Height (widened over) }) ∷ []) }
-        ensures not_noted { OnFalse result (self.new ≡ self.old) }
+        ensures changes { self.new.changes
+            ≡ self.old.changes ++ (record { index = index; was = Height (widened over) }) ∷ [] }
         ensures room { self.new.room ≡ self.old.room }
     {
+        let was = Was::Height(OverLeast::of_low(over));
         if !self.others.is_empty() {
-            return false;
+            self.others.push_reserved(Change { index, was });
+            return;
         }
         let Some(distance) = distance(self.last, index) else {
-            return false;
+            self.others.push_reserved(Change { index, was });
+            return;
         };
         self.heights.push_reserved(HeightNote { distance, over });
         self.last = index;
-        true
+    }
+
+    // Notes a change that is not of a height which four bytes tell.
+    #[inline]
+    fn push_other(&mut self, change: Change)
+        requires room { length self.old.changes < self.old.room }
+        requires other { IsLow change.was → ⊥ }
+        ensures changes { self.new.changes ≡ self.old.changes ++ change ∷ [] }
+        ensures room { self.new.room ≡ self.old.room }
+    {
+        self.others.push_reserved(change);
     }
 
     /// The notes as they are kept. The memory that they do not use is given back.
@@ -194,10 +205,10 @@ impl NewNotes {
     }
 }
 
-// How many indexes one is after another, where a note can tell that.
+// How many indexes one is after another, exactly where a note can tell that.
 #[inline]
 fn distance(last: u32, index: u32) -> Option<u16>
-    ensures { MatchOption result (Unit {0}) (λ distance. last + distance ≡ index) }
+    ensures { MatchOption result (IsShortlyAfter last index → ⊥) (λ distance. last + distance ≡ index) }
 {
     u16::try_from(index.checked_sub(last)?).ok()
 }

@@ -16,6 +16,26 @@ use crate::change::{Change, was_of};
 use crate::notes::NewNotes;
 use hd_map::{Cell, DataType, Grid, Heights, Lane, Pos, least_of};
 
+/// Sets the heights for which numbers stand, profile by profile. Where one stands for none, the cell stays. The masks
+/// stay.
+pub fn set_profiles<L: Lane, G: Grid>(grid: &mut G, numbers: &[L])
+    requires whole { length numbers.now ≡ cell_count (G.map grid.old).size }
+    requires of_type { let m = G.map grid.old in
+        AreCellsOf m.data_type (cells_after m (values_of L.code numbers.now)) }
+    requires count { G.changes grid.old < 2 ^ 63 - 2 ^ 22 }
+    ensures map { let m = G.map grid.old in
+        G.map grid.new ≡ with_cells m (cells_after m (values_of L.code numbers.now)) }
+    ensures origin { G.comes_from grid.old grid.new }
+    ensures count { RisesUpTo (cell_count (G.map grid.old).size) (G.changes grid.old) (G.changes grid.new) }
+{
+    let size = grid.size();
+    let points = size.points as usize;
+    for y in 0..size.profiles {
+        let first = y as usize * points;
+        grid.set_heights(y, &numbers[first..first + points]);
+    }
+}
+
 /// Puts the heights for which numbers stand in, profile by profile, and notes what the cells were that
 /// become others. The row is room for the old heights of a profile.
 pub fn put_profiles<L: Lane, G: Grid>(

@@ -8,9 +8,9 @@ use Rattle.hd_edit.specs.declared.edit.EditError.TheVariants.{Memory, Outside, H
 use Rattle.hd_edit.specs.Board.{Applies, IsEdited}
 use Rattle.hd_report.specs.Edits.{edit_text}
 use Rattle.hd_report.specs.Lines.{ok_line}
-use Rattle.hd_engine.specs.Edits.{IsEditAnswer, edited_state}
-use Rattle.hd_engine.specs.Reply.{Reply, accepted_with, refused_for}
-use Rattle.hd_engine.specs.State.{State}
+use Rattle.hd_session.specs.Edits.{IsEditAnswer, edited_state}
+use Rattle.hd_session.specs.Reply.{Reply, accepted_with, refused_for}
+use Rattle.hd_session.specs.State.{State}
 
 -- what is told of a refusal that is no want of memory
 told : (P : Result Map EditError → Type 0) (error : EditError) (old new : Map) → (error ≡ Memory → ⊥) → Applies P (Err error) old new → P (Err error)

@@ -7,7 +7,7 @@ use Rattle.hd_map.specs.Map.{Map}
 use Rattle.hd_num.specs.declared.frac.Frac.{Frac}
 use Rattle.hd_stats.specs.Distribution.{IsHist, IsPerc}
 use Rattle.hd_survey.specs.Values.{AreServing}
-use Rattle.hd_engine.specs.Distributions.{AreNotationCounts, IsNotationShare}
+use Rattle.hd_session.specs.Distributions.{AreNotationCounts, IsNotationShare}
 
 -- what holds over regions that serve holds over the regions after pruning
 over_features : (n : Notation) (P : List Region → Type 0) → ((rs : List Region) → heights_serve n ≡ true → P (map height_alone rs) → P rs)

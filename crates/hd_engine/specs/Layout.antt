@@ -2,7 +2,7 @@
 use Rattle.std.specs.Prelude.{ℕ}
 use Rattle.hd_engine.specs.declared.session.Layout.{Layout}
 use Rattle.hd_engine.specs.declared.session.Layout.TheVariants.{Narrow, Wide}
-use Rattle.hd_engine.specs.State.{State}
+use Rattle.hd_session.specs.State.{State}
 
 abbrev pub state_in : Layout → State
 state_in (Narrow w) = w.state

@@ -1,6 +1,6 @@
 -- The texts that a session keeps.
 use Rattle.hd_engine.specs.declared.texts.Texts.{Texts}
-use Rattle.hd_engine.specs.State.{FileTexts}
+use Rattle.hd_session.specs.State.{FileTexts}
 
 abbrev pub texts_view : Texts → FileTexts
 texts_view t = record {

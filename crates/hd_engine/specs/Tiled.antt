@@ -5,7 +5,7 @@ use Rattle.hd_map.specs.Map.{Map}
 use Rattle.hd_pool.specs.Following.{Follows, PoolAndLinks}
 use Rattle.hd_survey.specs.declared.survey.Survey.{Survey}
 use Rattle.hd_survey.specs.Survey.{IsSurvey}
-use Rattle.hd_engine.specs.State.{State}
+use Rattle.hd_session.specs.State.{State}
 
 -- the state, and how many changes of the grid were counted
 pub record TiledState : Type 0 where

@@ -1,7 +1,7 @@
 -- The state of a grid that a script works on.
 use Rattle.hd_map.specs.Map.{Map}
 use Rattle.hd_engine.specs.declared.workpiece.Workpiece.{Workpiece}
-use Rattle.hd_engine.specs.State.{State}
+use Rattle.hd_session.specs.State.{State}
 use Rattle.hd_engine.specs.Texts.{texts_view}
 
 -- where a grid is seen as a map

@@ -2,7 +2,7 @@
 ghost use Rattle.std.specs.Prelude.{◌≡◌, IfOk};
 ghost use Rattle.hd_map.specs.Surface.{map_of};
 ghost use Rattle.hd_sdf_read.specs.FileOf.{file_of};
-ghost use Rattle.hd_engine.specs.State.{file_with, texts_of};
+ghost use Rattle.hd_session.specs.State.{file_with, texts_of};
 ghost use Rattle.hd_engine.specs.Texts.{texts_view};
 
 use crate::copies::{copied, decimal, extras};

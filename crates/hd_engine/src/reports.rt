@@ -16,13 +16,13 @@ ghost use Rattle.hd_report.specs.Trees.{tree_text};
 ghost use Rattle.hd_num.specs.declared.frac.Frac.{Frac};
 ghost use Rattle.hd_prune.specs.declared.step.Kept.{Kept};
 ghost use Rattle.hd_prune.specs.Staying.{AreKeptAlone};
-ghost use Rattle.hd_report.specs.Volumes.{fill_text};
+ghost use Rattle.hd_report.specs.Volumes.{AreWithVolumes, fill_text};
 ghost use Rattle.hd_stats.specs.Fill.{AreFills};
 ghost use Rattle.hd_survey.specs.Findings.{AreFindings};
-ghost use Rattle.hd_survey.specs.Lines.{ArePrunedLines};
-ghost use Rattle.hd_survey.specs.Owned.{ArePrunedRegions};
-ghost use Rattle.hd_survey.specs.Regions.{AreRegionSizes};
-ghost use Rattle.hd_engine.specs.Info.{info_on};
+ghost use Rattle.hd_regions.specs.Lines.{ArePrunedLines};
+ghost use Rattle.hd_regions.specs.Owned.{ArePrunedRegions};
+ghost use Rattle.hd_regions.specs.Regions.{AreRegionSizes};
+ghost use Rattle.hd_session.specs.Info.{info_on};
 ghost use Rattle.hd_engine.specs.Texts.{texts_view};
 
 use crate::texts::Texts;
@@ -162,7 +162,8 @@ pub(crate) fn report_volumes<S: Side, G: Heights>(
     requires range { range ≡ range_of (present_heights (G.map grid.now)) }
     ensures findings { AreFindings (G.map grid.now) S.NAME findings.new }
     ensures text { IfOk result (λ text. (kept : Items Kept) × (volumes : Items (Maybe Frac)) × AreKeptAlone (G.map grid.now) S.NAME percent.thousandths kept
-        × AreFills (G.map grid.now) S.NAME kept volumes × (text ≡ fill_text S.NAME percent.thousandths (G.map grid.now).size kept volumes)) }
+        × AreFills (G.map grid.now) S.NAME kept volumes × (fills : Items (Kept × Maybe Frac)) × AreWithVolumes kept volumes fills
+        × (text ≡ fill_text S.NAME percent.thousandths (G.map grid.now).size fills)) }
 {
     findings.find_kept(alloc, grid, percent, range)?;
     let kept = findings.kept();

@@ -9,15 +9,15 @@ ghost use Rattle.hd_check.specs.declared.types.Certificate.{Certificate as Shown
 ghost use Rattle.hd_check.specs.Text.{certificate_text};
 ghost use Rattle.hd_cert.specs.Shown.{AreTwoPits, IsShownCertificate};
 ghost use Rattle.hd_survey.specs.Findings.{AreFindings};
-ghost use Rattle.hd_engine.specs.Reply.{reply_of};
-ghost use Rattle.hd_engine.specs.Saddles.{IsPairReply, IsSaddleReply};
+ghost use Rattle.hd_session.specs.Reply.{reply_of};
+ghost use Rattle.hd_session.specs.Saddles.{IsPairReply, IsSaddleReply};
 
-use crate::Answer;
 use hd_cert::{certify, certify_by_regions};
 use hd_check::{Certificate, write_certificate};
 use hd_list::{List, Memory};
 use hd_map::{Heights, Pos, Rank, Side, contains, is_present, rank_of};
 use hd_report::one_region_cause;
+use hd_session::Answer;
 use hd_survey::{Findings, reached_pits, saddle_between};
 use std::alloc::Global;
 

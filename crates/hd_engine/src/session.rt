@@ -1,19 +1,19 @@
 // A session on one surface.
 ghost use Rattle.std.specs.Prelude.{◌≡◌, ◌≤◌, ◌<◌, ◌+◌, [], IfOk, OnErr};
 ghost use Rattle.hd_sdf_read.specs.FileOf.{file_of};
-ghost use Rattle.hd_engine.specs.Answers.{IsAnswer};
-ghost use Rattle.hd_engine.specs.Reply.{reply_of};
-ghost use Rattle.hd_engine.specs.State.{first_state, saved_file};
+ghost use Rattle.hd_session.specs.Answers.{IsAnswer};
+ghost use Rattle.hd_session.specs.Reply.{reply_of};
+ghost use Rattle.hd_session.specs.State.{first_state, saved_file};
 ghost use Rattle.hd_sdf_write.specs.Canonical.{canonical};
 
-use crate::Answer;
-use crate::file_pieces::{FilePieces, narrow_pieces, wide_pieces};
+use crate::file_pieces::pieces_of;
 use crate::parts::{joined, parted};
 use crate::surveyed::Surveyed;
 use hd_list::Memory;
 use hd_map::{Narrow, Surface, Wide};
 use hd_pool::Choice;
 use hd_sdf_read::SdfFile;
+use hd_session::{Answer, FilePieces, SurfaceSession};
 use std::alloc::Global;
 use std::marker::Model;
 
@@ -35,7 +35,7 @@ enum Layout {
 impl Model for Session {
     ghost use Rattle.std.specs.Prelude.{◌≤◌, ◌*◌, ◌^◌};
     ghost use Rattle.hd_engine.specs.Layout.{changes_in, state_in};
-    ghost use Rattle.hd_engine.specs.State.{SessionState};
+    ghost use Rattle.hd_session.specs.State.{SessionState};
 
     ghost Value = { SessionState };
 
@@ -106,8 +106,14 @@ impl Session {
         }) }
     {
         match &self.layout {
-            Layout::Narrow(surveyed) => narrow_pieces(surveyed),
-            Layout::Wide(surveyed) => wide_pieces(surveyed),
+            Layout::Narrow(surveyed) => {
+                let pieces = pieces_of(surveyed)?;
+                Ok(FilePieces::narrow(pieces))
+            }
+            Layout::Wide(surveyed) => {
+                let pieces = pieces_of(surveyed)?;
+                Ok(FilePieces::wide(pieces))
+            }
         }
     }
 
@@ -127,5 +133,24 @@ impl Session {
             Layout::Narrow(surveyed) => surveyed.answer(number, line),
             Layout::Wide(surveyed) => surveyed.answer(number, line),
         }
+    }
+}
+
+impl SurfaceSession for Session {
+    ghost state = { λ s. s.state };
+
+    ghost asked = { λ s. s.asked };
+
+    fn on_file(alloc: Global, file: SdfFile, tile: u32) -> Result<Session, Memory> {
+        let session = Session::new(alloc, file, tile)?;
+        Ok(session)
+    }
+
+    fn answer_line(&mut self, number: u64, line: &[u8]) -> Result<Answer, Memory> {
+        self.answer(number, line)
+    }
+
+    fn pieces(&self) -> Result<FilePieces<'_>, Memory> {
+        self.file_pieces()
     }
 }

@@ -37,7 +37,7 @@ pub(crate) struct Texts {
 
 impl Texts {
     ghost use Rattle.std.specs.Prelude.{◌≡◌};
-    ghost use Rattle.hd_engine.specs.State.{file_with};
+    ghost use Rattle.hd_session.specs.State.{file_with};
     ghost use Rattle.hd_engine.specs.Texts.{texts_view};
     ghost use Rattle.hd_sdf_write.specs.Texts.{file_with as written_with};
 

@@ -5,8 +5,8 @@ ghost use Rattle.hd_report.specs.Values.{feature_line, height_line, param_line};
 ghost use Rattle.hd_stats.specs.Heights.{IsHeightValue};
 ghost use Rattle.hd_survey.specs.Survey.{IsSurvey};
 ghost use Rattle.hd_survey.specs.Sums.{IsSumOfMeans};
-ghost use Rattle.hd_survey.specs.Values.{IsNotationValue, IsParameterValue};
-ghost use Rattle.hd_engine.specs.Distributions.{AreNotationCounts, IsNotationShare};
+ghost use Rattle.hd_regions.specs.Values.{IsNotationValue, IsParameterValue};
+ghost use Rattle.hd_session.specs.Distributions.{AreNotationCounts, IsNotationShare};
 
 use hd_feature::{Notation, Parameter};
 use hd_list::{List, Memory};

@@ -5,7 +5,7 @@ use Rattle.std.specs.Prelude.{◌↔◌}
 use Rattle.std.proofs.lemmas.Bool.{cases_eq}
 use Rattle.hd_map.proofs.Levels.{Reach, here, step, reach-trans, reach-sym}
 use Rattle.hd_graph.specs.Classes.{AreFalling, AreLeastsOf, AreNext, AreOneClass, AreJoined, Joins}
-use Rattle.hd_graph.proofs.Places.{get-set_same, get-set_other}
+use Rattle.hd_map.proofs.Places.{get-set_same, get-set_other}
 use Rattle.hd_graph.proofs.Reach.{reach-by}
 
 next-both : (parents : List ℕ) (x y : ℕ) → AreNext parents x y → AreNext parents y x

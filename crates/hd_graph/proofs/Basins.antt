@@ -16,6 +16,7 @@ use Rattle.hd_map.specs.Region.{IsPit}
 use Rattle.hd_map.specs.Saddle.{IsSaddle, SaddleIs}
 use Rattle.hd_map.specs.SideLaws.{below_by-order}
 use Rattle.hd_map.proofs.Apart.{length-le_from_apart}
+use Rattle.hd_map.proofs.Higher.{higher-bounds, higher-least, higher-sym, not_above-below}
 use Rattle.hd_map.proofs.Depth.{point_limits}
 use Rattle.hd_map.proofs.Levels.{Reach, here, step, PointStep, reach-trans, reach-sym, reach-from_path, path-from_reach, reach-higher, points-both, same_or_not, none_above-higher, top_of}
 use Rattle.hd_map.proofs.Points.{Near-to, Near-apart}
@@ -29,53 +30,8 @@ use Rattle.hd_graph.specs.Line.{IsFloodLine, rise_between}
 use Rattle.hd_graph.specs.Tells.{IsPitOn, TellsSaddles}
 use Rattle.hd_map.specs.Walks.{HasPass, Stride, passes_of}
 use Rattle.hd_graph.specs.Walks.{IsLeastHighest, LeastHighestIs}
-use Rattle.hd_graph.proofs.Places.{at_place, one_place}
+use Rattle.hd_map.proofs.Places.{at_place, one_place}
 use Rattle.hd_graph.proofs.PrimOrder.{PassStep, reach-from_walk, walk-from_reach, walk_top, least-from_level, level-from_least}
-
-module _ (side : SideName) where
-  abbrev order : IsStrictOrder (below_by side)
-  order = below_by-order side
-
-  -- neither of two points is above the higher one
-  pub higher-bounds : (a b : Rank) → IsNotAbove (below_by side) a (higher_by side a b) × IsNotAbove (below_by side) b (higher_by side a b)
-  higher-bounds a b = elim (below_by side a b) as (λ v. below_by side a b ≡ v → IsNotAbove (below_by side) a (cond v b a) × IsNotAbove (below_by side) b (cond v b a)) [
-    | true ↦ λ e. (below-not_above (below_by side) order a b e, not_above-refl (below_by side) order b)
-    | false ↦ λ e. (not_above-refl (below_by side) order a, e)
-  ] refl
-
-  -- and the higher one is not above what neither of them is above
-  pub higher-least : (a b t : Rank) → IsNotAbove (below_by side) a t → IsNotAbove (below_by side) b t → IsNotAbove (below_by side) (higher_by side a b) t
-  higher-least a b t one other = elim (below_by side a b) as (λ v. IsNotAbove (below_by side) (cond v b a) t) [ true ↦ other | false ↦ one ]
-
-  -- it is the same both ways
-  pub higher-sym : (a b : Rank) → higher_by side a b ≡ higher_by side b a
-  higher-sym a b =
-      let x = higher-bounds a b in
-      let y = higher-bounds b a in
-      order.total (higher_by side a b) (higher_by side b a) (higher-least b a (higher_by side a b) x.1 x.0) (higher-least a b (higher_by side b a) y.1 y.0)
-
-  -- and of three it does not matter which two are taken first
-  pub higher-assoc : (a b c : Rank) → higher_by side a (higher_by side b c) ≡ higher_by side (higher_by side a b) c
-  higher-assoc a b c =
-      let below = below_by side in
-      let left : Rank = higher_by side a (higher_by side b c) in
-      let right : Rank = higher_by side (higher_by side a b) c in
-      let ab = higher-bounds a b in
-      let bc = higher-bounds b c in
-      let l = higher-bounds a (higher_by side b c) in
-      let r = higher-bounds (higher_by side a b) c in
-      let b_left = not_above-trans below order b (higher_by side b c) left bc.0 l.1 in
-      let c_left = not_above-trans below order c (higher_by side b c) left bc.1 l.1 in
-      let a_right = not_above-trans below order a (higher_by side a b) right ab.0 r.0 in
-      let b_right = not_above-trans below order b (higher_by side a b) right ab.1 r.0 in
-      order.total left right (higher-least (higher_by side a b) c left (higher-least a b left l.0 b_left) c_left) (higher-least a (higher_by side b c) right a_right (higher-least b c right b_right r.1))
-
--- what is not above another, and is another, is below it
-pub not_above-below : (side : SideName) (a b : Rank) → IsNotAbove (below_by side) a b → (a ≡ b → ⊥) → below_by side a b ≡ true
-not_above-below side a b low ne = elim (below_by side a b) as (λ v. below_by side a b ≡ v → v ≡ true) [
-  | true ↦ λ e. refl
-  | false ↦ λ e. absurd (ne ((below_by-order side).total a b e low))
-] refl
 
 module _ (m : Map) (side : SideName) (In : Rank → Rank → Type 0) where
   -- a meeting of two basins is one both ways

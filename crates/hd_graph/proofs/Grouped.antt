@@ -16,7 +16,7 @@ use Rattle.hd_map.specs.declared.types.Rank.{Rank}
 use Rattle.hd_map.proofs.Items.{Contains-head, Contains-cases, Contains-none, Contains-tail, AllPairs-first, AllPairs-tail}
 use Rattle.hd_graph.specs.declared.parts.Part.{Part}
 use Rattle.hd_graph.specs.declared.parts.Rise.{Rise}
-use Rattle.hd_graph.proofs.LeftParts.{from-rise_parts}
+use Rattle.hd_graph.proofs.RiseParts.{from-rise_parts}
 use Rattle.hd_map.specs.ChangeTree.{Joining}
 use Rattle.hd_graph.specs.Parts.{AreGrouped, IsListed, comes_before, join_of, grown, left_of, right_of, rise_parts, with_low, with_part}
 use Rattle.hd_graph.proofs.WithPart.{with_part-grows, with_part-adds}

@@ -11,7 +11,7 @@ use Rattle.hd_map.specs.SideLaws.{below_by-order}
 use Rattle.hd_map.proofs.Levels.{PointStep, Reach, path-from_reach, reach-higher, reach-trans}
 use Rattle.hd_map.proofs.Saddles.{level-from_saddle, saddle-exists, saddle-sym, saddle-ultrametric, saddle-unique}
 use Rattle.hd_map.proofs.Order.{below-not_above, not_above-refl, not_above-trans}
-use Rattle.hd_graph.proofs.Basins.{higher-bounds, higher-least}
+use Rattle.hd_map.proofs.Higher.{higher-bounds, higher-least}
 
 module _ (m : Map) (side : SideName) where
   -- where the saddles of a and b and of b and c are not above w, that of a and c is not above it

@@ -8,7 +8,7 @@ use Rattle.hd_graph.specs.Classes.{AreLeastsOf, AreOneClass, IsLeast, Joins}
 use Rattle.hd_graph.specs.Onward.{AreJoined, AreOnward, IsOnward, IsPart}
 use Rattle.hd_graph.proofs.Connected.{AreConnected, class-joined, connected-join, connected-next, connected-none, connected-same}
 use Rattle.hd_graph.proofs.Grows.{Grows, IsInEither, grows-joined, in_either-along}
-use Rattle.hd_graph.proofs.Places.{get-push_cases, get-set_cases, get-set_other, get-set_same, item_at}
+use Rattle.hd_map.proofs.Places.{get-push_cases, get-set_cases, get-set_other, get-set_same, item_at}
 use Rattle.hd_graph.proofs.AreOneClass.{AreSame, class-sym, class-trans, least-same, one-class, two-classes}
 
 module _ (links : List Link) (count : ℕ) where

@@ -1,5 +1,3 @@
--- hd_prune cites Places, Lows, Rises and GoesFrom
-pub mod Places
 pub mod Reach
 pub mod AreOneClass
 pub mod NumberedLinks
@@ -14,19 +12,12 @@ pub mod Connected
 pub mod LeadsOn
 pub mod Merging
 pub mod Meeting
-pub mod Lows
-pub mod Highest
-pub mod Stacks
 pub mod WithPart
-pub mod TurnedLine
-pub mod Lowest
-pub mod LeftParts
 pub mod RiseParts
 pub mod Grouped
 pub mod TreeOf
-pub mod GoesFrom
-pub mod PitLines
 pub mod MapTrees
+pub mod LineSaddles
 pub mod Isosceles
 pub mod PitMerges
 pub mod MergeWays
@@ -35,4 +26,7 @@ pub mod JoinedBelow
 pub mod Basins
 pub mod RegionBasins
 pub mod AgreeingMerges
+pub mod PitsOn
+pub mod Along
 pub mod LineSoFar
+pub mod LineStops

@@ -25,7 +25,7 @@ use Rattle.hd_graph.proofs.LinkOrder.{sorted-places}
 use Rattle.hd_graph.proofs.Linked.{link-pass, link_of}
 use Rattle.hd_graph.proofs.AgreeingMerges.{least-highest_same}
 use Rattle.hd_graph.proofs.NumberedLinks.{one_low}
-use Rattle.hd_graph.proofs.Places.{at_place, get-push_cases, get-push_new, get-push_old, pairs_from_places, place_of}
+use Rattle.hd_map.proofs.Places.{at_place, get-push_cases, get-push_new, get-push_old, pairs_from_places, place_of}
 use Rattle.hd_graph.proofs.Reached.{done-cases, done-kept, done-set, link-out}
 
 -- the stop for a low has its rank

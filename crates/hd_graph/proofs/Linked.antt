@@ -13,7 +13,7 @@ use Rattle.hd_graph.specs.declared.graph.Low.{Low}
 use Rattle.hd_map.specs.declared.types.Link.{Link}
 use Rattle.hd_graph.specs.Links.{HasEnds, IsBetween, pass_of, rank_at}
 use Rattle.hd_graph.proofs.PrimOrder.{PassStep}
-use Rattle.hd_graph.proofs.Places.{one_place}
+use Rattle.hd_map.proofs.Places.{one_place}
 use Rattle.hd_graph.proofs.Reach.{reach-as}
 
 -- a low of this rank has one number

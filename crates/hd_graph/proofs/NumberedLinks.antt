@@ -11,7 +11,7 @@ use Rattle.hd_graph.specs.declared.graph.Low.{Low}
 use Rattle.hd_map.specs.declared.types.Link.{Link}
 use Rattle.hd_graph.specs.Graph.{IsLow}
 use Rattle.hd_graph.specs.Links.{HasEnds, IsNumbering, pass_of, rank_at}
-use Rattle.hd_graph.proofs.Places.{get-set_same, get-set_other, item_at, one_place, place_of}
+use Rattle.hd_map.proofs.Places.{get-set_same, get-set_other, item_at, one_place, place_of}
 
 -- a number within the lows is that of a low
 pub low_at : (lows : List Low) (k : ℕ) → k < length lows → IsLow lows (rank_at lows k)

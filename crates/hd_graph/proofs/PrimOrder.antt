@@ -15,11 +15,11 @@ use Rattle.hd_graph.specs.declared.line.Stop.{Stop}
 use Rattle.hd_graph.specs.Line.{IsPrimOrder, TellsPasses, rise_between}
 use Rattle.hd_map.specs.Walks.{HasPass, Stride, IsWalk, passes_of}
 use Rattle.hd_graph.specs.Walks.{IsLeastHighest, LeastHighestIs}
-use Rattle.hd_graph.proofs.Places.{item_at}
+use Rattle.hd_map.proofs.Places.{item_at}
 use Rattle.hd_graph.proofs.Rises.{RiseWithin, between-within, within-between}
 
 -- a pass leads both ways
-pass-both : (passes : List Pass) (a b w : Rank) → HasPass passes a b w → HasPass passes b a w
+pub pass-both : (passes : List Pass) (a b w : Rank) → HasPass passes a b w → HasPass passes b a w
 pass-both passes a b w (inl h) = inr h
 pass-both passes a b w (inr h) = inl h
 

@@ -10,7 +10,7 @@ use Rattle.hd_graph.specs.Flood.{AreWhole, IsReached, is_done}
 use Rattle.hd_graph.specs.Links.{IsBetween}
 use Rattle.hd_graph.specs.Onward.{AreJoined, FirstStep, IsOnward}
 use Rattle.hd_graph.proofs.Connected.{joined-more, joined-sym}
-use Rattle.hd_graph.proofs.Places.{less_same_more}
+use Rattle.hd_map.proofs.Places.{less_same_more}
 
 -- one more low is done
 module _ (done : List Bool) (o : ℕ) (inside : o < length done) where

@@ -6,7 +6,7 @@ use Rattle.hd_map.specs.Order.{IsNotAbove, IsStrictOrder}
 use Rattle.hd_map.proofs.Order.{below-not_above, not_above-trans}
 use Rattle.hd_graph.specs.declared.line.Stop.{Stop}
 use Rattle.hd_graph.specs.Line.{higher_rise, highest_rise, rise_between}
-use Rattle.hd_graph.proofs.Places.{less_same_more, item_at}
+use Rattle.hd_map.proofs.Places.{less_same_more, item_at}
 
 module _ {X : Type 0} where
   pub slice_get-drop : (n : ℕ) (xs : List X) (k : ℕ) → slice_get (drop n xs) k ≡ slice_get xs (n + k)

@@ -1,6 +1,6 @@
 -- Numbers in classes, by a parent for each.
 use Rattle.std.specs.Prelude.{◌≡◌, ◌↔◌, ◌≤◌, ◌⊎◌, ℕ, List, Some, slice_get}
-use Rattle.hd_map.proofs.Levels.{Reach}
+use Rattle.hd_map.specs.Reach.{Reach}
 
 -- no parent is greater than its child
 abbrev pub AreFalling : List ℕ → Type 0

@@ -10,3 +10,4 @@ pub mod Onward
 pub mod Merges
 pub mod Flood
 pub mod Parts
+pub mod Along

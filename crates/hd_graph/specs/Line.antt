@@ -1,5 +1,5 @@
 -- Flood lines: the lows of a graph in the order in which rising water reaches them.
-use Rattle.std.specs.Prelude.{◌≡◌, ◌≢◌, ◌↔◌, ◌+◌, ◌<◌, ◌≤◌, ℕ, Bool, if◌then◌else◌, List, [], ◌∷◌, Option, Some, None, AllPairs, Contains, slice_get, take, drop}
+use Rattle.std.specs.Prelude.{◌≡◌, ◌≢◌, ◌↔◌, ◌+◌, ◌<◌, ◌≤◌, ◌^◌, ℕ, Bool, if◌then◌else◌, List, [], ◌∷◌, Option, Some, None, AllPairs, Contains, length, slice_get, take, drop}
 use Rattle.hd_map.specs.declared.types.Pass.{Pass}
 use Rattle.hd_map.specs.declared.types.Rank.{Rank}
 use Rattle.hd_map.specs.Order.{IsNotAbove}
@@ -11,6 +11,11 @@ use Rattle.hd_graph.specs.Walks.{LeastHighestIs}
 -- each low stands at one place of the line
 abbrev pub EachOnce : List Stop → Type 0
 EachOnce line = AllPairs (λ x y. x.low ≢ y.low) line
+
+-- the lows of a line have different indexes, and a u32 counts them
+pub record IsLine (line : List Stop) : Type 0 where
+  pub different : AllPairs (λ x y. x.low.index ≢ y.low.index) line
+  pub few : length line < 2 ^ 32
 
 -- the higher of two rises, and none where one of them is none
 abbrev pub higher_rise : (Rank → Rank → Bool) → Option Rank → Option Rank → Option Rank

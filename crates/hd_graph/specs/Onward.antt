@@ -1,6 +1,6 @@
 -- Links in order, and by which of them the water goes on from what those before have joined.
 use Rattle.std.specs.Prelude.{◌≡◌, ◌<◌, ◌≤◌, ◌+◌, ◌⊎◌, ℕ, List, Some, length, slice_get}
-use Rattle.hd_map.proofs.Levels.{Reach}
+use Rattle.hd_map.specs.Reach.{Reach}
 use Rattle.hd_map.specs.declared.types.Link.{Link}
 use Rattle.hd_graph.specs.Links.{IsBetween}
 

@@ -14,6 +14,7 @@ mod onward;
 mod order;
 mod parts;
 mod pass_heights;
+mod pits;
 mod saddles;
 mod trees;
 
@@ -28,5 +29,6 @@ pub use laws::{
 };
 pub use line::{FloodLine, Stop};
 pub use merges::{Merge, merges_by_links, merges_of};
+pub use pits::{MergedPits, merges_of_pits};
 pub use saddles::saddle_of_merges;
 pub use trees::{ChangeTree, Join, tree, tree_of_merges};

@@ -18,7 +18,7 @@ pub struct Stop {
 }
 
 /// The lows of a graph in the order in which rising water reaches them on a side. Contracts see it as
-/// the list of its stops. Each low stands on it once.
+/// the list of its stops. There are at most 4,294,967,295 of them, whose lows have different indexes.
 #[derive(Drop)]
 pub struct FloodLine<S: Side> {
     stops: List<Stop>,
@@ -28,21 +28,21 @@ pub struct FloodLine<S: Side> {
 impl<S: Side> Model for FloodLine<S> {
     ghost use Rattle.std.specs.Prelude.{List as Items};
     ghost use Rattle.hd_graph.specs.declared.line.Stop.{Stop};
-    ghost use Rattle.hd_graph.specs.Line.{EachOnce};
+    ghost use Rattle.hd_graph.specs.Line.{IsLine};
 
     ghost Value = { Items Stop };
 
     ghost view = { λ line. line.stops };
 
-    ghost invariant = { λ line. EachOnce line.stops };
+    ghost invariant = { λ line. IsLine line.stops };
 }
 
 impl<S: Side> FloodLine<S> {
-    ghost use Rattle.hd_graph.specs.Line.{EachOnce, rise_between};
+    ghost use Rattle.hd_graph.specs.Line.{EachOnce, IsLine, rise_between};
 
     /// The line of these stops.
     pub(crate) fn new(stops: List<Stop>) -> FloodLine<S>
-        requires { EachOnce stops }
+        requires { IsLine stops }
         ensures { result ≡ stops }
     {
         FloodLine {
@@ -55,6 +55,7 @@ impl<S: Side> FloodLine<S> {
     pub fn stops(&self) -> &[Stop]
         ensures value { result.now ≡ self.now }
         ensures once { EachOnce self.now }
+        ensures line { IsLine self.now }
     {
         self.stops.as_slice()
     }

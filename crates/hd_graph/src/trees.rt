@@ -1,21 +1,20 @@
 // Change trees.
-ghost use Rattle.std.specs.Prelude.{◌≡◌, ◌<◌, ◌++◌, ◌∷◌, [], IfOk, OnOk, length, true};
-ghost use Rattle.std.specs.List.Sorted.{IsSortedBy};
-ghost use Rattle.std.specs.Ordering.{is_lt};
+ghost use Rattle.std.specs.Prelude.{◌≡◌, ◌<◌, ◌++◌, ◌∷◌, [], All, AllPairs, IfOk, OnOk, length, true};
 ghost use Rattle.hd_map.specs.ChangeTree.{IsTree, IsChangeTree};
 ghost use Rattle.hd_map.specs.Map.{IsMap, Map};
+ghost use Rattle.hd_map.specs.Order.{IsNotAbove};
 ghost use Rattle.hd_map.specs.Rank.{below_by};
-ghost use Rattle.hd_graph.specs.Parts.{AreGrouped, comes_before, join_of, left_of, opens_join, right_of, rise_of, rises_of as rises_of_merges, rise_parts, with_low, with_part};
+ghost use Rattle.hd_graph.specs.Parts.{AreGrouped, AreTwoLows, join_of, left_of, opens_join, right_of, rise_of, rises_of, rise_parts, with_low, with_part};
 ghost use Rattle.hd_graph.specs.Tells.{AreMergesOf, IsPitOn, IsSaddleOn, TellsSaddles, joins_of};
 
 use crate::graph::Low;
 use crate::line::FloodLine;
 use crate::merges::Merge;
-use crate::parts::{Part, Rise, pits_line, rises_of};
+use crate::parts::{Part, Rise};
+use crate::pits::{MergedPits, merges_of_pits};
 use hd_list::{List, Memory};
 use hd_map::{Rank, Side};
 use std::alloc::Global;
-use std::cmp::Ordering;
 
 /// A saddle of two pits, and the classes of pits that it joins.
 #[derive(Debug, Drop)]
@@ -36,17 +35,15 @@ pub struct ChangeTree {
 /// The change tree of the stops that are pits: for each saddle of two of them, as
 /// `FloodLine::between` gives it, the lowest pits of the classes that it joins. Where the line tells
 /// the pits of a map and their saddles, it is the change tree of the map. `Memory` comes where the
-/// line of the pits, their rises or the joins are refused their memory.
+/// merges of the pits or the joins are refused their memory.
 pub fn tree<S: Side>(alloc: Global, line: &FloodLine<S>) -> Result<ChangeTree, Memory>
     ensures of_line { IfOk result (λ tree. IsTree (below_by S.NAME) (IsSaddleOn (below_by S.NAME) line.now)
         (IsPitOn line.now) (joins_of tree.joins)) }
     ensures of_map { IfOk result (λ tree. (m : Map) → TellsSaddles m S.NAME line.now
         → IsChangeTree m S.NAME (joins_of tree.joins)) }
 {
-    let pits = pits_line::<S>(alloc, line.stops())?;
-    let mut rises = rises_of::<S>(alloc, &pits)?;
-    rises.sort_unstable_by(|a, b| compare::<S>(a, b));
-    let joins = group::<S>(alloc, &rises)?;
+    let MergedPits { pits, merges } = merges_of_pits::<S>(alloc, line)?;
+    let joins = group::<S>(alloc, pits.as_slice(), merges.as_slice())?;
     Ok(ChangeTree {
         joins: List::from_vec(joins),
     })
@@ -63,14 +60,15 @@ pub fn tree_of_merges<S: Side>(
     ensures { IfOk result (λ tree. (m : Map) → IsMap m → AreMergesOf m S.NAME lows.now merges.now
         → IsChangeTree m S.NAME (joins_of tree.joins)) }
 {
-    let joins = List::from_vec(group_merges::<S>(alloc, lows, merges)?);
+    let joins = List::from_vec(group::<S>(alloc, lows, merges)?);
     Ok(ChangeTree { joins })
 }
 
 // The parts that the merges join, those of one saddle put together, each once.
-fn group_merges<S: Side>(alloc: Global, lows: &[Low], merges: &[Merge]) -> Result<Vec<Join>, Memory>
-    requires { (m : Map) × AreMergesOf m S.NAME lows.now merges.now }
-    ensures { IfOk result (λ joins. AreGrouped (below_by S.NAME) (rise_parts (rises_of_merges lows.now merges.now)) (joins_of joins.items)) }
+fn group<S: Side>(alloc: Global, lows: &[Low], merges: &[Merge]) -> Result<Vec<Join>, Memory>
+    requires each { All (AreTwoLows (below_by S.NAME) lows.now) merges.now }
+    requires rising { AllPairs (λ x y. IsNotAbove (below_by S.NAME) x.at y.at) merges.now }
+    ensures { IfOk result (λ joins. AreGrouped (below_by S.NAME) (rise_parts (rises_of lows.now merges.now)) (joins_of joins.items)) }
 {
     let mut joins = Vec::with_capacity(alloc, merges.len())?;
     for merge in merges {
@@ -90,18 +88,6 @@ fn rise_of(lows: &[Low], merge: Merge) -> Rise
         left: lows[merge.into as usize].rank,
         right: lows[merge.low as usize].rank,
     }
-}
-
-// The parts on the sides of the sorted rises, those of one saddle put together, each once.
-fn group<S: Side>(alloc: Global, rises: &[Rise]) -> Result<Vec<Join>, Memory>
-    requires { IsSortedBy (comes_before (below_by S.NAME)) rises.now }
-    ensures { IfOk result (λ joins. AreGrouped (below_by S.NAME) (rise_parts rises.now) (joins_of joins.items)) }
-{
-    let mut joins = Vec::with_capacity(alloc, rises.len())?;
-    for rise in rises {
-        add_rise_parts::<S>(alloc, &mut joins, *rise)?;
-    }
-    Ok(joins)
 }
 
 // Adds the parts on the two sides of the rise of a merge. Mostly they are a join of their own.
@@ -188,15 +174,4 @@ fn add_low<S: Side>(lows: List<Rank>, low: Rank) -> Result<List<Rank>, Memory>
     }
     lows.insert(at, low)?;
     Ok(List::from_vec(lows))
-}
-
-// Which of two rises comes first.
-fn compare<S: Side>(a: &Rise, b: &Rise) -> Ordering
-    ensures { is_lt result ≡ comes_before (below_by S.NAME) a.now b.now }
-{
-    if S::below(a.saddle, b.saddle) {
-        Ordering::Less
-    } else {
-        Ordering::Greater
-    }
 }

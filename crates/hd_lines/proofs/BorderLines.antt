@@ -8,21 +8,22 @@ use Rattle.hd_map.specs.declared.types.SideName.{SideName}
 use Rattle.hd_map.specs.Map.{IsMap, Map}
 use Rattle.hd_map.specs.Rank.{below_by}
 use Rattle.hd_map.specs.Saddle.{IsSaddle}
-use Rattle.hd_graph.proofs.Places.{at_place, item_at, place_of}
+use Rattle.hd_map.proofs.Places.{at_place, item_at, place_of}
 use Rattle.hd_prune.specs.declared.step.Kept.{Kept}
 use Rattle.hd_prune.specs.declared.step.Owned.{Owned}
 use Rattle.hd_prune.specs.declared.step.Step.{Step}
 use Rattle.hd_prune.specs.Answer.{IsPruned}
 use Rattle.hd_steep.specs.Numbering.{AreNumbered, Numbering}
-use Rattle.hd_lines.specs.declared.border.Border.{Border}
+use Rattle.hd_steep.specs.declared.border.Border.{Border}
 use Rattle.hd_lines.specs.declared.line.BorderLine.{BorderLine}
-use Rattle.hd_lines.specs.Borders.{AreBorders}
+use Rattle.hd_steep.specs.Borders.{AreBorders}
 use Rattle.hd_lines.specs.FirstJoins.{AreFirstJoins}
-use Rattle.hd_lines.specs.Lines.{AreBorderLines, IsAcross, IsBorderLine, IsOwnedBy, Pair}
+use Rattle.hd_steep.specs.Pairs.{IsAcross, Pair}
+use Rattle.hd_lines.specs.Lines.{AreBorderLines, IsBorderLine, IsOwnedBy}
 use Rattle.hd_lines.specs.Listed.{AreListed, line_of}
-use Rattle.hd_lines.specs.Found.{HasPlace}
+use Rattle.hd_steep.specs.Found.{HasPlace}
 use Rattle.hd_lines.specs.Places.{AreOwnerPlaces}
-use Rattle.hd_lines.proofs.Counted.{counted-as}
+use Rattle.hd_steep.proofs.Counted.{counted-as}
 use Rattle.hd_lines.proofs.HasPlace.{kept-last, last-kept, own-place, owned-place, pit_at-is, place-owned, place-owner, place-rises, HasPlace-found, places-joined, pit_at, rises-at}
 use Rattle.hd_lines.proofs.FirstJoins.{first-saddle}
 

@@ -9,8 +9,9 @@ use Rattle.hd_map.specs.Saddle.{IsSaddle}
 use Rattle.hd_map.proofs.Nexts.{root-is_pit}
 use Rattle.hd_map.proofs.Trees.{same_in_order}
 use Rattle.hd_lines.specs.declared.line.BorderLine.{BorderLine}
-use Rattle.hd_lines.specs.Lines.{AreBorderLines, AreCounted, IsAcross, IsBorderLine, IsOwnedBy, Pair}
-use Rattle.hd_lines.proofs.Counted.{counted-as, counted-unique}
+use Rattle.hd_steep.specs.Pairs.{AreCounted, IsAcross, Pair}
+use Rattle.hd_lines.specs.Lines.{AreBorderLines, IsBorderLine, IsOwnedBy}
+use Rattle.hd_steep.proofs.Counted.{counted-as, counted-unique}
 
 -- a test is determined by what it tells
 same_test : (b c : Bool) → ((b ≡ true) ↔ (c ≡ true)) → b ≡ c

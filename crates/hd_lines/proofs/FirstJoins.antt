@@ -13,14 +13,14 @@ use Rattle.hd_map.proofs.Levels.{Reach, here, reach-trans, step}
 use Rattle.hd_map.proofs.Points.{Near-to}
 use Rattle.hd_map.proofs.Saddles.{level-from_saddle, near-sym, saddle-from_level}
 use Rattle.hd_map.proofs.Order.{not_above-along}
-use Rattle.hd_graph.proofs.Basins.{higher-bounds}
+use Rattle.hd_map.proofs.Higher.{higher-bounds}
 use Rattle.hd_prune.proofs.JoinedByPaths.{JoinedBy, joined_along, joined_both, joined_higher, not_above_level}
-use Rattle.hd_lines.specs.declared.border.Border.{Border}
-use Rattle.hd_lines.specs.Borders.{AreBorders}
+use Rattle.hd_steep.specs.declared.border.Border.{Border}
+use Rattle.hd_steep.specs.Borders.{AreBorders}
 use Rattle.hd_lines.specs.FirstJoins.{IsFirstJoin, LowerStep}
-use Rattle.hd_lines.specs.Lines.{IsAcross, Pair}
-use Rattle.hd_lines.specs.Found.{HasPlace}
-use Rattle.hd_lines.proofs.Seen.{place-one}
+use Rattle.hd_steep.specs.Pairs.{IsAcross, Pair}
+use Rattle.hd_steep.specs.Found.{HasPlace}
+use Rattle.hd_steep.proofs.Seen.{place-one}
 
 -- the higher of two that are below a level is below it
 pub higher-below : (side : SideName) (x y w : Rank) → below_by side x w ≡ true → below_by side y w ≡ true → below_by side (higher_by side x y) w ≡ true

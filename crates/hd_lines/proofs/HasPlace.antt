@@ -16,7 +16,7 @@ use Rattle.hd_map.proofs.Items.{Contains-map, map-Contains}
 use Rattle.hd_map.proofs.Nexts.{root-is_pit, root-pit, root-unique}
 use Rattle.hd_map.proofs.Points.{Near-from, point_inside}
 use Rattle.hd_map.proofs.Prunings.{pits-unique}
-use Rattle.hd_graph.proofs.Places.{at_place, less_same_more, one_place, place_of as place_in}
+use Rattle.hd_map.proofs.Places.{at_place, less_same_more, one_place, place_of as place_in}
 use Rattle.hd_prune.specs.declared.step.Kept.{Kept}
 use Rattle.hd_prune.specs.declared.step.Owned.{Owned}
 use Rattle.hd_prune.specs.declared.step.Step.{Step}
@@ -26,9 +26,9 @@ use Rattle.hd_steep.specs.Numbering.{AreNumbered, Numbering}
 use Rattle.hd_steep.proofs.Numbered.{number_of_point, numbers_whole, pit_of_point}
 use Rattle.hd_prune.proofs.JoinedByPaths.{JoinedBy}
 use Rattle.hd_lines.specs.Lines.{IsOwnedBy}
-use Rattle.hd_lines.specs.Found.{HasPlace}
+use Rattle.hd_steep.specs.Found.{HasPlace}
 use Rattle.hd_lines.specs.Places.{AreOwnerPlaces, IsNumbered}
-use Rattle.hd_lines.proofs.Seen.{place-one}
+use Rattle.hd_steep.proofs.Seen.{place-one}
 use Rattle.hd_lines.proofs.Owners.{AreOwners, neighbours-joined, owners-pruned}
 
 -- what has a root is a point

@@ -1,11 +1,4 @@
 pub mod Written
-pub mod Counted
-pub mod Seen
-pub mod Indexed
-pub mod AreFoundOf
-pub mod SeenTo
-pub mod Chained
-pub mod Borders
 pub mod NumberedBorders
 pub mod Owners
 pub mod FirstJoins
@@ -13,5 +6,4 @@ pub mod HasPlace
 pub mod Listed
 pub mod BorderLines
 pub mod PassesAndSaddles
-pub mod Once
 pub mod Determined

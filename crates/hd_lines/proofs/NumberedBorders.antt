@@ -13,10 +13,10 @@ use Rattle.hd_map.specs.Order.{IsNotAbove, IsStrictOrder}
 use Rattle.hd_map.proofs.Levels.{Reach, here, step}
 use Rattle.hd_map.proofs.Order.{below-along, below-not_above, not_above-trans}
 use Rattle.hd_graph.specs.Classes.{AreJoined, AreOneClass, IsLeast, Joins}
-use Rattle.hd_graph.proofs.Places.{at_place, get-set_other, get-set_same, item_at, place_of}
+use Rattle.hd_map.proofs.Places.{at_place, get-set_other, get-set_same, item_at, place_of}
 use Rattle.hd_graph.proofs.Reach.{reach-by}
 use Rattle.hd_graph.proofs.AreOneClass.{class-sym, class-trans, least-same}
-use Rattle.hd_lines.specs.declared.border.Border.{Border}
+use Rattle.hd_steep.specs.declared.border.Border.{Border}
 use Rattle.hd_lines.specs.declared.saddles.NumberedBorder.{NumberedBorder}
 use Rattle.hd_lines.specs.NumberedBorders.{AreNumberedBorders, AreJoinedTo, AreLower, AreMarked, FirstStep, HasEnds, IsFirstOf, LowerNumberedStep, BordersSplitAt, numbered_border, is_lower}
 use Rattle.hd_lines.specs.FirstJoins.{AreEnds, AreFirstJoins, LowerStep}

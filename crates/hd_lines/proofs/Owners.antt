@@ -16,7 +16,7 @@ use Rattle.hd_map.proofs.Levels.{here, path-from_reach, same_or_not, step}
 use Rattle.hd_map.proofs.Nexts.{root-is_pit}
 use Rattle.hd_map.proofs.Saddles.{level-from_saddle, saddle-exists}
 use Rattle.hd_map.proofs.Order.{below-not_above, not_above-trans}
-use Rattle.hd_graph.proofs.Basins.{higher-bounds}
+use Rattle.hd_map.proofs.Higher.{higher-bounds}
 use Rattle.hd_prune.proofs.MapOwners.{joined-top, root-reached}
 use Rattle.hd_prune.proofs.Nearest.{Contains-without, without-Contains}
 use Rattle.hd_prune.proofs.Owners.{handed-over, handed-stays}

@@ -17,13 +17,14 @@ use Rattle.hd_map.proofs.Nexts.{root-is_pit, root-of_pit}
 use Rattle.hd_map.proofs.Points.{Near-from, same_index}
 use Rattle.hd_map.proofs.Saddles.{level-from_saddle, near-sym, saddle-above_pits, saddle-point, saddle-sym}
 use Rattle.hd_map.proofs.Order.{below-not_above, not_above-trans}
-use Rattle.hd_graph.proofs.Basins.{higher-bounds, higher-sym}
-use Rattle.hd_graph.proofs.Places.{less_same_more}
+use Rattle.hd_map.proofs.Higher.{higher-bounds, higher-sym}
+use Rattle.hd_map.proofs.Places.{less_same_more}
 use Rattle.hd_prune.proofs.Existing.{root_of}
 use Rattle.hd_prune.proofs.MapOwners.{below_or_same, root-reached}
 use Rattle.hd_prune.proofs.JoinedByPaths.{JoinedBy, joined_along, joined_both, joined_higher, not_above_level}
 use Rattle.hd_lines.specs.declared.line.BorderLine.{BorderLine}
-use Rattle.hd_lines.specs.Lines.{AreBorderLines, IsAcross, IsBorderLine, IsOwnedBy}
+use Rattle.hd_steep.specs.Pairs.{IsAcross}
+use Rattle.hd_lines.specs.Lines.{AreBorderLines, IsBorderLine, IsOwnedBy}
 use Rattle.hd_lines.proofs.Owners.{AreOwners, neighbours-joined, owners-pruned, saddle-within}
 use Rattle.hd_lines.proofs.FirstJoins.{higher-below}
 

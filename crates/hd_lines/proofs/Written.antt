@@ -3,7 +3,7 @@ use Rattle.std.proofs.Common.{◌≡◌, ◌≢◌, ◌<◌, ◌+◌, ◌∙◌,
 use Rattle.std.specs.Prelude.{AllPairs}
 use Rattle.std.proofs.lemmas.Bool.{cases_eq}
 use Rattle.std.proofs.lemmas.Option.{slice_get-get_or, same_Some}
-use Rattle.hd_graph.proofs.Places.{get-set_same, get-set_other, item_at, one_place}
+use Rattle.hd_map.proofs.Places.{get-set_same, get-set_other, item_at, one_place}
 
 module _ {X : Type 0} (key : X → ℕ) (value : ℕ → X → ℕ) (xs : List X) where
   -- the values of the first n items stand at their keys

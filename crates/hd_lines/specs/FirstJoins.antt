@@ -1,8 +1,8 @@
 -- Which borders join two regions first: those whose two no borders of lower passes join.
 use Rattle.std.specs.Prelude.{◌≡◌, ◌⊎◌, ◌↔◌, ℕ, Bool, true, List, length, slice_get, Some, Contains}
 use Rattle.hd_map.specs.declared.types.Rank.{Rank}
-use Rattle.hd_map.proofs.Levels.{Reach}
-use Rattle.hd_lines.specs.declared.border.Border.{Border}
+use Rattle.hd_map.specs.Reach.{Reach}
+use Rattle.hd_steep.specs.declared.border.Border.{Border}
 
 -- these are two numbers, in either order
 abbrev pub AreEnds : ℕ → ℕ → ℕ → ℕ → Type 0

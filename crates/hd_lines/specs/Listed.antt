@@ -1,7 +1,7 @@
 -- Borders as lines between kept pits.
 use Rattle.std.specs.Prelude.{◌≡◌, ◌<◌, ℕ, Bool, List, length, slice_get, Some}
 use Rattle.hd_prune.specs.declared.step.Kept.{Kept}
-use Rattle.hd_lines.specs.declared.border.Border.{Border}
+use Rattle.hd_steep.specs.declared.border.Border.{Border}
 use Rattle.hd_lines.specs.declared.line.BorderLine.{BorderLine}
 
 -- the line of a border between these two kept pits

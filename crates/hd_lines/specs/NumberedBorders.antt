@@ -1,9 +1,9 @@
 -- Borders with their numbers, and which of them join two regions first.
 use Rattle.std.specs.Prelude.{◌≡◌, ◌<◌, ◌≤◌, ◌↔◌, ℕ, Bool, true, false, List, length, slice_get, Some, Contains}
 use Rattle.hd_map.specs.declared.types.Rank.{Rank}
-use Rattle.hd_map.proofs.Levels.{Reach}
+use Rattle.hd_map.specs.Reach.{Reach}
 use Rattle.hd_graph.specs.Classes.{AreOneClass}
-use Rattle.hd_lines.specs.declared.border.Border.{Border}
+use Rattle.hd_steep.specs.declared.border.Border.{Border}
 use Rattle.hd_lines.specs.declared.saddles.NumberedBorder.{NumberedBorder}
 use Rattle.hd_lines.specs.FirstJoins.{AreEnds}
 

@@ -1,13 +1,9 @@
 //! Ridge and course lines of ISO 25178-2: the borders between the regions that a pruning leaves.
 #![tactic(auto)]
 
-mod border;
-mod chains;
-mod found;
 mod laws;
 mod line;
 mod lines;
-mod pairs;
 mod places;
 mod saddles;
 

@@ -5,16 +5,17 @@ ghost use Rattle.hd_lines.specs.Lines.{AreLinesOf};
 ghost use Rattle.hd_lines.specs.Listed.{AreListed};
 ghost use Rattle.hd_steep.specs.Numbering.{AreNumbered};
 
-use crate::border::Border;
 use crate::line::BorderLine;
-use crate::pairs::borders_of;
 use crate::places::owner_places;
 use crate::saddles::first_joins;
 use hd_list::{List, Memory};
 use hd_map::{Heights, Side};
 use hd_prune::{Kept, Pruned};
-use hd_steep::Regions;
+use hd_steep::{Border, Regions, borders_of};
 use std::alloc::Global;
+
+// Where heights have no order, a region has some three borders with those after it.
+const BORDERS_EACH: usize = 4;
 
 /// The border lines of the pruning of a grid on a side (for dales the ridge lines, for hills the course
 /// lines of ISO 25178-2): one for each two kept pits of whose points some are neighbours, by the index of
@@ -33,7 +34,8 @@ pub fn border_lines<S: Side, G: Heights>(
     let kept = pruned.kept.as_slice();
     let borders = {
         let places = owner_places(alloc, kept, pruned.owners.as_slice(), regions)?;
-        borders_of::<S, G>(alloc, grid, &places, kept.len().max(1))?
+        let many = kept.len().saturating_mul(BORDERS_EACH);
+        borders_of::<S, G>(alloc, grid, &places, kept.len().max(1), many)?
     };
     let firsts = first_joins::<S>(alloc, &borders, kept.len())?;
     list_lines(alloc, kept, &borders, &firsts)

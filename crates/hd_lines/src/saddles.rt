@@ -8,10 +8,10 @@ ghost use Rattle.hd_graph.specs.Classes.{AreFalling};
 ghost use Rattle.hd_lines.specs.NumberedBorders.{AreJoinedTo, AreLower, AreMarked, AreNumberedBorders, HasEnds, BordersSplitAt, is_lower};
 ghost use Rattle.hd_lines.specs.FirstJoins.{AreFirstJoins};
 
-use crate::border::Border;
 use hd_graph::Classes;
 use hd_list::Memory;
 use hd_map::{Rank, Side};
+use hd_steep::Border;
 use std::alloc::Global;
 use std::cmp::Ordering;
 

@@ -5,12 +5,8 @@ use Rattle.std.proofs.lemmas.List.Elements.{All-nil, All-cons, All-head, All-tai
 pub use Rattle.hd_map.proofs.Items.{Contains-head, Contains-tail, Contains-cases, Contains-none}
 use Rattle.hd_map.specs.Order.{IsNotAbove, IsStrictOrder}
 use Rattle.hd_map.specs.Path.{Leads, IsTop}
+pub use Rattle.hd_map.specs.Reach.{Reach, here, step}
 use Rattle.hd_map.proofs.Order.{not_above-refl, not_above-trans, below-not_above, below-apart}
-
--- reached by steps that R allows
-pub data Reach {V : Type 0} (R : V → V → Type 0) : V → V → Type 0 where
-  here : {a : V} → Reach R a a
-  step : {a b c : V} → R a b → Reach R b c → Reach R a c
 
 module _ {V : Type 0} (R : V → V → Type 0) where
   pub reach-trans : {a b c : V} → Reach R a b → Reach R b c → Reach R a c

@@ -4,6 +4,8 @@ pub mod Order
 pub mod Points
 pub mod DataTypes
 pub mod Depth
+pub mod Places
+pub mod Higher
 pub mod Nexts
 pub mod Regions
 pub mod Least
@@ -21,5 +23,5 @@ pub mod Ranks
 pub mod Lanes
 mod Filled
 pub mod Sets
-mod PackedPoints
+pub mod PackedPoints
 mod HeightsSet

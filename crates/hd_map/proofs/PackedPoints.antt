@@ -6,7 +6,7 @@ use Rattle.std.specs.Simd.Lanes.{zip2}
 use Rattle.std.proofs.Math.Seq.{map-set_same, take-append_seam}
 use Rattle.std.proofs.lemmas.Bool.{cases_Bool, cases_lt}
 use Rattle.std.proofs.lemmas.Int.{int_wrap_fits}
-use Rattle.std.proofs.lemmas.List.{get_or_default, get_or-replicate, length-replicate, length-map, map-append, map-set, get_or-map, get_or_append_left, get_or_push, replicate_more, take_more_set, take_all, drop_all, length_push}
+use Rattle.std.proofs.lemmas.List.{get_or_default, get_or-replicate, length-append, length-replicate, length-map, map-append, map-set, get_or-append_right, get_or-map, get_or_append_left, get_or_push, replicate-append-replicate, replicate_more, take_more_set, take_all, drop_all, length_push}
 use Rattle.std.proofs.lemmas.List.Edits.{map_over_more}
 use Rattle.std.proofs.lemmas.Simd.{get_or-zip2, length-zip2}
 use Rattle.hd_map.specs.declared.types.Adjacency.{Adjacency}
@@ -48,6 +48,13 @@ module _ {X Y Z : Type 0} (f : X → Y → Z) where
   zip2-push [] (b ∷ ys) x y e = absurd (omega arith)
   zip2-push (a ∷ xs) [] x y e = absurd (omega arith)
   zip2-push (a ∷ xs) (b ∷ ys) x y e = ap (λ zs. f a b ∷ zs) (zip2-push xs ys x y (omega arith))
+
+  -- pairs that are added to two lists
+  zip2-append : (xs us : List X) (ys vs : List Y) → length xs ≡ length ys → zip2 f (xs ++ us) (ys ++ vs) ≡ zip2 f xs ys ++ zip2 f us vs
+  zip2-append [] us [] vs e = refl
+  zip2-append [] us (b ∷ ys) vs e = absurd (omega arith)
+  zip2-append (a ∷ xs) us [] vs e = absurd (omega arith)
+  zip2-append (a ∷ xs) us (b ∷ ys) vs e = ap (λ zs. f a b ∷ zs) (zip2-append xs us ys vs (omega arith))
 
 -- what a mark shows of a number
 shown_by : {H : Type 0} (height : H → ℤ) (number : H) (mark : Mark) → shown_height (cell_from height number mark) (masks mark) ≡ (if measures mark && not (masks mark) then Some (height number) else None)
@@ -143,6 +150,38 @@ pub unmasked_push : (marks : List Mark) (mark : Mark) → map masks marks ≡ re
 unmasked_push marks mark before clear =
     map-append masks marks (mark ∷ []) ∙ ap (λ ms. ms ++ masks mark ∷ []) before ∙ ap (λ m. replicate (length marks) false ++ m ∷ []) clear
     ∙ replicate_more (length marks) false ∙ ap (λ n. replicate n false) (sym (length_push marks mark))
+
+-- the numbers from some place on are taken again
+pub cut_back : {X : Type 0} (xs ys zs : List X) (count : ℕ) → count ≡ length xs → zs ≡ take count (xs ++ ys) → zs ≡ xs
+cut_back xs ys zs count is cut = cut ∙ ap (λ n. take n (xs ++ ys)) is ∙ take-append_seam xs ys
+
+-- cells of a data type, with others
+are_cells_append : (t : DataType) (cells more : List Cell) → AreCellsOf t cells → AreCellsOf t more → AreCellsOf t (cells ++ more)
+are_cells_append t cells more before others = λ k inside.
+    let count : length (cells ++ more) ≡ length cells + length more = length-append cells more in
+    elim (cases_lt k (length cells)) [
+      | inl earlier ↦ rw (get_or_append_left cells more Bad k earlier) (before k earlier)
+      | inr later ↦ rw (get_or-append_right cells more (length cells) k Bad refl (omega arith)) (others (k - length cells) (omega (arith, inside, count)))
+    ]
+
+-- numbers and marks that are added to the kept ones
+module _ {H : Type 0} (height : H → ℤ) (numbers more : List H) (marks others : List Mark) (paired : length numbers ≡ length marks) (matched : length more ≡ length others) where
+  pub paired_append : length (numbers ++ more) ≡ length (marks ++ others)
+  paired_append = length-append numbers more ∙ ap₂ (λ (m n : ℕ). m + n) paired matched ∙ sym (length-append marks others)
+
+  -- their cells come after the others
+  pub cells_append : kept_cells height (numbers ++ more) (marks ++ others) ≡ kept_cells height numbers marks ++ kept_cells height more others
+  cells_append = zip2-append (cell_from height) numbers more marks others paired
+
+  -- each cell is of the data type
+  pub of_type_append : (t : DataType) → AreCellsOf t (kept_cells height numbers marks) → AreCellsOf t (kept_cells height more others) → AreCellsOf t (kept_cells height (numbers ++ more) (marks ++ others))
+  of_type_append t before after = rw cells_append (are_cells_append t (kept_cells height numbers marks) (kept_cells height more others) before after)
+
+-- no mask is set, with others
+pub unmasked_append : (marks others : List Mark) → map masks marks ≡ replicate (length marks) false → map masks others ≡ replicate (length others) false → map masks (marks ++ others) ≡ replicate (length (marks ++ others)) false
+unmasked_append marks others before after =
+    map-append masks marks others ∙ ap₂ (λ (ms ns : List Bool). ms ++ ns) before after ∙ replicate-append-replicate (length marks) (length others) false
+    ∙ ap (λ n. replicate n false) (sym (length-append marks others))
 
 -- as many cells of a data type as a size says, none of them masked
 module _ {H : Type 0} (height : H → ℤ) (s : Size) (t : DataType) (numbers : List H) (marks : List Mark) (adjacency : Adjacency) (paired : length numbers ≡ length marks)

@@ -8,6 +8,7 @@ pub mod Lanes
 pub mod SideLaws
 pub mod SettingLaws
 pub mod Path
+pub mod Reach
 pub mod Region
 pub mod Saddle
 pub mod ChangeTree

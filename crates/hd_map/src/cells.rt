@@ -74,6 +74,25 @@ impl Cells {
         }
     }
 
+    /// Adds cells of the data type at the end, each as it is kept: how far its height is over the least
+    /// one, and a mark without a mask. Where memory is refused, the cells stay as they were.
+    pub fn extend_packed(&mut self, overs: &[u32], marks: &[Mark]) -> Result<(), Memory>
+        requires paired { length overs.now ≡ length marks.now }
+        requires unmasked { map masks marks.now ≡ replicate (length marks.now) false }
+        requires of_type { AreCellsOf self.old.data_type (kept_cells (over_least self.old.data_type) overs.now marks.now) }
+        ensures data_type { self.new.data_type ≡ self.old.data_type }
+        ensures ok { OnOk result (cells_in self.new ≡ cells_in self.old ++ kept_cells (over_least self.old.data_type) overs.now marks.now) }
+        ensures err { OnErr result (cells_in self.new ≡ cells_in self.old) }
+    {
+        let count = self.heights.len();
+        self.heights.extend_from_slice(overs)?;
+        if self.marks.extend_from_slice(marks).is_err() {
+            self.heights.truncate(count);
+            return Err(Memory);
+        }
+        Ok(())
+    }
+
     // Adds the cell that is kept so.
     #[inline]
     fn push_packed(&mut self, over: u32, mark: Mark) -> Result<(), Memory>

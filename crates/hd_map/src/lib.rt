@@ -32,6 +32,7 @@ pub use laws::{
     saddle_is_not_above_the_higher_of_two, saddle_is_the_same_both_ways,
     saddle_of_two_pits_is_above_both,
 };
+pub use mark::Mark;
 pub use narrow::{Narrow, is_narrow};
 pub use near::{are_beside, beside_at, neighbours, neighbours_by};
 pub use packing::over_least;

@@ -14,7 +14,7 @@ use Rattle.hd_map.specs.Pruning.{ArePits}
 use Rattle.hd_map.specs.Region.{AreRegions, IsPit, IsRoot}
 use Rattle.hd_map.proofs.Items.{Contains-head, Contains-tail}
 use Rattle.hd_map.proofs.Prunings.{pits-unique}
-use Rattle.hd_survey.specs.declared.tally.Tally.{Tally}
+use Rattle.hd_regions.specs.declared.tally.Tally.{Tally}
 use Rattle.hd_survey.specs.Regions.{AreRegionSizes, pit_ranks, region_size}
 use Rattle.hd_survey.specs.Tallies.{AreRegionTallies, region_tally}
 use Rattle.hd_survey.proofs.Lists.{AllPairs-map, Contains-map, map-Contains}

@@ -14,7 +14,7 @@ use Rattle.hd_map.specs.Region.{AreRegions, IsPit, IsRoot}
 use Rattle.hd_map.proofs.Nexts.{root-is_pit, root-unique}
 use Rattle.hd_map.proofs.Points.{Near-from, place_inside, point_at, position_at-inside, position_at-place, same_index}
 use Rattle.hd_basin.specs.Sums.{IsCount, ListsEach}
-use Rattle.hd_lines.proofs.Once.{length-from_once}
+use Rattle.hd_steep.proofs.Once.{length-from_once}
 use Rattle.hd_prune.proofs.Ranges.{Contains-range, range-Contains, range-rises}
 use Rattle.hd_survey.specs.Regions.{names, points_of, rank_at}
 use Rattle.hd_survey.specs.Tallies.{region_tally, rooted_below}

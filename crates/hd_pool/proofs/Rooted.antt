@@ -18,7 +18,7 @@ use Rattle.hd_map.proofs.Points.{Near-from, Near-to}
 use Rattle.hd_map.proofs.Regions.{labelled-root, root-labelled}
 use Rattle.hd_map.proofs.Saddles.{near-sym}
 use Rattle.hd_graph.specs.Basins.{AreBasins}
-use Rattle.hd_graph.proofs.Basins.{higher-sym}
+use Rattle.hd_map.proofs.Higher.{higher-sym}
 use Rattle.hd_pool.specs.BetweenRoots.{AreBetweenRoots, pass_between}
 
 -- a pass of two, the first or the second of them first

@@ -6,7 +6,7 @@ use Rattle.std.proofs.lemmas.List.{take_more}
 use Rattle.std.proofs.lemmas.List.Elements.{Contains-append_cases}
 use Rattle.std.proofs.lemmas.Nat.{div-add-mod', mod_below}
 use Rattle.std.proofs.lemmas.Option.{same_Some}
-use Rattle.hd_graph.proofs.Places.{at_place, get-push_cases, item_at, place_of}
+use Rattle.hd_map.proofs.Places.{at_place, get-push_cases, item_at, place_of}
 use Rattle.hd_map.specs.declared.types.Link.{Link}
 use Rattle.hd_map.specs.declared.types.Pos.{Pos}
 use Rattle.hd_map.specs.declared.types.Size.{Size}

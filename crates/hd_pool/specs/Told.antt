@@ -3,7 +3,7 @@ use Rattle.std.specs.Prelude.{ℤ, Option, Some, None}
 use Rattle.hd_basin.specs.declared.extent.Extent.{Extent}
 use Rattle.hd_map.specs.declared.height_range.HeightRange.{HeightRange}
 use Rattle.hd_map.specs.declared.types.RegionSize.{RegionSize}
-use Rattle.hd_survey.specs.declared.tally.Tally.{Tally}
+use Rattle.hd_regions.specs.declared.tally.Tally.{Tally}
 
 -- the region with the number of its points
 abbrev pub size_told : Extent → RegionSize

@@ -8,7 +8,8 @@ use crate::told::{sizes_told, tallies_told};
 use hd_basin::Basins;
 use hd_list::{List, Memory};
 use hd_map::{Heights, Pos, RegionSize, Side};
-use hd_survey::{PitMerges, SideView, Tally, merges_of_passes};
+use hd_regions::Tally;
+use hd_survey::{PitMerges, SideView, merges_of_passes};
 use std::alloc::Global;
 use std::marker::Model;
 

@@ -5,7 +5,7 @@ ghost use Rattle.hd_pool.specs.Told.{range_between, size_told, tally_told};
 use hd_basin::Extent;
 use hd_list::{List, Memory};
 use hd_map::{HeightRange, RegionSize};
-use hd_survey::Tally;
+use hd_regions::Tally;
 use std::alloc::Global;
 
 /// The regions of these extents with the numbers of their points. `Memory` comes where the list is refused its

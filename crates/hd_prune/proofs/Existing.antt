@@ -1,14 +1,20 @@
--- What there is on every map: roots, pits that take over, all pits in a list, and saddles or none.
-use Rattle.std.proofs.Common.{◌≢◌, ℕ, zero, suc, ◌<◌, ◌⊎◌, inl, inr, Bool, List, [], ◌∷◌, Option, Some, None, refl, sym, ◌∙◌, ap, subst, arith}
-use Rattle.std.specs.Prelude.{Contains, ◌↔◌}
+-- What there is on every map: roots, pits that take over, all pits in a list, saddles or none, and its Sz.
+use Rattle.std.proofs.Common.{◌≡◌, ◌≢◌, ℕ, ℤ, zero, suc, ◌<◌, ◌≤◌, ◌⊎◌, inl, inr, Bool, List, [], ◌∷◌, get_or, Option, Some, None, refl, sym, ◌∙◌, ap, subst, arith}
+use Rattle.std.specs.Prelude.{AllPairs, Contains, ◌↔◌, ◌-ℤ◌, pos}
+use Rattle.std.specs.List.{range_with_len}
+use Rattle.std.proofs.lemmas.List.Elements.{Contains-get_or}
+use Rattle.std.proofs.lemmas.List.Kept.{AllPairs-cons}
+use Rattle.hd_map.specs.declared.height_range.HeightRange.{HeightRange}
 use Rattle.hd_map.specs.declared.types.Pos.{Pos}
 use Rattle.hd_map.specs.declared.types.Rank.{Rank}
 use Rattle.hd_map.specs.declared.types.SideName.{SideName}
 use Rattle.hd_map.specs.declared.types.SideName.TheVariants.{Dales}
-use Rattle.hd_map.specs.Map.{Map, IsMap, InGrid, Present, position_at}
+use Rattle.hd_map.specs.HeightRange.{range_of}
+use Rattle.hd_map.specs.Map.{Map, IsMap, InGrid, Present, cell_count, place_of, position_at}
 use Rattle.hd_map.specs.Order.{IsNotAbove, IsStrictOrder}
 use Rattle.hd_map.specs.Path.{Leads}
-use Rattle.hd_map.specs.Pruning.{IsBeyond, IsTakenOver}
+use Rattle.hd_map.specs.Presence.{present_heights}
+use Rattle.hd_map.specs.Pruning.{ArePits, IsBeyond, IsTakenOver, SzIs}
 use Rattle.hd_map.specs.Rank.{below_by, IsPoint, Near, rank}
 use Rattle.hd_map.specs.Region.{LowerNeighbour, IsNext, IsPit, IsRoot}
 use Rattle.hd_map.specs.SideLaws.{below_by-order}
@@ -16,13 +22,16 @@ use Rattle.hd_map.proofs.Decided.{IsDecided, in_grid_or_not, near_or_not}
 use Rattle.hd_map.proofs.Depth.{depth_by}
 use Rattle.hd_map.proofs.Levels.{Reach, here, step, Contains-head, Contains-tail, Contains-cases, Contains-none, same_or_not}
 use Rattle.hd_map.proofs.Nexts.{next-falls, root-pit, root-step, root-unique}
-use Rattle.hd_map.proofs.Points.{Near-from, Near-to, present_or_not, rank_position, ranks_of, point-listed}
+use Rattle.hd_map.proofs.Points.{Near-from, Near-to, position_at-place, present_or_not, rank_position, ranks_of, point-listed}
 use Rattle.hd_map.proofs.Saddles.{saddle-exists}
 use Rattle.hd_map.proofs.Order.{not_above-total, not_above-trans}
 use Rattle.hd_prune.proofs.Levels.{SaddleIs as LevelIs}
 use Rattle.hd_prune.specs.Taken.{HasBeyond}
 use Rattle.hd_prune.proofs.Firsts.{first_of}
+use Rattle.hd_prune.proofs.Lists.{AllPairs-first, AllPairs-map, AllPairs-tail}
 use Rattle.hd_prune.proofs.LowerNeighbours.{lower_neighbours}
+use Rattle.hd_prune.proofs.Ranges.{range-rises}
+use Rattle.hd_prune.proofs.Spans.{span_none, span_some}
 use Rattle.hd_prune.proofs.JoinedByPaths.{JoinedBy, by_levels}
 use Rattle.hd_prune.proofs.Reachable.{reach_or_not}
 
@@ -123,11 +132,12 @@ point_or_not m r =
       | inr outside ↦ inr (λ h. outside (subst (InGrid m.size) (sym (rank_position m r h.at h.present h.rank_is)) h.present.in_grid))
     ]
 
--- those of a list for which something holds
-those_of : {V : Type 0} (P : V → Type 0) (xs : List V) → ((x : V) → IsDecided (P x)) → (ys : List V) × ((y : V) → Contains ys y ↔ (Contains xs y × P y))
-those_of P [] decided = ([], λ y. (λ h. absurd (Contains-none y h), λ h. h.0))
-those_of P (x ∷ xs) decided =
-    let rest = those_of P xs decided in
+-- those of a list for which something holds, in the order of the list
+those_of : {V : Type 0} (R : V → V → Type 0) (P : V → Type 0) (xs : List V) → AllPairs R xs → ((x : V) → IsDecided (P x)) →
+    (ys : List V) × ((y : V) → Contains ys y ↔ (Contains xs y × P y)) × AllPairs R ys
+those_of R P [] pairs decided = ([], λ y. (λ h. absurd (Contains-none y h), λ h. h.0), pairs)
+those_of R P (x ∷ xs) pairs decided =
+    let rest = those_of R P xs (AllPairs-tail R x xs pairs) decided in
     elim (decided x) [
       | inl holds ↦ (
         x ∷ rest.0,
@@ -141,6 +151,7 @@ those_of P (x ∷ xs) decided =
             | inr later ↦ Contains-tail x y rest.0 ((rest.1 y).1 (later, h.1))
           ],
         ),
+        AllPairs-cons R x rest.0 (λ k d inside. AllPairs-first R x (get_or rest.0 k d) xs pairs ((rest.1 (get_or rest.0 k d)).0 (Contains-get_or rest.0 k d inside)).0) rest.2,
       )
       | inr fails ↦ (
         rest.0,
@@ -151,8 +162,16 @@ those_of P (x ∷ xs) decided =
             | inr later ↦ (rest.1 y).1 (later, h.1)
           ],
         ),
+        rest.2,
       )
     ]
+
+-- the points that are listed stand in position order
+points-rise : (m : Map) → 1 ≤ m.size.points → AllPairs (λ (a b : Rank). a.index < b.index) (ranks_of m)
+points-rise m some = AllPairs-map (λ (a b : Rank). a.index < b.index) (λ k. rank m (position_at m.size k)) (range_with_len 0 (cell_count m.size)) (λ i j d less inside.
+    let rises = range-rises (cell_count m.size) i j d less inside in
+    let at : (k : ℕ) → place_of m.size (position_at m.size k) ≡ k = λ k. position_at-place m.size k some in
+    omega (arith, rises, at (get_or (range_with_len 0 (cell_count m.size)) i d), at (get_or (range_with_len 0 (cell_count m.size)) j d)))
 
 module _ (m : Map) (whole : IsMap m) (side : SideName) where
   pit_or_not : (r : Rank) → IsDecided (IsPit m side r)
@@ -164,8 +183,15 @@ module _ (m : Map) (whole : IsMap m) (side : SideName) where
     | inr not ↦ inr (λ pit. not pit.point)
   ]
 
-  -- all pits in a list
-  pub list_of_pits : (pits : List Rank) × ((p : Rank) → Contains pits p ↔ IsPit m side p)
+  -- all pits in a list, in position order
+  pub list_of_pits : (pits : List Rank) × ArePits m side pits
   list_of_pits =
-      let found = those_of (IsPit m side) (ranks_of m) pit_or_not in
-      (found.0, λ p. (λ h. ((found.1 p).0 h).1, λ pit. (found.1 p).1 (point-listed m p pit.point, pit)))
+      let found = those_of (λ (a b : Rank). a.index < b.index) (IsPit m side) (ranks_of m) (points-rise m whole.size.some_points) pit_or_not in
+      (found.0, record { exactly = λ p. (λ h. ((found.1 p).0 h).1, λ pit. (found.1 p).1 (point-listed m p pit.point, pit)); in_order = found.2 })
+
+-- each map has its Sz
+pub sz_of : (m : Map) → IsMap m → (sz : ℤ) × SzIs m sz
+sz_of m whole = elim (range_of (present_heights m)) as (λ (o : Option HeightRange). range_of (present_heights m) ≡ o → (sz : ℤ) × SzIs m sz) [
+  | Some range ↦ λ is. (range.greatest -ℤ range.least, span_some m range (range.greatest -ℤ range.least) whole is refl)
+  | None ↦ λ none. (pos 0, span_none m none)
+] refl

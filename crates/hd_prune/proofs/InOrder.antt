@@ -1,5 +1,5 @@
 -- Pits in position order.
-use Rattle.std.proofs.Common.{◌≡◌, ◌≢◌, ℕ, zero, suc, ◌+◌, ◌<◌, Bool, true, false, List, [], ◌∷◌, ◌++◌, length, get_or, drop, Some, refl, sym, ◌∙◌, ap, subst, arith, slice_get, add-one, append_assoc}
+use Rattle.std.proofs.Common.{◌≡◌, ◌≢◌, ℕ, suc, ◌+◌, ◌<◌, Bool, true, false, List, [], ◌∷◌, ◌++◌, length, get_or, drop, refl, ap, subst, arith, add-one, append_assoc}
 use Rattle.std.specs.Prelude.{Contains, AllPairs, nat_lt, ◌↔◌}
 use Rattle.std.specs.Cmp.{IsStrictWeakOrder}
 use Rattle.std.specs.List.Sorted.{IsPermutation, IsSortedBy}
@@ -9,16 +9,12 @@ use Rattle.std.proofs.Math.Seq.{drop-cons}
 use Rattle.std.proofs.lemmas.Map.Keys.{IsDistinct-IsPermutation}
 use Rattle.std.proofs.lemmas.Map.Made.{AllPairs-from_IsDistinct, IsDistinct-from_AllPairs}
 use Rattle.std.proofs.lemmas.List.Elements.{Contains-get_or}
-use Rattle.std.proofs.lemmas.Option.{same_Some}
 use Rattle.hd_map.specs.declared.types.Rank.{Rank}
 use Rattle.hd_map.specs.Map.{Map}
 use Rattle.hd_map.specs.Order.{IsStrictOrder}
 use Rattle.hd_map.specs.Rank.{IsPoint}
 use Rattle.hd_map.proofs.Order.{is_same, is_same-decides, is_same-flips}
-use Rattle.hd_graph.proofs.Places.{one_place, pairs_from_places}
-use Rattle.hd_prune.specs.declared.line.PitStop.{PitStop}
 use Rattle.hd_prune.specs.declared.step.Owned.{Owned}
-use Rattle.hd_prune.specs.Line.{pits_of}
 use Rattle.hd_prune.proofs.Links.{one_point}
 use Rattle.hd_prune.specs.Pruned.{AreInOrder, index_less, owned_by}
 
@@ -34,18 +30,6 @@ in_order raw pits ys e moved sorted = record { same = subst (λ (zs : List Rank)
 -- they are the same pits
 pub in_order-same : (raw pits : List Rank) → AreInOrder raw pits → (p : Rank) → Contains raw p ↔ Contains pits p
 in_order-same raw pits h p = (λ at. Contains-permutation raw pits p h.same at, λ at. Contains-permutation pits raw p (IsPermutation-sym raw pits h.same) at)
-
-pits_at : (line : List PitStop) (i : ℕ) (p : Rank) → slice_get (pits_of line) i ≡ Some p → (y : PitStop) × (slice_get line i ≡ Some y) × (y.pit ≡ p)
-pits_at [] i p h = absurd (cc h)
-pits_at (x ∷ xs) zero p h = (x, refl, same_Some x.pit p h)
-pits_at (x ∷ xs) (suc i) p h = pits_at xs i p h
-
--- pits of a line that has each once are different
-pub pits-apart : (line : List PitStop) → AllPairs (λ x y. x.pit ≢ y.pit) line → AllPairs (λ p q. p ≢ q) (pits_of line)
-pits-apart line once = pairs_from_places (λ (p : Rank). p) (pits_of line) (λ i j p q ati atj e.
-    let a = pits_at line i p ati in
-    let b = pits_at line j q atj in
-    one_place (λ (z : PitStop). z.pit) line once i j a.0 b.0 a.1 b.1 (a.2 ∙ e ∙ sym b.2))
 
 at_least : (a b : ℕ) → nat_lt b a ≡ false → a ≢ b → a < b
 at_least a b h ne = elim (nat_lt a b) as (λ v. nat_lt a b ≡ v → a < b) [

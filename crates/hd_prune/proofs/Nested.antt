@@ -1,4 +1,4 @@
--- Pruning keeps exactly the pits that no pit undercuts, and so, at a greater percent, no other pits.
+-- Each map has a pruning; it keeps exactly the pits that no pit undercuts, and so, at a greater percent, no other pits.
 use Rattle.std.proofs.Common.{◌≡◌, ℕ, ◌≤◌, ◌*◌, inl, inr, true, List, sym, subst, arith}
 use Rattle.std.specs.Prelude.{Contains, ◌↔◌, ℤ, pos, negsuc, ◌*ℤ◌, ◌≤ℤ◌, int_lt}
 use Rattle.std.proofs.Math.Nat.{mul-le-mul_right}
@@ -22,6 +22,7 @@ use Rattle.hd_prune.specs.Kept.{AreNotUndercut}
 use Rattle.hd_prune.specs.Pruned.{leavings_of}
 use Rattle.hd_prune.proofs.Elder.{left_after}
 use Rattle.hd_prune.proofs.ElderSteps.{elder_steps}
+use Rattle.hd_prune.proofs.Existing.{list_of_pits, sz_of}
 use Rattle.hd_prune.proofs.MapPruning.{left-undercut}
 use Rattle.hd_prune.proofs.JoinedByPaths.{JoinedBy}
 use Rattle.hd_prune.proofs.MapPrunable.{prunable}
@@ -38,6 +39,16 @@ higher_goes a b (pos k) n le small h = more (a * k) (b * k) (mul-le-mul_right k 
 sz-at_least : (m : Map) (sz : ℤ) → SzIs m sz → pos 0 ≤ℤ sz
 sz-at_least m sz (inl h) = (let le = (h.4 h.0 h.2).1 in let e = h.5 in omega (arith, ints))
 sz-at_least m sz (inr h) = (let e = h.1 in omega (arith, ints))
+
+-- each map is pruned on each side at each percent
+pub exists : (m : Map) (side : SideName) (thousandths : ℕ) → IsMap m → (steps : List Leaving) × (last : List Rank) × (owner : Rank → Rank) × IsPruning m side thousandths steps last owner
+exists m side thousandths whole =
+    let all = list_of_pits m whole side in
+    let sz = sz_of m whole in
+    let laws = prunable m side thousandths sz.0 all.0 all.1.exactly in
+    let steps = elder_steps (below_by side) (JoinedBy m side) (local_on side) (goes thousandths sz.0) all.0 laws all.0 (λ q at. at) in
+    let pruning = pruning_of m whole side thousandths sz.0 all.0 all.1.exactly laws steps.0 steps.1 in
+    (pruning.0, left_after (below_by side) all.0 steps.0, pruning.1, record { pits = all.0; are_pits = all.1; sz = sz.0; sz_is = sz.1; prunes = pruning.2 })
 
 -- pruning keeps exactly the pits that no pit undercuts
 pub keeps-undercut : (m : Map) (side : SideName) (thousandths : ℕ) (sz : ℤ) (xs : List Leaving) (last : List Rank) (owner : Rank → Rank) → IsMap m → IsPruning m side thousandths xs last owner → SzIs m sz →

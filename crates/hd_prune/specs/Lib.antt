@@ -1,4 +1,3 @@
-pub mod Line
 pub mod Heights
 pub mod Leaving
 pub mod Around

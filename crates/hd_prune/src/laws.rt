@@ -7,6 +7,12 @@ ghost use Rattle.hd_map.specs.Pruning.{Leaving, SzIs, IsPruning};
 ghost use Rattle.hd_map.specs.Region.{IsPit};
 ghost use Rattle.hd_map.specs.Undercut.{Undercuts};
 
+/// Each map has a pruning, on each side and at each percent, in thousandths: the steps come to an end.
+pub fn pruning_exists()
+    ensures { (m : Map) (side : SideName) (thousandths : ℕ) → IsMap m
+        → (xs : List Leaving) × (last : List Rank) × (owner : Rank → Rank) × IsPruning m side thousandths xs last owner }
+{}
+
 /// Pruning keeps exactly the pits that no pit undercuts.
 pub fn pruning_keeps_what_is_not_undercut()
     ensures { (m : Map) (side : SideName) (thousandths : ℕ) (sz : ℤ) (xs : List Leaving) (last : List Rank) (owner : Rank → Rank)

@@ -2,12 +2,9 @@
 #![tactic(auto)]
 
 mod around;
-mod elders;
 mod keeping;
-mod kept;
 mod laws;
 mod leaving;
-mod line;
 mod order;
 mod pruning;
 mod span;
@@ -16,7 +13,7 @@ mod taking;
 
 pub use around::Around;
 pub use keeping::keep;
-pub use laws::{pruning_is_nested, pruning_keeps_what_is_not_undercut};
+pub use laws::{pruning_exists, pruning_is_nested, pruning_keeps_what_is_not_undercut};
 pub use pruning::{Pruned, prune, prune_by_merges};
 pub use span::height_span;
 pub use step::{Kept, Owned, Step};

@@ -1,32 +1,19 @@
-// Pits in position order, and their owners.
+// The pits of lows, and their owners.
 ghost use Rattle.std.specs.Prelude.{◌≡◌, IfOk, Contains};
-ghost use Rattle.std.specs.Ordering.{is_lt};
 ghost use Rattle.hd_map.specs.declared.types.Rank.{Rank};
 ghost use Rattle.hd_map.specs.Region.{IsPit};
-ghost use Rattle.hd_prune.specs.Line.{pits_of};
-ghost use Rattle.hd_prune.specs.Pruned.{AreInOrder, index_less, owned_by};
+ghost use Rattle.hd_prune.specs.Pruned.{owned_by};
 ghost use Rattle.hd_prune.specs.Staying.{ranks_of};
 ghost use Rattle.hd_prune.specs.Taken.{IsLinked};
 
 use crate::around::Around;
-use crate::line::PitStop;
 use crate::step::Owned;
 use crate::taking::owner_of;
 use hd_graph::Low;
 use hd_list::{List, Memory};
 use hd_map::{Rank, Side};
 use std::alloc::Global;
-use std::cmp::Ordering;
 use std::collections::HashMap;
-
-/// The pits of a line, in position order.
-pub fn pits_in_order(alloc: Global, line: &[PitStop]) -> Result<Vec<Rank>, Memory>
-    ensures { IfOk result (λ pits. AreInOrder (pits_of line.now) pits.items) }
-{
-    let mut pits = pit_ranks(alloc, line)?;
-    pits.sort_unstable_by(|a, b| compare_indexes(a, b));
-    Ok(pits)
-}
 
 /// The ranks of lows.
 pub fn low_ranks(alloc: Global, lows: &[Low]) -> Result<Vec<Rank>, Memory>
@@ -56,26 +43,4 @@ pub fn owners<S: Side, A: Around>(
         owners.push(Owned { pit: *pit, owner })?;
     }
     Ok(owners)
-}
-
-// The pits of a line.
-fn pit_ranks(alloc: Global, line: &[PitStop]) -> Result<Vec<Rank>, Memory>
-    ensures { IfOk result (λ pits. pits.items ≡ pits_of line.now) }
-{
-    let mut pits = Vec::with_capacity(alloc, line.len())?;
-    for stop in line {
-        pits.push(stop.pit)?;
-    }
-    Ok(pits)
-}
-
-/// Which of two pits comes first in position order.
-pub fn compare_indexes(a: &Rank, b: &Rank) -> Ordering
-    ensures { is_lt result ≡ index_less a.now b.now }
-{
-    if a.index < b.index {
-        Ordering::Less
-    } else {
-        Ordering::Greater
-    }
 }

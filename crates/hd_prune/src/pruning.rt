@@ -11,13 +11,11 @@ ghost use Rattle.hd_prune.specs.Staying.{ranks_of};
 
 use crate::around::Around;
 use crate::keeping::keep;
-use crate::kept::kept_in_order;
-use crate::leaving::{Limit, steps, steps_by_merges};
-use crate::line::{left_line, pit_line};
-use crate::order::{low_ranks, owners, pits_in_order};
+use crate::leaving::{Limit, steps};
+use crate::order::{low_ranks, owners};
 use crate::step::{Kept, Owned, Step};
 use crate::taking::take_over;
-use hd_graph::{FloodLine, Low, Merge};
+use hd_graph::{FloodLine, Low, Merge, MergedPits, merges_of_pits};
 use hd_list::{List, Memory};
 use hd_map::Side;
 use hd_num::Percent;
@@ -37,8 +35,8 @@ pub struct Pruned {
 /// Prunes the pits of a map at a percent of Sz: as long as the smallest local height of a pit is below
 /// it, that pit leaves, and the pit across its nearest saddle takes over what it owned (Wolf pruning of
 /// ISO 25178-2). The line tells the pits of the map and their saddles; `sz` is the greatest height of a
-/// present point less the least, in steps. `Memory` comes where the steps, the kept pits or the owners
-/// are refused their memory.
+/// present point less the least, in steps. `Memory` comes where the merges of its pits, the steps, the kept
+/// pits or the owners are refused their memory.
 pub fn prune<S: Side, A: Around>(
     alloc: Global,
     line: &FloodLine<S>,
@@ -52,35 +50,15 @@ pub fn prune<S: Side, A: Around>(
     ensures pruned { IfOk result (λ pruned. IsPruned (A.map around.now) S.NAME percent.thousandths pruned.steps pruned.kept pruned.owners) }
     ensures undercut { IfOk result (λ pruned. AreNotUndercut (A.map around.now) S.NAME percent.thousandths sz pruned.kept) }
 {
-    let limit = Limit { percent, sz };
-    prune_below::<S, A>(alloc, line, around, &limit)
-}
-
-// The same, below a limit.
-fn prune_below<S: Side, A: Around>(
-    alloc: Global,
-    line: &FloodLine<S>,
-    around: &A,
-    limit: &Limit,
-) -> Result<Pruned, Memory>
-    requires side { A.side around.now ≡ S.NAME }
-    requires told { TellsSaddles (A.map around.now) S.NAME line.now }
-    requires sz { SzIs (A.map around.now) limit.now.sz }
-    ensures pruned { IfOk result (λ pruned. IsPruned (A.map around.now) S.NAME limit.now.percent.thousandths pruned.steps pruned.kept pruned.owners) }
-    ensures undercut { IfOk result (λ pruned. AreNotUndercut (A.map around.now) S.NAME limit.now.percent.thousandths limit.now.sz pruned.kept) }
-{
-    let pits = pit_line::<S>(alloc, line.stops())?;
-    let leavers = steps::<S>(alloc, &pits, limit)?;
-    let mut taken = take_over::<S, A>(alloc, around, &leavers)?;
-    let left = left_line::<S>(alloc, line.stops(), &taken.links)?;
-    let kept = kept_in_order::<S>(alloc, &left)?;
-    let sorted = pits_in_order(alloc, &pits)?;
-    let owners = owners::<S, A>(alloc, around, &mut taken.links, &sorted)?;
-    Ok(Pruned {
-        steps: taken.steps,
-        kept,
-        owners,
-    })
+    let MergedPits { pits, merges } = merges_of_pits::<S>(alloc, line)?;
+    prune_by_merges::<S, A>(
+        alloc,
+        pits.as_slice(),
+        merges.as_slice(),
+        around,
+        percent,
+        sz,
+    )
 }
 
 /// The same pruning as `prune` gives, without a line: from the merges of all pits of the map, which stand in
@@ -101,7 +79,7 @@ pub fn prune_by_merges<S: Side, A: Around>(
     ensures pruned { IfOk result (λ pruned. IsPruned (A.map around.now) S.NAME percent.thousandths pruned.steps pruned.kept pruned.owners) }
     ensures undercut { IfOk result (λ pruned. AreNotUndercut (A.map around.now) S.NAME percent.thousandths sz pruned.kept) }
 {
-    let leavers = steps_by_merges::<S>(alloc, lows, merges, &Limit { percent, sz })?;
+    let leavers = steps::<S>(alloc, lows, merges, &Limit { percent, sz })?;
     let mut taken = take_over::<S, A>(alloc, around, &leavers)?;
     let kept = keep::<S>(alloc, lows, merges, percent, sz)?;
     let pits = low_ranks(alloc, lows)?;

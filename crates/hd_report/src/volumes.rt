@@ -1,7 +1,8 @@
 // The lines of fill volumes.
-ghost use Rattle.std.specs.Prelude.{◌≡◌, ◌++◌, ◌<◌, All, length, IfOk, OnOk};
+ghost use Rattle.std.specs.Prelude.{◌≡◌, ◌++◌, ◌<◌, List as Items, Option as Maybe, All, length, IfOk, OnOk};
+ghost use Rattle.std.specs.List.{zip};
 ghost use Rattle.hd_map.specs.Map.{cell_count};
-ghost use Rattle.hd_report.specs.Volumes.{fill_text, volume_line, volume_lines};
+ghost use Rattle.hd_report.specs.Volumes.{AreWithVolumes, fill_text, volume_line, volume_lines};
 
 use crate::heading::push_heading;
 use crate::place::push_point;
@@ -25,7 +26,8 @@ pub fn list_volumes(
 ) -> Result<List<u8>, Memory>
     requires inside { All (λ k. k.pit.index < cell_count size) kept.now }
     requires each { length volumes.now ≡ length kept.now }
-    ensures { IfOk result (λ text. text ≡ fill_text side percent.thousandths size kept.now volumes.now) }
+    ensures { IfOk result (λ text. (fills : Items (Kept × Maybe Frac)) × AreWithVolumes kept.now volumes.now fills
+        × (text ≡ fill_text side percent.thousandths size fills)) }
 {
     let mut text = List::new(alloc);
     push_heading(&mut text, b"fill ".as_slice(), side, percent, kept.len())?;
@@ -42,7 +44,7 @@ fn push_volumes(
 ) -> Result<(), Memory>
     requires inside { All (λ k. k.pit.index < cell_count size) kept.now }
     requires each { length volumes.now ≡ length kept.now }
-    ensures { OnOk result (text.new ≡ text.old ++ volume_lines size kept.now volumes.now) }
+    ensures { OnOk result (text.new ≡ text.old ++ volume_lines size (zip kept.now volumes.now)) }
 {
     'lines: for (number, one) in kept.iter().enumerate() {
         push_volume(text, size, one.pit, volumes[number])?;

@@ -6,12 +6,12 @@ use Rattle.std.proofs.KnownBytes.{Appends-trans, Appends-kept}
 use Rattle.std.proofs.Math.Seq.{take-add}
 use Rattle.std.proofs.lemmas.List.{drop-drop}
 use Rattle.hd_base.proofs.Told.{AppendsPart-after, start_of}
-use Rattle.hd_engine.specs.State.{State, IsState}
-use Rattle.hd_engine.specs.Answers.{IsAnswer, AreAnswers}
-use Rattle.hd_engine.specs.Reply.{Reply}
+use Rattle.hd_session.specs.State.{State, IsState}
+use Rattle.hd_session.specs.Answers.{IsAnswer, AreAnswers}
+use Rattle.hd_session.specs.Reply.{Reply}
 use Rattle.hd_run.specs.declared.stop.Stop.{Stop}
 use Rattle.hd_run.specs.declared.stop.Stop.TheVariants.{Memory, ReadFault, WriteFault, Refused}
-use Rattle.hd_run.specs.WrittenAnswers.{reply_of, AnswersFirst, WritesAnswer, WritesAnswers}
+use Rattle.hd_run.specs.WrittenAnswers.{reply_of, AnswersFirst, StopsInTurn, WritesAnswer, WritesAnswers}
 
 -- no answers
 abbrev pub nothing : Reply
@@ -136,6 +136,32 @@ module _ (start : State) (all : List (List ℕ)) (s : State) (number : ℕ) (lin
       )
   answered_stop ReadFault after new h so_far = absurd h
   answered_stop (Refused refusal) after new h so_far = absurd h
+
+  -- each answer before that one was written
+  pub answered_turn : (stop : Stop) (after : State) (new : Option (List ℕ)) (asked : ℕ) → asked ≡ number → WritesAnswer s number line (Err stop) after mid new
+      → AreAnswered start all s number (line ∷ rest) accepted old mid → StopsInTurn start all asked old new
+  answered_turn Memory after new asked is kept so_far = record {
+    count = so_far.count;
+    one_more = is ∙ so_far.numbered;
+    accepted = accepted;
+    text = so_far.text;
+    after = s;
+    answers = so_far.answers;
+    got = [];
+    written = subst (λ (xs : List ℕ). Appends old new xs) (sym (append-nil so_far.text)) (Appends-kept old mid new so_far.text so_far.written kept);
+  }
+  answered_turn WriteFault after new asked is (reply, answer, part) so_far = record {
+    count = so_far.count;
+    one_more = is ∙ so_far.numbered;
+    accepted = accepted;
+    text = so_far.text;
+    after = s;
+    answers = so_far.answers;
+    got = part.0;
+    written = Appends-trans old mid new so_far.text part.0 so_far.written part.3;
+  }
+  answered_turn ReadFault after new asked is h so_far = absurd h
+  answered_turn (Refused refusal) after new asked is h so_far = absurd h
 
 -- all lines are answered
 pub answered_all : (start : State) (all : List (List ℕ)) (s : State) (number : ℕ) (accepted : Bool) (old new : Option (List ℕ)) → AreAnswered start all s number [] accepted old new

@@ -4,9 +4,9 @@ use Rattle.std.specs.Io.{StartsWith}
 use Rattle.std.proofs.KnownBytes.{Keeps-refl}
 use Rattle.std.proofs.lemmas.Bool.Decides.{nat_tests}
 use Rattle.hd_num.specs.Lines.{lines_of}
-use Rattle.hd_engine.specs.Reply.{Reply}
-use Rattle.hd_engine.specs.State.{State, IsState, first_state}
-use Rattle.hd_engine.specs.Answers.{AreAnswers}
+use Rattle.hd_session.specs.Reply.{Reply}
+use Rattle.hd_session.specs.State.{State, IsState, first_state}
+use Rattle.hd_session.specs.Answers.{AreAnswers}
 use Rattle.hd_sdf_read.specs.File.{File}
 use Rattle.hd_words.specs.Requests.{RunRequest}
 use Rattle.hd_run.specs.declared.stop.Refusal.{Refusal}

@@ -6,7 +6,7 @@ use Rattle.std.proofs.KnownBytes.{Appends-nil, Appends-trans, Appends-kept}
 use Rattle.hd_base.specs.Causes.{Rose}
 use Rattle.hd_base.specs.Told.{AppendsPart, AppendsStart, Told, OnTold}
 use Rattle.hd_base.proofs.Told.{start_of}
-use Rattle.hd_engine.specs.State.{State, saved_file}
+use Rattle.hd_session.specs.State.{State, saved_file}
 use Rattle.hd_sdf_write.specs.Canonical.{canonical}
 use Rattle.hd_run.specs.declared.stop.Stop.{Stop}
 use Rattle.hd_run.specs.declared.stop.Stop.TheVariants.{Memory, ReadFault, WriteFault, Refused}
@@ -116,6 +116,6 @@ module _ (out : Count) (s : Saving) where
   -- the saving stops
   pub saving_cause : (T : Type 0) (stop : Stop) (text : List ℕ) (stays : Type 0) → Stays out → Saves {T = T} text stays (Err stop) s → HasSinkStop {T = Bool} out s.faults (Err stop)
   saving_cause T Memory text stays kept h = record { write = λ e. absurd (cc); other = λ e. (kept, h.1); only = λ stop e. inr (cc) }
-  saving_cause T WriteFault text stays kept some = record { write = λ e. inr some.count; other = λ e. absurd (e refl); only = λ stop e. inl (cc) }
+  saving_cause T WriteFault text stays kept some = record { write = λ e. inr (kept, some.count); other = λ e. absurd (e refl); only = λ stop e. inl (cc) }
   saving_cause T ReadFault text stays kept h = absurd h
   saving_cause T (Refused refusal) text stays kept h = absurd h

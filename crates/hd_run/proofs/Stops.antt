@@ -1,11 +1,13 @@
 -- What stops a run or a check, from what stops its parts.
 use Rattle.std.proofs.Common.{◌≡◌, Result, Ok, Err, ℕ, inl, inr, ap, subst}
-use Rattle.std.specs.Prelude.{◌≢◌}
+use Rattle.std.specs.Prelude.{◌≢◌, IfErr}
 use Rattle.hd_run.specs.declared.stop.Stop.{Stop}
-use Rattle.hd_run.specs.declared.stop.Stop.TheVariants.{ReadFault, WriteFault}
+use Rattle.hd_run.specs.declared.stop.Stop.TheVariants.{ReadFault, Refused, WriteFault}
+use Rattle.hd_run.specs.declared.stop.Refusal.{Refusal}
 use Rattle.hd_run.specs.FaultCounts.{Count, Stays}
 use Rattle.hd_run.specs.Inputs.{HasReadStop}
 use Rattle.hd_run.specs.Outcome.{RunOutcome}
+use Rattle.hd_run.specs.ReadOrder.{IsNotOfSurface, IsOfSurface}
 use Rattle.hd_run.specs.RunResult.{HasRunStop, HasSinkStop, IsJudgedAs}
 use Rattle.hd_run.specs.WrittenAnswers.{HasWriteStop}
 
@@ -28,6 +30,17 @@ HasWriteStop-ok before now x cause = cause.no_fault (ok≢err x WriteFault)
 pub HasSinkStop-no_read_fault : {T : Type 0} (out saved : Count) (result : Result T Stop) → HasSinkStop out saved result → result ≢ Err ReadFault
 HasSinkStop-no_read_fault out saved result cause e = elim (cause.only ReadFault e) [ inl w ↦ absurd (cc) | inr w ↦ absurd (cc) ]
 
+-- and nothing is refused
+pub HasSinkStop-no_refusal : {T : Type 0} (out saved : Count) (result : Result T Stop) → HasSinkStop out saved result → (refusal : Refusal) → result ≢ Err (Refused refusal)
+HasSinkStop-no_refusal out saved result cause refusal e = elim (cause.only (Refused refusal) e) [ inl w ↦ absurd (cc) | inr w ↦ absurd (cc) ]
+
+-- a stop for another cause than a refusal of the surface is none
+pub no_refusal_of_surface : {T : Type 0} (result : Result T Stop) (refusal : Refusal) → IfErr result IsNotOfSurface → result ≡ Err (Refused refusal) → IsOfSurface refusal → ⊥
+no_refusal_of_surface {T} result refusal other is = subst (λ (r : Result T Stop). IfErr r IsNotOfSurface) is other
+
+pub later_refusal : {T : Type 0} (stop : Stop) (refusal : Refusal) → IsNotOfSurface stop → ◌≡◌ {A = Result T Stop} (Err stop) (Err (Refused refusal)) → IsOfSurface refusal → ⊥
+later_refusal {T} stop refusal other is = no_refusal_of_surface {T = T} (Err stop) refusal other is
+
 -- what is judged is no fault
 pub judged_no_fault : {T : Type 0} (Is : RunOutcome → Type 0) (result : Result T Stop) → IsJudgedAs {T = T} Is result → result ≢ Err ReadFault
 judged_no_fault {T} Is result judged e = subst (λ (r : Result T Stop). IsJudgedAs {T = T} Is r) e judged
@@ -43,7 +56,7 @@ module _ {U : Type 0} (surface script out saved : Count) (stop : Stop) where
   -- the surface is not read
   pub surface_stopped : {T : Type 0} → HasReadStop {T = T} surface.before surface.now (Err stop) → Stays script → Stays out → Stays saved → HasRunStop {T = U} surface script out saved (Err stop)
   surface_stopped cause b c d = record {
-    read = λ e. let same : stop ≡ ReadFault = cc in (inl (cause.fault (ap Err same)), c, d);
+    read = λ e. let same : stop ≡ ReadFault = cc in (inl (cause.fault (ap Err same), b), c, d);
     write = λ e. let same : stop ≡ WriteFault = cc in absurd (cause.no_write (ap Err same));
     other = λ not_read not_write. (cause.no_fault (λ e. let same : stop ≡ ReadFault = cc in not_read (ap Err same)), b, c, d);
   }
@@ -51,7 +64,7 @@ module _ {U : Type 0} (surface script out saved : Count) (stop : Stop) where
   -- the second input is not read
   pub second_stopped : {T : Type 0} → Stays surface → HasReadStop {T = T} script.before script.now (Err stop) → Stays out → Stays saved → HasRunStop {T = U} surface script out saved (Err stop)
   second_stopped a cause c d = record {
-    read = λ e. let same : stop ≡ ReadFault = cc in (inr (cause.fault (ap Err same)), c, d);
+    read = λ e. let same : stop ≡ ReadFault = cc in (inr (a, cause.fault (ap Err same)), c, d);
     write = λ e. let same : stop ≡ WriteFault = cc in absurd (cause.no_write (ap Err same));
     other = λ not_read not_write. (a, cause.no_fault (λ e. let same : stop ≡ ReadFault = cc in not_read (ap Err same)), c, d);
   }
@@ -69,6 +82,6 @@ module _ {U : Type 0} (surface script out saved : Count) (stop : Stop) where
 pub answering_stopped : {T : Type 0} (surface script out saved : Count) (result : Result T Stop) → Stays surface → Stays script → HasSinkStop out saved result → HasRunStop surface script out saved result
 answering_stopped surface script out saved result a b cause = record {
   read = λ e. absurd (HasSinkStop-no_read_fault out saved result cause e);
-  write = cause.write;
+  write = λ e. (a, b, cause.write e);
   other = λ not_read not_write. let still = cause.other not_write in (a, b, still.0, still.1);
 }

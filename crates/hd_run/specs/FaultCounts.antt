@@ -19,6 +19,10 @@ RoseIn count = Rose count.before count.now
 abbrev pub Stays : Count → Type 0
 Stays count = count.now ≡ count.before
 
+-- one fault is counted of two: one of the counts rose by it, and the other stays
+abbrev pub OneRose : Count → Count → Type 0
+OneRose one other = (RoseIn one × Stays other) ⊎ (Stays one × RoseIn other)
+
 -- a source failed: that of the surface, or, once the surface is accepted, that of the second input
 abbrev pub SourceFailed : Result File Refusal → Count → Count → Type 0
 SourceFailed surface surfaces seconds =

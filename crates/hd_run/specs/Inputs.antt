@@ -38,7 +38,7 @@ IsCertificateRead bytes (Err Memory) = ⊤
 IsCertificateRead bytes (Err ReadFault) = ⊤
 IsCertificateRead bytes (Err WriteFault) = ⊥
 
--- a read fault comes only where the count rose, and each other answer leaves the count; no write fault comes
+-- with a read fault exactly one is counted, and each other answer leaves the count; no write fault comes
 pub record HasReadStop {T : Type 0} (before now : ℕ) (result : Result T Stop) : Type 0 where
   pub fault : result ≡ Err ReadFault → Rose before now
   pub no_fault : result ≢ Err ReadFault → now ≡ before

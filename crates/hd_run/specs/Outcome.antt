@@ -16,9 +16,9 @@ use Rattle.hd_sdf_read.specs.declared.error.SdfError.{SdfError}
 use Rattle.hd_sdf_read.specs.File.{File}
 use Rattle.hd_sdf_read.specs.Grammar.{file_in}
 use Rattle.hd_sdf_write.specs.Canonical.{canonical}
-use Rattle.hd_engine.specs.State.{State, first_state, saved_file}
-use Rattle.hd_engine.specs.Answers.{AreAnswers}
-use Rattle.hd_engine.specs.Reply.{Reply}
+use Rattle.hd_session.specs.State.{State, first_state, saved_file}
+use Rattle.hd_session.specs.Answers.{AreAnswers}
+use Rattle.hd_session.specs.Reply.{Reply}
 use Rattle.hd_words.specs.Requests.{RunRequest}
 use Rattle.hd_run.specs.declared.stop.Refusal.{Refusal}
 use Rattle.hd_run.specs.declared.stop.Refusal.TheVariants.{SurfaceTooLong, Surface, SecondTooLong, Unreadable, RuleFails}

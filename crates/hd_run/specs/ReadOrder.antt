@@ -1,10 +1,28 @@
 -- The order in which the inputs are read, and how far.
-use Rattle.std.specs.Prelude.{◌≡◌, ◌⊎◌, ℕ, List, Option, Some, None, Err}
+use Rattle.std.specs.Prelude.{◌≡◌, ◌⊎◌, ℕ, List, Option, Some, None, Err, ⊤}
 use Rattle.std.specs.Io.KnownBytes.{Keeps}
 use Rattle.hd_base.specs.Told.{TakesFew, Told}
 use Rattle.hd_run.specs.declared.stop.Refusal.{Refusal}
+use Rattle.hd_run.specs.declared.stop.Refusal.TheVariants.{SurfaceTooLong, Surface, SecondTooLong, Unreadable, RuleFails}
+use Rattle.hd_run.specs.declared.stop.Stop.{Stop}
+use Rattle.hd_run.specs.declared.stop.Stop.TheVariants.{Memory, ReadFault, WriteFault, Refused}
 use Rattle.hd_run.specs.FaultCounts.{Count, RoseIn, Stays}
 use Rattle.hd_run.specs.Outcome.{surface_of}
+
+-- a refusal of the surface
+abbrev pub IsOfSurface : Refusal → Type 0
+IsOfSurface SurfaceTooLong = ⊤
+IsOfSurface (Surface error) = ⊤
+IsOfSurface SecondTooLong = ⊥
+IsOfSurface (Unreadable line) = ⊥
+IsOfSurface (RuleFails rule at) = ⊥
+
+-- a stop for another cause than a refusal of the surface
+abbrev pub IsNotOfSurface : Stop → Type 0
+IsNotOfSurface Memory = ⊤
+IsNotOfSurface ReadFault = ⊤
+IsNotOfSurface WriteFault = ⊤
+IsNotOfSurface (Refused refusal) = IsOfSurface refusal → ⊥
 
 -- a source over a call: the files that it tells by their names, what is left of the open one before and now, and its
 -- count of faults

@@ -4,12 +4,12 @@ use Rattle.std.specs.Io.{StartsWith}
 use Rattle.std.specs.Io.KnownBytes.{Appends, Keeps}
 use Rattle.hd_base.specs.Told.{Told, AppendsPart}
 use Rattle.hd_map.specs.Map.{Map}
-use Rattle.hd_engine.specs.State.{State, first_state}
-use Rattle.hd_engine.specs.Answers.{AreAnswers}
+use Rattle.hd_session.specs.State.{State, first_state}
+use Rattle.hd_session.specs.Answers.{AreAnswers}
 use Rattle.hd_words.specs.Requests.{RunRequest}
 use Rattle.hd_run.specs.declared.stop.Stop.{Stop}
 use Rattle.hd_run.specs.declared.stop.Stop.TheVariants.{Memory, ReadFault, WriteFault, Refused}
-use Rattle.hd_run.specs.FaultCounts.{Count, RoseIn, Stays}
+use Rattle.hd_run.specs.FaultCounts.{Count, OneRose, Stays}
 use Rattle.hd_check.specs.declared.types.CertificateError.{CertificateError}
 use Rattle.hd_check.specs.declared.types.CertificateError.TheVariants as error
 use Rattle.hd_check.specs.declared.types.Verdict.{Verdict}
@@ -76,17 +76,17 @@ AnswersAndSaves save first lines stays s (Err WriteFault) old new =
 AnswersAndSaves save first lines stays s (Err ReadFault) old new = ⊥
 AnswersAndSaves save first lines stays s (Err (Refused refusal)) old new = ⊥
 
--- a read fault comes only where a count of the sources rose, a write fault only where that of a sink rose, and each
--- other answer leaves all four
+-- with a read fault exactly one fault is counted, of a source, with a write fault exactly one, of a sink, and with each
+-- other answer none
 pub record HasRunStop {T : Type 0} (surface script out saved : Count) (result : Result T Stop) : Type 0 where
-  pub read : result ≡ Err ReadFault → (RoseIn surface ⊎ RoseIn script) × Stays out × Stays saved
-  pub write : result ≡ Err WriteFault → RoseIn out ⊎ RoseIn saved
+  pub read : result ≡ Err ReadFault → OneRose surface script × Stays out × Stays saved
+  pub write : result ≡ Err WriteFault → Stays surface × Stays script × OneRose out saved
   pub other : result ≢ Err ReadFault → result ≢ Err WriteFault
       → Stays surface × Stays script × Stays out × Stays saved
 
 -- the same of the answering and the saving, where no source is read
 pub record HasSinkStop {T : Type 0} (out saved : Count) (result : Result T Stop) : Type 0 where
-  pub write : result ≡ Err WriteFault → RoseIn out ⊎ RoseIn saved
+  pub write : result ≡ Err WriteFault → OneRose out saved
   pub other : result ≢ Err WriteFault → Stays out × Stays saved
   pub only : (stop : Stop) → result ≡ Err stop → (stop ≡ WriteFault) ⊎ (stop ≡ Memory)
 

@@ -1,11 +1,11 @@
 -- What is written of the answers to lines.
-use Rattle.std.specs.Prelude.{◌≡◌, ◌≢◌, ◌⊎◌, ℕ, Bool, List, take, Result, Ok, Err}
+use Rattle.std.specs.Prelude.{◌≡◌, ◌≢◌, ◌⊎◌, ◌+◌, ◌++◌, ℕ, Bool, List, take, Result, Ok, Err, ⊤}
 use Rattle.std.specs.Io.KnownBytes.{Appends, Keeps}
 use Rattle.hd_base.specs.Causes.{Rose}
 use Rattle.hd_base.specs.Told.{Told, AppendsPart}
-use Rattle.hd_engine.specs.State.{State}
-use Rattle.hd_engine.specs.Answers.{IsAnswer, AreAnswers}
-use Rattle.hd_engine.specs.Reply.{Reply}
+use Rattle.hd_session.specs.State.{State}
+use Rattle.hd_session.specs.Answers.{IsAnswer, AreAnswers}
+use Rattle.hd_session.specs.Reply.{Reply}
 use Rattle.hd_run.specs.declared.stop.Stop.{Stop}
 use Rattle.hd_run.specs.declared.stop.Stop.TheVariants.{Memory, WriteFault}
 
@@ -40,7 +40,24 @@ WritesAnswers s lines (Err WriteFault) after old new =
     (text : List ℕ) × AnswersFirst s lines text × AppendsPart old new text
 WritesAnswers s lines (Err stop) after old new = ⊥
 
--- a write fault comes only where the count rose, and each other answer leaves the count
+-- it stops at the last of the lines that were asked: the answers to all lines before that one are written, and nothing
+-- behind them but some bytes of its own
+pub record StopsInTurn (s : State) (lines : List (List ℕ)) (asked : ℕ) (old new : Told) : Type 0 where
+  pub count : ℕ
+  pub one_more : asked ≡ count + 1
+  pub accepted : Bool
+  pub text : List ℕ
+  pub after : State
+  pub answers : AreAnswers s 1 (take count lines) (reply_of accepted text) after
+  pub got : List ℕ
+  pub written : Appends old new (text ++ got)
+
+-- each answer is written before the next line is asked
+abbrev pub WritesInTurn : {T : Type 0} → State → List (List ℕ) → ℕ → Result T Stop → Told → Told → Type 0
+WritesInTurn s lines asked (Ok accepted) old new = ⊤
+WritesInTurn s lines asked (Err stop) old new = StopsInTurn s lines asked old new
+
+-- with a write fault exactly one is counted, and each other answer leaves the count
 pub record HasWriteStop {T : Type 0} (before now : ℕ) (result : Result T Stop) : Type 0 where
   pub fault : result ≡ Err WriteFault → Rose before now
   pub no_fault : result ≢ Err WriteFault → now ≡ before

@@ -2,26 +2,28 @@
 ghost use Rattle.std.specs.Prelude.{◌≡◌, ◌<◌, ◌≤◌, ◌+◌, length, IsTrue};
 ghost use Rattle.hd_num.specs.Lines.{lines_of};
 ghost use Rattle.hd_run.specs.Limits.{script_limit};
-ghost use Rattle.hd_run.specs.WrittenAnswers.{WritesAnswer, WritesAnswers, HasWriteStop};
+ghost use Rattle.hd_run.specs.WrittenAnswers.{WritesAnswer, WritesAnswers, WritesInTurn, HasWriteStop};
 
 use crate::stop::Stop;
 use hd_base::{Sink, write_all};
-use hd_engine::Session;
 use hd_num::next_line;
+use hd_session::SurfaceSession;
 
 /// Answers the lines of a script in order, numbered from 1, each on the surface after the lines
 /// before it, and writes each answer before the next line is read. Tells whether all lines were
 /// accepted.
-pub fn answer_lines<W: Sink>(
-    session: &mut Session,
+pub fn answer_lines<E: SurfaceSession, W: Sink>(
+    session: &mut E,
     script: &[u8],
     out: &mut W,
 ) -> Result<bool, Stop>
     requires open { IsTrue (W.is_open out.old) }
     requires few { length script.now ≤ script_limit }
-    requires fresh { session.old.asked ≡ 0 }
+    requires fresh { E.asked session.old ≡ 0 }
     ensures open { IsTrue (W.is_open out.new) }
-    ensures answers { WritesAnswers session.old.state (lines_of script.now) result session.new.state
+    ensures answers { WritesAnswers (E.state session.old) (lines_of script.now) result (E.state session.new)
+        (W.written out.old) (W.written out.new) }
+    ensures turns { WritesInTurn (E.state session.old) (lines_of script.now) (E.asked session.new) result
         (W.written out.old) (W.written out.new) }
     ensures cause { HasWriteStop (W.faults out.old) (W.faults out.new) result }
 {
@@ -43,21 +45,21 @@ pub fn answer_lines<W: Sink>(
 }
 
 // Answers one line, writes the answer, and tells whether the line was accepted.
-fn answer_line<W: Sink>(
-    session: &mut Session,
+fn answer_line<E: SurfaceSession, W: Sink>(
+    session: &mut E,
     number: u64,
     line: &[u8],
     out: &mut W,
 ) -> Result<bool, Stop>
     requires open { IsTrue (W.is_open out.old) }
-    requires asked { session.old.asked < script_limit }
+    requires asked { E.asked session.old < script_limit }
     ensures open { IsTrue (W.is_open out.new) }
-    ensures asked { session.new.asked ≡ session.old.asked + 1 }
-    ensures answer { WritesAnswer session.old.state number line.now result session.new.state
+    ensures asked { E.asked session.new ≡ E.asked session.old + 1 }
+    ensures answer { WritesAnswer (E.state session.old) number line.now result (E.state session.new)
         (W.written out.old) (W.written out.new) }
     ensures cause { HasWriteStop (W.faults out.old) (W.faults out.new) result }
 {
-    let Ok(answer) = session.answer(number, line) else {
+    let Ok(answer) = session.answer_line(number, line) else {
         return Err(Stop::Memory);
     };
     if write_all(out, answer.text.as_slice()).is_err() {

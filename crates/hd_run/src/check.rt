@@ -1,5 +1,5 @@
 // The check of a certificate against a surface.
-ghost use Rattle.std.specs.Prelude.{◌≡◌, ◌≢◌, ◌⊎◌, ℕ, List as Items, Some, Ok, Err, IfOk, IsTrue};
+ghost use Rattle.std.specs.Prelude.{◌≡◌, ◌≢◌, ◌⊎◌, ℕ, List as Items, Some, Ok, Err, IfErr, IfOk, IsTrue};
 ghost use Rattle.std.specs.Io.KnownBytes.{Keeps};
 ghost use Rattle.hd_audit.specs.Rules as pruning;
 ghost use Rattle.hd_check.specs.Reading.{certificate_of};
@@ -10,7 +10,7 @@ ghost use Rattle.hd_run.specs.CertificateReader.{StandsFor};
 ghost use Rattle.hd_run.specs.FaultCounts.{Count, RoseIn, SourceFailed, Stays, over};
 ghost use Rattle.hd_run.specs.Limits.{certificate_limit, surface_limit};
 ghost use Rattle.hd_run.specs.Outcome.{IsOutcomeOfReading, surface_of};
-ghost use Rattle.hd_run.specs.ReadOrder.{SecondComesLast, StopsWithin, reading};
+ghost use Rattle.hd_run.specs.ReadOrder.{IsNotOfSurface, IsOfSurface, SecondComesLast, StopsWithin, reading};
 ghost use Rattle.hd_run.specs.RunResult.{HasRunStop, IsCheck, IsJudged, IsJudgedAs, stop_at, stop_of};
 
 use crate::certificate_reader::{CertificateReader, begins_pruning};
@@ -45,6 +45,7 @@ pub fn check_certificate<S: Source, R: Source, W: Sink>(
     ensures unwritten { result ≡ Err Stop.ReadFault → Keeps (W.written out.old) (W.written out.new) }
     ensures order { SecondComesLast (Some job.now.certificate.now) (S.files surface.old job.now.surface.now)
         (over (S.faults surface.old) (S.faults surface.new)) script.old script.new }
+    ensures unread { (refusal : Refusal) → result ≡ Err (Stop.Refused refusal) → IsOfSurface refusal → script.new ≡ script.old }
     ensures surface_left { StopsWithin surface_limit job.now.surface.now (reading (S.files surface.old) (S.left surface.old)
         (S.left surface.new) (over (S.faults surface.old) (S.faults surface.new))) }
     ensures certificate_left { (script.new ≡ script.old)
@@ -85,6 +86,7 @@ fn check_second<R: Source, W: Sink>(
     ensures certificate_left { StopsWithin certificate_limit job.now.certificate.now (reading (R.files script.old)
         (R.left script.old) (R.left script.new) (over (R.faults script.old) (R.faults script.new))) }
     ensures failed { result ≡ Err Stop.ReadFault → RoseIn (over (R.faults script.old) (R.faults script.new)) }
+    ensures later { IfErr result IsNotOfSurface }
     ensures cause { (surface saved : Count) → Stays surface → Stays saved → HasRunStop surface
         (over (R.faults script.old) (R.faults script.new)) (over (W.faults out.old) (W.faults out.new)) saved result }
 {
@@ -109,6 +111,7 @@ fn judge(alloc: Global, surface: &Surface, reader: CertificateReader) -> Result<
     ensures judged { (bytes : Items ℕ) → StandsFor reader bytes → IsJudged (map_of surface.now) bytes result }
     ensures no_fault { result ≢ Err Stop.ReadFault }
     ensures no_write { result ≢ Err Stop.WriteFault }
+    ensures later { IfErr result IsNotOfSurface }
 {
     match reader {
         CertificateReader::FirstLine(text) => judge_line(alloc, surface, text.as_slice()),
@@ -119,7 +122,8 @@ fn judge(alloc: Global, surface: &Surface, reader: CertificateReader) -> Result<
 
 // The same of one line.
 fn judge_line(alloc: Global, surface: &Surface, text: &[u8]) -> Result<(), Stop>
-    ensures { IsJudged (map_of surface.now) text.now result }
+    ensures judged { IsJudged (map_of surface.now) text.now result }
+    ensures later { IfErr result IsNotOfSurface }
 {
     if begins_pruning(text) {
         judge_pruning(alloc, surface, read_audit(alloc, text))
@@ -130,7 +134,8 @@ fn judge_line(alloc: Global, surface: &Surface, text: &[u8]) -> Result<(), Stop>
 
 // The same of a saddle certificate.
 fn judge_saddle(alloc: Global, surface: &Surface, text: &[u8]) -> Result<(), Stop>
-    ensures { IsJudgedAs (IsOutcomeOfReading (IsVerdict (map_of surface.now)) (certificate_of text.now)) result }
+    ensures judged { IsJudgedAs (IsOutcomeOfReading (IsVerdict (map_of surface.now)) (certificate_of text.now)) result }
+    ensures later { IfErr result IsNotOfSurface }
 {
     match hd_check::read_certificate(alloc, text) {
         Ok(certificate) => stop_at(verdict_on(alloc, surface, &certificate)),
@@ -144,7 +149,8 @@ fn judge_pruning(
     surface: &Surface,
     read: Result<Audit, CertificateError>,
 ) -> Result<(), Stop>
-    ensures { IsJudgedAs (IsOutcomeOfReading (pruning.IsVerdict (map_of surface.now)) read) result }
+    ensures judged { IsJudgedAs (IsOutcomeOfReading (pruning.IsVerdict (map_of surface.now)) read) result }
+    ensures later { IfErr result IsNotOfSurface }
 {
     match read {
         Ok(audit) => match audit_verdict_on(alloc, surface, &audit) {
@@ -157,7 +163,8 @@ fn judge_pruning(
 
 // Why a check stops where a certificate is not read.
 fn stop_of(error: CertificateError) -> Stop
-    ensures { result ≡ stop_of error }
+    ensures stop { result ≡ stop_of error }
+    ensures later { IsNotOfSurface result }
 {
     match error {
         CertificateError::Memory => Stop::Memory,
@@ -167,7 +174,8 @@ fn stop_of(error: CertificateError) -> Stop
 
 // Whether a check stops at a verdict.
 fn stop_at(verdict: Verdict) -> Result<(), Stop>
-    ensures { result ≡ stop_at verdict }
+    ensures stop { result ≡ stop_at verdict }
+    ensures later { IfErr result IsNotOfSurface }
 {
     match verdict {
         Verdict::Yes => Ok(()),

@@ -1,11 +1,11 @@
 // Reading the surface file, the script and the certificate.
-ghost use Rattle.std.specs.Prelude.{◌≡◌, ◌≢◌, ◌≤◌, ◌<◌, ◌+◌, ◌-◌, ◌^◌, ◌++◌, [], ℕ, List as Items, length, Some, Err, IsTrue, IfOk, OnOk};
+ghost use Rattle.std.specs.Prelude.{◌≡◌, ◌≢◌, ◌≤◌, ◌<◌, ◌+◌, ◌-◌, ◌^◌, ◌++◌, [], ℕ, List as Items, length, Some, Err, IsTrue, IfErr, IfOk, OnOk};
 ghost use Rattle.hd_base.specs.Told.{TakesFew};
 ghost use Rattle.hd_sdf_read.specs.Reader.{StandsFor, fed_of};
 ghost use Rattle.hd_run.specs.FaultCounts.{over};
 ghost use Rattle.hd_run.specs.Inputs.{HasReadStop, IsCertificateRead, IsFed, IsScriptRead, IsSurfaceRead};
 ghost use Rattle.hd_run.specs.Limits.{certificate_limit, script_limit, surface_limit};
-ghost use Rattle.hd_run.specs.ReadOrder.{StopsWithin, reading};
+ghost use Rattle.hd_run.specs.ReadOrder.{IsNotOfSurface, StopsWithin, reading};
 
 use crate::certificate_reader::CertificateReader;
 use crate::limits::{CERTIFICATE_LIMIT, SCRIPT_LIMIT, SURFACE_LIMIT};
@@ -115,6 +115,7 @@ pub fn read_certificate<R: Source>(
 ) -> Result<CertificateReader, Stop>
     requires { IsTrue (R.allows source.old name.now) }
     ensures told { (bytes : Items ℕ) → R.files source.old name.now ≡ Some bytes → IsCertificateRead bytes result }
+    ensures later { IfErr result IsNotOfSurface }
     ensures left { StopsWithin certificate_limit name.now (reading (R.files source.old) (R.left source.old) (R.left source.new)
         (over (R.faults source.old) (R.faults source.new))) }
     ensures cause { HasReadStop (R.faults source.old) (R.faults source.new) result }
@@ -133,6 +134,7 @@ fn read_open_certificate<R: Source>(
 ) -> Result<CertificateReader, Stop>
     requires { IsTrue (R.is_open source.old) }
     ensures told { (bytes : Items ℕ) → R.left source.old ≡ Some bytes → IsCertificateRead bytes result }
+    ensures later { IfErr result IsNotOfSurface }
     ensures few { (bytes : Items ℕ) → R.left source.old ≡ Some bytes → TakesFew bytes certificate_limit (R.left source.new) }
     ensures cause { HasReadStop (R.faults source.old) (R.faults source.new) result }
 {
@@ -141,17 +143,17 @@ fn read_open_certificate<R: Source>(
     let mut count = 0usize;
     'pieces: loop {
         let room = (CERTIFICATE_LIMIT + 1 - count).min(piece.len());
-        let Ok(taken) = source.read(&mut piece[..room]) else {
+        let Ok(length) = source.read(&mut piece[..room]) else {
             return Err(Stop::ReadFault);
         };
-        if taken == 0 {
+        if length == 0 {
             return Ok(reader);
         }
-        reader = match reader.fed(alloc, &piece[..taken]) {
+        reader = match reader.fed(alloc, &piece[..length]) {
             Ok(reader) => reader,
             Err(Memory) => return Err(Stop::Memory),
         };
-        count += taken;
+        count += length;
         if count > CERTIFICATE_LIMIT {
             return Err(Stop::Refused(Refusal::SecondTooLong));
         }
@@ -163,6 +165,7 @@ pub fn read_script<R: Source>(alloc: Global, source: &mut R, name: &str) -> Resu
     requires { IsTrue (R.allows source.old name.now) }
     ensures told { (bytes : Items ℕ) → R.files source.old name.now ≡ Some bytes → IsScriptRead bytes result }
     ensures within { IfOk result (λ read. length read ≤ script_limit) }
+    ensures later { IfErr result IsNotOfSurface }
     ensures left { StopsWithin script_limit name.now (reading (R.files source.old) (R.left source.old) (R.left source.new)
         (over (R.faults source.old) (R.faults source.new))) }
     ensures cause { HasReadStop (R.faults source.old) (R.faults source.new) result }

@@ -4,13 +4,14 @@ ghost use Rattle.std.specs.Option.{option_copied, ForSome};
 ghost use Rattle.std.specs.Io.KnownBytes.{Keeps};
 ghost use Rattle.hd_num.specs.Lines.{lines_of};
 ghost use Rattle.hd_sdf_read.specs.FileOf.{file_of};
-ghost use Rattle.hd_engine.specs.State.{first_state};
+ghost use Rattle.hd_session.specs.State.{first_state};
 ghost use Rattle.hd_words.specs.Limits.{greatest_tile, least_tile};
 ghost use Rattle.hd_words.specs.Requests.{run_request_of};
 ghost use Rattle.hd_run.specs.FaultCounts.{Count, SourceFailed, Stays, over};
 ghost use Rattle.hd_run.specs.Limits.{script_limit, surface_limit};
 ghost use Rattle.hd_run.specs.Outcome.{surface_of};
-ghost use Rattle.hd_run.specs.ReadOrder.{SecondComesLast, StopsWithin, reading};
+ghost use Rattle.hd_run.specs.ReadOrder.{IsOfSurface, SecondComesLast, StopsWithin, reading};
+ghost use Rattle.hd_run.specs.declared.stop.Refusal.{Refusal};
 ghost use Rattle.hd_run.specs.RunResult.{AnswersAndSaves, HasRunStop, HasSinkStop, IsRun};
 ghost use Rattle.hd_run.specs.Saving.{SavesLast, saving};
 
@@ -19,15 +20,15 @@ use crate::inputs::{read_script, read_surface};
 use crate::save::save_file;
 use crate::stop::Stop;
 use hd_base::{Sink, Source};
-use hd_engine::{Session, answer_keeps_a_state, answers_are_determined};
 use hd_sdf_read::SdfFile;
+use hd_session::{SurfaceSession, answer_keeps_a_state, answers_are_determined};
 use hd_words::RunJob;
 use std::alloc::Global;
 
 /// Reads the surface, then the script, answers its lines, and saves the file that they leave, where
 /// the words name one; without a script, the one line `dales`. Tells whether all lines were
 /// accepted.
-pub fn run<S: Source, R: Source, W: Sink, V: Sink>(
+pub fn run<E: SurfaceSession, S: Source, R: Source, W: Sink, V: Sink>(
     alloc: Global,
     job: &RunJob<'_>,
     surface: &mut S,
@@ -49,6 +50,7 @@ pub fn run<S: Source, R: Source, W: Sink, V: Sink>(
     ensures unwritten { result ≡ Err Stop.ReadFault → Keeps (W.written out.old) (W.written out.new) }
     ensures order { SecondComesLast (option_copied job.now.script) (S.files surface.old job.now.surface.now)
         (over (S.faults surface.old) (S.faults surface.new)) script.old script.new }
+    ensures unread { (refusal : Refusal) → result ≡ Err (Stop.Refused refusal) → IsOfSurface refusal → script.new ≡ script.old }
     ensures surface_left { StopsWithin surface_limit job.now.surface.now (reading (S.files surface.old) (S.left surface.old)
         (S.left surface.new) (over (S.faults surface.old) (S.faults surface.new))) }
     ensures script_left { (name : Items ℕ) → option_copied job.now.script ≡ Some name → (script.new ≡ script.old)
@@ -73,7 +75,7 @@ pub fn run<S: Source, R: Source, W: Sink, V: Sink>(
         Err(stop) => return Err(stop),
     };
     let Some(name) = job.script else {
-        return answer_all(alloc, file, job, b"dales".as_slice(), out, saved);
+        return answer_all::<E, W, V>(alloc, file, job, b"dales".as_slice(), out, saved);
     };
     let lines = match read_script(alloc, script, name) {
         Ok(lines) => lines,
@@ -82,12 +84,12 @@ pub fn run<S: Source, R: Source, W: Sink, V: Sink>(
             return Err(stop);
         }
     };
-    answer_all(alloc, file, job, lines.as_slice(), out, saved)
+    answer_all::<E, W, V>(alloc, file, job, lines.as_slice(), out, saved)
 }
 
 // Answers the lines on the surface of a file, and saves the file that they leave, where the words
 // name one.
-fn answer_all<W: Sink, V: Sink>(
+fn answer_all<E: SurfaceSession, W: Sink, V: Sink>(
     alloc: Global,
     file: SdfFile,
     job: &RunJob<'_>,
@@ -109,7 +111,7 @@ fn answer_all<W: Sink, V: Sink>(
         (over (W.faults out.old) (W.faults out.new))
         (saving (V.written saved.old) (V.written saved.new) (V.flushed saved.new) (over (V.faults saved.old) (V.faults saved.new))) }
 {
-    let Ok(mut session) = Session::new(alloc, file, job.tile) else {
+    let Ok(mut session) = E::on_file(alloc, file, job.tile) else {
         return Err(Stop::Memory);
     };
     let answered = answer_and_save(&mut session, job, script, out, saved);
@@ -119,8 +121,8 @@ fn answer_all<W: Sink, V: Sink>(
 
 // Answers the lines in a session that was asked none, and saves the file that they leave, where the
 // words name one.
-fn answer_and_save<W: Sink, V: Sink>(
-    session: &mut Session,
+fn answer_and_save<E: SurfaceSession, W: Sink, V: Sink>(
+    session: &mut E,
     job: &RunJob<'_>,
     script: &[u8],
     out: &mut W,
@@ -128,10 +130,10 @@ fn answer_and_save<W: Sink, V: Sink>(
 ) -> Result<bool, Stop>
     requires open { IsTrue (W.is_open out.old) }
     requires few { length script.now ≤ script_limit }
-    requires fresh { session.old.asked ≡ 0 }
+    requires fresh { E.asked session.old ≡ 0 }
     requires saved { ForSome (option_copied job.now.save) (λ name. IsTrue (V.allows saved.old name)) }
     ensures open { IsTrue (W.is_open out.new) }
-    ensures answers { AnswersAndSaves (option_copied job.now.save) session.old.state (lines_of script.now)
+    ensures answers { AnswersAndSaves (option_copied job.now.save) (E.state session.old) (lines_of script.now)
         (saved.new ≡ saved.old)
         (saving (V.written saved.old) (V.written saved.new) (V.flushed saved.new) (over (V.faults saved.old) (V.faults saved.new)))
         result (W.written out.old) (W.written out.new) }

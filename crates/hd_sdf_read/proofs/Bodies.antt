@@ -20,7 +20,7 @@ use Rattle.hd_sdf_read.specs.declared.error.SdfError.{SdfError}
 use Rattle.hd_sdf_read.specs.declared.error.SdfError.TheVariants.{TooFewData, TooManyData}
 use Rattle.hd_sdf_read.specs.Bodies.{surveyed, trailed, whole_in, with_front}
 use Rattle.hd_sdf_read.specs.Tokens.{is_gap, after_token, is_absent, is_star, token_of}
-use Rattle.hd_sdf_read.specs.Grammar.{Cells, Mapped, cells_from, datum_at, map_with, mapped, trailer_of, whole_map}
+use Rattle.hd_sdf_read.specs.Grammar.{Cells, cells_from, datum_at, map_with, mapped, trailer_of, whole_map}
 use Rattle.hd_sdf_read.specs.Keys.{has_decimals}
 use Rattle.hd_sdf_read.specs.Reads.{◌>>=◌}
 use Rattle.hd_sdf_read.proofs.CellsFrom.{cells_from-done, cells_from-more, cells_from-stop}
@@ -78,7 +78,7 @@ whole_first size t text type =
     (sym (ap (λ n. with_front [] (cells_from (least_height t) (greatest_height t) 0 n text)) all ∙ front_none (cells_from (least_height t) (greatest_height t) 0 (cell_count size) text))))
 
 -- the gaps at the front of a text say nothing of its data
-datum_same : (least greatest : ℤ) (read : ℕ) (a b : List ℕ) → without_start is_gap a ≡ without_start is_gap b → datum_at least greatest read a ≡ datum_at least greatest read b
+pub datum_same : (least greatest : ℤ) (read : ℕ) (a b : List ℕ) → without_start is_gap a ≡ without_start is_gap b → datum_at least greatest read a ≡ datum_at least greatest read b
 unfolding datum_at
 datum_same least greatest read a b same = rw (token_same a b same) refl
 
@@ -138,20 +138,6 @@ pub feeds_on : (size : Size) (cells : packed.Cells) (old : Body) (text rest : Li
     → ((more : List ℕ) → body_on old (text ++ more) ≡ whole_in size cells.data_type (cells_in cells) (rest ++ more)) → GoesOn size cells rest result → FeedsBody old text result
 feeds_on size cells old text rest (Ok new) same on = λ more. same more ∙ on more
 feeds_on size cells old text rest (Err e) same on = λ refused more. same more ∙ on refused more
-
--- the map and the trailer of decimals
-module _ (size : Size) (t : DataType) (text : List ℕ) where
-  pub no_survey : (e : SdfError) → mapped size t text ≡ Err e → surveyed size t text ≡ Err e
-  unfolding surveyed
-  no_survey e wrong = rw wrong refl
-
-  pub no_end : (parts : Mapped) (e : SdfError) → mapped size t text ≡ Ok parts → trailer_of (cell_count size) parts.rest ≡ Err e → surveyed size t text ≡ Err e
-  unfolding surveyed trailed
-  no_end parts e right wrong = rw (right, wrong) refl
-
-  pub whole_survey : (parts : Mapped) (trailer : List ℕ) → mapped size t text ≡ Ok parts → trailer_of (cell_count size) parts.rest ≡ Ok trailer → surveyed size t text ≡ Ok (record { map = parts.map; trailer = trailer })
-  unfolding surveyed trailed
-  whole_survey parts trailer right end = rw (right, end) refl
 
 -- no trailer
 pub trailer_none : trailer_in [] ≡ Ok []

@@ -15,14 +15,6 @@ use Rattle.hd_sdf_read.specs.Decimals.{Decimals, cells_at, decimals_from, most_p
 use Rattle.hd_sdf_read.specs.Keys.{has_decimals, with_places}
 
 module _ (bytes : List ℕ) where
-  pub file_in-no_version : (e : SdfError) → version_of (lines_of bytes) ≡ Err e → file_in bytes ≡ Err e
-  unfolding file_in
-  file_in-no_version e wrong = rw wrong refl
-
-  pub file_in-no_header : (version : Version) (e : SdfError) → version_of (lines_of bytes) ≡ Ok version → header_from 2 [] (drop 1 (lines_of bytes)) ≡ Err e → file_in bytes ≡ Err e
-  unfolding file_in
-  file_in-no_header version e right wrong = rw (right, wrong) refl
-
   pub file_in-whole_header : (version : Version) (header : Header) (text : List ℕ) → version_of (lines_of bytes) ≡ Ok version → header_from 2 [] (drop 1 (lines_of bytes)) ≡ Ok header → after_lines header.last bytes ≡ text
       → file_in bytes ≡ body_in version header.entries text
   unfolding file_in
@@ -32,15 +24,6 @@ module _ (version : Version) (entries : List Extra) (text : List ℕ) where
   pub body_in-no_required_keys : (e : SdfError) → required_keys_of entries ≡ Err e → body_in version entries text ≡ Err e
   unfolding body_in
   body_in-no_required_keys e wrong = rw wrong refl
-
-  pub body_in-no_map : (keys : RequiredKeys) (e : SdfError) → required_keys_of entries ≡ Ok keys → mapped keys.size keys.data_type text ≡ Err e → body_in version entries text ≡ Err e
-  unfolding body_in
-  body_in-no_map keys e right wrong = rw (right, wrong) refl
-
-  pub body_in-no_trailer : (keys : RequiredKeys) (parts : Mapped) (e : SdfError) → required_keys_of entries ≡ Ok keys → mapped keys.size keys.data_type text ≡ Ok parts → trailer_of (cell_count keys.size) parts.rest ≡ Err e
-      → body_in version entries text ≡ Err e
-  unfolding body_in
-  body_in-no_trailer keys parts e right whole wrong = rw (right, whole, wrong) refl
 
   pub body_in-whole_body : (keys : RequiredKeys) (parts : Mapped) (trailer : List ℕ) → required_keys_of entries ≡ Ok keys → mapped keys.size keys.data_type text ≡ Ok parts → trailer_of (cell_count keys.size) parts.rest ≡ Ok trailer
       → body_in version entries text ≡ Ok (file_with version entries keys parts.map trailer)
@@ -54,16 +37,8 @@ module _ (size : Size) (t : DataType) (text : List ℕ) where
   unfolding mapped
   mapped-whole_numbers parts type read = rw (type, read) refl
 
-  pub mapped-no_whole_numbers : (e : SdfError) → has_decimals t ≡ false → cells_from (least_height t) (greatest_height t) 0 (cell_count size) text ≡ Err e → mapped size t text ≡ Err e
-  unfolding mapped
-  mapped-no_whole_numbers e type wrong = rw (type, wrong) refl
-
   -- the map of decimals
   pub mapped-decimals : (parts : Decimals) → has_decimals t ≡ true → decimals_from [] (cell_count size) text ≡ Ok parts
       → mapped size t text ≡ Ok (record { map = map_with size (with_places t (most_places_in parts.items)) (cells_at (most_places_in parts.items) parts.items); rest = parts.rest })
   unfolding mapped
   mapped-decimals parts type read = rw (type, read) refl
-
-  pub mapped-no_decimals : (e : SdfError) → has_decimals t ≡ true → decimals_from [] (cell_count size) text ≡ Err e → mapped size t text ≡ Err e
-  unfolding mapped
-  mapped-no_decimals e type wrong = rw (type, wrong) refl

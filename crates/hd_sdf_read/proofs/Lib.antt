@@ -1,4 +1,5 @@
 mod Alike
+mod BlockDigits
 mod Bodies
 mod BodyPieces
 pub mod CellsFrom
@@ -8,6 +9,7 @@ pub mod DatumAt
 mod DecimalCuts
 pub mod DecimalFronts
 pub mod DecimalTokens
+mod EightDigits
 mod EntryLists
 mod States
 mod FirstBytes

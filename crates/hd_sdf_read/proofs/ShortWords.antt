@@ -1,21 +1,31 @@
--- Numbers of few digits, one after another.
-use Rattle.std.proofs.Common.{◌≡◌, ◌+◌, ◌-◌, ◌<◌, ◌≤◌, ℕ, ℤ, Bool, true, false, not, eqb, List, [], ◌∷◌, ◌++◌, length, take, drop, get_or, Ok, inl, inr, refl, sym, ap, subst, arith, ◌∙◌, length-drop}
-use Rattle.std.specs.List.{position_or_len}
+-- Data that are read many at once.
+use Rattle.std.proofs.Common.{◌≡◌, ◌+◌, ◌-◌, ◌<◌, ◌≤◌, ℕ, ℤ, zero, suc, Bool, true, false, not, eqb, List, [], ◌∷◌, ◌++◌, length, map, replicate, set, take, drop, get_or, Ok, inl, inr, refl, sym, ap, ap₂, subst, arith, ◌∙◌, append-nil, append_assoc, length-append, length-drop}
+use Rattle.std.specs.Prelude.{codes}
+use Rattle.std.specs.List.{list_all, position_or_len}
 use Rattle.std.proofs.lemmas.Bool.{cases_Bool}
-use Rattle.std.proofs.lemmas.List.{get_or-drop}
+use Rattle.std.proofs.lemmas.List.{get_or-drop, length-take-le, map-append, replicate_more, take_more_set}
 use Rattle.std.proofs.lemmas.List.Sums.{prefix_len_stops}
+use Rattle.std.proofs.lemmas.Simd.{length-zip2}
 use Rattle.hd_map.specs.declared.cells.Cells as packed
 use Rattle.hd_map.specs.declared.types.Cell.{Cell}
+use Rattle.hd_map.specs.declared.types.Cell.TheVariants.{Bad}
+use Rattle.hd_map.specs.declared.mark.Mark.{Mark}
 use Rattle.hd_map.specs.declared.types.DataType.{DataType}
 use Rattle.hd_map.specs.declared.types.Size.{Size}
 use Rattle.hd_map.specs.Cells.{cells_in}
-use Rattle.hd_map.specs.Map.{cell_count}
+use Rattle.hd_map.specs.Packing.{cell_from, kept_cells, masks}
+use Rattle.hd_map.proofs.PackedPoints.{cells_push}
+use Rattle.hd_map.specs.Map.{AreCellsOf, cell_count, greatest_height, least_height}
 use Rattle.hd_num.specs.Lines.{without_start}
 use Rattle.hd_sdf_read.specs.Bodies.{whole_in}
-use Rattle.hd_sdf_read.specs.Tokens.{is_gap, after_token}
-use Rattle.hd_sdf_read.specs.Grammar.{datum_at}
+use Rattle.hd_sdf_read.specs.Tokens.{is_gap, after_token, token_of}
+use Rattle.hd_sdf_read.specs.Grammar.{cell_of, datum_at}
 use Rattle.hd_sdf_read.specs.WholeTokens.{TakesCell, TakesHeight}
-use Rattle.hd_sdf_read.specs.ShortWords.{IsShort, ReadsShort}
+use Rattle.hd_sdf_read.specs.ShortWords.{AreData, IsDatum, ReadsShort, TakesBatch}
+use Rattle.hd_sdf_read.proofs.Bodies.{after_same, datum_same, whole_step}
+use Rattle.hd_sdf_read.proofs.DatumAt.{datum_at-by_token, datum_at-fits}
+use Rattle.hd_sdf_read.proofs.Fronts.{after_token_front, start_front, token_front}
+use Rattle.hd_sdf_read.proofs.TokenCuts.{skip_same}
 use Rattle.hd_sdf_read.proofs.WholeCuts.{HasOn, after_more, datum_stays}
 use Rattle.hd_sdf_read.proofs.WholeFronts.{cell_given}
 
@@ -30,10 +40,9 @@ no_gap byte bytes rest height takes = elim (cases_Bool (is_gap byte)) [
   | inr other ↦ other
 ]
 
--- behind one gap
-word_front : (gap : ℕ) (word rest : List ℕ) (height : ℤ) → is_gap gap ≡ true → TakesHeight word rest height → without_start is_gap (gap ∷ word) ≡ word
-word_front gap [] rest height is takes = rw is refl
-word_front gap (byte ∷ bytes) rest height is takes = rw (is, no_gap byte bytes rest height takes) refl
+number_front : (word rest : List ℕ) (height : ℤ) → TakesHeight word rest height → word ≡ without_start is_gap word
+number_front [] rest height takes = refl
+number_front (byte ∷ bytes) rest height takes = rw (no_gap byte bytes rest height takes) refl
 
 -- a gap ends a number
 passing : (b : Bool) → not b ≡ false → b ≡ true
@@ -48,25 +57,122 @@ ends_at_gap word rest height takes left =
     let place : end + 0 ≡ end = omega arith in
     ap (λ (t : List ℕ). is_gap (get_or t 0 0)) (sym takes.after) ∙ ap is_gap (get_or-drop end word 0 0 ∙ ap (λ k. get_or word k 0) place) ∙ here
 
-pub short_behind : (least greatest : ℤ) (text rest : List ℕ) (cell : Cell) → TakesCell least greatest (without_start is_gap text) rest cell → 0 < length rest → IsShort least greatest text rest cell
-short_behind least greatest text rest cell takes left = record {
-  takes = takes;
-  left = left;
-  begins = ends_at_gap (without_start is_gap text) rest takes.height takes.takes left;
-}
+module _ (least greatest : ℤ) where
+  -- a height in the range is a datum
+  pub height_datum : (word rest : List ℕ) (cell : Cell) → TakesCell least greatest word rest cell → 0 < length rest → IsDatum least greatest word rest cell
+  height_datum word rest cell takes left = record {
+    given = λ read more. (
+        let given = cell_given least greatest read word word rest cell (number_front word rest takes.height takes.takes) takes in
+        (datum_stays least greatest read word rest given.1 left more ∙ given.0, after_more least greatest read word rest given.1 left more));
+    left = left;
+    begins = ends_at_gap word rest takes.height takes.takes left;
+  }
 
--- behind one gap
-pub short_word : (least greatest : ℤ) (text rest : List ℕ) (cell : Cell) → 0 < length text → is_gap (get_or text 0 0) ≡ true → TakesCell least greatest (drop 1 text) rest cell → 0 < length rest → IsShort least greatest text rest cell
-short_word least greatest [] rest cell some is takes left = absurd (omega (arith, some))
-short_word least greatest (gap ∷ word) rest cell some is takes left =
-    short_behind least greatest (gap ∷ word) rest cell (subst (λ (t : List ℕ). TakesCell least greatest t rest cell) (sym (word_front gap word rest takes.height is takes.takes)) takes) left
+  -- so is `BAD`
+  pub bad_datum : (word rest : List ℕ) → word ≡ codes "BAD" ++ rest → 0 < length rest → is_gap (get_or rest 0 0) ≡ true → IsDatum least greatest word rest Bad
+  bad_datum word [] is left begins = absurd (omega arith)
+  bad_datum word (gap ∷ rest) is left begins = record {
+    given = λ read more. (
+        let token : token_of (codes "BAD" ++ gap ∷ (rest ++ more)) ≡ codes "BAD" = token_front [] (codes "BAD") gap (rest ++ more) refl (omega arith) refl begins in
+        let after : after_token (codes "BAD" ++ gap ∷ (rest ++ more)) ≡ gap ∷ (rest ++ more) = after_token_front [] (codes "BAD") gap (rest ++ more) refl (omega arith) refl begins in
+        let bad : cell_of least greatest (read + 1) (codes "BAD") ≡ Ok Bad = refl in
+        rw is (datum_at-by_token least greatest read (codes "BAD" ++ gap ∷ (rest ++ more)) (codes "BAD") (sym token) refl refl ∙ bad, sym after));
+    left = left;
+    begins = begins;
+  }
 
--- the next datum, whatever follows the text
-pub short_given : (least greatest : ℤ) (read : ℕ) (text rest : List ℕ) (cell : Cell) → IsShort least greatest text rest cell
-    → (more : List ℕ) → (datum_at least greatest read (text ++ more) ≡ Ok cell) × (rest ++ more ≡ after_token (text ++ more))
-short_given least greatest read text rest cell short more =
-    let given = cell_given least greatest read text (without_start is_gap text) rest cell refl short.takes in
-    (datum_stays least greatest read text rest given.1 short.left more ∙ given.0, after_more least greatest read text rest given.1 short.left more)
+  -- the gaps before a datum say nothing
+  pub datum_behind : (text word rest : List ℕ) (cell : Cell) → ((more : List ℕ) → without_start is_gap (text ++ more) ≡ without_start is_gap (word ++ more)) → IsDatum least greatest word rest cell → IsDatum least greatest text rest cell
+  datum_behind text word rest cell same datum = record {
+    given = λ read more. (
+        let given = datum.given read more in
+        (datum_same least greatest read (text ++ more) (word ++ more) (same more) ∙ given.0, given.1 ∙ sym (after_same (text ++ more) (word ++ more) (same more))));
+    left = datum.left;
+    begins = datum.begins;
+  }
+
+  -- one more
+  pub data_more : (text middle rest : List ℕ) (cells : List Cell) (cell : Cell) → AreData least greatest text middle cells → IsDatum least greatest middle rest cell → AreData least greatest text rest (cells ++ cell ∷ [])
+  data_more text middle rest [] cell same datum = (rest, subst (λ (t : List ℕ). IsDatum least greatest t rest cell) same datum, refl)
+  data_more text middle rest (c ∷ cs) cell read_on datum = (read_on.0, read_on.1, data_more read_on.0 middle rest cs cell read_on.2 datum)
+
+  -- it is put into lists
+  pub data_filled : (height : ℕ → ℤ) (text middle rest : List ℕ) (overs : List ℕ) (marks : List Mark) (place over : ℕ) (mark : Mark) → place < length overs → place < length marks
+      → AreData least greatest text middle (kept_cells height (take place overs) (take place marks)) → IsDatum least greatest middle rest (cell_from height over mark)
+      → AreData least greatest text rest (kept_cells height (take (place + 1) (set overs place over)) (take (place + 1) (set marks place mark)))
+  data_filled height text middle rest overs marks place over mark inside within read_on datum =
+      let paired : length (take place overs) ≡ length (take place marks) = length-take-le place overs (omega (arith, inside)) ∙ sym (length-take-le place marks (omega (arith, within))) in
+      rw (take_more_set overs place over inside, take_more_set marks place mark within, cells_push height (take place overs) (take place marks) paired over mark)
+      (data_more text middle rest (kept_cells height (take place overs) (take place marks)) (cell_from height over mark) read_on datum)
+
+  -- a gap begins what follows them
+  pub data_begin : (text rest : List ℕ) (cells : List Cell) → AreData least greatest text rest cells → 0 < length text → is_gap (get_or text 0 0) ≡ true → (0 < length rest) × (is_gap (get_or rest 0 0) ≡ true)
+  data_begin text rest [] same some begins = rw same (some, begins)
+  data_begin text rest (c ∷ cs) read_on some begins = data_begin read_on.0 rest cs read_on.2 read_on.1.left read_on.1.begins
+
+  module _ (t : DataType) (low : least ≡ least_height t) (high : greatest ≡ greatest_height t) where
+    -- their cells are of the data type
+    pub data_fit : (text rest : List ℕ) (cells : List Cell) → AreData least greatest text rest cells → AreCellsOf t cells
+    data_fit text rest [] read_on k inside = absurd (omega arith)
+    data_fit text rest (c ∷ cs) read_on zero inside = datum_at-fits t least greatest 0 (text ++ []) c low high (read_on.1.given 0 []).0
+    data_fit text rest (c ∷ cs) read_on (suc k) inside = data_fit read_on.0 rest cs read_on.2 k (omega arith)
+
+    -- they are read on
+    pub data_on : (size : Size) (front : List Cell) (text rest : List ℕ) (cells : List Cell) → AreData least greatest text rest cells → length front + length cells ≤ cell_count size
+        → (more : List ℕ) → whole_in size t front (text ++ more) ≡ whole_in size t (front ++ cells) (rest ++ more)
+    data_on size front text rest [] same few more = ap₂ (λ (cs : List Cell) (xs : List ℕ). whole_in size t cs (xs ++ more)) (sym (append-nil front)) (sym same)
+    data_on size front text rest (c ∷ cs) read_on few more =
+        let given = read_on.1.given (length front) more in
+        let here : datum_at (least_height t) (greatest_height t) (length front) (text ++ more) ≡ Ok c = rw (low, high) at given.0 in
+        whole_step size t front (text ++ more) (read_on.0 ++ more) c (omega (arith, few)) here given.1
+        ∙ data_on size (front ++ c ∷ []) read_on.0 rest cs read_on.2 (omega (arith, few, length-append front (c ∷ []))) more
+        ∙ ap (λ (all : List Cell). whole_in size t all (rest ++ more)) (append_assoc front (c ∷ []) cs)
+
+-- a mark without a mask is put into a list
+pub unmasked_filled : (marks : List Mark) (place : ℕ) (mark : Mark) → place < length marks → map masks (take place marks) ≡ replicate place false → masks mark ≡ false
+    → map masks (take (place + 1) (set marks place mark)) ≡ replicate (place + 1) false
+unmasked_filled marks place mark inside before clear =
+    ap (map masks) (take_more_set marks place mark inside) ∙ map-append masks (take place marks) (mark ∷ [])
+    ∙ ap₂ (λ (ms : List Bool) (m : Bool). ms ++ m ∷ []) before clear ∙ replicate_more place false
+
+-- so many numbers and marks are so many cells
+pub filled_count : (height : ℕ → ℤ) (overs : List ℕ) (marks : List Mark) (count : ℕ) → count ≤ length overs → count ≤ length marks → length (kept_cells height (take count overs) (take count marks)) ≡ count
+filled_count height overs marks count inside within =
+    let size = length-take-le count overs inside in
+    length-zip2 (cell_from height) (take count overs) (take count marks) (size ∙ sym (length-take-le count marks within)) ∙ size
+
+-- the gap at the front of a text
+pub behind_gap : (text : List ℕ) → 0 < length text → is_gap (get_or text 0 0) ≡ true → (more : List ℕ) → without_start is_gap (text ++ more) ≡ without_start is_gap (drop 1 text ++ more)
+behind_gap [] some begins more = absurd (omega arith)
+behind_gap (gap ∷ word) some begins more = let all : list_all is_gap (gap ∷ []) ≡ true = rw begins refl in start_front is_gap (gap ∷ []) (word ++ more) all
+
+-- and those behind it
+pub behind_gaps : (text word : List ℕ) → 0 < length text → is_gap (get_or text 0 0) ≡ true → word ≡ without_start is_gap (drop 1 text) → (more : List ℕ) → without_start is_gap (text ++ more) ≡ without_start is_gap (word ++ more)
+behind_gaps text word some begins is more = behind_gap text some begins more ∙ skip_same (drop 1 text) more ∙ ap (λ (t : List ℕ). without_start is_gap (t ++ more)) (sym is)
+
+-- nothing is read yet
+pub reads_none : (size : Size) (old : packed.Cells) (text : List ℕ) → length (cells_in old) ≤ cell_count size → ReadsShort size old text old text
+reads_none size old text few = record { same = λ more. refl; data_type = refl; onward = omega arith; few = few }
+
+-- a batch is read on
+pub reads_batch : (size : Size) (old : packed.Cells) (text : List ℕ) (mid : packed.Cells) (middle : List ℕ) (new : packed.Cells) (rest : List ℕ) (least greatest : ℤ) (room count : ℕ)
+    → ReadsShort size old text mid middle → least ≡ least_height mid.data_type → greatest ≡ greatest_height mid.data_type → TakesBatch least greatest room mid middle new rest count
+    → room + length (cells_in mid) ≤ cell_count size → ReadsShort size old text new rest × (length (cells_in new) ≡ length (cells_in mid) + count)
+reads_batch size old text mid middle new rest least greatest room count reads low high batch fits =
+    let onward = reads.onward in
+    let few = batch.few in
+    let more_is = batch.count_is in
+    let size_is : length (cells_in new) ≡ length (cells_in mid) + count = ap length batch.cells ∙ length-append (cells_in mid) batch.more ∙ ap (λ n. length (cells_in mid) + n) more_is in (
+      record {
+        same = λ more.
+            reads.same more ∙ data_on least greatest mid.data_type low high size (cells_in mid) middle rest batch.more batch.reads (omega (arith, fits, few, more_is)) more
+            ∙ ap₂ (λ (t : DataType) (cs : List Cell). whole_in size t cs (rest ++ more)) (sym batch.data_type) (sym batch.cells);
+        data_type = batch.data_type ∙ reads.data_type;
+        onward = omega (arith, onward, size_is);
+        few = omega (arith, fits, few, size_is);
+      },
+      size_is,
+    )
 
 -- some more
 pub has_more : (size : Size) (old : packed.Cells) (text : List ℕ) (mid : packed.Cells) (middle : List ℕ) (read : ℕ) (new : packed.Cells) (rest : List ℕ) (count : ℕ) → HasOn size old text mid middle read → ReadsShort size mid middle new rest

@@ -162,10 +162,6 @@ module _ (text more : List ℕ) (unended : after_token text ≡ []) where
   unfolding token_of open_front
   open_token = take_all (position_or_len is_gap open_front) open_front open_all
 
-  pub open_gapless : list_any is_gap (token_of text) ≡ false
-  unfolding token_of
-  open_gapless = none_before is_gap (without_start is_gap text)
-
   -- the gaps at its front say nothing
   pub open_same : without_start is_gap (text ++ more) ≡ without_start is_gap (token_of text ++ more)
   open_same = elim (cases_lt 0 (length (without_start is_gap text))) [

@@ -1,26 +1,25 @@
 -- Whole numbers at the front of a text.
-use Rattle.std.proofs.Common.{◌≡◌, ◌+◌, ◌^◌, ◌<◌, ◌≤◌, ℕ, zero, suc, ℤ, pos, negsuc, Bool, true, false, not, List, [], ◌∷◌, length, take, drop, get_or, eqb, ◌&&◌, Some, None, Ok, inl, inr, refl, sym, ap, ap₂, arith, ◌∙◌, length-drop, if◌then◌else◌}
+use Rattle.std.proofs.Common.{◌≡◌, ◌+◌, ◌-◌, ◌+ℤ◌, ◌≤ℤ◌, ◌^◌, ◌<◌, ◌≤◌, ℕ, zero, suc, ℤ, pos, negsuc, Bool, true, false, not, List, [], ◌∷◌, length, take, drop, get_or, eqb, ◌&&◌, Some, None, Ok, inl, inr, refl, sym, ap, ap₂, arith, ◌∙◌, if◌then◌else◌}
 use Rattle.std.specs.Prelude.{bytes_eq, codes, int_le}
 use Rattle.std.specs.Char.{is_ascii_digit}
 use Rattle.std.specs.List.{before_first, list_all, position_or_len}
 use Rattle.std.specs.Str.Parse.{digits_value, signed_digits_value, starts_with_minus, without_leading_sign}
-use Rattle.std.proofs.lemmas.Bool.{cases_Bool, and_from, lt-ltb, ne_eqb, eqb-true}
+use Rattle.std.proofs.lemmas.Bool.{and_from, and_parts, cases_Bool, lt-ltb, ne_eqb}
 use Rattle.std.proofs.lemmas.Bool.Decides.{nat_tests}
 use Rattle.std.proofs.lemmas.List.{get_or-drop, get_or-take, length-take-le}
 use Rattle.std.proofs.lemmas.List.Elements.{All-get_or}
 use Rattle.std.proofs.lemmas.List.Sums.{AllPass-from_list_all, position_or_len_is, prefix_len-le-length}
-use mir.Syntax.{w64}
-use mir.Val.{of_z, to_z}
-use Rattle.std.proofs.lemmas.Int.{ints, to_z-of_z}
+use Rattle.std.proofs.lemmas.Int.{ints}
 use Rattle.std.proofs.lemmas.Slice.Eq.{bytes_eq-Decides}
 use Rattle.hd_map.specs.declared.types.Cell.{Cell}
+use Rattle.hd_map.specs.declared.types.Cell.TheVariants.{Height}
 use Rattle.hd_num.specs.Lines.{without_start}
 use Rattle.hd_num.specs.Whole.{is_numeral, signed_number, whole_of, whole_of_value}
 use Rattle.hd_num.specs.declared.whole.Whole.TheVariants.{Is, Not, Outside}
 use Rattle.hd_sdf_read.specs.Tokens.{is_gap, after_token, is_star, token_of}
 use Rattle.hd_sdf_read.specs.Grammar.{cell_of, datum_at}
 use Rattle.hd_sdf_read.proofs.DatumAt.{datum_at-by_token}
-use Rattle.hd_sdf_read.specs.WholeTokens.{TakesHeight, TakesCell}
+use Rattle.hd_sdf_read.specs.WholeTokens.{AreDigits, TakesCell, TakesHeight, TakesNumber}
 
 -- a digit is no gap
 pub digit_no_gap : (byte : ℕ) → is_ascii_digit byte ≡ true → is_gap byte ≡ false
@@ -91,39 +90,62 @@ signed_height byte bytes k n negative sign unsigned minus inside digits after va
       number = token_number (byte ∷ take (suc k) bytes) (take (suc k) bytes) negative n unsigned minus (rw (length-take-le (suc k) bytes inside) (omega arith)) digits value small;
     }
 
--- digits, with a sign before them or none, up to a gap or the end
-pub height_at : (text : List ℕ) (count n : ℕ) → 0 < count → count ≤ length (without_leading_sign text)
-    → list_all is_ascii_digit (take count (without_leading_sign text)) ≡ true → (count < length (without_leading_sign text) → is_gap (get_or (without_leading_sign text) count 0) ≡ true)
-    → n ≡ digits_value 10 (take count (without_leading_sign text)) → n < 1000000000000000000
-    → TakesHeight text (drop count (without_leading_sign text)) (signed_number (starts_with_minus text) n)
-height_at text zero n some inside digits after value small = absurd (omega arith)
-height_at [] (suc k) n some inside digits after value small = absurd (omega arith)
-height_at (byte ∷ bytes) (suc k) n some inside digits after value small = elim (cases_Bool (eqb byte 45)) [
-  | inl minus ↦ rw minus (signed_height byte bytes k n true (rw (eqb-true byte 45 minus) refl) (rw minus refl) minus
-      (rw minus at inside) (rw minus at digits) (rw minus at after) (rw minus at value) small)
-  | inr no_minus ↦ elim (cases_Bool (eqb byte 43)) [
-    | inl plus ↦ rw (no_minus, plus) (signed_height byte bytes k n false (rw (eqb-true byte 43 plus) refl) (rw (no_minus, plus) refl) no_minus
-        (rw (no_minus, plus) at inside) (rw (no_minus, plus) at digits) (rw (no_minus, plus) at after) (rw (no_minus, plus) at value) small)
-    | inr no_plus ↦ rw (no_minus, no_plus) (plain_height byte bytes k n no_minus no_plus
-        (rw (no_minus, no_plus) at inside) (rw (no_minus, no_plus) at digits) (rw (no_minus, no_plus) at after) (rw (no_minus, no_plus) at value) small)
-  ]
-]
-
--- the same, with the parts of the text as they were read
-pub height_read : (text unsigned rest : List ℕ) (count n : ℕ) (negative : Bool) (z : ℤ) → unsigned ≡ without_leading_sign text → 0 < count → count ≤ length unsigned → list_all is_ascii_digit (take count unsigned) ≡ true
-    → rest ≡ drop count unsigned → (0 < length rest → is_gap (get_or rest 0 0) ≡ true) → n ≡ digits_value 10 (take count unsigned) → n < 1000000000000000000 → negative ≡ starts_with_minus text → z ≡ signed_number negative n
-    → TakesHeight text rest z
-height_read text unsigned rest count n negative z is some inside digits rest_is gap value small minus z_is =
-    let after : count < length unsigned → is_gap (get_or unsigned count 0) ≡ true = λ more.
-    let left : 0 < length rest = rw rest_is (rw length-drop (omega arith)) in
+-- a gap at the front of what follows some bytes
+gap_behind : (text rest : List ℕ) (count : ℕ) → rest ≡ drop count text → is_gap (get_or rest 0 0) ≡ true → is_gap (get_or text count 0) ≡ true
+gap_behind text rest count is gap =
     let place : count + 0 ≡ count = omega arith in
-    ap is_gap (sym (ap (λ xs. get_or xs 0 0) rest_is ∙ get_or-drop count unsigned 0 0 ∙ ap (λ k. get_or unsigned k 0) place)) ∙ gap left in
-    rw (rest_is, z_is, minus, is) (height_at text count n some (rw is at inside) (rw is at digits) (rw is at after) (rw is at value) small)
+    ap is_gap (sym (ap (λ xs. get_or xs 0 0) is ∙ get_or-drop count text 0 0 ∙ ap (λ k. get_or text k 0) place)) ∙ gap
 
--- a small number is kept in 64 bits
-pub height_kept : (negative : Bool) (n : ℕ) (z : ℤ) → z ≡ signed_number negative n → n < 1000000000000000000 → to_z w64 (of_z w64 z) ≡ z
-height_kept true n z is small = to_z-of_z w64 z (omega (arith, ints))
-height_kept false n z is small = to_z-of_z w64 z (omega (arith, ints))
+-- a digit is no sign
+digit_no_sign : (byte : ℕ) → is_ascii_digit byte ≡ true → (eqb byte 45 ≡ false) × (eqb byte 43 ≡ false)
+digit_no_sign byte digit = (grind (arith, nat_tests), grind (arith, nat_tests))
+
+plain_at : (text : List ℕ) (count n : ℕ) → 0 < count → AreDigits text count n → is_gap (get_or text count 0) ≡ true → TakesHeight text (drop count text) (signed_number false n)
+plain_at text zero n some digits gap = absurd (omega arith)
+plain_at [] (suc k) n some digits gap = let within = digits.within in absurd (omega (arith, within))
+plain_at (byte ∷ bytes) (suc k) n some digits gap =
+    let within = digits.within in
+    let no_sign = digit_no_sign byte (and_parts (is_ascii_digit byte) (list_all is_ascii_digit (take k bytes)) digits.digits).0 in
+    plain_height byte bytes k n no_sign.0 no_sign.1 (omega (arith, within)) digits.digits (λ _. gap) digits.value digits.bound
+
+minus_at : (text : List ℕ) (count n : ℕ) → 0 < length text → get_or text 0 0 ≡ 45 → 0 < count → AreDigits (drop 1 text) count n → is_gap (get_or (drop 1 text) count 0) ≡ true
+    → TakesHeight text (drop count (drop 1 text)) (signed_number true n)
+minus_at text zero n filled minus some digits gap = absurd (omega arith)
+minus_at [] (suc k) n filled minus some digits gap = absurd (omega arith)
+minus_at (byte ∷ bytes) (suc k) n filled minus some digits gap =
+    let within = digits.within in
+    let is : byte ≡ 45 = minus in
+    signed_height byte bytes k n true (rw is refl) (rw is refl) (rw is refl) (omega (arith, within)) digits.digits (λ _. gap) digits.value digits.bound
+
+-- what the test says
+int_le-holds : (a b : ℤ) → a ≤ℤ b → int_le a b ≡ true
+int_le-holds a b within = grind (arith, ints, within)
+
+module _ (below greatest : ℕ) (text rest : List ℕ) (n : ℕ) where
+  -- a number without a sign in the range, by how far it is over the least height
+  pub plain_over : TakesNumber text rest n → n ≤ greatest → TakesCell (signed_number true below) (pos greatest) text rest (Height (signed_number true below +ℤ pos (below + n)))
+  plain_over takes within = record {
+    height = signed_number false n;
+    takes = rw takes.after (plain_at text takes.count n takes.some takes.digits (gap_behind text rest takes.count takes.after takes.begins));
+    low = int_le-holds (signed_number true below) (signed_number false n) (omega (arith, ints));
+    high = int_le-holds (signed_number false n) (pos greatest) (omega (arith, ints, within));
+    cell_is = ap Height (let sum : signed_number true below +ℤ pos (below + n) ≡ signed_number false n = omega (arith, ints) in sum);
+  }
+
+  -- or with a minus
+  pub minus_over : 0 < length text → get_or text 0 0 ≡ 45 → TakesNumber (drop 1 text) rest n → n ≤ below → TakesCell (signed_number true below) (pos greatest) text rest (Height (signed_number true below +ℤ pos (below - n)))
+  minus_over filled minus takes within = record {
+    height = signed_number true n;
+    takes = rw takes.after (minus_at text takes.count n filled minus takes.some takes.digits (gap_behind (drop 1 text) rest takes.count takes.after takes.begins));
+    low = int_le-holds (signed_number true below) (signed_number true n) (omega (arith, ints, within));
+    high = int_le-holds (signed_number true n) (pos greatest) (omega (arith, ints));
+    cell_is = ap Height (let sum : signed_number true below +ℤ pos (below - n) ≡ signed_number true n = omega (arith, ints, within) in sum);
+  }
+
+-- a text that a gap begins is not empty
+pub begins_some : (rest : List ℕ) → is_gap (get_or rest 0 0) ≡ true → 0 < length rest
+begins_some [] gap = let wrong : false ≡ true = gap in cc
+begins_some (byte ∷ rest) gap = omega arith
 
 -- the first token, after the gaps
 pub token_at : (text front token : List ℕ) → front ≡ without_start is_gap text → take (position_or_len is_gap front) front ≡ token → token_of text ≡ token

@@ -1,22 +1,13 @@
 -- The tokens of whole numbers: how one is read, and the cell that it gives.
-use Rattle.std.specs.Prelude.{◌≡◌, ◌==◌, ◌<◌, ◌^◌, ℕ, ℤ, int_le, true, false, List, length, take, drop, Result, Ok, Err}
+use Rattle.std.specs.Prelude.{◌≡◌, ◌==◌, ◌<◌, ◌^◌, ℕ, ℤ, int_le, true, false, List, length, slice_index, take, drop}
 use Rattle.std.specs.Char.{is_ascii_digit}
 use Rattle.std.specs.List.{list_all, position_or_len}
 use Rattle.std.specs.Str.Parse.{digits_value}
-use denote.Bor.{Bor}
 use Rattle.hd_map.specs.declared.types.Cell.{Cell}
 use Rattle.hd_map.specs.declared.types.Cell.TheVariants.{Height}
 use Rattle.hd_num.specs.Whole.{whole_of}
 use Rattle.hd_num.specs.declared.whole.Whole.TheVariants.{Is}
-use Rattle.hd_sdf_read.specs.declared.error.SdfError.{SdfError}
-use Rattle.hd_sdf_read.specs.Tokens.{is_gap, after_token}
-use Rattle.hd_sdf_read.specs.Grammar.{datum_at}
-
--- the cell of the next datum after so many, and the text after it, or why there is none
-abbrev pub DatumGiven : ℤ → ℤ → ℕ → List ℕ → Result (Cell × Bor (List ℕ)) SdfError → Type 0
-DatumGiven least greatest read text (Ok (cell, rest)) =
-    (datum_at least greatest read text ≡ Ok cell) × (rest.now ≡ after_token text)
-DatumGiven least greatest read text (Err e) = datum_at least greatest read text ≡ Err e
+use Rattle.hd_sdf_read.specs.Tokens.{is_gap}
 
 -- so many digits at the front of a text, with more bytes behind them, write this number
 pub record AreDigits (text : List ℕ) (count n : ℕ) : Type 0 where
@@ -24,6 +15,14 @@ pub record AreDigits (text : List ℕ) (count n : ℕ) : Type 0 where
   pub digits : list_all is_ascii_digit (take count text) ≡ true
   pub value : n ≡ digits_value 10 (take count text)
   pub bound : n < 10 ^ 18
+
+-- digits at the front of a text write this number, and the rest follows them from a gap on
+pub record TakesNumber (text rest : List ℕ) (n : ℕ) : Type 0 where
+  pub count : ℕ
+  pub some : 0 < count
+  pub digits : AreDigits text count n
+  pub after : rest ≡ drop count text
+  pub begins : is_gap (slice_index rest 0) ≡ true
 
 -- a token at the front is this whole number, and the rest follows it
 pub record TakesHeight (text rest : List ℕ) (height : ℤ) : Type 0 where

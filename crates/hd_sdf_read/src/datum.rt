@@ -1,47 +1,81 @@
 // The data of a file.
-ghost use Rattle.std.specs.Prelude.{◌≡◌, ◌<◌, ◌^◌, IfSome, IsTrue, length, slice_index, true};
+ghost use Rattle.std.specs.Prelude.{◌≡◌, ◌<◌, ◌≤◌, ◌+◌, ◌^◌, ◌++◌, ◌+ℤ◌, ℕ, pos, IfSome, IsTrue, codes, length, slice_index, true};
+ghost use Rattle.hd_map.specs.declared.types.Cell.TheVariants.{Height};
 ghost use Rattle.hd_num.specs.Whole.{signed_number};
 ghost use Rattle.hd_sdf_read.specs.Tokens.{is_gap};
 ghost use Rattle.hd_sdf_read.specs.Grammar.{cell_of};
-ghost use Rattle.hd_sdf_read.specs.WholeTokens.{AreDigits, TakesCell, TakesHeight};
+ghost use Rattle.hd_sdf_read.specs.WholeTokens.{AreDigits, TakesCell, TakesNumber};
 
 use crate::SdfError;
+use crate::digits::block_digits;
 use crate::token::is_gap;
 use hd_map::Cell;
-use hd_num::{Whole, is_negative, read_whole, unsigned_part};
+use hd_num::{Whole, read_whole};
 
-/// The cell of a height at the front of a text, if it is in the range, and the text after it.
+/// How far the height at the front of a text is over the least one, if it is in the range, and the text
+/// from the blank or the LF on that follows it. The range goes from so far below 0 to the greatest.
 #[inline(always)]
-pub fn leading_cell(least: i64, greatest: i64, text: &[u8]) -> Option<(Cell, &[u8])>
-    ensures { IfSome result (λ parts. TakesCell least greatest text.now parts.1.now parts.0) }
+pub fn leading_over(below: u32, greatest: u32, text: &[u8]) -> Option<(u32, &[u8])>
+    requires { below + greatest < 2 ^ 32 }
+    ensures cell { IfSome result (λ parts. TakesCell (signed_number true below) (pos greatest) text.now parts.1.now (Height (signed_number true below +ℤ pos parts.0))) }
+    ensures left { IfSome result (λ parts. 0 < length parts.1.now) }
 {
-    let (height, rest) = leading_height(text)?;
-    if least <= height && height <= greatest {
-        Some((Cell::Height(height), rest))
-    } else {
-        None
+    if text.len() < 17 {
+        return None;
     }
+    if text[0] == b'-' {
+        return over_below(below, text);
+    }
+    let (number, rest) = leading_number(text)?;
+    if number > u64::from(greatest) {
+        return None;
+    }
+    Some((below + number as u32, rest))
 }
 
-// The whole number of at most eleven digits at the front of a text, if a blank or an LF follows it, and
-// the text after it. Where fewer than twelve bytes follow the sign, it is left out too.
+// The same, where the text begins with a minus.
 #[inline(always)]
-fn leading_height(text: &[u8]) -> Option<(i64, &[u8])>
-    ensures { IfSome result (λ parts. TakesHeight text.now parts.1.now parts.0) }
+fn over_below(below: u32, text: &[u8]) -> Option<(u32, &[u8])>
+    requires long { 17 ≤ length text.now }
+    requires minus { slice_index text.now 0 ≡ 45 }
+    ensures cell { (greatest : ℕ) → IfSome result (λ parts. TakesCell (signed_number true below) (pos greatest) text.now parts.1.now (Height (signed_number true below +ℤ pos parts.0))) }
+    ensures left { IfSome result (λ parts. 0 < length parts.1.now) }
 {
-    let unsigned = unsigned_part(text);
-    let (count, number) = few_digits(unsigned)?;
-    let (_, rest) = unsigned.split_at(count);
+    let (number, rest) = leading_number(&text[1..])?;
+    if number > u64::from(below) {
+        return None;
+    }
+    Some((below - number as u32, rest))
+}
+
+// The number of the digits at the front of a text, if a blank or an LF follows them, and the text after
+// them.
+#[inline(always)]
+fn leading_number(text: &[u8]) -> Option<(u64, &[u8])>
+    requires { 16 ≤ length text.now }
+    ensures { IfSome result (λ parts. TakesNumber text.now parts.1.now parts.0) }
+{
+    let (count, number) = block_digits(text)?;
+    let (_, rest) = text.split_at(count);
     if count == 0 || !ends_token(rest) {
         return None;
     }
-    Some((signed(is_negative(text), number), rest))
+    Some((number, rest))
 }
 
-// How many digits a text begins with, and the number that they write, where they are at most eleven
-// of twelve bytes: so many bytes are looked at one by one with no test for the end of the text.
-#[inline(always)]
-fn few_digits(text: &[u8]) -> Option<(usize, u64)>
+/// The text behind a `BAD` at its front, if a blank or an LF follows it.
+pub fn behind_bad(text: &[u8]) -> Option<&[u8]>
+    ensures { IfSome result (λ rest. (text.now ≡ codes "BAD" ++ rest.now) × (0 < length rest.now) × (is_gap (slice_index rest.now 0) ≡ true)) }
+{
+    match text {
+        [b'B', b'A', b'D', rest @ ..] if !rest.is_empty() && ends_token(rest) => Some(rest),
+        _ => None,
+    }
+}
+
+/// How many digits a text begins with, and the number that they write, where they are at most eleven
+/// of twelve bytes: so many bytes are looked at one by one with no test for the end of the text.
+pub fn few_digits(text: &[u8]) -> Option<(usize, u64)>
     ensures { IfSome result (λ parts. AreDigits text.now parts.0 parts.1) }
 {
     if text.len() < 12 {
@@ -56,18 +90,6 @@ fn few_digits(text: &[u8]) -> Option<(usize, u64)>
         number = number * 10 + u64::from(byte - b'0');
     }
     None
-}
-
-// The number with a minus or without.
-fn signed(negative: bool, number: u64) -> i64
-    requires { number < 10 ^ 18 }
-    ensures { result ≡ signed_number negative number }
-{
-    if negative {
-        -(number as i64)
-    } else {
-        number as i64
-    }
 }
 
 /// Whether a token ends before this text.

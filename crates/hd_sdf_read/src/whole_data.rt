@@ -1,18 +1,19 @@
 // Whole numbers that come in pieces.
-ghost use Rattle.std.specs.Prelude.{◌≡◌, ◌≤◌, ◌+◌, ◌<◌, ◌^◌, IfOk, IfSome, false, true, length, slice_index};
+ghost use Rattle.std.specs.Prelude.{◌≡◌, ◌≤◌, ◌+◌, ◌<◌, ◌^◌, IfOk, false, length};
 ghost use Rattle.std.specs.List.{list_any};
 ghost use Rattle.hd_map.specs.Cells.{cells_in};
 ghost use Rattle.hd_map.specs.Map.{cell_count};
 ghost use Rattle.hd_sdf_read.specs.WholeCut.{CutGiven, IsReadOn, IsTaken};
 ghost use Rattle.hd_sdf_read.specs.Tokens.{is_gap};
 ghost use Rattle.hd_sdf_read.specs.Keys.{has_decimals};
-ghost use Rattle.hd_sdf_read.specs.ShortWords.{IsShort, ReadsShort};
+ghost use Rattle.hd_sdf_read.specs.ShortWords.{ReadsShort};
 
 use crate::SdfError;
-use crate::datum::{cell_of, ends_token, leading_cell};
-use crate::token::{next_token, skip_gaps};
+use crate::datum::{cell_of, ends_token};
+use crate::short_words::read_batch;
+use crate::token::next_token;
 use hd_list::Memory;
-use hd_map::{Cell, Cells, Size, greatest_of, least_of};
+use hd_map::{Cell, Cells, Size, greatest_of, least_of, over_least};
 
 /// The cells with those of the whole data at the front of a text, as far as the size has any, and the
 /// text from the first datum on whose end has not come.
@@ -44,61 +45,30 @@ pub fn read_on(mut cells: Cells, size: Size, text: &[u8]) -> Result<(Cells, &[u8
     Ok((cells, rest))
 }
 
-// Adds the cells of the numbers of few digits at the front of a text, each behind a blank or an LF, as
-// far as the size has any, and tells the text after them.
+// Adds the cells of the short data at the front of a text, each behind a blank or an LF, as far as the
+// size has any, and tells the text after them.
 fn read_short<'a>(cells: &mut Cells, size: Size, text: &'a [u8]) -> Result<&'a [u8], Memory>
+    requires whole { has_decimals cells.old.data_type ≡ false }
     requires count { length (cells_in cells.old) ≤ cell_count size }
     requires small { cell_count size < 2 ^ 32 }
     ensures { IfOk result (λ rest. ReadsShort size cells.old text.now cells.new rest.now) }
 {
-    let least = least_of(cells.data_type());
-    let greatest = greatest_of(cells.data_type());
+    let below = over_least(least_of(cells.data_type()), 0);
+    let greatest = over_least(0, greatest_of(cells.data_type()));
     let count = size.profiles as usize * size.points as usize;
     let mut rest = text;
     if rest.is_empty() || !ends_token(rest) {
         return Ok(rest);
     }
-    'short: for _read in cells.len()..count {
-        let Some((cell, after)) = short_cell(least, greatest, rest) else {
-            return Ok(rest);
-        };
-        cells.push(cell)?;
+    'short: while cells.len() < count {
+        let room = count - cells.len();
+        let (read, after) = read_batch(cells, below, greatest, room, rest)?;
+        if read == 0 {
+            return Ok(after);
+        }
         rest = after;
     }
     Ok(rest)
-}
-
-// The cell of a number of few digits behind the blanks and LFs that a text begins with, and the text from
-// the next one on, which ends it. Most often one stands before it.
-#[inline(always)]
-fn short_cell(least: i64, greatest: i64, text: &[u8]) -> Option<(Cell, &[u8])>
-    requires some { 0 < length text.now }
-    requires begins { is_gap (slice_index text.now 0) ≡ true }
-    ensures { IfSome result (λ parts. IsShort least greatest text.now parts.1.now parts.0) }
-{
-    let Some((cell, rest)) = leading_cell(least, greatest, &text[1..]) else {
-        return padded_cell(least, greatest, text);
-    };
-    if rest.is_empty() {
-        return None;
-    }
-    Some((cell, rest))
-}
-
-// The same, where more than one stands before it.
-#[inline(always)]
-fn padded_cell(least: i64, greatest: i64, text: &[u8]) -> Option<(Cell, &[u8])>
-    requires { 0 < length text.now }
-    ensures { IfSome result (λ parts. IsShort least greatest text.now parts.1.now parts.0) }
-{
-    if !ends_token(&text[1..]) {
-        return None;
-    }
-    let (cell, rest) = leading_cell(least, greatest, skip_gaps(text))?;
-    if rest.is_empty() {
-        return None;
-    }
-    Some((cell, rest))
 }
 
 // The cell of the next datum, after so many, and the text after it, or none where its end has not

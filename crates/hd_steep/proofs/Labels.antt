@@ -1,15 +1,13 @@
 -- Labels as they are listed by index.
-use Rattle.std.proofs.Common.{◌≡◌, ◌<◌, ℕ, List, length, get_or, Option, Some, None, inl, inr, ap, ◌∙◌, sym, subst, refl}
-use Rattle.std.specs.Prelude.{unwrap_or, MatchOption}
+use Rattle.std.proofs.Common.{◌≡◌, ◌<◌, ℕ, List, length, get_or, Option, Some, None, ap, ◌∙◌, sym, subst, refl}
+use Rattle.std.specs.Prelude.{unwrap_or}
 use Rattle.std.proofs.lemmas.Option.{slice_get-get_or, unwrap_or-slice_get}
-use Rattle.hd_map.specs.declared.types.Pos.{Pos}
 use Rattle.hd_map.specs.declared.types.Rank.{Rank}
 use Rattle.hd_map.specs.declared.types.SideName.{SideName}
-use Rattle.hd_map.specs.Map.{Map, InGrid, Present, place_of, cell_count}
+use Rattle.hd_map.specs.Map.{Map, place_of, cell_count}
 use Rattle.hd_map.specs.Rank.{rank, IsPoint}
 use Rattle.hd_map.specs.Region.{IsRoot, AreRegions}
-use Rattle.hd_map.proofs.Points.{place_inside, same_index, point_at, present_or_not}
-use Rattle.hd_steep.specs.Meetings.{LiesIn}
+use Rattle.hd_map.proofs.Points.{place_inside, same_index, point_at}
 use Rattle.hd_steep.specs.Links.{NoPointAt}
 use Rattle.hd_steep.specs.Numbering.{IsLabelOf}
 use Rattle.hd_steep.proofs.Following.{no_point_at}
@@ -42,19 +40,6 @@ module _ (m : Map) (side : SideName) where
         let there : place_of m.size p < length labels = rw long (place_inside m.size p in_grid) in
         slice_get-get_or labels (place_of m.size p) None there ∙ ap Some (label_absent (get_or labels (place_of m.size p) None) (place_of m.size p) (no_point_at m p (place_of m.size p) in_grid not refl) (are (place_of m.size p) there));
   }
-
-  -- the label at a position
-  pub label_of_position : (labels : List (Option ℕ)) (at : Pos) (k : ℕ) → AreRegions m side labels → InGrid m.size at → k ≡ place_of m.size at
-      → MatchOption (get_or labels k None) (Present m at → ⊥) (λ n. Present m at × LiesIn m side at n)
-  label_of_position labels at k are in_grid e = elim (present_or_not m at in_grid) [
-    | inl here ↦
-        let found = are.present at here in
-        let is : get_or labels k None ≡ Some found.0.index = ap (λ i. get_or labels i None) e ∙ sym (unwrap_or-slice_get labels (place_of m.size at) None) ∙ ap (λ (o : Option (Option ℕ)). unwrap_or o None) found.2 in
-        rw is (here, record { root = found.0; is_root = found.1; index_is = refl })
-    | inr not ↦
-        let is : get_or labels k None ≡ None = ap (λ i. get_or labels i None) e ∙ sym (unwrap_or-slice_get labels (place_of m.size at) None) ∙ ap (λ (o : Option (Option ℕ)). unwrap_or o None) (are.absent at in_grid not) in
-        rw is not
-  ]
 
   -- a point is labelled with the pit of its region
   pub label_of_point : (labels : List (Option ℕ)) (x : Rank) → AreRegions m side labels → IsPoint m x → (r : Rank) × IsRoot m side x r × (get_or labels x.index None ≡ Some r.index)

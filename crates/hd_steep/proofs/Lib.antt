@@ -14,10 +14,16 @@ pub mod PitNumbers
 mod EndLinks
 pub mod Labels
 pub mod Numbered
-pub mod Joining
-pub mod AddedMeetings
-pub mod Passing
-pub mod Labelled
+pub mod Once
+pub mod Counted
+pub mod Seen
+mod SeenTo
+mod Indexed
+mod AreFoundOf
+mod Chained
+mod Borders
+mod PointAt
+mod BorderPasses
 pub mod Ring
 pub mod Marks
 pub mod Around

@@ -48,10 +48,6 @@ module _ (m : Map) (side : SideName) where
   pub root_own : (k root : ℕ) → IsRootAt m side k root → IsRootAt m side root root
   root_own k root is = pit_own root is.to (root-is_pit m side is.at is.to is.is_root) (sym is.root_is)
 
-  -- the index of a root is one of the map
-  pub root_inside : (k root : ℕ) → IsRootAt m side k root → root < cell_count m.size
-  root_inside k root is = let pit = root-is_pit m side is.at is.to is.is_root in let inside = point_inside m is.to pit.point in rw is.root_is inside
-
   -- where a point is its own root, its position is that of a pit
   pub own_position : (k : ℕ) → IsRootAt m side k k → Present m (position_at m.size k) × IsPit m side (rank m (position_at m.size k)) × ((rank m (position_at m.size k)).index ≡ k)
   own_position k is =

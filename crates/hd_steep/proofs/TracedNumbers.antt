@@ -12,7 +12,7 @@ use Rattle.hd_map.specs.Pruning.{ArePits}
 use Rattle.hd_map.specs.Rank.{IsPoint}
 use Rattle.hd_map.specs.Region.{IsRoot}
 use Rattle.hd_map.proofs.Nexts.{root-is_pit}
-use Rattle.hd_map.proofs.Points.{point_inside, same_index}
+use Rattle.hd_map.proofs.Points.{same_index}
 use Rattle.hd_steep.specs.Crossings.{IsNumberAt, IsNumberOf, pit_at}
 use Rattle.hd_steep.specs.Links.{no_link, AreLinks, HasPointAt, IsRootAt}
 use Rattle.hd_steep.specs.Numbering.{root_of, AreWrittenAtPits, IsLabelOf}
@@ -20,6 +20,7 @@ use Rattle.hd_steep.specs.Tracing.{AreTracedNumbers, IsWrittenAt}
 use Rattle.hd_steep.proofs.Following.{IsOnWay, way_more, way_end}
 use Rattle.hd_steep.proofs.PitNumbers.{listed_pit, own_or_not, root_at, root_below, root_own}
 use Rattle.hd_steep.proofs.Pits.{pits_few}
+use Rattle.hd_steep.proofs.PointAt.{has-below}
 use Rattle.hd_steep.proofs.Ways.{depth_at}
 
 -- a number is written from an index up to another one
@@ -62,13 +63,9 @@ module _ (m : Map) (side : SideName) where
   pub number_point : (pits : List Rank) (k n : ℕ) → IsNumberAt m side pits k n → HasPointAt m k
   number_point pits k n is = record { at = is.at; point = is.point; index_is = is.index_is }
 
-  -- an index with a point is one of the map
-  pub point_below : (k : ℕ) → HasPointAt m k → k < cell_count m.size
-  point_below k has = rw has.index_is (point_inside m has.at has.point)
-
-  -- so is an index with a number
+  -- it is one of the map
   pub number_below : (pits : List Rank) (numbers : List ℕ) (k n : ℕ) → AreTracedNumbers m side pits numbers → IsNumberAt m side pits k n → k < length numbers
-  number_below pits numbers k n traced is = rw traced.whole (point_below k (number_point pits k n is))
+  number_below pits numbers k n traced is = rw traced.whole (has-below m k (number_point pits k n is))
 
   -- a point has the number at its index
   pub number_of_rank : (pits : List Rank) (x : Rank) (k n : ℕ) → IsPoint m x → k ≡ x.index → IsNumberAt m side pits k n → IsNumberOf m side pits x n
@@ -114,7 +111,7 @@ module _ (m : Map) (side : SideName) where
 
     -- what stands at the index of a point is its number, if any stands there
     pub number_known : (numbers : List ℕ) (k : ℕ) → AreTracedNumbers m side pits numbers → HasPointAt m k → slice_index numbers k ≢ no_link → IsNumberAt m side pits k (slice_index numbers k)
-    number_known numbers k traced has some = elim (traced.each k (rw traced.whole (point_below k has))) [
+    number_known numbers k traced has some = elim (traced.each k (rw traced.whole (has-below m k has))) [
       | inl unknown ↦ absurd (some unknown)
       | inr label ↦ label_number k (slice_index numbers k) has label
     ]

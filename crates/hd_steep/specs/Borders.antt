@@ -1,9 +1,14 @@
--- The order of the passes that are gathered along the borders of regions.
-use Rattle.std.specs.Prelude.{◌≡◌, ◌⊎◌, ◌<◌, min, max}
-use Rattle.hd_map.specs.declared.types.Pass.{Pass}
+-- Borders by places.
+use Rattle.std.specs.Prelude.{◌≡◌, ◌<◌, ◌⊎◌, ℕ, List, Contains, AllPairs}
+use Rattle.hd_map.specs.declared.types.SideName.{SideName}
+use Rattle.hd_map.specs.Map.{Map}
+use Rattle.hd_steep.specs.declared.border.Border.{Border}
+use Rattle.hd_steep.specs.Pairs.{AreCounted, IsAcross, Pair}
+use Rattle.hd_steep.specs.Found.{HasPlace}
 
--- this pass comes before that one: by the lesser index of its two regions, and then by the greater
-abbrev pub ComesFirst : Pass → Pass → Type 0
-ComesFirst p q =
-    (min p.a.index p.b.index < min q.a.index q.b.index)
-    ⊎ ((min p.a.index p.b.index ≡ min q.a.index q.b.index) × (max p.a.index p.b.index < max q.a.index q.b.index))
+-- one border for each two places with a pair across, by the lesser place and then by the other
+pub record AreBorders (m : Map) (side : SideName) (places : List ℕ) (borders : List Border) : Type 0 where
+  pub lesser : (l : Border) → Contains borders l → l.a < l.b
+  pub counted : (l : Border) → Contains borders l → AreCounted side (IsAcross m (HasPlace m places) l.a l.b) l.pairs l.pass
+  pub all : (i j : ℕ) (p : Pair) → i < j → IsAcross m (HasPlace m places) i j p → (l : Border) × Contains borders l × (l.a ≡ i) × (l.b ≡ j)
+  pub in_order : AllPairs (λ x y. (x.a < y.a) ⊎ ((x.a ≡ y.a) × (x.b < y.b))) borders

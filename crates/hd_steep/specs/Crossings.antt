@@ -1,15 +1,16 @@
 -- Crossings by the numbers of their regions.
-use Rattle.std.specs.Prelude.{◌≡◌, ◌<◌, ℕ, List, [], All, length, map, pos, slice_index_or, if◌then◌else◌}
+use Rattle.std.specs.Prelude.{◌≡◌, ◌<◌, ℕ, List, [], All, length, map, pos, slice_index_or}
 use Rattle.hd_map.specs.declared.types.Link.{Link}
 use Rattle.hd_map.specs.declared.types.Pass.{Pass}
 use Rattle.hd_map.specs.declared.types.Pos.{Pos}
 use Rattle.hd_map.specs.declared.types.Rank.{Rank}
 use Rattle.hd_map.specs.declared.types.SideName.{SideName}
 use Rattle.hd_map.specs.Map.{Map, position_at}
-use Rattle.hd_map.specs.Rank.{rank, below_by, IsPoint}
+use Rattle.hd_map.specs.Rank.{rank, IsPoint}
 use Rattle.hd_map.specs.Region.{IsRoot}
 use Rattle.hd_steep.specs.declared.descent.Descent.{Descent}
 use Rattle.hd_steep.specs.Crossed.{Gathers}
+use Rattle.hd_steep.specs.Passes.{pass_between}
 
 -- the pit of a number
 abbrev pub pit_at : List Rank → ℕ → Rank
@@ -17,7 +18,7 @@ pit_at pits n = slice_index_or pits n (record { height = pos 0; index = 0 })
 
 -- the pass of a crossing, the lower pit first
 abbrev pub pass_of : SideName → List Rank → Link → Pass
-pass_of side pits x = if below_by side (pit_at pits x.a) (pit_at pits x.b) then (record { a = pit_at pits x.a; b = pit_at pits x.b; at = x.at }) else (record { a = pit_at pits x.b; b = pit_at pits x.a; at = x.at })
+pass_of side pits x = pass_between side (pit_at pits x.a) (pit_at pits x.b) x.at
 
 -- the passes of crossings
 abbrev pub passes_of : SideName → List Rank → List Link → List Pass

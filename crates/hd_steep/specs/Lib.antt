@@ -6,8 +6,11 @@ pub mod LowerPlaces
 pub mod Linked
 pub mod Links
 pub mod FirstLinks
+pub mod Pairs
+pub mod Found
+pub mod Chains
 pub mod Borders
-pub mod Meetings
+pub mod Passes
 pub mod Ring
 pub mod Crossed
 pub mod Crossings

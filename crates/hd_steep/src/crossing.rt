@@ -10,6 +10,7 @@ ghost use Rattle.hd_steep.specs.KeyRows.{IsKeyRow};
 ghost use Rattle.hd_steep.specs.Keys.{IsBeyond, IsKey, on_side};
 ghost use Rattle.hd_steep.specs.Links.{HasPointAt};
 ghost use Rattle.hd_steep.specs.Numbering.{AreNumbered, roots_of};
+ghost use Rattle.hd_steep.specs.Passes.{pass_between};
 
 use crate::descending::Descending;
 use crate::descent::Descent;
@@ -81,12 +82,26 @@ fn pass_of<S: Side>(regions: &Regions, crossing: Link) -> Pass
 {
     let Link { a, b, at } = crossing;
     let pits = regions.pits();
-    let a = pits[a as usize];
-    let b = pits[b as usize];
-    if S::below(a, b) {
-        Pass { a, b, at }
+    pass_between::<S>(pits[a as usize], pits[b as usize], at)
+}
+
+/// The pass between two pits, the lower one first.
+#[inline]
+pub fn pass_between<S: Side>(one: Rank, other: Rank, at: Rank) -> Pass
+    ensures { result ≡ pass_between S.NAME one other at }
+{
+    if S::below(one, other) {
+        Pass {
+            a: one,
+            b: other,
+            at,
+        }
     } else {
-        Pass { a: b, b: a, at }
+        Pass {
+            a: other,
+            b: one,
+            at,
+        }
     }
 }
 

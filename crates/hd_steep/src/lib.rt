@@ -3,11 +3,13 @@
 #![tactic(auto)]
 
 mod below;
-mod borders;
+mod border;
+mod chains;
 mod crossing;
 mod descending;
 mod descent;
 mod ends;
+mod found;
 mod kept_links;
 mod laws;
 mod leading;
@@ -15,17 +17,19 @@ mod links;
 mod low;
 mod lower_places;
 mod lowest;
-mod meetings;
 mod numbering;
+mod pairs;
+mod passing;
 mod pit_list;
 mod places;
+mod points;
 mod put;
 mod rolling;
 mod row;
 mod steep;
 mod tracing;
 
-pub use borders::passes;
+pub use border::Border;
 pub use crossing::{crossings, passes_of};
 pub use descent::{Descent, descents};
 pub use kept_links::FirstLinks;
@@ -34,5 +38,7 @@ pub use laws::{
 };
 pub use lowest::{is_missing, lower, missing_rank};
 pub use numbering::{Regions, find_regions};
+pub use pairs::borders_of;
+pub use passing::passes;
 pub use steep::{next, regions, root};
 pub use tracing::Tracing;

@@ -6,8 +6,9 @@ ghost use Rattle.hd_map.specs.Region.{IsPit};
 ghost use Rattle.hd_steep.specs.Links.{AreLinks, IsRootAt};
 ghost use Rattle.hd_steep.specs.Numbering.{AreWrittenAtPits};
 
+use crate::points::point_at;
 use hd_list::Memory;
-use hd_map::{Heights, Rank, Side, position_of, rank_of};
+use hd_map::{Heights, Rank, Side};
 use std::alloc::Global;
 
 /// Heights without any order have about one pit for nine points: memory is reserved for as many.
@@ -38,7 +39,7 @@ fn pit_at<S: Side, G: Heights>(grid: &G, index: u32) -> Rank
     ensures pit { IsPit (G.map grid.now) S.NAME result }
     ensures index { result.index ≡ index }
 {
-    rank_of(grid, position_of(grid.size(), index))
+    point_at(grid, index)
 }
 
 /// Writes its number at the index of each pit, counted from the first one.

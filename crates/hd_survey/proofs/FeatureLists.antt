@@ -14,7 +14,7 @@ use Rattle.hd_map.specs.Map.{Map}
 use Rattle.hd_map.specs.Presence.{present_heights}
 use Rattle.hd_map.specs.HeightRange.{range_of}
 use Rattle.hd_prune.specs.declared.step.Kept.{Kept}
-use Rattle.hd_survey.specs.declared.tally.Tally.{Tally}
+use Rattle.hd_regions.specs.declared.tally.Tally.{Tally}
 use Rattle.hd_survey.specs.Features.{AreFeaturesWith, feature_of, feature_with, lpvh}
 use Rattle.hd_survey.specs.Heights.{HasHeights, IsHeight, IsHeightRange, farthest_apart}
 use Rattle.hd_survey.specs.Owned.{owned_points}

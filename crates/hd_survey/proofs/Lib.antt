@@ -19,7 +19,6 @@ mod KeptPlaces
 mod Owning
 mod FeatureLists
 mod FeatureNeeds
-mod ValuesDetermined
 mod PrunedLines
 pub mod MapMerges
 mod ReachedBelow

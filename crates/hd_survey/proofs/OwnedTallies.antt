@@ -17,7 +17,7 @@ use Rattle.hd_map.specs.Pruning.{ArePits}
 use Rattle.hd_map.specs.Region.{AreRegions}
 use Rattle.hd_map.proofs.Levels.{Contains-cases, Contains-head, Contains-none, Contains-tail}
 use Rattle.hd_prune.specs.Pruned.{owned_by}
-use Rattle.hd_survey.specs.declared.tally.Tally.{Tally}
+use Rattle.hd_regions.specs.declared.tally.Tally.{Tally}
 use Rattle.hd_survey.specs.Owned.{is_owned, joined_of, owned_below, owned_points, owns}
 use Rattle.hd_survey.specs.Regions.{names, points_of, rank_at}
 use Rattle.hd_survey.specs.Tallies.{edge_with, joined, joined_ranges, no_tally, region_tally, rooted_below, tally_after, tally_of, tally_with}

@@ -14,7 +14,7 @@ use Rattle.hd_prune.specs.declared.step.Owned.{Owned}
 use Rattle.hd_prune.specs.declared.step.Step.{Step}
 use Rattle.hd_prune.specs.Answer.{IsPruned}
 use Rattle.hd_prune.specs.Pruned.{leavings_of, owned_by}
-use Rattle.hd_survey.specs.declared.tally.Tally.{Tally}
+use Rattle.hd_regions.specs.declared.tally.Tally.{Tally}
 use Rattle.hd_survey.specs.Owned.{AreKeptPlaces, AreOwnedTallies, ArePlacedTallies, AreSized, HavePoints, is_owned, is_placed, joined_of, owned_points, owned_size, plain_tally}
 use Rattle.hd_survey.specs.Regions.{AreRegionSizes, pit_ranks, points_of, region_size}
 use Rattle.hd_survey.specs.Tallies.{AreRegionTallies, joined, no_tally, region_tally, tally_of}

@@ -5,7 +5,7 @@ use Rattle.std.specs.Int.{int_min, int_max}
 use Rattle.std.proofs.lemmas.Int.{ints, int_min_is, int_max_is}
 use Rattle.hd_map.specs.declared.height_range.HeightRange.{HeightRange}
 use Rattle.hd_prune.specs.declared.step.Owned.{Owned}
-use Rattle.hd_survey.specs.declared.tally.Tally.{Tally}
+use Rattle.hd_regions.specs.declared.tally.Tally.{Tally}
 use Rattle.hd_survey.specs.Owned.{JoinsAt, is_placed, joined_of}
 use Rattle.hd_survey.specs.Tallies.{joined, joined_ranges, no_tally}
 

@@ -5,7 +5,7 @@ use Rattle.std.proofs.lemmas.List.{get_or-map, length-map}
 use Rattle.hd_map.specs.declared.types.Rank.{Rank}
 use Rattle.hd_map.specs.Map.{Map, cell_count}
 use Rattle.hd_steep.specs.Numbering.{Numbering, roots_of}
-use Rattle.hd_survey.specs.declared.tally.Tally.{Tally}
+use Rattle.hd_regions.specs.declared.tally.Tally.{Tally}
 use Rattle.hd_survey.specs.Tallies.{AreTallies, numbered_below, region_tally, rooted_below, tally_of}
 use Rattle.hd_survey.proofs.Lists.{same_lists}
 use Rattle.hd_survey.proofs.Numbers.{below-numbered}

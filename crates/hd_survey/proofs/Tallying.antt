@@ -12,7 +12,7 @@ use Rattle.hd_map.specs.Map.{Map, position_at}
 use Rattle.hd_map.specs.HeightRange.{range_of}
 use Rattle.hd_map.proofs.Presences.{range_more}
 use Rattle.hd_steep.specs.Numbering.{Numbering}
-use Rattle.hd_survey.specs.declared.tally.Tally.{Tally}
+use Rattle.hd_regions.specs.declared.tally.Tally.{Tally}
 use Rattle.hd_survey.specs.Edges.{edge_height, edge_heights}
 use Rattle.hd_survey.specs.Tallies.{AddsPoint, AreTallies, edge_with, numbered_below, tally_after, tally_of}
 

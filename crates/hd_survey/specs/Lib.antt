@@ -10,7 +10,6 @@ pub mod Features
 pub mod Sums
 pub mod Values
 pub mod PitPlaces
-pub mod Lines
 pub mod Findings
 pub mod Survey
 pub mod Way

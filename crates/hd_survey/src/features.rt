@@ -11,13 +11,14 @@ use crate::findings::Findings;
 use crate::local_heights::lpvh;
 use crate::owned::owned_tallies;
 use crate::pruned::{cells_of, pruned_pits};
-use crate::tally::{NO_TALLY, Tally};
+use crate::tally::NO_TALLY;
 use crate::view::SideView;
 use hd_feature::Region;
 use hd_list::{List, Memory};
 use hd_map::{HeightRange, Heights, Side, SideName};
 use hd_num::Percent;
 use hd_prune::Kept;
+use hd_regions::Tally;
 use std::alloc::Global;
 
 /// The regions of the kept pits after the pruning of a grid at a percent, in position order, by a view of

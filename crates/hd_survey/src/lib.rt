@@ -8,7 +8,6 @@ mod features;
 mod findings;
 mod grid_view;
 mod kept;
-mod laws;
 mod lines;
 mod local_heights;
 mod merges;
@@ -26,19 +25,16 @@ mod values;
 mod view;
 mod way;
 
+pub use falls::Falls;
 pub use findings::Findings;
 pub use grid_view::GridView;
 pub use kept::KeptPits;
-pub use laws::{
-    features_are_determined, kept_pits_are_determined, pruned_lines_are_determined,
-    pruned_regions_are_determined, region_sizes_are_determined, values_are_determined,
-};
 pub use lines::pruned_lines;
 pub use merges::{PitMerges, merges_of_crossings, merges_of_passes};
+pub use pits::lows_of;
 pub use pruned::PrunedRegions;
 pub use saddles::{reached_pits, saddle_between};
 pub use survey::Survey;
-pub use tally::Tally;
 pub use tree::change_tree;
 pub use values::{notation_regions, notation_value, parameter_value};
 pub use view::SideView;

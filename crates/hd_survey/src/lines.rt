@@ -2,7 +2,7 @@
 ghost use Rattle.std.specs.Prelude.{All, IfOk};
 ghost use Rattle.hd_survey.specs.Findings.{AreFindings};
 ghost use Rattle.hd_survey.specs.Inside.{IsLineOn};
-ghost use Rattle.hd_survey.specs.Lines.{ArePrunedLines};
+ghost use Rattle.hd_regions.specs.Lines.{ArePrunedLines};
 
 use crate::findings::Findings;
 use crate::grid_view::GridView;

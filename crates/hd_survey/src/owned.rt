@@ -5,13 +5,14 @@ ghost use Rattle.hd_map.specs.declared.types.RegionSize.{RegionSize};
 ghost use Rattle.hd_map.specs.declared.types.SideName.{SideName};
 ghost use Rattle.hd_prune.specs.Answer.{IsPruned};
 ghost use Rattle.hd_survey.specs.Owned.{AreKeptPlaces, AreOwnedTallies, ArePlacedTallies, AreSized, HavePoints, JoinsAt, is_placed, joined_of, plain_tally, sized};
-ghost use Rattle.hd_survey.specs.declared.tally.Tally.{Tally};
+ghost use Rattle.hd_regions.specs.declared.tally.Tally.{Tally};
 
 use crate::tallies::no_tallies;
-use crate::tally::{Tally, joined};
+use crate::tally::joined;
 use hd_list::{List, Memory};
 use hd_map::RegionSize;
 use hd_prune::{Kept, Owned, Pruned};
+use hd_regions::Tally;
 use std::alloc::Global;
 
 /// The regions of the kept pits in position order, with all points that they own, from all regions of

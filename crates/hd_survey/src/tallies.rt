@@ -6,9 +6,10 @@ ghost use Rattle.hd_survey.specs.Edges.{HaveRoots};
 ghost use Rattle.hd_survey.specs.Tallies.{AddsPoint, AreTallies, no_tally, region_tally};
 
 use crate::edges::edge_height;
-use crate::tally::{NO_TALLY, Tally, count_point};
+use crate::tally::{NO_TALLY, count_point};
 use hd_list::{List, Memory};
 use hd_map::{Heights, Pos, Side, position_after};
+use hd_regions::Tally;
 use hd_steep::Regions;
 use std::alloc::Global;
 

@@ -1,17 +1,9 @@
-// What is counted of a region.
+// Counting the points of a region.
 ghost use Rattle.std.specs.Prelude.{◌≡◌, ◌<◌, ◌+◌, ◌^◌};
 ghost use Rattle.hd_survey.specs.Tallies.{joined, joined_ranges, tally_with};
 
 use hd_map::HeightRange;
-
-/// The number of the points of a region, and the range of the heights of its edge points.
-#[derive(Clone, Copy, Debug, PartialEq, Eq)]
-pub struct Tally {
-    /// The number of its points.
-    pub points: u32,
-    /// The range of the heights of its edge points in steps, or none without one.
-    pub edge: Option<HeightRange>,
-}
+use hd_regions::Tally;
 
 /// The tally of no points.
 pub const NO_TALLY: Tally = Tally {

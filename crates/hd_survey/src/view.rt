@@ -1,8 +1,8 @@
 // A side of a map, by what reports ask of it.
 use crate::merges::PitMerges;
-use crate::tally::Tally;
 use hd_list::{List, Memory};
 use hd_map::{Pos, RegionSize, Side};
+use hd_regions::Tally;
 
 /// A side of a map, by what reports ask of it. Contracts see it as the map.
 pub trait SideView<S: Side> {

@@ -57,21 +57,14 @@ pub(crate) fn expect_refused<S: Source>(
 }
 
 #[test]
-fn a_file_is_read_whole_in_pieces_of_any_size(rt: HostRuntime) {
+fn a_file_is_read_whole_or_refused(rt: HostRuntime) {
     for piece in [1, 2, 3, 7] {
         let mut source = five_bytes(&rt, &[], piece);
         expect_read(&rt, &mut source, "name", 5, b"abcde");
     }
-}
-
-#[test]
-fn a_limit_one_byte_short_is_too_long(rt: HostRuntime) {
     let mut source = five_bytes(&rt, &[], 2);
     expect_refused(&rt, &mut source, "name", 4, ReadError::TooLong(4));
-}
-
-#[test]
-fn a_fault_of_one_call_leaves_the_next_ones(rt: HostRuntime) {
+    // A fault of one call leaves the next ones.
     let mut source = five_bytes(&rt, &[1], 2);
     expect_refused(&rt, &mut source, "name", 5, ReadError::ReadFault);
     expect_refused(&rt, &mut source, "other", 5, ReadError::ReadFault);
@@ -87,21 +80,29 @@ pub(crate) fn write_anew<W: Sink>(rt: &impl Abort, sink: &mut W, name: &str, byt
     sink.flush().expect(rt, "a flush");
 }
 
+// A sink in memory with this room.
+fn sink_of(rt: &(impl Abort + AllocGlobal), piece: usize, room: usize) -> MemSink
+    requires { 0 < piece }
+{
+    let mut sink = MemSink::new(rt.alloc(), List::new(rt.alloc()), piece);
+    sink.reserve(room).expect(rt, "memory");
+    sink
+}
+
 #[test]
-fn all_bytes_are_written_four_at_a_time(rt: HostRuntime) {
-    let mut sink = MemSink::new(rt.alloc(), List::new(rt.alloc()), 4);
-    sink.reserve(10).expect(&rt, "memory");
+fn files_are_written_one_after_the_other_as_far_as_there_is_room(rt: HostRuntime) {
+    let mut sink = sink_of(&rt, 4, 10);
     for bytes in [b"0123456789".as_slice(), b"abc".as_slice()] {
         write_anew(&rt, &mut sink, "name", bytes);
         expect_bytes(&rt, sink.bytes(), bytes);
     }
-}
-
-#[test]
-fn a_prefix_is_written_where_room_ends(rt: HostRuntime) {
-    let mut sink = MemSink::new(rt.alloc(), List::new(rt.alloc()), 4);
-    sink.reserve(6).expect(&rt, "memory");
-    let answer = write_all(&mut sink, b"0123456789");
-    assert_eq!(rt; answer, Err(WriteFault));
+    let bytes = vec![in rt.alloc(); b'x'; 70_001].expect(&rt, "memory");
+    let mut sink = sink_of(&rt, 4_096, 70_001);
+    for _ in 0..20 {
+        write_anew(&rt, &mut sink, "name", &bytes);
+        expect_bytes(&rt, sink.bytes(), &bytes);
+    }
+    let mut sink = sink_of(&rt, 4, 6);
+    assert_eq!(rt; write_all(&mut sink, b"0123456789"), Err(WriteFault));
     expect_bytes(&rt, sink.bytes(), b"012345");
 }

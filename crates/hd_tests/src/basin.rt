@@ -13,10 +13,6 @@ use hd_basin::{Basins, Extent, Node};
 use hd_map::{Adjacency, Cell, DataType, Down, Heights, Pos, Rank, Side, Size, Surface, Up};
 use std::process::Abort;
 
-fn at(x: u32, y: u32) -> Pos {
-    Pos { x, y }
-}
-
 // Brings a pool up to its surface, and gives what it tells.
 fn expect_same<S: Side>(rt: &(impl Abort + AllocGlobal), followed: &mut Followed<S>) -> Told
     requires { IsFollowing (map_of followed.old.watched.tiles.grid) S.NAME followed.old.watched.tiles.tiling.side followed.old.watched.tiles.stamps.items followed.old.pool }
@@ -59,7 +55,7 @@ fn expect_joins(rt: &(impl Abort + AllocGlobal), told: &Told, wanted: &[(u32, u3
     assert_eq!(rt; found.as_slice(), wanted);
 }
 
-// The pool of a surface that is written down.
+// A small surface whose profiles are the lines of a text, and the pool of a side of it.
 fn pool_of<S: Side>(rt: &(impl Abort + AllocGlobal), profiles: &str, side: u32) -> Followed<S>
     requires { IsTileSide side }
     ensures { IsFollowing (map_of result.watched.tiles.grid) S.NAME result.watched.tiles.tiling.side result.watched.tiles.stamps.items result.pool }
@@ -67,32 +63,19 @@ fn pool_of<S: Side>(rt: &(impl Abort + AllocGlobal), profiles: &str, side: u32) 
     Followed::new(rt, surface(rt, DataType::I16, profiles), side)
 }
 
-// The surface of three dales, where the way through one of them is lower than the border of the others.
-fn expect_three_dales(rt: &(impl Abort + AllocGlobal), side: u32)
-    requires { IsTileSide side }
-{
-    let told = expect_same(rt, &mut pool_of::<Down>(rt, "0 9 1\n4 9 5\n6 2 6", side));
-    expect_regions(rt, &told.extents, &[(0, 0, 4), (2, 1, 2), (7, 2, 3)]);
-    expect_joins(rt, &told, &[(3, 0), (3, 7), (5, 0), (5, 2)]);
-}
-
-#[test]
-fn three_dales_have_two_saddles(rt: HostRuntime) {
-    expect_three_dales(&rt, 8);
-    expect_three_dales(&rt, 256);
-}
-
-// The surface of 64 by 64 points whose heights are x + y.
-fn slope(rt: &(impl Abort + AllocGlobal)) -> Surface {
+// The surface of this size whose heights are x + y, and so much more.
+fn slope(rt: &(impl Abort + AllocGlobal), points: u32, profiles: u32, more: u32) -> Surface {
+    assert!(rt; 1 <= points && points <= 64 && 1 <= profiles && profiles <= 64);
     let mut cells = Vec::new(rt.alloc());
-    for index in 0..4096i64 {
-        let height = index / 64 + index % 64;
-        cells.push(Cell::Height(height)).expect(rt, "memory");
+    for index in 0..points * profiles {
+        let height = (index / points)
+            .saturating_add(index % points)
+            .saturating_add(more);
+        cells
+            .push(Cell::Height(i64::from(height)))
+            .expect(rt, "memory");
     }
-    let size = Size {
-        points: 64,
-        profiles: 64,
-    };
+    let size = Size { points, profiles };
     surface_of(rt.alloc(), size, DataType::I16, &cells).expect(rt, "a surface")
 }
 
@@ -111,53 +94,39 @@ fn expect_refresh<S: Side>(
     expect_regions(rt, extents.as_slice(), wanted);
 }
 
-// A second dale on that slope, with the looks at the slope, and those after the change.
-fn expect_second_dale(rt: &(impl Abort + AllocGlobal), side: u32, all: u32, after: u32)
-    requires { IsTileSide side }
-{
-    let mut followed = Followed::<Down>::new(rt, slope(rt), side);
-    expect_refresh(rt, &mut followed, all, &[(0, 0, 4096)]);
-    followed.set_cell(rt, at(7, 7), Cell::Height(-5));
-    expect_refresh(rt, &mut followed, after, &[(0, 0, 3812), (455, -5, 284)]);
-    expect_refresh(rt, &mut followed, 0, &[(0, 0, 3812), (455, -5, 284)]);
-}
-
 #[test]
 fn a_set_at_the_corner_of_four_tiles_is_seen_there(rt: HostRuntime) {
     // Each of the eight tiles of a row is seen with the columns beside it: 9 + 6 * 10 + 9 columns.
-    expect_second_dale(&rt, 8, 78 * 78, 19 * 19);
-    expect_second_dale(&rt, 256, 4096, 4096);
-}
-
-// The surface of one profile of 48 points whose heights are x + 1.
-fn ramp(rt: &(impl Abort + AllocGlobal)) -> Surface {
-    let mut cells = Vec::new(rt.alloc());
-    for x in 0..48 {
-        cells.push(Cell::Height(x + 1)).expect(rt, "memory");
+    for (side, all, after) in [(8, 78 * 78, 19 * 19), (256, 4096, 4096)] {
+        assert!(&rt; 8 <= side && side <= 256);
+        let mut followed = Followed::<Down>::new(&rt, slope(&rt, 64, 64, 0), side);
+        expect_refresh(&rt, &mut followed, all, &[(0, 0, 4096)]);
+        followed.set_cell(&rt, Pos { x: 7, y: 7 }, Cell::Height(-5));
+        expect_refresh(&rt, &mut followed, after, &[(0, 0, 3812), (455, -5, 284)]);
+        expect_refresh(&rt, &mut followed, 0, &[(0, 0, 3812), (455, -5, 284)]);
     }
-    let size = Size {
-        points: 48,
-        profiles: 1,
-    };
-    surface_of(rt.alloc(), size, DataType::I16, &cells).expect(rt, "a surface")
 }
 
 #[test]
 fn a_far_point_has_another_root_after_a_set(rt: HostRuntime) {
-    let mut followed = Followed::<Down>::new(&rt, ramp(&rt), 8);
+    let mut followed = Followed::<Down>::new(&rt, slope(&rt, 48, 1, 1), 8);
     expect_refresh(&rt, &mut followed, 58, &[(0, 1, 48)]);
     let told = expect_same(&rt, &mut followed);
     assert_eq!(&rt; told.labels.as_slice().get(47), Some(&Some(0)));
-    followed.set_cell(&rt, at(0, 0), Cell::Height(100));
+    followed.set_cell(&rt, Pos { x: 0, y: 0 }, Cell::Height(100));
     expect_refresh(&rt, &mut followed, 9, &[(1, 2, 48)]);
     let told = expect_same(&rt, &mut followed);
     assert_eq!(&rt; told.labels.as_slice().get(47), Some(&Some(1)));
 }
 
-// Both sides of a surface of three points before and after a set, in tiles of this side.
-fn expect_both_sides(rt: &(impl Abort + AllocGlobal), side: u32)
+// Three dales, where the way through one of them is lower than the border of the others, and both sides of a surface of
+// three points before and after a set.
+fn expect_small(rt: &(impl Abort + AllocGlobal), side: u32)
     requires { IsTileSide side }
 {
+    let told = expect_same(rt, &mut pool_of::<Down>(rt, "0 9 1\n4 9 5\n6 2 6", side));
+    expect_regions(rt, &told.extents, &[(0, 0, 4), (2, 1, 2), (7, 2, 3)]);
+    expect_joins(rt, &told, &[(3, 0), (3, 7), (5, 0), (5, 2)]);
     let mut dales = pool_of::<Down>(rt, "978 3741 2508", side);
     let mut hills = pool_of::<Up>(rt, "978 3741 2508", side);
     expect_regions(
@@ -166,8 +135,8 @@ fn expect_both_sides(rt: &(impl Abort + AllocGlobal), side: u32)
         &[(0, 978, 2), (2, 2508, 1)],
     );
     expect_regions(rt, &expect_same(rt, &mut hills).extents, &[(1, 3741, 3)]);
-    dales.set_cell(rt, at(1, 0), Cell::Height(202));
-    hills.set_cell(rt, at(1, 0), Cell::Height(202));
+    dales.set_cell(rt, Pos { x: 1, y: 0 }, Cell::Height(202));
+    hills.set_cell(rt, Pos { x: 1, y: 0 }, Cell::Height(202));
     expect_regions(rt, &expect_same(rt, &mut dales).extents, &[(1, 202, 3)]);
     expect_regions(
         rt,
@@ -177,9 +146,11 @@ fn expect_both_sides(rt: &(impl Abort + AllocGlobal), side: u32)
 }
 
 #[test]
-fn a_set_changes_dales_and_hills(rt: HostRuntime) {
-    expect_both_sides(&rt, 16);
-    expect_both_sides(&rt, 64);
+fn small_surfaces_have_their_saddles_and_follow_a_set(rt: HostRuntime) {
+    for side in [8, 16, 64, 256] {
+        assert!(&rt; 8 <= side && side <= 256);
+        expect_small(&rt, side);
+    }
 }
 
 // A surface of this size whose heights are from 0 to 15 by a linear congruence, where about each eighth
@@ -207,19 +178,22 @@ fn expect_same_after_sets<S: Side>(rt: &(impl Abort + AllocGlobal), followed: &m
     ensures { IsFollowing (map_of followed.new.watched.tiles.grid) S.NAME followed.new.watched.tiles.tiling.side followed.new.watched.tiles.stamps.items followed.new.pool }
 {
     let size = followed.watched.tiles.size();
-    let last = at(
-        size.points.saturating_sub(1),
-        size.profiles.saturating_sub(1),
-    );
-    let middle = at(size.points / 2, size.profiles / 2);
+    let last = Pos {
+        x: size.points.saturating_sub(1),
+        y: size.profiles.saturating_sub(1),
+    };
+    let middle = Pos {
+        x: size.points / 2,
+        y: size.profiles / 2,
+    };
     followed.set_cell(rt, last, Cell::Height(-1));
     expect_same(rt, followed);
     followed.set_cell(rt, middle, Cell::Bad);
-    followed.set_mask(rt, at(0, 0), true);
+    followed.set_mask(rt, Pos { x: 0, y: 0 }, true);
     expect_same(rt, followed);
     followed.set_cell(rt, middle, Cell::Height(9));
     followed.set_cell(rt, last, Cell::Height(16));
-    followed.set_mask(rt, at(0, 0), false);
+    followed.set_mask(rt, Pos { x: 0, y: 0 }, false);
     expect_same(rt, followed);
 }
 
@@ -243,21 +217,14 @@ fn expect_same_on_noise<S: Side>(
     expect_same_after_sets(rt, &mut followed);
 }
 
-// The same on both sides in tiles of two sides.
-fn expect_same_on_both_sides(rt: &(impl Abort + AllocGlobal), points: u32, profiles: u32) {
-    expect_same_on_noise::<Down>(rt, points, profiles, 8);
-    expect_same_on_noise::<Up>(rt, points, profiles, 8);
-    expect_same_on_noise::<Down>(rt, points, profiles, 256);
-    expect_same_on_noise::<Up>(rt, points, profiles, 256);
-}
-
 #[test]
 fn noise_in_tiles_is_as_noise_without(rt: HostRuntime) {
-    expect_same_on_both_sides(&rt, 8, 8);
-    expect_same_on_both_sides(&rt, 9, 9);
-    expect_same_on_both_sides(&rt, 17, 1);
-    expect_same_on_both_sides(&rt, 1, 17);
-    expect_same_on_both_sides(&rt, 17, 17);
+    for (points, profiles) in [(8, 8), (9, 9), (17, 1), (1, 17), (17, 17)] {
+        expect_same_on_noise::<Down>(&rt, points, profiles, 8);
+        expect_same_on_noise::<Up>(&rt, points, profiles, 8);
+        expect_same_on_noise::<Down>(&rt, points, profiles, 256);
+        expect_same_on_noise::<Up>(&rt, points, profiles, 256);
+    }
 }
 
 // Compares the passes between local basins, each by the indexes of the two sinks and its own.
@@ -271,7 +238,7 @@ fn expect_passes(rt: &(impl Abort + AllocGlobal), told: &Told, wanted: &[(u32, u
 
 #[test]
 fn a_slope_has_a_basin_in_each_tile(rt: HostRuntime) {
-    let mut dales = Followed::<Down>::new(&rt, ramp(&rt), 16);
+    let mut dales = Followed::<Down>::new(&rt, slope(&rt, 48, 1, 1), 16);
     let told = expect_same(&rt, &mut dales);
     expect_passes(&rt, &told, &[(0, 16, 16), (16, 32, 32)]);
     let wanted = Node {
@@ -279,7 +246,7 @@ fn a_slope_has_a_basin_in_each_tile(rt: HostRuntime) {
             height: 17,
             index: 16,
         },
-        flows: Some(at(15, 0)),
+        flows: Some(Pos { x: 15, y: 0 }),
         tile: 1,
         points: 16,
         high: 32,
@@ -289,7 +256,7 @@ fn a_slope_has_a_basin_in_each_tile(rt: HostRuntime) {
     };
     assert!(&rt; told.nodes.as_slice().get(1) == Some(&wanted));
     assert_eq!(&rt; told.nodes.len(), 3);
-    let mut hills = Followed::<Up>::new(&rt, ramp(&rt), 16);
+    let mut hills = Followed::<Up>::new(&rt, slope(&rt, 48, 1, 1), 16);
     let told = expect_same(&rt, &mut hills);
     expect_passes(&rt, &told, &[(15, 31, 15), (31, 47, 31)]);
 }

@@ -19,22 +19,6 @@ fn expect_descents<S: Side>(
     }
 }
 
-/// Four dales in the corners and a saddle between them, from which a way down leads to each. On the other side, ways lead
-/// from two points to the two hills.
-#[test]
-fn descents_lead_from_a_saddle_into_each_group_of_lower_neighbours(rt: HostRuntime) {
-    let corners = surface(&rt, DataType::I32, "1 9 2\n8 5 8\n4 9 3");
-    expect_descents::<Down>(&rt, &corners, &[(4, 2), (4, 8), (4, 6), (4, 0)]);
-    expect_descents::<Up>(&rt, &corners, &[(3, 1), (3, 7), (5, 7), (5, 1)]);
-}
-
-#[test]
-fn no_descent_leads_from_a_point_with_one_group_of_lower_neighbours(rt: HostRuntime) {
-    let slope = surface(&rt, DataType::I32, "1 2 3\n2 3 4\nBAD 4 5");
-    expect_descents::<Down>(&rt, &slope, &[]);
-    expect_descents::<Up>(&rt, &slope, &[]);
-}
-
 // The pits of a side, and the crossings that are traced from the ends of all descents.
 fn trace<S: Side>(rt: &(impl Abort + AllocGlobal), surface: &Surface) -> (List<Rank>, Vec<Link>) {
     let end = surface.size().profiles;
@@ -65,9 +49,17 @@ fn expect_traced<S: Side>(
     }
 }
 
+/// Four dales in the corners and a saddle between them, from which a way down leads to each. On the other side, ways lead
+/// from two points to the two hills.
 #[test]
-fn crossings_are_traced_to_the_pits_of_both_ends_of_a_descent(rt: HostRuntime) {
+fn descents_lead_into_each_group_of_lower_neighbours_and_are_traced_to_their_pits(rt: HostRuntime) {
     let corners = surface(&rt, DataType::I32, "1 9 2\n8 5 8\n4 9 3");
+    expect_descents::<Down>(&rt, &corners, &[(4, 2), (4, 8), (4, 6), (4, 0)]);
+    expect_descents::<Up>(&rt, &corners, &[(3, 1), (3, 7), (5, 7), (5, 1)]);
+    // No descent leads from a point with one group of lower neighbours.
+    let slope = surface(&rt, DataType::I32, "1 2 3\n2 3 4\nBAD 4 5");
+    expect_descents::<Down>(&rt, &slope, &[]);
+    expect_descents::<Up>(&rt, &slope, &[]);
     let meets = [(0, 1, 4), (0, 3, 4), (0, 2, 4)];
     expect_traced::<Down>(&rt, &corners, &[0, 2, 6, 8], &meets);
     let ridge = surface(&rt, DataType::I32, "0 3 1 BAD 5 2 6");

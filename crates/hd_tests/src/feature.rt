@@ -41,41 +41,40 @@ FC;D;Wolfprune:5%;Top:5;lpvh;Mean => Some(BadPair(4))
 FC;V;Wolfprune:5%;Open:5;AreaE;Mean => Some(BadPair(4))
 FC;P;Wolfprune:5%;Top:5;AreaE;Mean => Some(BadPair(5))";
 
-#[test]
-fn words_are_notations_or_refused_by_their_first_bad_part_or_pair(rt: HostRuntime) {
-    expect_rows::<Refusal>(&rt, REFUSALS);
-}
-
-// A name with this height stands for the notation of a word.
-fn expect_named(rt: &impl Abort, name: &str, height: Option<i64>, word: &str) {
-    let notation = read_notation(word.as_bytes()).expect(rt, "a notation");
-    let parameter = named(name.as_bytes(), height);
-    assert!(rt; parameter == Ok(Parameter::One(notation)), "at {name}");
-}
-
-#[test]
-fn names_stand_for_notations(rt: HostRuntime) {
-    expect_named(&rt, "Spd", None, "FC;H;Wolfprune:5%;All;Count;Density");
-    expect_named(&rt, "S5p", None, "FC;H;Wolfprune:5%;Top:5;lpvh;Mean");
-    expect_named(&rt, "S5v", None, "FC;D;Wolfprune:5%;Bot:5;lpvh;Mean");
-    let closed = "FC;D;Wolfprune:5%;Closed:-7;AreaE;Mean";
-    expect_named(&rt, "Sda", Some(-7), closed);
-    let closed = "FC;H;Wolfprune:5%;Closed:7;AreaE;Mean";
-    expect_named(&rt, "Sha", Some(7), closed);
-}
-
-// A name with this height is refused.
-fn expect_refused(rt: &impl Abort, name: &str, height: Option<i64>, wanted: NotationError) {
-    let refusal = named(name.as_bytes(), height).err();
-    assert!(rt; refusal == Some(wanted), "at {name}");
+// Compares what a name and a height stand for with the notation of a word, or with why they are refused.
+fn expect_named(
+    rt: &impl Abort,
+    name: &str,
+    height: Option<i64>,
+    wanted: Result<&str, NotationError>,
+) {
+    let wanted = match wanted {
+        Ok(word) => Ok(Parameter::One(read_notation(word.as_bytes()).expect(rt, "a notation"))),
+        Err(error) => Err(error),
+    };
+    assert!(rt; named(name.as_bytes(), height) == wanted, "at {name}");
 }
 
 #[test]
-fn names_are_refused(rt: HostRuntime) {
-    expect_refused(&rt, "Foo", Some(3), NotationError::UnknownName);
-    expect_refused(&rt, "sda", None, NotationError::UnknownName);
-    expect_refused(&rt, "Sda", None, NotationError::NeedsHeight);
-    expect_refused(&rt, "Spd", Some(3), NotationError::TakesNoHeight);
+fn names_stand_for_notations_or_are_refused(rt: HostRuntime) {
+    let rows = [
+        ("Spd", None, Ok("FC;H;Wolfprune:5%;All;Count;Density")),
+        ("S5p", None, Ok("FC;H;Wolfprune:5%;Top:5;lpvh;Mean")),
+        ("S5v", None, Ok("FC;D;Wolfprune:5%;Bot:5;lpvh;Mean")),
+        (
+            "Sda",
+            Some(-7),
+            Ok("FC;D;Wolfprune:5%;Closed:-7;AreaE;Mean"),
+        ),
+        ("Sha", Some(7), Ok("FC;H;Wolfprune:5%;Closed:7;AreaE;Mean")),
+        ("Foo", Some(3), Err(NotationError::UnknownName)),
+        ("sda", None, Err(NotationError::UnknownName)),
+        ("Sda", None, Err(NotationError::NeedsHeight)),
+        ("Spd", Some(3), Err(NotationError::TakesNoHeight)),
+    ];
+    for (name, height, wanted) in rows {
+        expect_named(&rt, name, height, wanted);
+    }
 }
 
 // A region by the index and the local height of its pit, its points, and the least and greatest height of
@@ -164,12 +163,11 @@ FC;D;Wolfprune:5%;Closed:4;AreaE;Sum => 5/1
 FC;D;Wolfprune:5%;Closed:-4;AreaE;Sum => 7/1";
 
 #[test]
-fn notations_have_values(rt: HostRuntime) {
+fn words_are_notations_with_values_or_refused(rt: HostRuntime) {
+    // The first bad part, or else the first bad pair.
+    expect_rows::<Refusal>(&rt, REFUSALS);
     expect_rows::<Value>(&rt, VALUES);
-}
-
-#[test]
-fn a_density_is_none_without_an_area_or_a_region(rt: HostRuntime) {
+    // A density is none without an area or a region.
     let word = "FC;H;Wolfprune:5%;All;Count;Density";
     let text = value_text(&rt, word, &three_regions(&rt), 0);
     expect_bytes(&rt, text.as_slice(), b"none");

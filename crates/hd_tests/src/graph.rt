@@ -56,7 +56,10 @@ fn graph_of<S: Side>(rt: &(impl Abort + AllocGlobal), lows: &[Low], passes: &[Pa
 }
 
 // The joins of the change tree: for each part the index of its saddle and of its lowest pit.
-fn joins_of<S: Side>(rt: &(impl Abort + AllocGlobal), line: &FloodLine<S>) -> Vec<(u32, u32)> {
+pub(crate) fn joins_of<S: Side>(
+    rt: &(impl Abort + AllocGlobal),
+    line: &FloodLine<S>,
+) -> Vec<(u32, u32)> {
     let tree = tree(rt.alloc(), line).expect(rt, "memory");
     let mut joins = Vec::new(rt.alloc());
     for join in tree.joins.as_slice() {
@@ -127,7 +130,11 @@ fn one_saddle_joins_four_classes_of_two_parts(rt: HostRuntime) {
 }
 
 // Compares merges, each by the numbers of its lows and the index of its pass.
-fn expect_list(rt: &(impl Abort + AllocGlobal), merges: &List<Merge>, wanted: &[(u32, u32, u32)]) {
+fn expect_merges(
+    rt: &(impl Abort + AllocGlobal),
+    merges: &List<Merge>,
+    wanted: &[(u32, u32, u32)],
+) {
     let mut found = Vec::new(rt.alloc());
     for merge in merges.as_slice() {
         found
@@ -135,16 +142,6 @@ fn expect_list(rt: &(impl Abort + AllocGlobal), merges: &List<Merge>, wanted: &[
             .expect(rt, "memory");
     }
     assert!(rt; found.as_slice() == wanted);
-}
-
-// Compares the merges of a graph.
-fn expect_merges<S: Side>(
-    rt: &(impl Abort + AllocGlobal),
-    graph: &Graph<S>,
-    wanted: &[(u32, u32, u32)],
-) {
-    let merges = merges_of(rt.alloc(), graph).expect(rt, "memory");
-    expect_list(rt, &merges, wanted);
 }
 
 // Compares the merges of lows that these links join.
@@ -158,7 +155,7 @@ fn expect_linked<S: Side>(
 {
     let links = list(rt, links).into_vec();
     let merges = merges_by_links::<S>(rt.alloc(), lows, links).expect(rt, "memory");
-    expect_list(rt, &merges, wanted);
+    expect_merges(rt, &merges, wanted);
 }
 
 /// Links name the lows by their places and come in any order. One of them joins lows that have run together.
@@ -192,7 +189,11 @@ fn five_lows_merge_in_the_order_of_their_passes(rt: HostRuntime) {
         pass!(rank!(1, 5), rank!(3, 0), rank!(6, 3)),
     ];
     let graph = graph_of::<Down>(&rt, &lows, &passes);
-    expect_merges(&rt, &graph, &[(0, 1, 3), (2, 3, 12), (3, 1, 7), (1, 4, 17)]);
+    expect_merges(
+        &rt,
+        &merges_of(rt.alloc(), &graph).expect(&rt, "memory"),
+        &[(0, 1, 3), (2, 3, 12), (3, 1, 7), (1, 4, 17)],
+    );
 }
 
 /// The same lows, with their passes by index and as far below 0 as they were above: of two hills' passes of one
@@ -214,7 +215,11 @@ fn merges_are_the_same_in_each_order_of_the_passes(rt: HostRuntime) {
         pass!(rank!(2, 15), rank!(0, 20), rank!(9, 17)),
     ];
     let graph = graph_of::<Down>(&rt, &lows, &passes);
-    expect_merges(&rt, &graph, &[(0, 1, 3), (2, 3, 12), (3, 1, 7), (1, 4, 17)]);
+    expect_merges(
+        &rt,
+        &merges_of(rt.alloc(), &graph).expect(&rt, "memory"),
+        &[(0, 1, 3), (2, 3, 12), (3, 1, 7), (1, 4, 17)],
+    );
     let lows = [
         pit!(-3, 0),
         pit!(-1, 5),
@@ -231,7 +236,11 @@ fn merges_are_the_same_in_each_order_of_the_passes(rt: HostRuntime) {
     ];
     let wanted = [(2, 3, 12), (0, 1, 3), (3, 1, 7), (1, 4, 17)];
     let graph = graph_of::<Up>(&rt, &lows, &passes);
-    expect_merges(&rt, &graph, &wanted);
+    expect_merges(
+        &rt,
+        &merges_of(rt.alloc(), &graph).expect(&rt, "memory"),
+        &wanted,
+    );
     let turned = [
         pass!(rank!(-2, 15), rank!(0, 20), rank!(-9, 17)),
         pass!(rank!(-4, 10), rank!(-2, 15), rank!(-6, 12)),
@@ -240,5 +249,9 @@ fn merges_are_the_same_in_each_order_of_the_passes(rt: HostRuntime) {
         pass!(rank!(-1, 5), rank!(-3, 0), rank!(-6, 3)),
     ];
     let graph = graph_of::<Up>(&rt, &lows, &turned);
-    expect_merges(&rt, &graph, &wanted);
+    expect_merges(
+        &rt,
+        &merges_of(rt.alloc(), &graph).expect(&rt, "memory"),
+        &wanted,
+    );
 }

@@ -12,9 +12,9 @@ mod basin;
 #[cfg(test)]
 mod by_key;
 #[cfg(test)]
-mod check;
+mod by_line;
 #[cfg(test)]
-mod corridor;
+mod check;
 #[cfg(test)]
 mod decimals;
 #[cfg(test)]
@@ -22,37 +22,23 @@ mod descents;
 #[cfg(test)]
 mod dot;
 #[cfg(test)]
-mod drawn_script;
-#[cfg(test)]
-mod draws;
-#[cfg(test)]
-mod edit;
-#[cfg(test)]
 mod engine;
 #[cfg(test)]
 mod feature;
+#[cfg(test)]
+mod file_calls;
 #[cfg(test)]
 mod followed;
 #[cfg(test)]
 mod graph;
 #[cfg(test)]
-mod large_sessions;
-#[cfg(test)]
 mod layouts;
 #[cfg(test)]
-mod lines;
-#[cfg(test)]
 mod map;
-#[cfg(test)]
-mod merges;
-#[cfg(test)]
-mod morph;
 #[cfg(test)]
 mod noted;
 #[cfg(test)]
 mod num;
-#[cfg(test)]
-mod piece_files;
 #[cfg(test)]
 mod pools;
 #[cfg(test)]

@@ -15,40 +15,36 @@ fn expect_neighbours(rt: &(impl Abort + AllocGlobal), surface: &Surface, at: Pos
 }
 
 #[test]
-fn neighbours_are_the_present_points_round_a_point_in_position_order(rt: HostRuntime) {
-    let mut surface = surface(&rt, DataType::U8, SMALL);
+fn neighbours_are_the_present_points_round_a_point_under_each_setting(rt: HostRuntime) {
+    let mut small = surface(&rt, DataType::U8, SMALL);
     let corner = Pos { x: 0, y: 0 };
     let other = Pos { x: 1, y: 0 };
-    expect_neighbours(&rt, &surface, corner, &[other, Pos { x: 0, y: 1 }]);
-    surface.set_mask(corner, true).expect(&rt, "a point");
-    expect_neighbours(&rt, &surface, corner, &[]);
+    expect_neighbours(&rt, &small, corner, &[other, Pos { x: 0, y: 1 }]);
+    small.set_mask(corner, true).expect(&rt, "a point");
+    expect_neighbours(&rt, &small, corner, &[]);
     let round = [Pos { x: 2, y: 0 }, Pos { x: 0, y: 1 }, Pos { x: 2, y: 1 }];
-    expect_neighbours(&rt, &surface, other, &round);
-}
-
-#[test]
-fn neighbours_are_those_of_the_setting_of_the_surface_or_of_the_one_given(rt: HostRuntime) {
-    let mut surface = surface(&rt, DataType::U8, "1 2 3\n4 5 6\n7 8 9");
+    expect_neighbours(&rt, &small, other, &round);
+    // A copy without masks shows each measured cell.
+    small
+        .set_mask(Pos { x: 1, y: 1 }, true)
+        .expect(&rt, "a point");
+    small
+        .set_mask(Pos { x: 2, y: 1 }, true)
+        .expect(&rt, "a point");
+    let copy = small.without_masks(rt.alloc()).expect(&rt, "memory");
+    expect_heights(&rt, &small, "BAD 2 3 4 BAD BAD");
+    expect_heights(&rt, &copy, "1 2 3 4 BAD 6");
+    // They are those of the setting of the surface, or of the one given.
+    let mut square = surface(&rt, DataType::U8, "1 2 3\n4 5 6\n7 8 9");
     let middle = Pos { x: 1, y: 1 };
     let four = [(1, 0), (0, 1), (2, 1), (1, 2)].map(|(x, y)| Pos { x, y });
     let six = [(0, 0), (1, 0), (0, 1), (2, 1), (1, 2), (2, 2)].map(|(x, y)| Pos { x, y });
-    surface.set_adjacency(Adjacency::Four);
-    assert_eq!(&rt; surface.adjacency(), Adjacency::Four);
-    expect_neighbours(&rt, &surface, middle, &four);
-    assert!(&rt; contains(surface.size(), middle));
-    let near = neighbours_by(rt.alloc(), &surface, Adjacency::Six, middle);
+    square.set_adjacency(Adjacency::Four);
+    assert_eq!(&rt; square.adjacency(), Adjacency::Four);
+    expect_neighbours(&rt, &square, middle, &four);
+    assert!(&rt; contains(square.size(), middle));
+    let near = neighbours_by(rt.alloc(), &square, Adjacency::Six, middle);
     assert_eq!(&rt; near.as_slice(), six.as_slice());
-    surface.set_adjacency(Adjacency::Six);
-    expect_neighbours(&rt, &surface, middle, &six);
-}
-
-#[test]
-fn a_copy_without_masks_shows_each_measured_cell(rt: HostRuntime) {
-    let mut surface = surface(&rt, DataType::U8, SMALL);
-    for (x, y) in [(0, 0), (1, 1), (2, 1)] {
-        surface.set_mask(Pos { x, y }, true).expect(&rt, "a point");
-    }
-    let copy = surface.without_masks(rt.alloc()).expect(&rt, "memory");
-    expect_heights(&rt, &surface, "BAD 2 3 4 BAD BAD");
-    expect_heights(&rt, &copy, "1 2 3 4 BAD 6");
+    square.set_adjacency(Adjacency::Six);
+    expect_neighbours(&rt, &square, middle, &six);
 }

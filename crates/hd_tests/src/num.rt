@@ -5,8 +5,8 @@ use crate::shared::{Outcome, expect_bytes, expect_rows, lines_of, shown, text_of
 use hd_list::List;
 use hd_num::{
     Frac, Percent, Whole, first_word, leading_digits, next_line, percent_less, push_frac,
-    push_percent, push_steps, push_text, push_unsigned, push_whole, read_count, read_decimal,
-    read_percent, read_whole, reduced_fraction_is_no_greater, split_words, trim,
+    push_steps, push_text, push_unsigned, push_whole, read_count, read_decimal, read_percent,
+    read_whole, reduced_fraction_is_no_greater, split_words, trim,
 };
 use std::process::Abort;
 
@@ -57,28 +57,6 @@ const WHOLE_NUMBERS: &str = "0 => Is(0)
 99999999999999999999999999a => Not
 \u{B2}\u{B3} => Not";
 
-#[test]
-fn words_are_whole_numbers(rt: HostRuntime) {
-    expect_rows::<WholeNumber>(&rt, WHOLE_NUMBERS);
-}
-
-// Compares the whole number of a word.
-fn expect_whole(rt: &impl Abort, word: &[u8], wanted: Whole) {
-    assert!(rt; read_whole(word) == wanted);
-}
-
-#[test]
-fn long_words_are_read_whole(rt: HostRuntime) {
-    let mut word = vec![in rt.alloc(); b'9'; 4000].expect(&rt, "memory");
-    expect_whole(&rt, &word, Whole::Outside);
-    word.push(b'x').expect(&rt, "memory");
-    expect_whole(&rt, &word, Whole::Not);
-    let mut zeros = vec![in rt.alloc(); b'0'; 4000].expect(&rt, "memory");
-    zeros.push(b'5').expect(&rt, "memory");
-    expect_whole(&rt, &zeros, Whole::Is(5));
-    assert!(rt; read_count(&zeros) == Some(5));
-}
-
 // The count of a word.
 struct Count;
 
@@ -97,11 +75,6 @@ const COUNTS: &str = "0 => Some(0)
 +1 => None
 -0 => None
 1,0 => None";
-
-#[test]
-fn words_are_counts(rt: HostRuntime) {
-    expect_rows::<Count>(&rt, COUNTS);
-}
 
 // Adds a piece, and `|` after it.
 fn push_barred(rt: &impl Abort, out: &mut List<u8>, piece: &[u8]) {
@@ -138,11 +111,6 @@ a/ => a|
 a/bc => a|bc|
 /a//b/ => |a||b|
 a\r/b\r => a\r|b\r|";
-
-#[test]
-fn texts_have_lines(rt: HostRuntime) {
-    expect_rows::<BarredLines>(&rt, LINES);
-}
 
 // The words of a line, each with `|` after it.
 fn barred_words(rt: &(impl Abort + AllocGlobal), line: &[u8]) -> List<u8> {
@@ -195,11 +163,6 @@ a\x0Bb\x00c d => a\x0Bb\x00c|d|
 \u{A0} \u{FF} => \u{A0}|\u{FF}|";
 
 #[test]
-fn lines_have_words(rt: HostRuntime) {
-    expect_rows::<BarredWords>(&rt, WORDS);
-}
-
-#[test]
 fn numbers_are_printed(rt: HostRuntime) {
     let mut out = List::new(rt.alloc());
     for n in [0, 7, -7, i64::MAX, i64::MIN] {
@@ -214,69 +177,70 @@ fn numbers_are_printed(rt: HostRuntime) {
     );
 }
 
-// Compares the text of a height of decimals.
-fn expect_steps(rt: &(impl Abort + AllocGlobal), steps: i64, places: u8, wanted: &[u8])
+// The text of a height of decimals.
+fn steps_text(rt: &(impl Abort + AllocGlobal), steps: i64, places: u8) -> List<u8>
     requires { places ≤ 18 }
 {
     let mut out = List::new(rt.alloc());
     push_steps(&mut out, steps, places).expect(rt, "memory");
-    expect_bytes(rt, out.as_slice(), wanted);
+    out
 }
 
 #[test]
 fn heights_of_decimals_are_printed(rt: HostRuntime) {
-    expect_steps(&rt, 7, 0, b"7");
-    expect_steps(&rt, -5, 2, b"-0.05");
-    expect_steps(&rt, 50, 2, b"0.50");
-    expect_steps(&rt, -9_007_199_254_740_992, 18, b"-0.009007199254740992");
-    expect_steps(&rt, i64::MIN, 3, b"-9223372036854775.808");
-    expect_steps(&rt, 1_000_000_000_000_000_000, 18, b"1.000000000000000000");
+    let rows = [
+        (7, 0, "7"),
+        (-5, 2, "-0.05"),
+        (50, 2, "0.50"),
+        (-9_007_199_254_740_992, 18, "-0.009007199254740992"),
+        (i64::MIN, 3, "-9223372036854775.808"),
+        (1_000_000_000_000_000_000, 18, "1.000000000000000000"),
+    ];
+    for (steps, places, wanted) in rows {
+        assert!(rt; places <= 18);
+        let text = steps_text(&rt, steps, places);
+        expect_bytes(&rt, text.as_slice(), wanted.as_bytes());
+    }
 }
 
 // The sign, the digits and the exponent of a word as a decimal.
-fn decimal_of(rt: &(impl Abort + AllocGlobal), word: &str) -> Option<(bool, u128, i32)> {
-    let read = read_decimal(rt.alloc(), word.as_bytes()).expect(rt, "memory")?;
-    expect_bytes(rt, read.literal.as_slice(), word.as_bytes());
-    Some((read.negative, read.digits, read.exponent))
-}
-
 struct DecimalNumber;
 
 impl Outcome for DecimalNumber {
     fn of<R: Abort + AllocGlobal>(rt: &R, input: &str) -> String {
-        shown(rt, &decimal_of(rt, input))
+        let read = read_decimal(rt.alloc(), input.as_bytes()).expect(rt, "memory");
+        let Some(read) = read else {
+            return shown(rt, &"none");
+        };
+        expect_bytes(rt, read.literal.as_slice(), input.as_bytes());
+        shown(rt, &(read.negative, read.digits, read.exponent))
     }
 }
 
-const DECIMALS: &str = "1e-6 => Some((false, 1, -6))
-1.0E-006 => Some((false, 10, -7))
--1 => Some((true, 1, 0))
-+.5 => Some((false, 5, -1))
-5. => Some((false, 5, 0))
--0.0 => Some((true, 0, -1))
-00012.50e+3 => Some((false, 1250, 1))
-7e999 => Some((false, 7, 999))
-1.2e-999 => Some((false, 12, -1000))
-99999999999999999999999999999999999999 => Some((false, 99999999999999999999999999999999999999, 0))
-000000000000000000000000000000000000000 => None
-0.00000000000000000000000000000000000000 => None
- => None
-- => None
-. => None
-e5 => None
-1e => None
-1e+ => None
-1e1000 => None
-1e0001 => None
-1e-+1 => None
-1.2.3 => None
-1,5 => None
---1 => None";
-
-#[test]
-fn words_are_decimals(rt: HostRuntime) {
-    expect_rows::<DecimalNumber>(&rt, DECIMALS);
-}
+const DECIMALS: &str = "1e-6 => (false, 1, -6)
+1.0E-006 => (false, 10, -7)
+-1 => (true, 1, 0)
++.5 => (false, 5, -1)
+5. => (false, 5, 0)
+-0.0 => (true, 0, -1)
+00012.50e+3 => (false, 1250, 1)
+7e999 => (false, 7, 999)
+1.2e-999 => (false, 12, -1000)
+99999999999999999999999999999999999999 => (false, 99999999999999999999999999999999999999, 0)
+000000000000000000000000000000000000000 => \"none\"
+0.00000000000000000000000000000000000000 => \"none\"
+ => \"none\"
+- => \"none\"
+. => \"none\"
+e5 => \"none\"
+1e => \"none\"
+1e+ => \"none\"
+1e1000 => \"none\"
+1e0001 => \"none\"
+1e-+1 => \"none\"
+1.2.3 => \"none\"
+1,5 => \"none\"
+--1 => \"none\"";
 
 // A text without the blanks round it.
 struct Trimmed;
@@ -295,11 +259,6 @@ a b => a b
 \t a \r => a
 \x0Ba\x00 => \x0Ba\x00";
 
-#[test]
-fn texts_are_trimmed(rt: HostRuntime) {
-    expect_rows::<Trimmed>(&rt, TEXTS);
-}
-
 // The digits at the front of a text: their number, and their value.
 struct LeadingDigits;
 
@@ -313,11 +272,6 @@ const DIGITS: &str = "0120 7 => (4, 120)
 x1 => (0, 0)
 1234567890123456789 => (18, 123456789012345678)";
 
-#[test]
-fn digits_stand_at_the_front(rt: HostRuntime) {
-    expect_rows::<LeadingDigits>(&rt, DIGITS);
-}
-
 // Compares the text of a fraction.
 fn expect_fraction(rt: &(impl Abort + AllocGlobal), n: i128, d: u128, wanted: &str)
     requires { 0 < d }
@@ -329,18 +283,23 @@ fn expect_fraction(rt: &(impl Abort + AllocGlobal), n: i128, d: u128, wanted: &s
 
 #[test]
 fn fractions_are_reduced(rt: HostRuntime) {
-    expect_fraction(&rt, 0, 12, "0/1");
-    expect_fraction(&rt, 6, 4, "3/2");
-    expect_fraction(&rt, -6, 4, "-3/2");
-    expect_fraction(&rt, 12, 4, "3/1");
-    expect_fraction(&rt, 1, 7, "1/7");
-    expect_fraction(&rt, i128::MIN, 1 << 127, "-1/1");
-    expect_fraction(
-        &rt,
-        i128::MAX,
-        u128::MAX,
-        "170141183460469231731687303715884105727/340282366920938463463374607431768211455",
-    );
+    let rows = [
+        (0, 12, "0/1"),
+        (6, 4, "3/2"),
+        (-6, 4, "-3/2"),
+        (12, 4, "3/1"),
+        (1, 7, "1/7"),
+        (i128::MIN, 1 << 127, "-1/1"),
+        (
+            i128::MAX,
+            u128::MAX,
+            "170141183460469231731687303715884105727/340282366920938463463374607431768211455",
+        ),
+    ];
+    for (n, d, wanted) in rows {
+        assert!(rt; 0 < d);
+        expect_fraction(&rt, n, d, wanted);
+    }
 }
 
 #[test]
@@ -350,40 +309,15 @@ fn fractions_are_added(rt: HostRuntime) {
     assert!(rt; (sum.num(), sum.den()) == (1, 15));
 }
 
-// The plain text of a percent.
-struct PlainPercent;
-
-impl Outcome for PlainPercent {
-    fn of<R: Abort + AllocGlobal>(rt: &R, input: &str) -> String {
-        let mut text = List::new(rt.alloc());
-        match read_percent(input.as_bytes()) {
-            Some(percent) => push_percent(&mut text, percent).expect(rt, "memory"),
-            None => push_text(&mut text, b"none").expect(rt, "memory"),
-        }
-        text_of(rt, text)
-    }
-}
-
-const PERCENTS: &str = "5% => 5%
-5.50% => 5.5%
-005.5% => 5.5%
-0.05% => 0.05%
-0.001% => 0.001%
-0% => 0%
-100.000% => 100%
-100.001% => none
-101% => none
-0005% => none
-5.% => none
-.5% => none
-5.1234% => none
-+5% => none
-5 => none";
-
 #[test]
-fn words_are_percents(rt: HostRuntime) {
-    assert!(rt; read_percent(b"5.5%") == Some(Percent { thousandths: 5_500 }));
-    expect_rows::<PlainPercent>(&rt, PERCENTS);
+fn words_and_texts_are_read(rt: HostRuntime) {
+    expect_rows::<WholeNumber>(&rt, WHOLE_NUMBERS);
+    expect_rows::<Count>(&rt, COUNTS);
+    expect_rows::<BarredLines>(&rt, LINES);
+    expect_rows::<BarredWords>(&rt, WORDS);
+    expect_rows::<DecimalNumber>(&rt, DECIMALS);
+    expect_rows::<Trimmed>(&rt, TEXTS);
+    expect_rows::<LeadingDigits>(&rt, DIGITS);
 }
 
 #[test]
@@ -396,10 +330,23 @@ fn a_local_height_is_below_a_percent_strictly(rt: HostRuntime) {
         (i64::MAX, 100_000, i64::MAX, false),
         (i64::MAX - 1, 100_000, i64::MAX, true),
     ];
+    assert!(rt; read_percent(b"5.5%") == Some(Percent { thousandths: 5_500 }));
     for (local, thousandths, sz, less) in cases {
         assert!(rt;
             percent_less(local, Percent { thousandths }, sz) == less,
             "{local} of {sz}"
         );
     }
+}
+
+#[test]
+fn long_words_are_read_whole(rt: HostRuntime) {
+    let mut word = vec![in rt.alloc(); b'9'; 4000].expect(&rt, "memory");
+    assert!(rt; read_whole(&word) == Whole::Outside);
+    word.push(b'x').expect(&rt, "memory");
+    assert!(rt; read_whole(&word) == Whole::Not);
+    let mut zeros = vec![in rt.alloc(); b'0'; 4000].expect(&rt, "memory");
+    zeros.push(b'5').expect(&rt, "memory");
+    assert!(rt; read_whole(&zeros) == Whole::Is(5));
+    assert!(rt; read_count(&zeros) == Some(5));
 }

@@ -78,18 +78,13 @@ fn dales_are_kept_by_merges(rt: HostRuntime) {
 }
 
 /// Heights `0 5 1 6 1 5 0` as 7x1 at 100%: two dales leave, and what is left meets at the higher of the
-/// saddles between.
+/// saddles between. Heights `9 8 9 0` as 4x1: of two equal hills that of the lesser index leaves at 50%, and none at 0%.
 #[test]
-fn dales_of_one_height_meet_at_the_higher_saddle(rt: HostRuntime) {
+fn dales_of_one_height_meet_at_the_higher_saddle_and_hills_are_mirrored(rt: HostRuntime) {
     let lows = [low!(0, 0), low!(1, 2), low!(1, 4), low!(0, 6)];
     let merges = [merge!(1, 0, 5, 1), merge!(2, 3, 5, 5), merge!(3, 0, 6, 3)];
     let wanted = [(0, Some(3)), (6, Some(3))];
     expect_kept::<Down>(&rt, &lows, &merges, 100_000, 6, &wanted);
-}
-
-/// Heights `9 8 9 0` as 4x1: of two equal hills that of the lesser index leaves at 50%, and none at 0%.
-#[test]
-fn hills_are_mirrored(rt: HostRuntime) {
     let lows = [low!(9, 0), low!(9, 2)];
     let merges = [merge!(0, 1, 8, 1)];
     expect_kept::<Up>(&rt, &lows, &merges, 50_000, 9, &[(2, None)]);

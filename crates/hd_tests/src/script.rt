@@ -1,6 +1,6 @@
 // What the rules give for lines from outside.
 use crate::shared::{Outcome, expect_rows, shown};
-use hd_script::{LineError, read_line};
+use hd_script::read_line;
 use std::process::Abort;
 
 // What a line asks for, or why it is refused.
@@ -15,7 +15,7 @@ impl Outcome for Asked {
     }
 }
 
-const COMMANDS: &str = "set 1 2 -3 => Some(Do(Set { at: Pos { x: 1, y: 2 }, z: -3 }))
+const LINES: &str = "set 1 2 -3 => Some(Do(Set { at: Pos { x: 1, y: 2 }, z: -3 }))
 \tset\t01 002  -3\r => Some(Do(Set { at: Pos { x: 1, y: 2 }, z: -3 }))
 set\r1\r2\r-0003 => Some(Do(Set { at: Pos { x: 1, y: 2 }, z: -3 }))
 set 4294967295 0 -9223372036854775808 => Some(Do(Set { at: Pos { x: 4294967295, y: 0 }, z: -9223372036854775808 }))
@@ -41,14 +41,8 @@ element f_-9 3 1 -4294967295 - +4294967295 => Some(Element { name: List { items:
  \t\r \r => None
  ; x => None
 ;set 1 2 3 => None
-;\x00\u{FF} => None";
-
-#[test]
-fn lines_ask_for_edits_and_reports_or_are_skipped(rt: HostRuntime) {
-    expect_rows::<Asked>(&rt, COMMANDS);
-}
-
-const REFUSALS: &str = "run => UnknownCommand
+;\x00\u{FF} => None
+run => UnknownCommand
 Dales => UnknownCommand
 SET 1 2 3 => UnknownCommand
 sets 1 2 3 => UnknownCommand
@@ -108,36 +102,6 @@ element f 1 1 4294967296 => BadWord(5)
 element f 1 1 -- => BadWord(5)";
 
 #[test]
-fn lines_are_refused_by_their_first_offence(rt: HostRuntime) {
-    expect_rows::<Asked>(&rt, REFUSALS);
-}
-
-// A line of this length that begins with a text and goes on with blanks.
-fn padded(rt: &(impl Abort + AllocGlobal), front: &str, length: usize) -> Vec<u8> {
-    let mut line = front.as_bytes().to_vec(rt.alloc()).expect(rt, "memory");
-    for _ in front.len()..length {
-        line.push(b' ').expect(rt, "memory");
-    }
-    line
-}
-
-// Compares why a line of this length is refused, or that it is not.
-fn expect_at_length(
-    rt: &(impl Abort + AllocGlobal),
-    front: &str,
-    length: usize,
-    wanted: Option<LineError>,
-) {
-    let refusal = read_line(rt.alloc(), &padded(rt, front, length)).err();
-    assert!(rt; refusal == wanted, "at {front}");
-}
-
-#[test]
-fn lines_are_refused_past_their_limit(rt: HostRuntime) {
-    for front in ["; a comment", "dales"] {
-        expect_at_length(&rt, front, 4096, None);
-    }
-    for front in ["; a comment", "dales", "run"] {
-        expect_at_length(&rt, front, 4097, Some(LineError::LineTooLong));
-    }
+fn lines_ask_for_edits_and_reports_are_skipped_or_refused(rt: HostRuntime) {
+    expect_rows::<Asked>(&rt, LINES);
 }

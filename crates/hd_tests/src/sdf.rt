@@ -2,7 +2,7 @@
 use crate::shared::{Outcome, expect_bytes, expect_heights, expect_rows, file_of, lines_of, shown};
 use hd_list::List;
 use hd_map::{Grid, Heights, Size, Surface};
-use hd_num::{Decimal, push_text, push_unsigned};
+use hd_num::{Decimal, push_text};
 use hd_sdf_read::{SdfError, SdfFile, SdfReader, Version, read_sdf};
 use hd_sdf_write::{SdfPieces, SdfTexts, write_sdf};
 use std::process::Abort;
@@ -27,11 +27,6 @@ DataType = 5
 CheckType = 0
 ";
 
-const DATA: &[u8] = b"*
-0 5 1
-*
-";
-
 // The parts of a text behind one another.
 fn joined(rt: &(impl Abort + AllocGlobal), parts: &[&[u8]]) -> List<u8> {
     let mut text = List::new(rt.alloc());
@@ -39,18 +34,6 @@ fn joined(rt: &(impl Abort + AllocGlobal), parts: &[&[u8]]) -> List<u8> {
         push_text(&mut text, part).expect(rt, "memory");
     }
     text
-}
-
-// Compares why the text of these parts is refused, or that it is not.
-fn expect_refusal(rt: &(impl Abort + AllocGlobal), parts: &[&[u8]], wanted: Option<SdfError>) {
-    let text = joined(rt, parts);
-    let refusal = read_sdf(rt.alloc(), text.as_slice()).err();
-    assert_eq!(rt; refusal, wanted);
-}
-
-// Compares the sign, the digits and the exponent of a decimal.
-fn expect_decimal(rt: &impl Abort, found: &Decimal, wanted: (bool, u128, i32)) {
-    assert!(rt; (found.negative, found.digits, found.exponent) == wanted);
 }
 
 const ANY_ORDER: &[u8] = b"\taISO-1.0 \r
@@ -67,13 +50,9 @@ NUMPOINTS =  2
 1\tBAD
 3 4294967295";
 
-// Compares the extra keys of a file with a single one.
-fn expect_extra(rt: &impl Abort, file: &SdfFile, key: &[u8], value: &[u8]) {
-    assert!(rt; file.extra.as_slice().len() == 1);
-    for extra in file.extra.as_slice() {
-        expect_bytes(rt, extra.key.as_slice(), key);
-        expect_bytes(rt, extra.value.as_slice(), value);
-    }
+// The sign, the digits and the exponent of a decimal.
+fn parts_of(decimal: &Decimal) -> (bool, u128, i32) {
+    (decimal.negative, decimal.digits, decimal.exponent)
 }
 
 #[test]
@@ -82,15 +61,45 @@ fn keys_stand_in_any_order_and_case(rt: HostRuntime) {
     assert!(rt; file.version == Version::Iso);
     expect_bytes(&rt, file.create_date.as_slice(), b"");
     expect_bytes(&rt, file.trailer.as_slice(), b"");
-    expect_decimal(&rt, &file.x_scale, (false, 5, -1));
-    expect_decimal(&rt, &file.z_resolution, (true, 1, 0));
-    expect_extra(&rt, &file, b"My Key", b"= 1");
+    assert!(rt; parts_of(&file.x_scale) == (false, 5, -1));
+    assert!(rt; parts_of(&file.z_resolution) == (true, 1, 0));
+    assert!(rt; file.extra.as_slice().len() == 1);
+    for extra in file.extra.as_slice() {
+        expect_bytes(&rt, extra.key.as_slice(), b"My Key");
+        expect_bytes(&rt, extra.value.as_slice(), b"= 1");
+    }
     let size = Size {
         points: 2,
         profiles: 2,
     };
     assert!(rt; file.surface.size() == size);
     expect_heights(&rt, &file.surface, "1 BAD 3 4294967295");
+}
+
+// What a reader answers that is fed a text in pieces of so many bytes.
+fn read_in_pieces(
+    rt: &(impl Abort + AllocGlobal),
+    text: &[u8],
+    size: usize,
+) -> Result<SdfFile, SdfError> {
+    let mut reader = SdfReader::new(rt.alloc())?;
+    let mut rest = text;
+    'pieces: while !rest.is_empty() {
+        let (piece, more) = rest.split_at(size.min(rest.len()).max(1));
+        if let Err(refusal) = reader.feed(rt.alloc(), piece) {
+            return Err(refusal);
+        }
+        rest = more;
+    }
+    reader.finish(rt.alloc())
+}
+
+// Why the text of these parts is refused, also where it comes in pieces of one byte.
+fn refusal_text(rt: &(impl Abort + AllocGlobal), parts: &[&[u8]]) -> String {
+    let text = joined(rt, parts);
+    let refusal = read_sdf(rt.alloc(), text.as_slice()).err();
+    assert_eq!(rt; read_in_pieces(rt, text.as_slice(), 1).err(), refusal);
+    shown(rt, &refusal)
 }
 
 // Why a header that goes on with these lines is refused.
@@ -102,12 +111,6 @@ impl Outcome for Header {
     }
 }
 
-// Why the text of these parts is refused.
-fn refusal_text(rt: &(impl Abort + AllocGlobal), parts: &[&[u8]]) -> String {
-    let text = joined(rt, parts);
-    shown(rt, &read_sdf(rt.alloc(), text.as_slice()).err())
-}
-
 const HEADERS: &str = "noise/ => Some(BadHeaderLine(5))
 NumPoints = 3/numpoints = 3/ => Some(KeyTwice(6))
 NumPoints = 0/ => Some(BadValue(5))
@@ -116,14 +119,6 @@ CheckType = -3/ => Some(Unsupported(5))
 DataType = 8/ => Some(BadValue(5))
 NumPoints = 3/NumProfiles = 1/*/ => Some(MissingKey(3))
  => Some(HeaderEnds)";
-
-#[test]
-fn headers_are_refused(rt: HostRuntime) {
-    expect_rows::<Header>(&rt, HEADERS);
-    expect_refusal(&rt, &[], Some(SdfError::BadVersion));
-    let large = b"NumPoints = 65535\nNumProfiles = 65\n";
-    expect_refusal(&rt, &[NAMES, large, REST, DATA], Some(SdfError::TooLarge));
-}
 
 // Why a file with these data is refused.
 struct DataLines;
@@ -149,59 +144,9 @@ const ANY_DATA: &str = "0 5 => Some(TooFewData(2))
 0\r/\t+5/BAD * the end => None";
 
 #[test]
-fn data_are_refused(rt: HostRuntime) {
+fn headers_and_data_are_refused_as_wholes_and_in_pieces(rt: HostRuntime) {
+    expect_rows::<Header>(&rt, HEADERS);
     expect_rows::<DataLines>(&rt, ANY_DATA);
-}
-
-// Compares the refusal of a text with so many bytes `x` between two parts.
-fn expect_at_length(
-    rt: &(impl Abort + AllocGlobal),
-    front: &[u8],
-    count: usize,
-    end: &[u8],
-    wanted: Option<SdfError>,
-) {
-    let run = vec![in rt.alloc(); b'x'; count].expect(rt, "memory");
-    let parts = [NAMES, front, run.as_slice(), end, SIZE, REST, DATA];
-    expect_refusal(rt, &parts, wanted);
-}
-
-#[test]
-fn lines_keys_and_values_are_refused_past_their_limits(rt: HostRuntime) {
-    let long = Some(SdfError::BadHeaderLine(5));
-    expect_at_length(&rt, b";", 1023, b"\n", None);
-    expect_at_length(&rt, b";", 1024, b"\n", long);
-    expect_at_length(&rt, b"", 64, b"=\n", None);
-    expect_at_length(&rt, b"", 65, b"=\n", long);
-    expect_at_length(&rt, b"k=", 896, b"\n", None);
-    expect_at_length(&rt, b"k=", 897, b"\n", long);
-}
-
-#[test]
-fn trailers_are_refused_past_their_limit(rt: HostRuntime) {
-    for (count, wanted) in [(65_536, None), (65_537, Some(SdfError::TrailerTooLong))] {
-        let trailer = vec![in rt.alloc(); b'x'; count].expect(&rt, "memory");
-        expect_refusal(&rt, &[NAMES, SIZE, REST, DATA, &trailer, b"\n"], wanted);
-    }
-}
-
-// So many lines with different extra keys.
-fn extra_lines(rt: &(impl Abort + AllocGlobal), count: u64) -> List<u8> {
-    let mut lines = List::new(rt.alloc());
-    for number in 0..count {
-        push_unsigned(&mut lines, number).expect(rt, "memory");
-        push_text(&mut lines, b" = some\n").expect(rt, "memory");
-    }
-    lines
-}
-
-#[test]
-fn the_241st_extra_key_is_refused(rt: HostRuntime) {
-    for (count, wanted) in [(240, None), (241, Some(SdfError::TooManyKeys(245)))] {
-        let lines = extra_lines(&rt, count);
-        let parts = [NAMES, lines.as_slice(), SIZE, REST, DATA];
-        expect_refusal(&rt, &parts, wanted);
-    }
 }
 
 const MEASURED: &[u8] = b"aBCR-1.0\r
@@ -282,36 +227,11 @@ fn a_measured_file_and_its_canonical_text_are_written_alike(rt: HostRuntime) {
     for text in [MEASURED, CANONICAL] {
         expect_written(&rt, &file_of(&rt, text), CANONICAL);
     }
-}
-
-// What a reader answers that is fed a text in pieces of so many bytes.
-fn read_in_pieces(
-    rt: &(impl Abort + AllocGlobal),
-    text: &[u8],
-    size: usize,
-) -> Result<SdfFile, SdfError> {
-    let mut reader = SdfReader::new(rt.alloc())?;
-    let mut rest = text;
-    'pieces: while !rest.is_empty() {
-        let (piece, more) = rest.split_at(size.min(rest.len()).max(1));
-        if let Err(refusal) = reader.feed(rt.alloc(), piece) {
-            return Err(refusal);
-        }
-        rest = more;
-    }
-    reader.finish(rt.alloc())
-}
-
-#[test]
-fn a_measured_file_is_read_in_pieces(rt: HostRuntime) {
     for size in [1, 2, 3, 7] {
         let file = read_in_pieces(&rt, MEASURED, size).expect(&rt, "read");
         expect_written(&rt, &file, CANONICAL);
     }
-}
-
-#[test]
-fn a_measured_file_is_read_cut_at_any_byte(rt: HostRuntime) {
+    // The text is cut in two at any byte.
     for at in 0..MEASURED.len() {
         let (first, second) = MEASURED.split_at(at);
         let mut reader = SdfReader::new(rt.alloc()).expect(&rt, "memory");
@@ -320,33 +240,4 @@ fn a_measured_file_is_read_cut_at_any_byte(rt: HostRuntime) {
         let file = reader.finish(rt.alloc()).expect(&rt, "read");
         expect_written(&rt, &file, CANONICAL);
     }
-}
-
-// Why a file with these data is refused that comes in pieces of one byte.
-struct DataInPieces;
-
-impl Outcome for DataInPieces {
-    fn of<R: Abort + AllocGlobal>(rt: &R, input: &str) -> String {
-        let text = joined(
-            rt,
-            &[NAMES, SIZE, REST, b"*\n", lines_of(rt, input).as_bytes()],
-        );
-        shown(rt, &read_in_pieces(rt, text.as_slice(), 1).err())
-    }
-}
-
-// The same with these lines of the header.
-struct HeaderInPieces;
-
-impl Outcome for HeaderInPieces {
-    fn of<R: Abort + AllocGlobal>(rt: &R, input: &str) -> String {
-        let text = joined(rt, &[NAMES, lines_of(rt, input).as_bytes()]);
-        shown(rt, &read_in_pieces(rt, text.as_slice(), 1).err())
-    }
-}
-
-#[test]
-fn pieces_are_refused_as_the_whole_text_is(rt: HostRuntime) {
-    expect_rows::<HeaderInPieces>(&rt, HEADERS);
-    expect_rows::<DataInPieces>(&rt, ANY_DATA);
 }

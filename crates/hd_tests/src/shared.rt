@@ -1,12 +1,10 @@
 // What several tests are made from, and what they compare.
 ghost use Rattle.std.specs.Prelude.{◌≡◌};
-ghost use Rattle.hd_script.specs.Whole.{IsWhole};
 
 use crate::surface_of;
 use hd_list::List;
 use hd_map::{Cell, DataType, Heights, Size, Surface, position_of};
 use hd_num::{Whole, read_whole};
-use hd_script::{Command, read_line};
 use hd_sdf_read::{SdfFile, read_sdf};
 use std::fmt::Debug;
 use std::process::Abort;
@@ -56,14 +54,6 @@ pub(crate) fn file_of(rt: &(impl Abort + AllocGlobal), text: &[u8]) -> SdfFile {
     read_sdf(rt.alloc(), text).expect(rt, "a file")
 }
 
-// What a line asks for.
-pub(crate) fn command_of(rt: &(impl Abort + AllocGlobal), line: &[u8]) -> Command
-    ensures { IsWhole result }
-{
-    let command = read_line(rt.alloc(), line).expect(rt, "a form");
-    command.expect(rt, "a command")
-}
-
 // The heights of the present points by index, as cells.
 pub(crate) fn shown_cells<G: Heights>(rt: &(impl Abort + AllocGlobal), grid: &G) -> Vec<Cell> {
     let size = grid.size();
@@ -80,13 +70,7 @@ pub(crate) fn shown_cells<G: Heights>(rt: &(impl Abort + AllocGlobal), grid: &G)
 
 // Compares the heights of the present points with the cells of a text.
 pub(crate) fn expect_heights<G: Heights>(rt: &(impl Abort + AllocGlobal), grid: &G, text: &str) {
-    expect_cells(rt, &shown_cells(rt, grid), text);
-}
-
-// Compares cells with those of a text.
-pub(crate) fn expect_cells(rt: &(impl Abort + AllocGlobal), found: &[Cell], text: &str) {
-    let wanted = cells(rt, text);
-    assert_eq!(rt; found, wanted.as_slice());
+    assert_eq!(rt; shown_cells(rt, grid), cells(rt, text));
 }
 
 // Compares bytes.

@@ -1,41 +1,13 @@
 // Small surfaces whose roots are known.
 use crate::shared::{Outcome, expect_bytes, expect_rows, lines_of, surface, text_of};
+use crate::told::roots_of;
 use hd_list::List;
-use hd_map::{
-    DataType, Down, Heights, Pass, Pos, Side, Surface, Up, contains, index_of, is_present,
-    position_of,
-};
+use hd_map::{DataType, Down, Heights, Pass, Pos, Side, Surface, Up, contains, is_present};
 use hd_num::{push_text, push_unsigned};
-use hd_steep::{crossings, find_regions, next, passes, passes_of, regions, root};
+use hd_steep::{crossings, find_regions, next, passes, passes_of, regions};
 use std::process::Abort;
 
-// The labels of a side, each printed after a blank, and `-` for none.
-fn labels_text<S: Side>(rt: &(impl Abort + AllocGlobal), surface: &Surface) -> List<u8> {
-    let labels = regions::<S, _>(rt.alloc(), surface).expect(rt, "memory");
-    let mut text = List::new(rt.alloc());
-    for label in labels.as_slice() {
-        push_label(rt, &mut text, *label);
-    }
-    text
-}
-
-// The roots of a side, each found from its point alone, printed as the labels are.
-fn roots_text<S: Side>(rt: &(impl Abort + AllocGlobal), surface: &Surface) -> List<u8> {
-    let size = surface.size();
-    let mut text = List::new(rt.alloc());
-    for index in 0..size.profiles * size.points {
-        let at = position_of(size, index);
-        if is_present(surface, at) {
-            let pit = root::<S, _>(rt.alloc(), surface, at);
-            push_label(rt, &mut text, Some(index_of(size, pit)));
-        } else {
-            push_label(rt, &mut text, None);
-        }
-    }
-    text
-}
-
-// Adds a blank and a label.
+// Adds a blank and a label, and `-` for none.
 fn push_label(rt: &impl Abort, text: &mut List<u8>, label: Option<u32>) {
     push_text(text, b" ").expect(rt, "memory");
     match label {
@@ -46,13 +18,9 @@ fn push_label(rt: &impl Abort, text: &mut List<u8>, label: Option<u32>) {
 
 // Adds the labels of a side, which are also the roots of its points.
 fn push_labels<S: Side>(rt: &(impl Abort + AllocGlobal), text: &mut List<u8>, surface: &Surface) {
-    let labels = labels_text::<S>(rt, surface);
-    expect_bytes(
-        rt,
-        roots_text::<S>(rt, surface).as_slice(),
-        labels.as_slice(),
-    );
-    push_text(text, labels.as_slice()).expect(rt, "memory");
+    for label in &roots_of::<S>(rt, surface) {
+        push_label(rt, text, *label);
+    }
 }
 
 // The labels of both sides of a surface, whose profiles are parted by `/`.
@@ -77,12 +45,8 @@ BAD BAD => dales - - hills - -
 20 19 18 17 16/BAD BAD BAD BAD 15/10 11 12 13 14/9 BAD BAD BAD BAD/8 7 6 5 4 => dales 24 24 24 24 24 - - - - 24 24 24 24 24 24 24 - - - - 24 24 24 24 24 hills 0 0 0 0 0 - - - - 0 0 0 0 0 0 0 - - - - 0 0 0 0 0";
 
 #[test]
-fn roots_of_small_surfaces_are_known(rt: HostRuntime) {
+fn roots_of_small_surfaces_and_the_next_of_a_point_are_known(rt: HostRuntime) {
     expect_rows::<BothLabels>(&rt, LABELS);
-}
-
-#[test]
-fn the_next_point_is_the_lowest_lower_neighbour(rt: HostRuntime) {
     let surface = surface(&rt, DataType::I32, "5 4 3\n6 9 2\n7 8 1");
     let centre = Pos { x: 1, y: 1 };
     assert!(rt; contains(surface.size(), centre));
@@ -135,11 +99,14 @@ fn expect_passes<S: Side>(
     assert!(rt; indexes_of(rt, found.as_slice()).as_slice() == wanted);
 }
 
+/// Of three dales of one height, the passes have two indexes.
 #[test]
-fn a_profile_has_a_pass_between_two_regions(rt: HostRuntime) {
-    let surface = surface(&rt, DataType::I32, "0 3 1 4 2");
-    expect_passes::<Down>(&rt, &surface, &[(0, 2, 1), (2, 4, 3)]);
-    expect_passes::<Up>(&rt, &surface, &[(3, 1, 2)]);
+fn a_pass_stands_between_two_regions(rt: HostRuntime) {
+    let profile = surface(&rt, DataType::I32, "0 3 1 4 2");
+    expect_passes::<Down>(&rt, &profile, &[(0, 2, 1), (2, 4, 3)]);
+    expect_passes::<Up>(&rt, &profile, &[(3, 1, 2)]);
+    let flat = surface(&rt, DataType::I16, "7 BAD 7 BAD 7\n7 7 7 7 7");
+    expect_passes::<Down>(&rt, &flat, &[(0, 2, 6), (2, 4, 8)]);
 }
 
 // Compares the crossings of a side with those that are known.
@@ -162,18 +129,7 @@ fn crossings_stand_at_one_point_or_in_two_parts(rt: HostRuntime) {
     let parts = surface(&rt, DataType::I32, "0 3 1 BAD 5 2 6");
     expect_crossings::<Down>(&rt, &parts, &[(0, 2, 1)]);
     expect_crossings::<Up>(&rt, &parts, &[(6, 4, 5)]);
-}
-
-#[test]
-fn a_plateau_has_no_crossing(rt: HostRuntime) {
     let plateau = surface(&rt, DataType::I32, "4 4 4 4 4 4 4");
     expect_crossings::<Down>(&rt, &plateau, &[]);
     expect_crossings::<Up>(&rt, &plateau, &[]);
-}
-
-/// Heights `7 BAD 7 BAD 7 / 7 7 7 7 7`: three dales of one height, with passes of two indexes.
-#[test]
-fn dales_of_one_height_have_passes(rt: HostRuntime) {
-    let flat = surface(&rt, DataType::I16, "7 BAD 7 BAD 7\n7 7 7 7 7");
-    expect_passes::<Down>(&rt, &flat, &[(0, 2, 6), (2, 4, 8)]);
 }

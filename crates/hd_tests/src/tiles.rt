@@ -27,65 +27,46 @@ fn touched(alloc: Global, tiles: &Tiles<Surface>) -> Result<List<u32>, Memory> {
     Ok(numbers)
 }
 
-// The tiles that are touched where one cell of such a surface is set.
-fn touched_by(alloc: Global, size: Size, at: Pos) -> Result<List<u32>, Memory>
-    requires { IsSize size }
-{
-    let mut tiles = in_tiles(alloc, size)?;
-    let _ = tiles.set_cell(at, Cell::Height(7));
-    touched(alloc, &tiles)
-}
-
-fn at(x: u32, y: u32) -> Pos {
-    Pos { x, y }
-}
-
-fn sized(points: u32, profiles: u32) -> Size
-    ensures points { result.points ≡ points }
-    ensures profiles { result.profiles ≡ profiles }
-{
-    Size { points, profiles }
-}
-
 #[test]
 fn a_set_touches_the_tiles_round_its_point(rt: HostRuntime) {
-    let alloc = rt.alloc();
-    let one = touched_by(alloc, sized(8, 8), at(7, 7)).expect(&rt, "memory");
-    assert!(rt; one.as_slice() == [0].as_slice());
-    let inner = touched_by(alloc, sized(9, 9), at(6, 6)).expect(&rt, "memory");
-    assert!(rt; inner.as_slice() == [0].as_slice());
-    let corner = touched_by(alloc, sized(9, 9), at(7, 7)).expect(&rt, "memory");
-    assert!(rt; corner.as_slice() == [0, 1, 2, 3].as_slice());
-    let right = touched_by(alloc, sized(9, 9), at(8, 3)).expect(&rt, "memory");
-    assert!(rt; right.as_slice() == [0, 1].as_slice());
-    let middle = touched_by(alloc, sized(17, 1), at(8, 0)).expect(&rt, "memory");
-    assert!(rt; middle.as_slice() == [0, 1].as_slice());
-    let end = touched_by(alloc, sized(17, 1), at(16, 0)).expect(&rt, "memory");
-    assert!(rt; end.as_slice() == [1, 2].as_slice());
-    let outside = touched_by(alloc, sized(17, 1), at(16, 1)).expect(&rt, "memory");
-    assert!(rt; outside.as_slice().is_empty());
+    let rows: [(u32, u32, u32, u32, &[u32]); 9] = [
+        (8, 8, 7, 7, &[0]),
+        (9, 9, 6, 6, &[0]),
+        (9, 9, 7, 7, &[0, 1, 2, 3]),
+        (9, 9, 8, 3, &[0, 1]),
+        (17, 1, 8, 0, &[0, 1]),
+        (17, 1, 16, 0, &[1, 2]),
+        (17, 1, 16, 1, &[]),
+        (1, 65_535, 0, 65_527, &[8_190, 8_191]),
+        (65_535, 1, 65_534, 0, &[8_191]),
+    ];
+    for (points, profiles, x, y, wanted) in rows {
+        assert!(rt; 1 <= points && points <= 65_535 && 1 <= profiles && profiles <= 65_535);
+        assert!(rt; u64::from(profiles) * u64::from(points) <= 4_194_304);
+        let size = Size { points, profiles };
+        let mut tiles = in_tiles(rt.alloc(), size).expect(&rt, "memory");
+        let _ = tiles.set_cell(Pos { x, y }, Cell::Height(7));
+        let numbers = touched(rt.alloc(), &tiles).expect(&rt, "memory");
+        assert!(rt; numbers.as_slice() == wanted);
+    }
 }
 
 #[test]
-fn a_set_touches_the_tiles_of_long_surfaces(rt: HostRuntime) {
+fn what_changes_nothing_touches_nothing(rt: HostRuntime) {
     let alloc = rt.alloc();
-    let column = touched_by(alloc, sized(1, 65_535), at(0, 65_527)).expect(&rt, "memory");
-    assert!(rt; column.as_slice() == [8_190, 8_191].as_slice());
-    let row = touched_by(alloc, sized(65_535, 1), at(65_534, 0)).expect(&rt, "memory");
-    assert!(rt; row.as_slice() == [8_191].as_slice());
-}
-
-#[test]
-fn a_set_to_what_stands_touches_nothing(rt: HostRuntime) {
-    let alloc = rt.alloc();
-    let mut tiles = in_tiles(alloc, sized(9, 9)).expect(&rt, "memory");
-    let same = tiles.set_cell(at(8, 8), Cell::Bad);
+    let size = Size {
+        points: 9,
+        profiles: 9,
+    };
+    let at = Pos { x: 8, y: 8 };
+    let mut tiles = in_tiles(alloc, size).expect(&rt, "memory");
+    let same = tiles.set_cell(at, Cell::Bad);
     assert!(rt; same.is_ok() && tiles.changes() == 0);
-    let refused = tiles.set_cell(at(8, 8), Cell::Height(40_000));
+    let refused = tiles.set_cell(at, Cell::Height(40_000));
     assert!(rt; refused.is_err() && tiles.changes() == 0);
-    let masked = tiles.set_mask(at(8, 8), true);
+    let masked = tiles.set_mask(at, true);
     assert!(rt; masked.is_ok() && tiles.changes() == 1);
-    let again = tiles.set_mask(at(8, 8), true);
+    let again = tiles.set_mask(at, true);
     assert!(rt; again.is_ok() && tiles.changes() == 1);
     let numbers = touched(alloc, &tiles).expect(&rt, "memory");
     assert!(rt; numbers.as_slice() == [0, 1, 2, 3].as_slice());
@@ -94,12 +75,16 @@ fn a_set_to_what_stands_touches_nothing(rt: HostRuntime) {
 #[test]
 fn a_change_of_the_setting_touches_every_tile(rt: HostRuntime) {
     let alloc = rt.alloc();
-    let mut tiles = in_tiles(alloc, sized(17, 9)).expect(&rt, "memory");
+    let size = Size {
+        points: 17,
+        profiles: 9,
+    };
+    let mut tiles = in_tiles(alloc, size).expect(&rt, "memory");
     tiles.set_adjacency(Adjacency::Eight);
     assert!(rt; tiles.changes() == 0);
     tiles.set_adjacency(Adjacency::Six);
     let numbers = touched(alloc, &tiles).expect(&rt, "memory");
     assert!(rt; numbers.as_slice() == [0, 1, 2, 3, 4, 5].as_slice());
     assert!(rt; Looked::adjacency(&tiles) == Adjacency::Six);
-    assert!(rt; tiles.side() == 8 && Looked::size(&tiles) == sized(17, 9));
+    assert!(rt; tiles.side() == 8 && Looked::size(&tiles) == size);
 }

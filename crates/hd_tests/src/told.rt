@@ -18,7 +18,7 @@ use std::collections::BTreeMap;
 use std::process::Abort;
 
 // What is told of a side of a map in tiles. Points are named by their indexes.
-#[derive(Debug, Drop, PartialEq)]
+#[derive(Drop, PartialEq)]
 pub(crate) struct Told {
     // The roots of all points.
     pub(crate) labels: Vec<Option<u32>>,
@@ -44,7 +44,8 @@ pub(crate) fn told_by<S: Side>(
     let graph = pool.as_graph().expect(rt, "memory");
     let mut passes = BTreeMap::new(rt.alloc());
     for pass in graph.passes() {
-        let pair = in_order(pass.a.index, pass.b.index);
+        let (a, b) = (pass.a.index, pass.b.index);
+        let pair = (a.min(b), a.max(b));
         assert!(rt; passes.get(&pair).is_none());
         let inserted: Result<_, _> = passes.insert(pair, pass.at);
         inserted.expect(rt, "memory");
@@ -118,11 +119,6 @@ fn entries_of(
         entries.push((*key, *value)).expect(rt, "memory");
     }
     entries
-}
-
-// Two indexes, the lesser one first.
-fn in_order(a: u32, b: u32) -> (u32, u32) {
-    if a < b { (a, b) } else { (b, a) }
 }
 
 // The saddle and each part of the joins of a tree.
@@ -212,7 +208,9 @@ fn sink_from<S: Side>(
     let mut here = at;
     for _step in 0..size.profiles * size.points {
         match way_on::<S>(rt, surface, here)? {
-            Some(lower) if tile_at(side, lower) == tile_at(side, at) => here = lower,
+            Some(lower) if lower.x / side == at.x / side && lower.y / side == at.y / side => {
+                here = lower;
+            }
             _ => return Some(here),
         }
     }
@@ -237,13 +235,6 @@ fn rank_at(surface: &Surface, at: Pos) -> Option<Rank> {
         return None;
     }
     Some(rank_of(surface, at))
-}
-
-// The column and the row of the tile that holds a position.
-fn tile_at(side: u32, at: Pos) -> (u32, u32)
-    requires { IsTileSide side }
-{
-    (at.x / side, at.y / side)
 }
 
 // The nodes where these are the local sinks of the points.
@@ -395,7 +386,7 @@ fn note_pass<S: Side>(
     let own = label_at(sinks, here.index).expect(rt, "a sink");
     let other = label_at(sinks, there.index).expect(rt, "a sink");
     let higher = if S::below(here, there) { there } else { here };
-    let pair = in_order(own, other);
+    let pair = (own.min(other), own.max(other));
     let known = lowest.get(&pair).copied();
     if own != other && known.map_or(true, |known| S::below(higher, known)) {
         let inserted: Result<_, _> = lowest.insert(pair, higher);

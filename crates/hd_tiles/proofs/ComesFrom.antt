@@ -75,16 +75,17 @@ module _ (Touched : ℕ → Type 0) (count : ℕ) (before after : List ℕ) (low
     | inr old ↦ (let below = low tile stamp (sym old ∙ read) in omega (arith, below))
   ]
 
-  rise : Rise Touched before after
+  rise : Rise Touched (count + 1) before after
   rise = record {
     whole = stamped.whole;
-    touched = λ tile was now here had has. (let e = stamped.touched tile now here has in let below = low tile was had in omega (arith, e, below));
+    above = λ tile was here had. (let below = low tile was had in omega (arith, below));
+    touched = stamped.touched;
     others = stamped.others;
   }
 
   -- a change of the map touches them
-  pub touches-changed : (old new : Map) → (new ≡ old → ⊥) → Touches Touched old new before after
-  touches-changed old new differs = record { same = λ e. absurd (differs e); changed = λ _. rise }
+  pub touches-changed : (old new : Map) → (new ≡ old → ⊥) → Touches Touched old new count (count + 1) before after
+  touches-changed old new differs = record { same = λ e. absurd (differs e); counted = λ _. refl; changed = λ _. rise }
 
   -- it comes from the map before where the tiles that are not touched are left
   pub changed-comes : (old new : Map) (t : ℕ) → old.size ≡ new.size → ((tile : ℕ) → (Touched tile → ⊥) → Agree old new t tile) → ComesFrom old t before new t after
@@ -121,7 +122,7 @@ module _ (old new : Map) (t count : ℕ) (before after : List ℕ) (low : AreUpT
       pub cell-comes : ComesFrom old t before new t after
       cell-comes = changed-comes Here count before after low here old new t (ap (λ (m : Map). m.size) (sym is)) (λ tile far. subst (λ (m : Map). Agree old m t tile) (sym is) (cell_leaves old t tile p inside far c))
 
-      pub cell-touches : TouchesRound t p old new before after
+      pub cell-touches : TouchesRound t p old new count (count + 1) before after
       cell-touches = touches-changed Here count before after low here old new cell_differs
 
     module _ (b : Bool) (is : new ≡ with_mask old p b) (other : b ≡ mask_at old p → ⊥) where
@@ -133,7 +134,7 @@ module _ (old new : Map) (t count : ℕ) (before after : List ℕ) (low : AreUpT
       pub mask-comes : ComesFrom old t before new t after
       mask-comes = changed-comes Here count before after low here old new t (ap (λ (m : Map). m.size) (sym is)) (λ tile far. subst (λ (m : Map). Agree old m t tile) (sym is) (mask_leaves old t tile p inside far b))
 
-      pub mask-touches : TouchesRound t p old new before after
+      pub mask-touches : TouchesRound t p old new count (count + 1) before after
       mask-touches = touches-changed Here count before after low here old new mask_differs
 
   module _ (whole : IsMap old) (y : ℕ) (heights : List (Option ℤ)) (points : ℕ) (same : points ≡ old.size.points) (is : new ≡ with_heights old y heights)
@@ -198,7 +199,7 @@ module _ (old new : Map) (t count : ℕ) (before after : List ℕ) (low : AreUpT
       profile_differs some e =
           some.changes (sym (cell_new some.column (in_row some.column some.below)) ∙ ap (λ (m : Map). cell_at m (record { x = some.column; y = y })) e)
 
-      pub profile-touches : SomeChanges old y heights points → TouchesProfile t y old new before after
+      pub profile-touches : SomeChanges old y heights points → TouchesProfile t y old new count (count + 1) before after
       profile-touches some =
           touches-changed AtProfile count before after low (stamped-as (count + 1) (IsRoundChange old y heights t 0 points) before after stamped AtProfile (λ tile within. from_profile tile) at_profile) old new (profile_differs some)
 
@@ -209,5 +210,5 @@ module _ (old new : Map) (t count : ℕ) (before after : List ℕ) (low : AreUpT
     pub setting-comes : ComesFrom old t before new t after
     setting-comes = changed-comes (λ tile. Unit {0}) count before after low stamped old new t (ap (λ (m : Map). m.size) (sym is)) (λ tile far. absurd (far tt))
 
-    pub setting-touches : TouchesAll old new before after
+    pub setting-touches : TouchesAll old new count (count + 1) before after
     setting-touches = touches-changed (λ tile. Unit {0}) count before after low stamped old new setting_differs

@@ -1,5 +1,5 @@
 -- The stamps of the tiles of a map, and how they change with it.
-use Rattle.std.specs.Prelude.{◌≡◌, ◌≢◌, ◌<◌, ◌≤◌, ◌⊎◌, ℕ, Bool, List, length, Some, slice_get}
+use Rattle.std.specs.Prelude.{◌≡◌, ◌≢◌, ◌<◌, ◌≤◌, ◌+◌, ◌⊎◌, ℕ, Bool, List, length, Some, slice_get}
 use Rattle.hd_map.specs.declared.types.Pos.{Pos}
 use Rattle.hd_map.specs.Map.{Map, InGrid, IsMap, cell_at, cell_count}
 use Rattle.hd_tiles.specs.Tile.{IsTileSide, tile_count, IsRound, Agree}
@@ -25,32 +25,34 @@ pub record ComesFrom (old : Map) (was_side : ℕ) (before : List ℕ) (new : Map
 abbrev pub AreUpTo : ℕ → List ℕ → Type 0
 AreUpTo count stamps = (tile stamp : ℕ) → slice_get stamps tile ≡ Some stamp → stamp ≤ count
 
--- the stamps of some tiles rise, and all others stay
-pub record Rise (Touched : ℕ → Type 0) (before after : List ℕ) : Type 0 where
+-- the stamps of some tiles rise to the number of a change, and all others stay
+pub record Rise (Touched : ℕ → Type 0) (number : ℕ) (before after : List ℕ) : Type 0 where
   pub whole : length after ≡ length before
-  pub touched : (tile was now : ℕ) → Touched tile → slice_get before tile ≡ Some was → slice_get after tile ≡ Some now
-      → was < now
+  pub above : (tile was : ℕ) → Touched tile → slice_get before tile ≡ Some was → was < number
+  pub touched : (tile now : ℕ) → Touched tile → slice_get after tile ≡ Some now → now ≡ number
   pub others : (tile : ℕ) → (Touched tile → ⊥) → slice_get after tile ≡ slice_get before tile
 
--- a set that leaves the map touches no tile, and every other set touches these
-pub record Touches (Touched : ℕ → Type 0) (old new : Map) (before after : List ℕ) : Type 0 where
+-- a set that leaves the map touches no tile; every other set is counted as one more change, and touches these: their
+-- stamp becomes the count after it
+pub record Touches (Touched : ℕ → Type 0) (old new : Map) (was now : ℕ) (before after : List ℕ) : Type 0 where
   pub same : new ≡ old → after ≡ before
-  pub changed : (new ≡ old → ⊥) → Rise Touched before after
+  pub counted : (new ≡ old → ⊥) → now ≡ was + 1
+  pub changed : (new ≡ old → ⊥) → Rise Touched now before after
 
 -- a change of the cell or the mask at a position touches each tile that holds the position or one of the eight
 -- positions round it
-abbrev pub TouchesRound : ℕ → Pos → Map → Map → List ℕ → List ℕ → Type 0
-TouchesRound t p old new before after = Touches (λ tile. IsRound old.size t tile p) old new before after
+abbrev pub TouchesRound : ℕ → Pos → Map → Map → ℕ → ℕ → List ℕ → List ℕ → Type 0
+TouchesRound t p old new was now before after = Touches (λ tile. IsRound old.size t tile p) old new was now before after
 
 -- a change of the heights of a profile touches each tile that holds a point of it whose cell becomes another, or
 -- one of the eight positions round such a point
-abbrev pub TouchesProfile : ℕ → ℕ → Map → Map → List ℕ → List ℕ → Type 0
-TouchesProfile t y old new before after =
-    Touches (λ tile. (p : Pos) × InGrid old.size p × (p.y ≡ y) × (cell_at new p ≢ cell_at old p) × IsRound old.size t tile p) old new before after
+abbrev pub TouchesProfile : ℕ → ℕ → Map → Map → ℕ → ℕ → List ℕ → List ℕ → Type 0
+TouchesProfile t y old new was now before after =
+    Touches (λ tile. (p : Pos) × InGrid old.size p × (p.y ≡ y) × (cell_at new p ≢ cell_at old p) × IsRound old.size t tile p) old new was now before after
 
 -- a change of the setting touches every tile
-abbrev pub TouchesAll : Map → Map → List ℕ → List ℕ → Type 0
-TouchesAll old new before after = Touches (λ tile. Unit {0}) old new before after
+abbrev pub TouchesAll : Map → Map → ℕ → ℕ → List ℕ → List ℕ → Type 0
+TouchesAll old new was now before after = Touches (λ tile. Unit {0}) old new was now before after
 
 -- these tiles have this stamp, and all others the one that they had
 pub record AreStamped (Touched : ℕ → Type 0) (stamp : ℕ) (before after : List ℕ) : Type 0 where

@@ -129,7 +129,7 @@ impl<G: Grid> Grid for Tiles<G> {
         ensures sets { SetsCell (G.map self.old.grid) at cell result (G.map self.new.grid) }
         ensures origin { ComesFrom (G.map self.old.grid) self.old.tiling.side self.old.stamps.items (G.map self.new.grid) self.new.tiling.side self.new.stamps.items }
         ensures count { CountsChange (G.map self.old.grid) (G.map self.new.grid) self.old.changes self.new.changes }
-        ensures touched { TouchesRound self.old.tiling.side at (G.map self.old.grid) (G.map self.new.grid) self.old.stamps.items self.new.stamps.items }
+        ensures touched { TouchesRound self.old.tiling.side at (G.map self.old.grid) (G.map self.new.grid) self.old.changes self.new.changes self.old.stamps.items self.new.stamps.items }
     {
         if !contains(self.tiling.size(), at) {
             return Err(MapError::Outside(at));
@@ -151,7 +151,7 @@ impl<G: Grid> Grid for Tiles<G> {
         ensures sets { (G.map self.new.grid) ≡ with_heights (G.map self.old.grid) y (values_of L.code row.now) }
         ensures origin { ComesFrom (G.map self.old.grid) self.old.tiling.side self.old.stamps.items (G.map self.new.grid) self.new.tiling.side self.new.stamps.items }
         ensures count { CountsChange (G.map self.old.grid) (G.map self.new.grid) self.old.changes self.new.changes }
-        ensures touched { TouchesProfile self.old.tiling.side y (G.map self.old.grid) (G.map self.new.grid) self.old.stamps.items self.new.stamps.items }
+        ensures touched { TouchesProfile self.old.tiling.side y (G.map self.old.grid) (G.map self.new.grid) self.old.changes self.new.changes self.old.stamps.items self.new.stamps.items }
     {
         let stamp = self.changes + 1;
         if touch_changes(&mut self.stamps, self.tiling, &self.grid, y, row, stamp) {
@@ -166,7 +166,7 @@ impl<G: Grid> Grid for Tiles<G> {
         ensures sets { SetsMask (G.map self.old.grid) at masked result (G.map self.new.grid) }
         ensures origin { ComesFrom (G.map self.old.grid) self.old.tiling.side self.old.stamps.items (G.map self.new.grid) self.new.tiling.side self.new.stamps.items }
         ensures count { CountsChange (G.map self.old.grid) (G.map self.new.grid) self.old.changes self.new.changes }
-        ensures touched { TouchesRound self.old.tiling.side at (G.map self.old.grid) (G.map self.new.grid) self.old.stamps.items self.new.stamps.items }
+        ensures touched { TouchesRound self.old.tiling.side at (G.map self.old.grid) (G.map self.new.grid) self.old.changes self.new.changes self.old.stamps.items self.new.stamps.items }
     {
         if !contains(self.tiling.size(), at) {
             return Err(MapError::Outside(at));
@@ -185,7 +185,7 @@ impl<G: Grid> Grid for Tiles<G> {
         ensures sets { (G.map self.new.grid) ≡ under adjacency (G.map self.old.grid) }
         ensures origin { ComesFrom (G.map self.old.grid) self.old.tiling.side self.old.stamps.items (G.map self.new.grid) self.new.tiling.side self.new.stamps.items }
         ensures count { CountsChange (G.map self.old.grid) (G.map self.new.grid) self.old.changes self.new.changes }
-        ensures touched { TouchesAll (G.map self.old.grid) (G.map self.new.grid) self.old.stamps.items self.new.stamps.items }
+        ensures touched { TouchesAll (G.map self.old.grid) (G.map self.new.grid) self.old.changes self.new.changes self.old.stamps.items self.new.stamps.items }
     {
         if self.grid.adjacency() == adjacency {
             return;

@@ -6,22 +6,16 @@
 #![tactic(auto)]
 
 mod messages;
-mod status;
-#[cfg(test)]
-mod tests;
-mod texts;
-mod top;
 
 use hd_base::{FileSink, FileSource, StdoutSink};
 use hd_list::Memory;
+use hd_top::{Status, exit_of, top};
 use messages::{LastFaults, tell_failure, tell_memory, tell_no_text};
-pub use status::{Status, exit_of};
 use std::fs::File;
 use std::io::ErrorKind;
 use std::process::ExitCode;
 use std::rt::{Env, Files};
 use std::{env, io};
-pub use top::top;
 
 fn main(rt: HostRuntime) -> ExitCode {
     // A standard stream that is closed is taken by a folder, which can be neither read nor written.

@@ -1,5 +1,5 @@
 // What is told on the standard error where a run fails. No status hangs on whether it can be written.
-use crate::status::Status;
+use hd_top::Status;
 use std::io;
 
 /// Of each source and sink of a run the error of its last fault, and of the files their names.

@@ -1,10 +1,12 @@
-use Rattle.std.proofs.Common.{◌≡◌, ◌*◌, ℕ, List, Option, length, map, sym, ◌∙◌, ap, subst, arith}
+use Rattle.std.proofs.Common.{◌≡◌, ◌<◌, ◌*◌, ℕ, List, Option, Some, length, map, slice_get, sym, ◌∙◌, ap, subst, arith}
 use Rattle.hd_basin.specs.declared.meetings.Meeting.{Meeting}
 use Rattle.hd_basin.specs.declared.part.Join.{Join}
 use Rattle.hd_basin.specs.Built.{HasPasses}
 use Rattle.hd_basin.specs.Inside.{AreMet, join_of}
-use Rattle.hd_basin.specs.Parts.{pass_named}
+use Rattle.hd_basin.specs.Parts.{JoinBelow, pass_named}
 use Rattle.hd_basin.specs.Meetings.{AreChained}
+use Rattle.hd_map.proofs.Items.{Contains-map}
+use Rattle.hd_basin.proofs.FlatLists.{Contains-at}
 use Rattle.hd_basin.proofs.AreMet.{met-none, passes-all}
 use Rattle.hd_basin.proofs.inside.passes_inside.Goals as goal
 
@@ -21,8 +23,8 @@ loop-row-init g c =
     let zero : 0 ≡ 0 * c.args.area.columns = omega arith in
     subst (λ (k : ℕ). AreMet m side c.args.area c.args.labels.now count k 0 lasts list) zero first
 
-pub returns : goal.returns
-returns g c =
+pub returns-clause-passes : goal.returns-clause-passes
+returns-clause-passes g c =
     let m = g.G.Heights.map c.args.grid.now in
     let side = g.S.Side.NAME in
     let f = c.args.area in
@@ -35,3 +37,18 @@ returns g c =
     let joins : c.in_ok-joins.joins ≡ map join_of list = c.in_ok-joins.ensures ∙ ap (map join_of) c.as_slice.ensures.value in
     subst (λ (js : List Join). HasPasses m side c.args._tiling.side c.args._tile (map (pass_named c.args.nodes.now) js)) (sym joins)
     (passes-all m side c.args._tiling.side c.args._tile f (omega (arith, least)) c.requires.area c.args.nodes.now c.args.labels.now c.requires.named list all.kept)
+
+-- the numbers of the meetings are those of nodes
+below : (list : List Meeting) (count : ℕ) → ((i : ℕ) (x : Meeting) → slice_get list i ≡ Some x → (x.a < count) × (x.b < count)) → JoinBelow count (map join_of list)
+below list count each j has =
+    let x = Contains-map join_of list j has in
+    let i = Contains-at list x.0 x.1 in
+    subst (λ (y : Join). (y.a < count) × (y.b < count)) x.2 (each i.0 x.0 i.1)
+
+pub returns-clause-named : goal.returns-clause-named
+returns-clause-named g c =
+    let count : ℕ = length c.args.nodes.now in
+    let list : List Meeting = c.loop-row.meetings.list.items in
+    let kept = c.loop-row.invariant.kept in
+    let joins : c.in_ok-joins.joins ≡ map join_of list = c.in_ok-joins.ensures ∙ ap (map join_of) c.as_slice.ensures.value in
+    subst (JoinBelow count) (sym joins) (below list count (λ i x at. (let pair = (kept.each i x at).pair in let less = pair.less in let few = pair.few in (omega (arith, less, few), few))))

@@ -19,7 +19,6 @@ still pool side old new before after long comes step tile fresh =
 pub returns : goal.returns
 returns c = λ pool side old new before after long comes step. record {
   size = step.size ∙ comes.size;
-  sound = step.sound;
   not_ahead = λ tile seen now part at is there. (
       let inside = slice_get_within after tile now there in
       let had = slice_get-get_or before tile 0 (omega (arith, long, inside)) in

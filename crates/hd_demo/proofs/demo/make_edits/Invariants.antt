@@ -5,9 +5,9 @@ use Rattle.hd_demo.proofs.demo.make_edits.Given as goal
 
 -- the edits so far
 abbrev pub invariant-edits : goal.invariant-edits
-invariant-edits l = record {
-  edits : AreEdits l.demo l.fn.session.state l.counter l.session.state;
+invariant-edits g l = record {
+  edits : AreEdits l.demo (g.E.SurfaceSession.state l.fn.session) l.counter (g.E.SurfaceSession.state l.session);
   last : l.draws.last ≡ drawn l.demo.number (draws_before l.demo.size l.counter);
-  asked : l.session.asked ≡ l.fn.session.asked + l.counter;
+  asked : g.E.SurfaceSession.asked l.session ≡ g.E.SurfaceSession.asked l.fn.session + l.counter;
   few : l.counter ≤ l.demo.edits;
 }

@@ -1,6 +1,6 @@
 use Rattle.std.proofs.Common.{◌≡◌, ℕ, List, [], IfOk, subst, sym, ap, ◌∙◌}
 use Rattle.hd_map.specs.Map.{Map}
-use Rattle.hd_engine.specs.State.{FileTexts, file_with}
+use Rattle.hd_session.specs.State.{FileTexts, file_with}
 use Rattle.hd_sdf_read.specs.File.{File}
 use Rattle.hd_sdf_write.specs.Canonical.{canonical}
 use Rattle.hd_sdf_write.specs.Pieces.{PiecesState}

@@ -3,7 +3,7 @@ use Rattle.hd_map.specs.declared.types.Pos.{Pos}
 use Rattle.hd_map.specs.Rank.{rank}
 use Rattle.hd_map.specs.Region.{IsRoot}
 use Rattle.hd_map.proofs.Nexts.{root-is_pit}
-use Rattle.hd_engine.specs.Reply.{accepted_with, refused_for}
+use Rattle.hd_session.specs.Reply.{accepted_with, refused_for}
 use Rattle.std.proofs.lemmas.Result.{IfOk-weaker}
 use Rattle.hd_engine.proofs.Positions.{found_same, found_apart}
 use Rattle.hd_engine.proofs.saddles.show_pair.Goals as goal

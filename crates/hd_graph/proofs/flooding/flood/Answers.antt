@@ -2,11 +2,12 @@ use Rattle.std.proofs.Common.{List, map, length}
 use Rattle.hd_map.specs.Rank.{below_by}
 use Rattle.hd_graph.specs.declared.graph.Low.{Low}
 use Rattle.hd_map.specs.declared.types.Link.{Link}
-use Rattle.hd_graph.specs.Line.{IsFloodLine}
+use Rattle.hd_graph.specs.Line.{AreStopsOf, IsFloodLine}
 use Rattle.hd_graph.specs.Links.{HasEnds, pass_of}
 use Rattle.hd_graph.proofs.LinkOrder.{same-each}
 use Rattle.hd_graph.proofs.Linked.{passes-permuted}
 use Rattle.hd_graph.proofs.LineSoFar.{line-same_passes}
+use Rattle.hd_graph.proofs.LineStops.{stops-line}
 use Rattle.hd_graph.proofs.flooding.flood.Goals as goal
 
 pub links_of-requires-clause-joins : goal.links_of-requires-clause-joins
@@ -17,6 +18,14 @@ links_onward-requires-clause-within g c = same-each (HasEnds (length c.lows-lows
 
 pub visit_all-requires-clause-within : goal.visit_all-requires-clause-within
 visit_all-requires-clause-within g c = same-each (HasEnds (length c.lows-lows.result.now)) c.in_ok-links_of.field-0.items c.in_ok-links.links c.in_ok-links.ensures.same c.in_ok-links_of.ensures.within
+
+pub new-requires : goal.new-requires
+new-requires g c =
+    let lows : List Low = c.args.graph.now.lows in
+    let whole = c.lows-lows.ensures.whole in
+    let line = c.in_ok-stops.ensures in
+    let stops : AreStopsOf lows c.in_ok-stops.stops = rw c.lows-lows.ensures.value at line.stops in
+    stops-line lows whole.different c.in_ok-stops.stops stops line.once whole.few
 
 pub returns : goal.returns
 returns g c =

@@ -4,7 +4,7 @@ use Rattle.std.proofs.lemmas.Option.{slice_get_within}
 use Rattle.hd_graph.specs.Links.{HasEnds}
 use Rattle.hd_graph.proofs.LinkOrder.{link-each}
 use Rattle.hd_graph.proofs.LeadsOn.{leads-all, leads-join, leads-none, leads-skip, top-inside}
-use Rattle.hd_graph.proofs.Places.{get-from_read}
+use Rattle.hd_map.proofs.Places.{get-from_read}
 use Rattle.hd_graph.proofs.onward.links_onward.Goals as goal
 
 pub loop-place-init : goal.loop-place-init

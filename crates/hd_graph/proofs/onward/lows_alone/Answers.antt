@@ -1,6 +1,6 @@
 use Rattle.std.proofs.Common.{◌≡◌, ◌++◌, ◌∷◌, [], inl, inr, arith, List, ℕ}
 use Rattle.std.proofs.lemmas.List.{length_push}
-use Rattle.hd_graph.proofs.Places.{get-push_cases}
+use Rattle.hd_map.proofs.Places.{get-push_cases}
 use Rattle.hd_graph.proofs.onward.lows_alone.Goals as goal
 
 pub loop-low-preserved : goal.loop-low-preserved

@@ -4,7 +4,7 @@ use Rattle.hd_map.specs.declared.types.Rank.{Rank}
 use Rattle.hd_map.specs.Rank.{below_by}
 use Rattle.hd_graph.specs.Parts.{with_low}
 use Rattle.hd_graph.proofs.Grouped.{below-more, with_low-last, with_low-inside, with_low-there}
-use Rattle.hd_graph.proofs.Places.{get-from_read}
+use Rattle.hd_map.proofs.Places.{get-from_read}
 use Rattle.hd_graph.proofs.trees.add_low.Goals as goal
 use Rattle.hd_graph.proofs.trees.add_low.Goals.{then-loop-at-test+else-below, else-loop-at-test, else-at-len-via-then-at-len+else-not-below, else-at-len-via-else-at-len}
 

@@ -5,8 +5,8 @@ use Rattle.hd_map.specs.Map.{Map}
 use Rattle.hd_map.specs.Rank.{below_by}
 use Rattle.hd_prune.specs.declared.step.Kept.{Kept}
 use Rattle.hd_prune.specs.declared.step.Owned.{Owned}
-use Rattle.hd_lines.specs.declared.border.Border.{Border}
-use Rattle.hd_lines.specs.Borders.{AreBorders}
+use Rattle.hd_steep.specs.declared.border.Border.{Border}
+use Rattle.hd_steep.specs.Borders.{AreBorders}
 use Rattle.hd_lines.specs.FirstJoins.{AreFirstJoins}
 use Rattle.hd_lines.specs.Listed.{AreListed}
 use Rattle.hd_lines.specs.Places.{AreOwnerPlaces, IsNumbered}

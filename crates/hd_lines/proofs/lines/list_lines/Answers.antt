@@ -1,7 +1,7 @@
 use Rattle.std.proofs.Common.{◌+◌, List, sym, subst, arith, false}
 use Rattle.std.specs.Prelude.{pos, None}
 use Rattle.hd_prune.specs.declared.step.Kept.{Kept}
-use Rattle.hd_lines.specs.declared.border.Border.{Border}
+use Rattle.hd_steep.specs.declared.border.Border.{Border}
 use Rattle.hd_lines.specs.declared.line.BorderLine.{BorderLine}
 use Rattle.hd_lines.specs.Listed.{AreListed}
 use Rattle.hd_lines.proofs.Listed.{listed-more, listed-none}

@@ -1,6 +1,6 @@
 use Rattle.std.proofs.Common.{◌+◌, List, sym, subst, arith}
 use Rattle.std.specs.Prelude.{pos}
-use Rattle.hd_lines.specs.declared.border.Border.{Border}
+use Rattle.hd_steep.specs.declared.border.Border.{Border}
 use Rattle.hd_lines.specs.declared.saddles.NumberedBorder.{NumberedBorder}
 use Rattle.hd_lines.specs.NumberedBorders.{AreNumberedBorders}
 use Rattle.hd_lines.proofs.NumberedBorders.{numbered-more, numbered-none}

@@ -22,8 +22,8 @@ use Rattle.hd_prune.proofs.Nested.{pruned-undercut}
 use Rattle.hd_prune.proofs.pruning.prune_by_merges.Given.{Over}
 use Rattle.hd_prune.proofs.pruning.prune_by_merges.Goals as goal
 
-pub steps_by_merges-requires-clause-each_once : goal.steps_by_merges-requires-clause-each_once
-steps_by_merges-requires-clause-each_once g c = merged-once (g.A.Around.map c.args.around.now) g.S.Side.NAME c.args.lows.now c.args.merges.now c.requires.pits c.requires.merges
+pub steps-requires-clause-each_once : goal.steps-requires-clause-each_once
+steps-requires-clause-each_once g c = merged-once (g.A.Around.map c.args.around.now) g.S.Side.NAME c.args.lows.now c.args.merges.now c.requires.pits c.requires.merges
 
 -- the leavers as they are read off the merges
 found : (g : Over) (lows : List Low) (merges : List Merge) (percent : Percent) (a b : ℤ) (xs ys : List Leaver) → a ≡ b → ys ≡ xs →

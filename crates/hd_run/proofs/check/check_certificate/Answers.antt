@@ -4,7 +4,7 @@ use Rattle.hd_sdf_read.specs.FileOf.{file_of}
 use Rattle.hd_run.proofs.Checks.{check_surface_stops}
 use Rattle.hd_run.proofs.Readings.{stop_moved}
 use Rattle.hd_run.proofs.Runs.{second_after, second_untouched}
-use Rattle.hd_run.proofs.Stops.{HasReadStop-ok, surface_stopped}
+use Rattle.hd_run.proofs.Stops.{HasReadStop-ok, no_refusal_of_surface, surface_stopped}
 use Rattle.hd_run.proofs.check.check_certificate.Goals as goal
 
 pub returns-clause-told : goal.returns-clause-told
@@ -55,3 +55,9 @@ returns-clause-surface_left g c = c.in-Ok.ensures.left
 
 pub returns-clause-certificate_left : goal.returns-clause-certificate_left
 returns-clause-certificate_left g c = inr c.check_second-checked.ensures.certificate_left
+
+pub returns-in-Err-clause-unread : goal.returns-in-Err-clause-unread
+returns-in-Err-clause-unread g c = λ refusal is of. refl
+
+pub returns-clause-unread : goal.returns-clause-unread
+returns-clause-unread g c = λ refusal is of. absurd (no_refusal_of_surface c.check_second-checked.result refusal c.check_second-checked.ensures.later is of)

@@ -33,7 +33,11 @@ returns-then-is_err-clause-cause g c = λ surface saved still kept.
     let failed = sym c.is_err.ensures.value ∙ c.if-is_err.true in
     record {
       read = λ e. absurd (write≢read _ refl e);
-      write = λ e. inl (of_err c.write_all.result failed c.write_all.ensures.cause.failed);
+      write = λ e. (
+        still,
+        HasReadStop-ok _ _ c.in-Ok.reader c.in-Ok.ensures.cause,
+        inl (of_err c.write_all.result failed c.write_all.ensures.cause.failed, kept),
+      );
       other = λ not_read not_write. absurd (not_write refl);
     }
 

@@ -7,23 +7,23 @@ use Rattle.hd_run.proofs.inputs.read_open_certificate.Goals as goal
 
 pub returns-in-Err-clause-few : goal.returns-in-Err-clause-few
 returns-in-Err-clause-few g c = λ bytes told.
-    TakesFew-fed StandsFor bytes _ _ _ _ certificate_limit c.pieces.count c.in-Ok.taken c.read.new.into told c.pieces.invariant.fed c.in-Ok.ensures.bytes.0 (omega (arith, c.read.auto.into, length-take c.min-room.result c.pieces.piece))
+    TakesFew-fed StandsFor bytes _ _ _ _ certificate_limit c.pieces.count c.in-Ok.length c.read.new.into told c.pieces.invariant.fed c.in-Ok.ensures.bytes.0 (omega (arith, c.read.auto.into, length-take c.min-room.result c.pieces.piece))
 
 pub returns-then-count-gt-CERTIFICATE_LIMIT-clause-few : goal.returns-then-count-gt-CERTIFICATE_LIMIT-clause-few
 returns-then-count-gt-CERTIFICATE_LIMIT-clause-few g c = λ bytes told.
-    TakesFew-fed StandsFor bytes _ _ _ _ certificate_limit c.pieces.count c.in-Ok.taken c.read.new.into told c.pieces.invariant.fed c.in-Ok.ensures.bytes.0 (omega (arith, c.read.auto.into, length-take c.min-room.result c.pieces.piece))
+    TakesFew-fed StandsFor bytes _ _ _ _ certificate_limit c.pieces.count c.in-Ok.length c.read.new.into told c.pieces.invariant.fed c.in-Ok.ensures.bytes.0 (omega (arith, c.read.auto.into, length-take c.min-room.result c.pieces.piece))
 
 pub pieces-preserved : goal.pieces-preserved
 pieces-preserved g c =
     let into = c.read.auto.into in
     let room = length-take c.min-room.result c.pieces.piece in
     let counted = c.pieces.invariant.counted in
-    let bound : c.in-Ok.taken ≤ length c.read.new.into = c.in-Ok.ensures.bound.0 in
+    let bound : c.in-Ok.length ≤ length c.read.new.into = c.in-Ok.ensures.bound.0 in
     let stands = c.in-Ok-fed.ensures.stands c.pieces.invariant.fed.got c.pieces.invariant.fed.stands in
     record {
       open_still = c.in-Ok.ensures.open;
       within = omega arith;
-      fed = fed_more StandsFor _ _ _ _ _ c.pieces.count c.in-Ok.taken c.read.new.into c.pieces.invariant.fed c.in-Ok.ensures.bytes.0 bound (rw take-append-le at stands);
+      fed = fed_more StandsFor _ _ _ _ _ c.pieces.count c.in-Ok.length c.read.new.into c.pieces.invariant.fed c.in-Ok.ensures.bytes.0 bound (rw take-append-le at stands);
       counted = omega (arith, c.in-Ok-fed.ensures.fed, length-take {A = ℕ});
       faults = c.in-Ok.ensures.cause.accepted ∙ c.pieces.invariant.faults;
     }

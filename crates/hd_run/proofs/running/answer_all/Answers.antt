@@ -3,7 +3,7 @@ use Rattle.std.specs.Option.{option_copied}
 use Rattle.std.proofs.KnownBytes.{Appends-nil}
 use Rattle.hd_num.specs.Lines.{lines_of}
 use Rattle.hd_sdf_read.specs.FileOf.{file_of}
-use Rattle.hd_engine.specs.State.{State, first_state}
+use Rattle.hd_session.specs.State.{State, first_state}
 use Rattle.hd_run.specs.declared.stop.Stop.{Stop}
 use Rattle.hd_run.specs.RunResult.{AnswersAndSaves}
 use Rattle.hd_run.specs.Saving.{Saving}
@@ -20,4 +20,4 @@ from_state save before first lines stays s result old new same answers = subst (
 pub returns-clause-answers : goal.returns-clause-answers
 returns-clause-answers g c =
     from_state (option_copied c.args.job.now.save) _ (first_state (file_of c.args.file)) (lines_of c.args.script.now) _ _ c.answer_and_save-answered.result (g.W.Sink.written c.args.out.now) (g.W.Sink.written c.answer_and_save-answered.new.out)
-    c.in-Ok.ensures.0 c.answer_and_save-answered.ensures.answers
+    c.in-Ok.ensures.state c.answer_and_save-answered.ensures.answers

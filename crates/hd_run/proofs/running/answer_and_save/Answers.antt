@@ -9,7 +9,7 @@ use Rattle.hd_run.proofs.running.answer_and_save.Goals as goal
 
 pub returns-in-Err-clause-cause : goal.returns-in-Err-clause-cause
 returns-in-Err-clause-cause g c = record {
-  write = λ e. inl (c.in-Err.ensures.cause.fault e);
+  write = λ e. inl (c.in-Err.ensures.cause.fault e, refl);
   other = λ e. (c.in-Err.ensures.cause.no_fault e, refl);
   only = c.in-Err.ensures.cause.only;
 }
@@ -19,8 +19,8 @@ returns-in-Err-save_file-clause-answers g c =
     let old = g.W.Sink.written c.args.out.now in
     let new = g.W.Sink.written c.answer_lines.new.out in
     let lines = lines_of c.args.script.now in
-    let first = c.args.session.now.state in
-    let after = c.answer_lines.new.session.state in
+    let first = g.E.SurfaceSession.state c.args.session.now in
+    let after = g.E.SurfaceSession.state c.answer_lines.new.session in
     let accepted = c.in-Ok.accepted in
     saving_stops (option_copied c.args.job.now.save) first lines _ _ old new accepted after c.in-Some.name.now (ap option_copied c.in-Some.is) ⊤ c.in-Err-save_file.stop c.in-Ok.ensures.answers c.in-Err-save_file.ensures
 
@@ -36,8 +36,8 @@ returns-clause-answers g c =
     let old = g.W.Sink.written c.args.out.now in
     let new = g.W.Sink.written c.answer_lines.new.out in
     let lines = lines_of c.args.script.now in
-    let first = c.args.session.now.state in
-    let after = c.answer_lines.new.session.state in
+    let first = g.E.SurfaceSession.state c.args.session.now in
+    let after = g.E.SurfaceSession.state c.answer_lines.new.session in
     let accepted = c.in-Ok.accepted in
     SavesLast-lines (option_copied c.args.job.now.save) first lines _ _ old new accepted after c.in-Some.name.now (ap option_copied c.in-Some.is) c.in-Ok.ensures.answers c.in-Ok-save_file.ensures
 
@@ -59,8 +59,8 @@ returns-in-Err-clause-answers g c =
     let old = g.W.Sink.written c.args.out.now in
     let new = g.W.Sink.written c.answer_lines.new.out in
     let lines = lines_of c.args.script.now in
-    let first = c.args.session.now.state in
-    let after = c.answer_lines.new.session.state in
+    let first = g.E.SurfaceSession.state c.args.session.now in
+    let after = g.E.SurfaceSession.state c.answer_lines.new.session in
     lines_stop (option_copied c.args.job.now.save) first lines _ _ old new c.in-Err.stop after refl c.in-Err.ensures.answers
 
 pub returns-in-Err-clause-saved : goal.returns-in-Err-clause-saved
@@ -74,8 +74,8 @@ returns-in_default-clause-answers g c =
     let old = g.W.Sink.written c.args.out.now in
     let new = g.W.Sink.written c.answer_lines.new.out in
     let lines = lines_of c.args.script.now in
-    let first = c.args.session.now.state in
-    let after = c.answer_lines.new.session.state in
+    let first = g.E.SurfaceSession.state c.args.session.now in
+    let after = g.E.SurfaceSession.state c.answer_lines.new.session in
     lines_kept (option_copied c.args.job.now.save) first lines _ _ old new c.in-Ok.accepted after (ap option_copied c.in_default.is) refl c.in-Ok.ensures.answers
 
 pub returns-in_default-clause-cause : goal.returns-in_default-clause-cause

@@ -11,7 +11,7 @@ use Rattle.hd_run.specs.ReadOrder.{reading}
 use Rattle.hd_run.proofs.Readings.{stop_moved}
 use Rattle.hd_run.proofs.Runs.{inputs_of-ok, lines_to_answer-none, lines_to_answer-fits, run_answered, second_after, second_read, script_stops, second_untouched, surface_stops}
 use Rattle.hd_run.proofs.Savings.{last_unreached}
-use Rattle.hd_run.proofs.Stops.{answering_stopped, HasSinkStop-no_read_fault, HasReadStop-ok, second_stopped, surface_stopped}
+use Rattle.hd_run.proofs.Stops.{answering_stopped, later_refusal, HasSinkStop-no_read_fault, HasSinkStop-no_refusal, HasReadStop-ok, second_stopped, surface_stopped}
 use Rattle.hd_run.proofs.running.run.Goals as goal
 
 pub returns-in-Err-clause-told : goal.returns-in-Err-clause-told
@@ -150,3 +150,15 @@ returns-clause-surface_left g c = c.in-Ok.ensures.left
 
 pub returns-clause-cause : goal.returns-clause-cause
 returns-clause-cause g c = answering_stopped _ _ _ _ c.answer_all-2.result (HasReadStop-ok _ _ c.in-Ok.file c.in-Ok.ensures.cause) (HasReadStop-ok _ _ c.in-Ok-read_script.lines c.in-Ok-read_script.ensures.cause) c.answer_all-2.ensures.cause
+
+pub returns-in-Err-clause-unread : goal.returns-in-Err-clause-unread
+returns-in-Err-clause-unread g c = λ refusal is of. refl
+
+pub returns-in_default-clause-unread : goal.returns-in_default-clause-unread
+returns-in_default-clause-unread g c = λ refusal is of. refl
+
+pub returns-in-Err-read_script-clause-unread : goal.returns-in-Err-read_script-clause-unread
+returns-in-Err-read_script-clause-unread g c = λ refusal is of. absurd (later_refusal c.in-Err-read_script.stop refusal c.in-Err-read_script.ensures.later is of)
+
+pub returns-clause-unread : goal.returns-clause-unread
+returns-clause-unread g c = λ refusal is of. absurd (HasSinkStop-no_refusal _ _ c.answer_all-2.result c.answer_all-2.ensures.cause refusal is)

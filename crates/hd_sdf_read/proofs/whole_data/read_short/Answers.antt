@@ -1,21 +1,36 @@
-use Rattle.std.proofs.Common.{ap, ◌∙◌}
+use Rattle.std.proofs.Common.{◌≡◌, pos, true, arith, sym, ap, ◌∙◌}
 use mir.Syntax.{w64}
-use mir.Val.{of_z, to_z}
-use Rattle.std.proofs.lemmas.Int.{to_z-of_z}
+use Rattle.std.proofs.lemmas.Int.{ints, to_z-of_z}
 use Rattle.hd_map.specs.Map.{greatest_height, least_height}
-use Rattle.hd_sdf_read.proofs.WholeCuts.{has_another}
-use Rattle.hd_sdf_read.proofs.ShortWords.{short_given}
+use Rattle.hd_num.specs.Whole.{signed_number}
+use Rattle.hd_sdf_read.proofs.ShortWords.{data_begin, reads_batch}
 use Rattle.hd_sdf_read.proofs.whole_data.read_short.Goals as goal
+
+pub returns-then-read-eq0 : goal.returns-then-read-eq0
+returns-then-read-eq0 c =
+    let before = c.short.invariant in
+    let least = to_z-of_z w64 c.least_of.result (record { sfits = c.least_of.type_inv }) in
+    let greatest = to_z-of_z w64 c.greatest_of.result (record { sfits = c.greatest_of.type_inv }) in
+    let low_is : signed_number true c.over_least-below.result ≡ c.least_of.result = omega (arith, ints, least, c.over_least-below.ensures) in
+    let high_is : pos c.over_least-greatest.result ≡ c.greatest_of.result = omega (arith, ints, greatest, c.over_least-greatest.ensures) in
+    let low = low_is ∙ c.least_of.ensures ∙ ap least_height (c.data_type.ensures ∙ sym before.reads.data_type) in
+    let high = high_is ∙ c.greatest_of.ensures ∙ ap greatest_height (c.data_type-2.ensures ∙ sym before.reads.data_type) in
+    let batch = c.in_ok-read.ensures in
+    let on = reads_batch c.args.size c.args.cells.now c.args.text.now c.short.cells c.short.rest.now c.read_batch.new.cells c.in_ok-read.after.now (signed_number true c.over_least-below.result) (pos c.over_least-greatest.result) _ c.in_ok-read.read
+    before.reads low high batch (omega arith) in
+    on.0
 
 pub short-preserved : goal.short-preserved
 short-preserved c =
-    let low = to_z-of_z w64 c.least_of-least.result (record { sfits = c.least_of-least.type_inv }) ∙ c.least_of-least.ensures ∙ ap least_height c.data_type.ensures in
-    let high = to_z-of_z w64 c.greatest_of-greatest.result (record { sfits = c.greatest_of-greatest.type_inv }) ∙ c.greatest_of-greatest.ensures ∙ ap greatest_height c.data_type-2.ensures in
-    record {
-      has = has_another c.args.size c.args.cells.now c.args.text.now c.short.cells c.short.rest.now c.short._read c.short.invariant.has c.short-test.true
-          (to_z w64 (of_z w64 c.least_of-least.result)) (to_z w64 (of_z w64 c.greatest_of-greatest.result)) low high
-          c.push.new.self c.in-Some.cell c.in-Some.after.now c.in_ok-push.ensures.ok c.push.ensures.data_type
-          (short_given (to_z w64 (of_z w64 c.least_of-least.result)) (to_z w64 (of_z w64 c.greatest_of-greatest.result)) c.short._read c.short.rest.now c.in-Some.after.now c.in-Some.cell c.in-Some.ensures);
-      some = c.in-Some.ensures.left;
-      begins = c.in-Some.ensures.begins;
-    }
+    let before = c.short.invariant in
+    let least = to_z-of_z w64 c.least_of.result (record { sfits = c.least_of.type_inv }) in
+    let greatest = to_z-of_z w64 c.greatest_of.result (record { sfits = c.greatest_of.type_inv }) in
+    let low_is : signed_number true c.over_least-below.result ≡ c.least_of.result = omega (arith, ints, least, c.over_least-below.ensures) in
+    let high_is : pos c.over_least-greatest.result ≡ c.greatest_of.result = omega (arith, ints, greatest, c.over_least-greatest.ensures) in
+    let low = low_is ∙ c.least_of.ensures ∙ ap least_height (c.data_type.ensures ∙ sym before.reads.data_type) in
+    let high = high_is ∙ c.greatest_of.ensures ∙ ap greatest_height (c.data_type-2.ensures ∙ sym before.reads.data_type) in
+    let batch = c.in_ok-read.ensures in
+    let on = reads_batch c.args.size c.args.cells.now c.args.text.now c.short.cells c.short.rest.now c.read_batch.new.cells c.in_ok-read.after.now (signed_number true c.over_least-below.result) (pos c.over_least-greatest.result) _ c.in_ok-read.read
+    before.reads low high batch (omega arith) in
+    let begin = data_begin (signed_number true c.over_least-below.result) (pos c.over_least-greatest.result) c.short.rest.now c.in_ok-read.after.now batch.more batch.reads before.some before.begins in
+    record { reads = on.0; some = begin.0; begins = begin.1 }

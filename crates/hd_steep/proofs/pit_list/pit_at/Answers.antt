@@ -1,33 +1,14 @@
-use Rattle.std.proofs.Common.{◌<◌, ◌∙◌, ap, sym, subst}
-use Rattle.hd_map.specs.declared.types.Pos.{Pos}
+use Rattle.std.proofs.Common.{◌∙◌, ap, sym, subst}
 use Rattle.hd_map.specs.declared.types.Rank.{Rank}
-use Rattle.hd_map.specs.declared.types.Size.{Size}
-use Rattle.hd_map.specs.Map.{Present, position_at, cell_count}
-use Rattle.hd_map.specs.Rank.{rank}
 use Rattle.hd_map.specs.Region.{IsPit}
-use Rattle.hd_steep.proofs.PitNumbers.{root_inside, own_position}
+use Rattle.hd_steep.proofs.PitNumbers.{own_position}
 use Rattle.hd_steep.proofs.pit_list.pit_at.Goals as goal
 
-pub position_of-requires : goal.position_of-requires
-position_of-requires g c =
-    subst (λ (s : Size). c.args.index < cell_count s) (sym c.size.ensures) (root_inside (g.G.Heights.map c.args.grid.now) g.S.Side.NAME c.args.index c.args.index c.requires)
-
-pub rank_of-requires : goal.rank_of-requires
-rank_of-requires g c =
-    let m = g.G.Heights.map c.args.grid.now in
-    let own = own_position m g.S.Side.NAME c.args.index c.requires in
-    subst (λ (p : Pos). Present m p) (sym (c.position_of.ensures.value ∙ ap (λ (s : Size). position_at s c.args.index) c.size.ensures)) own.0
+pub point_at-requires : goal.point_at-requires
+point_at-requires g c = record { at = c.requires.at; point = c.requires.point; index_is = c.requires.index_is }
 
 pub returns-clause-pit : goal.returns-clause-pit
-returns-clause-pit g c =
-    let m = g.G.Heights.map c.args.grid.now in
-    let own = own_position m g.S.Side.NAME c.args.index c.requires in
-    let at = c.position_of.ensures.value ∙ ap (λ (s : Size). position_at s c.args.index) c.size.ensures in
-    subst (IsPit m g.S.Side.NAME) (sym (c.rank_of.ensures ∙ ap (rank m) at)) own.1
+returns-clause-pit g c = subst (IsPit (g.G.Heights.map c.args.grid.now) g.S.Side.NAME) (sym c.point_at.ensures) (own_position (g.G.Heights.map c.args.grid.now) g.S.Side.NAME c.args.index c.requires).1
 
 pub returns-clause-index : goal.returns-clause-index
-returns-clause-index g c =
-    let m = g.G.Heights.map c.args.grid.now in
-    let own = own_position m g.S.Side.NAME c.args.index c.requires in
-    let at = c.position_of.ensures.value ∙ ap (λ (s : Size). position_at s c.args.index) c.size.ensures in
-    ap (λ (r : Rank). r.index) (c.rank_of.ensures ∙ ap (rank m) at) ∙ own.2
+returns-clause-index g c = ap (λ (r : Rank). r.index) c.point_at.ensures ∙ (own_position (g.G.Heights.map c.args.grid.now) g.S.Side.NAME c.args.index c.requires).2

@@ -3,7 +3,7 @@ use Rattle.std.specs.Prelude.{All, IfOk}
 use Rattle.std.proofs.lemmas.Result.{IfOk-weaker}
 use Rattle.hd_map.specs.Map.{Map}
 use Rattle.hd_prune.specs.declared.step.Kept.{Kept}
-use Rattle.hd_survey.specs.declared.tally.Tally.{Tally}
+use Rattle.hd_regions.specs.declared.tally.Tally.{Tally}
 use Rattle.hd_survey.specs.Features.{AreFeaturesWith}
 use Rattle.hd_survey.specs.Heights.{HasHeights}
 use Rattle.hd_survey.specs.Tallies.{AreRegionTallies}

@@ -2,7 +2,7 @@ use Rattle.std.proofs.Common.{◌∙◌, ℕ, List, length, map, sym, ap, subst}
 use Rattle.std.proofs.lemmas.Result.{IfOk-weaker}
 use Rattle.std.proofs.lemmas.Simd.{map-map}
 use Rattle.hd_prune.specs.declared.step.Kept.{Kept}
-use Rattle.hd_survey.specs.declared.tally.Tally.{Tally}
+use Rattle.hd_regions.specs.declared.tally.Tally.{Tally}
 use Rattle.hd_survey.specs.Owned.{AreOwnedTallies, AreSized, HavePoints, plain_tally}
 use Rattle.hd_survey.proofs.owned.owned_sizes.Goals as goal
 

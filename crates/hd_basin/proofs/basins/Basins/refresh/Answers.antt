@@ -6,7 +6,7 @@ use Rattle.hd_map.specs.declared.types.Size.{Size}
 use Rattle.hd_map.specs.Map.{Map}
 use Rattle.hd_tiles.specs.Tile.{tile_count}
 use Rattle.hd_basin.specs.InStep.{KeepsSeen}
-use Rattle.hd_basin.specs.Parts.{Pool, IsFresh, stale_count}
+use Rattle.hd_basin.specs.Parts.{Pool, IsFresh, IsSound, stale_count}
 use Rattle.hd_basin.proofs.FreshPools.{keeps-itself, keeps-onward, all-pool_of}
 use Rattle.hd_basin.proofs.basins.Basins.refresh.Goals as goal
 
@@ -16,6 +16,7 @@ on_err (Err e) h = h
 
 pub each-init : goal.each-init
 each-init g c = record {
+  sound = subst IsSound c.self.view_is c.self.invariant;
   in_step = c.requires.in_step;
   kept = keeps-itself (g.T.Looked.stamps c.args.tiles.now) c.args.self.now;
   fresh = λ tile below. absurd (omega arith);
@@ -47,6 +48,7 @@ each-preserved g c =
     subst (λ (k : ℕ). c.refresh_tile.new.looks + stale_count stamps new.parts * ((k + 2) * (k + 2)) ≤ c.each.looks + stale_count stamps c.each.self.parts * ((k + 2) * (k + 2))) i.side c.in_ok-refresh_tile.ensures.looks in
     let before = i.looks in
     record {
+      sound = c.in_ok-refresh_tile.ensures.sound;
       in_step = c.in_ok-refresh_tile.ensures.in_step;
       kept = keeps-onward stamps c.args.self.now c.each.self new i.kept kept;
       fresh = λ tile below. elim (cases_lt tile c.each.tile) [
@@ -58,27 +60,20 @@ each-preserved g c =
       looks = omega (arith, paid, before);
     }
 
--- the pool has as many parts as its grid has tiles
-counted : (size : Size) (side : ℕ) (pool : Pool) (n : ℕ) → pool.size ≡ size → pool.side ≡ side → n ≡ tile_count size side → length pool.parts ≡ n → length pool.parts ≡ tile_count pool.size pool.side
-counted size side pool n s t count long = long ∙ count ∙ ap (λ (z : Size). tile_count z side) (sym s) ∙ ap (tile_count pool.size) (sym t)
-
 pub returns-clause-pool : goal.returns-clause-pool
 returns-clause-pool g c =
     let b = c.self.inside in
     let i = c.each.invariant in
     let looked = g.met.T.Looked.whole c.args.tiles.now in
-    let view = c.self.view_is in
     let least = looked.side.least in
     let side = i.side ∙ c.requires.side in
     let some : 1 ≤ c.each.self.side = omega (arith, least, side) in
-    let entry : length b.parts.items ≡ length c.args.self.now.parts = ap (λ (p : Pool). length p.parts) view in
-    let size : c.each.self.size ≡ b.tiling.size = i.in_step.size ∙ sym c.requires.in_step.size ∙ ap (λ (p : Pool). p.size) (sym view) in
-    let whole = counted b.tiling.size b.tiling.side c.each.self (length b.parts.items) size (i.side ∙ ap (λ (p : Pool). p.side) (sym view)) c.self.invariant (i.whole ∙ sym entry) in
+    let entry : length b.parts.items ≡ length c.args.self.now.parts = ap (λ (p : Pool). length p.parts) c.self.view_is in
     let count = c.count-tile-end.ensures in
-    let counts : length b.parts.items ≡ tile_count b.tiling.size b.tiling.side = c.self.invariant in
+    let counts : length b.parts.items ≡ tile_count b.tiling.size b.tiling.side = c.self.invariant.whole in
     let after = i.whole in
     let done = c.each-test.false in
-    all-pool_of (g.T.Looked.map c.args.tiles.now) g.S.Side.NAME (g.T.Looked.stamps c.args.tiles.now) c.each.self i.in_step some whole
+    all-pool_of (g.T.Looked.map c.args.tiles.now) g.S.Side.NAME (g.T.Looked.stamps c.args.tiles.now) c.each.self i.sound i.in_step some
     (λ tile below. i.fresh tile (omega (arith, below, entry, after, count, counts, done)))
 
 pub returns-clause-seen : goal.returns-clause-seen

@@ -1,10 +1,11 @@
 use Rattle.std.proofs.Common.{◌≡◌, ◌<◌, ◌≤◌, ◌+◌, ◌*◌, ℕ, length}
 use Rattle.hd_basin.specs.InStep.{IsInStep, KeepsSeen}
-use Rattle.hd_basin.specs.Parts.{IsFresh, stale_count}
+use Rattle.hd_basin.specs.Parts.{IsFresh, IsSound, stale_count}
 use Rattle.hd_basin.proofs.basins.Basins.refresh.Given as goal
 
 abbrev pub invariant-each : goal.invariant-each
 invariant-each g l = record {
+  sound : IsSound l.self;
   in_step : IsInStep (g.T.Looked.map l.tiles) g.S.Side.NAME (g.T.Looked.stamps l.tiles) l.self;
   kept : KeepsSeen (g.T.Looked.stamps l.tiles) l.fn.self l.self;
   fresh : (tile : ℕ) → tile < l.tile → IsFresh (g.T.Looked.stamps l.tiles) l.self.parts tile;

@@ -1,8 +1,8 @@
 use Rattle.std.proofs.Common.{◌≡◌, List, ap, ap₂}
 use Rattle.hd_map.specs.Map.{Map}
 use Rattle.hd_morph.specs.Element.{ElementTable}
-use Rattle.hd_engine.specs.Reply.{reply_of}
-use Rattle.hd_engine.specs.State.{State}
+use Rattle.hd_session.specs.Reply.{reply_of}
+use Rattle.hd_session.specs.State.{State}
 use Rattle.hd_engine.specs.Texts.{texts_view}
 use Rattle.hd_engine.specs.Workpiece.{state_of}
 use Rattle.hd_engine.proofs.EditAnswers.{edit_accepted, edit_refused, if_both}

@@ -3,7 +3,7 @@ use Rattle.std.proofs.lemmas.Bool.{cases_eq}
 use Rattle.std.proofs.lemmas.List.{length-set}
 use Rattle.std.proofs.lemmas.Option.{same_Some}
 use Rattle.hd_map.proofs.Levels.{here}
-use Rattle.hd_graph.proofs.Places.{get-from_read, get-set_same, get-set_other}
+use Rattle.hd_map.proofs.Places.{get-from_read, get-set_same, get-set_other}
 use Rattle.hd_graph.proofs.AreOneClass.{class-trans, refines-further, refines-same, refines-set, refines-within, falling-set}
 use Rattle.hd_graph.proofs.classes.Classes.least_of.Goals as goal
 

@@ -1,7 +1,7 @@
 use Rattle.std.proofs.Common.{◌≡◌, ◌++◌, ◌∷◌, [], inl, inr, arith, List, ℕ}
 use Rattle.hd_graph.proofs.AreOneClass.{own-classes}
 use Rattle.std.proofs.lemmas.List.{length_push}
-use Rattle.hd_graph.proofs.Places.{get-push_cases}
+use Rattle.hd_map.proofs.Places.{get-push_cases}
 use Rattle.hd_graph.proofs.classes.Classes.new.Goals as goal
 
 pub returns-clause-falling : goal.returns-clause-falling

@@ -1,7 +1,7 @@
 use Rattle.std.proofs.Common.{◌≡◌, ◌⊎◌, ◌<◌, ◌≤◌, inl, inr, arith, List, ℕ}
 use Rattle.std.proofs.lemmas.List.{length-set}
 use Rattle.std.proofs.lemmas.Option.{slice_get_within}
-use Rattle.hd_graph.proofs.Places.{less_same_more}
+use Rattle.hd_map.proofs.Places.{less_same_more}
 use Rattle.hd_graph.proofs.AreOneClass.{refines-same, falling-set, joins-set, one-set, least-set, leasts-set, least-number}
 use Rattle.hd_graph.proofs.classes.Classes.unite.Goals as goal
 

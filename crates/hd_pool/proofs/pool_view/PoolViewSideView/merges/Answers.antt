@@ -21,7 +21,7 @@ passes_between_regions-requires-clause-ends g c = λ p at. (
     let side = g.S.Side.NAME in
     let t = c.self.inside.pool.now.side in
     let is = c.in_ok-basins.ensures m (g.met.G.Heights.whole c.self.inside.grid.now) c.self.invariant in
-    let meeting = (is.each p (subst (λ (ps : List Pass). Contains ps p) c.passes.ensures at)).meeting in
+    let meeting = (is.passes.each p (subst (λ (ps : List Pass). Contains ps p) c.passes.ensures at)).meeting in
     ((sink-is_sink m side t meeting.from p.a meeting.from_in).point, (sink-is_sink m side t meeting.to p.b meeting.to_in).point))
 
 pub merges_of_passes-requires-clause-pits : goal.merges_of_passes-requires-clause-pits

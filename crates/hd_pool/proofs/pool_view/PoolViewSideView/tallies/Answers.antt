@@ -2,7 +2,7 @@ use Rattle.std.proofs.Common.{◌^◌, ◌<◌, ◌∙◌, List, ap, map, subst,
 use Rattle.std.specs.Prelude.{All}
 use Rattle.std.proofs.lemmas.Result.{IfOk-weaker}
 use Rattle.hd_basin.specs.declared.extent.Extent.{Extent}
-use Rattle.hd_survey.specs.declared.tally.Tally.{Tally}
+use Rattle.hd_regions.specs.declared.tally.Tally.{Tally}
 use Rattle.hd_survey.specs.Tallies.{AreRegionTallies}
 use Rattle.hd_pool.specs.Told.{tally_told}
 use Rattle.hd_pool.proofs.Extents.{points-few, tallies-told}

@@ -1,6 +1,6 @@
 use Rattle.std.proofs.Common.{ℕ, ◌<◌, inl, inr, None, length, ◌∙◌, subst, arith}
 use Rattle.std.proofs.lemmas.List.{get_or-set_other, get_or-set_same, length-set}
-use Rattle.hd_graph.proofs.Places.{less_same_more}
+use Rattle.hd_map.proofs.Places.{less_same_more}
 use Rattle.hd_prune.specs.Around.{IsLowerNeighbourAt}
 use Rattle.hd_survey.proofs.falls.FallsAround.all_around.Goals as goal
 

@@ -43,4 +43,4 @@ returns-else-touch_changes-clause-touched g c =
     let points = s.tiling.size.points in
     let same = stamped-nowhere (s.changes + 1) (IsRoundChange m c.args.y heights s.tiling.side 0 points) s.stamps.items c.touch_changes.new.stamps.items c.touch_changes.ensures.stamped
     (λ tile. none_round m c.args.y heights s.tiling.side 0 points tile c.if-touch_changes.ensures.none) in
-    record { same = λ e. same; changed = λ other. absurd (other refl) }
+    record { same = λ e. same; counted = λ other. absurd (other refl); changed = λ other. absurd (other refl) }

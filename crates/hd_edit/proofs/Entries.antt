@@ -1,0 +1,115 @@
+-- The map before an entry, and the heights that stood before an exchange.
+use Rattle.std.proofs.Common.{◌≡◌, ◌<◌, ℕ, ℤ, List, length, get_or, Option, Some, None, inl, inr, refl, sym, ap, subst, ◌∙◌, arith}
+use Rattle.std.proofs.lemmas.Bool.{cases_lt}
+use Rattle.std.proofs.lemmas.List.{get_or_past}
+use Rattle.std.proofs.lemmas.List.FromFn.{fill_by_all}
+use Rattle.hd_map.specs.declared.types.Adjacency.{Adjacency}
+use Rattle.hd_map.specs.declared.types.Pos.{Pos}
+use Rattle.hd_map.specs.declared.types.Size.{Size}
+use Rattle.hd_map.specs.declared.types.Cell.{Cell}
+use Rattle.hd_map.specs.declared.types.Cell.TheVariants.{Height, Bad}
+use Rattle.hd_map.specs.declared.types.DataType.{DataType}
+use Rattle.hd_map.specs.Encoding.{Encoding, values_of}
+use Rattle.hd_map.specs.Map.{Map, IsMap, InGrid, IsCellOf, AreCellsOf, cell_at, cell_count, height_at, mask_at, place_of, position_at}
+use Rattle.hd_map.specs.Sets.{AreHeightsIn, cell_with, under}
+use Rattle.hd_map.proofs.Points.{place_inside, position_at-inside, position_at-place}
+use Rattle.hd_morph.specs.Answer.{AreFilteredCells, with_cells}
+use Rattle.hd_morph.specs.Element.{ElementTable}
+use Rattle.hd_morph.specs.Filter.{IsFiltered, Relief, relief_of}
+use Rattle.hd_morph.specs.declared.filter.Filter.{Filter}
+use Rattle.hd_morph.specs.declared.filter.Filter.TheVariants.{Dilation, Erosion, Opening, Closing}
+use Rattle.hd_morph.specs.NewHeights.{cell_after, cells_after}
+use Rattle.hd_morph.proofs.Encodings.{length_values}
+use Rattle.hd_morph.proofs.Listed.{get_or_cells_after, length_cells_after}
+use Rattle.hd_morph.proofs.PlainNumbers.{some_or_none}
+use Rattle.hd_edit.specs.declared.entry.Entry.{Entry}
+use Rattle.hd_edit.specs.declared.entry.Entry.TheVariants as entry
+use Rattle.hd_edit.specs.Entry.{AreHeightsFor, before_entry}
+use Rattle.hd_edit.specs.Exchange.{AreExchanged}
+use Rattle.hd_edit.specs.Filtered.{LeavesOthers}
+use Rattle.hd_edit.proofs.Changes.{cell_of, kind_stays, under_before}
+use Rattle.hd_edit.proofs.ProfileChanges.{shown-told}
+
+-- the map before an entry has the size and the type of the map after it
+pub entry_kind : (P : Size → DataType → Type 0) (e : Entry) (m : Map) → P m.size m.data_type → P (before_entry e m).size (before_entry e m).data_type
+entry_kind P (entry.Changes changes) m p = kind_stays P changes m p
+entry_kind P (entry.Heights numbers) m p = p
+
+-- an entry is undone alike under each setting
+pub under_entry : (adjacency : Adjacency) (e : Entry) (m : Map) → before_entry e (under adjacency m) ≡ under adjacency (before_entry e m)
+under_entry adjacency (entry.Changes changes) m = under_before adjacency changes m
+under_entry adjacency (entry.Heights numbers) m = refl
+
+-- where no point is present none is once a map is filtered
+filtered_absent : (filter : Filter) (s : Size) (e : ElementTable) (f g : Relief) → IsFiltered filter s e f g → (p : Pos) → InGrid s p → f p ≡ None → g p ≡ None
+filtered_absent Dilation s e f g is = is.absent
+filtered_absent Erosion s e f g is = is.absent
+filtered_absent Opening s e f g is = λ p inside none. is.second.absent p inside (is.first.absent p inside none)
+filtered_absent Closing s e f g is = λ p inside none. is.second.absent p inside (is.first.absent p inside none)
+
+-- so its cell stays
+pub others_left : (filter : Filter) (m : Map) (e : ElementTable) (heights : List (Option ℤ)) → AreFilteredCells filter m e (cells_after m heights) → LeavesOthers m heights
+others_left filter m e heights are = λ p inside none.
+    sym (get_or_cells_after m heights (place_of m.size p) Bad (place_inside m.size p inside)) ∙ are.are_cells.absent p inside (filtered_absent filter m.size e (relief_of m) are.heights are.filtered p inside none)
+
+-- a new height of the type, or the old cell of it, is of it
+new_or_old : (t : DataType) (new : Option ℤ) (old : Cell) → ((z : ℤ) → new ≡ Some z → IsCellOf t (Height z)) → IsCellOf t old → IsCellOf t (cell_with new old)
+new_or_old t (Some z) old fits before = fits z refl
+new_or_old t None old fits before = before
+
+-- with heights of the type each cell of a map is of it
+pub fitting_cells : (m : Map) (heights : List (Option ℤ)) → IsMap m → AreHeightsIn m.data_type heights → AreCellsOf m.data_type (cells_after m heights)
+fitting_cells m heights whole fit = λ k inside.
+    let below : k < cell_count m.size = omega (arith, inside, length_cells_after m heights) in
+    subst (λ (c : Cell). IsCellOf m.data_type c) (sym (get_or_cells_after m heights k Bad below))
+    (new_or_old m.data_type (get_or heights k None) (get_or m.cells k Bad) (fit k) (whole.heights k (omega (arith, below, whole.cells))))
+
+module _ (m : Map) (whole : IsMap m) (olds : List (Option ℤ)) (held : (p : Pos) → InGrid m.size p → get_or olds (place_of m.size p) None ≡ height_at m p) where
+  -- what the list tells at an index
+  held_at : (k : ℕ) → k < cell_count m.size → get_or olds k None ≡ height_at m (position_at m.size k)
+  held_at k below =
+      let some = whole.size.some_points in
+      ap (λ (i : ℕ). get_or olds i None) (sym (position_at-place m.size k some)) ∙ held (position_at m.size k) (position_at-inside m.size k some below)
+
+  -- each height is of the type
+  pub held_fit : length olds ≡ cell_count m.size → AreHeightsFor m.size m.data_type olds
+  held_fit long = record {
+    whole = long;
+    of_type = λ k z is. elim (cases_lt k (cell_count m.size)) [
+      | inl below ↦
+          let p : Pos = position_at m.size k in
+          let cell : cell_at m p ≡ Height z = shown-told (cell_at m p) (mask_at m p) z (sym (held_at k below) ∙ is) in
+          subst (λ (c : Cell). IsCellOf m.data_type c) cell (cell_of m whole p (position_at-inside m.size k whole.size.some_points below))
+      | inr past ↦ absurd (let none : None ≡ Some z = sym (get_or_past olds k None (omega (arith, past, long))) ∙ is in cc)
+    ];
+  }
+
+  module _ (heights : List (Option ℤ)) (others : LeavesOthers m heights) where
+    abbrev after : Map
+    after = with_cells m (cells_after m heights)
+
+    -- put back, the cell at an index is the one before
+    back_at : (k : ℕ) → k < cell_count m.size → cell_after after olds k ≡ get_or m.cells k Bad
+    back_at k below =
+        let p : Pos = position_at m.size k in
+        let place : place_of m.size p ≡ k = position_at-place m.size k whole.size.some_points in
+        let inside : InGrid m.size p = position_at-inside m.size k whole.size.some_points below in
+        let told = held_at k below in
+        let here : cell_at m p ≡ get_or m.cells k Bad = ap (λ (i : ℕ). get_or m.cells i Bad) place in
+        elim (some_or_none (height_at m p)) [
+          | inl some ↦ ap (λ (v : Option ℤ). cell_with v (get_or after.cells k Bad)) (told ∙ some.1) ∙ sym (shown-told (cell_at m p) (mask_at m p) some.0 some.1) ∙ here
+          | inr none ↦ ap (λ (v : Option ℤ). cell_with v (get_or after.cells k Bad)) (told ∙ none) ∙ get_or_cells_after m heights k Bad below
+              ∙ ap (cell_after m heights) (sym place) ∙ others p inside none ∙ here
+        ]
+
+    -- and so the map
+    pub heights_back : with_cells after (cells_after after olds) ≡ m
+    heights_back = ap (λ (cs : List Cell). record m { cells = cs }) (sym (fill_by_all (cell_after after olds) m.cells (cell_count m.size) Bad whole.cells (λ k h. sym (back_at k h))))
+
+module _ {L : Type 0} (code : Encoding L) (m new : Map) (numbers old : List L) (whole : IsMap m) (are : AreExchanged code m new numbers old) where
+  -- an exchange is undone by the heights that stood there
+  pub exchange_back : LeavesOthers m (values_of code numbers) → with_cells new (cells_after new (values_of code old)) ≡ m
+  exchange_back others = ap (λ (n : Map). with_cells n (cells_after n (values_of code old))) are.sets ∙ heights_back m whole (values_of code old) are.held.each (values_of code numbers) others
+
+  pub exchange_fit : AreHeightsFor m.size m.data_type (values_of code old)
+  exchange_fit = held_fit m whole (values_of code old) are.held.each (length_values code old ∙ are.held.plain.whole)

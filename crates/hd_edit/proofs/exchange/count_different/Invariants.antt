@@ -1,0 +1,10 @@
+use Rattle.std.proofs.Common.{◌≡◌, ◌≤◌}
+use Rattle.hd_map.specs.Encoding.{values_of}
+use Rattle.hd_edit.specs.Exchange.{different}
+use Rattle.hd_edit.proofs.exchange.count_different.Given as goal
+
+abbrev pub invariant-loop-place : goal.invariant-loop-place
+invariant-loop-place g l = record {
+  counted : l.count ≡ different (values_of g.L.Lane.code l.old) (values_of g.L.Lane.code l.new) l.place;
+  few : l.count ≤ l.place;
+}

@@ -1,0 +1,4 @@
+mod LeavesMaps
+mod MadeElement
+mod SaddleAnswers
+pub mod Determined

@@ -1,5 +1,0 @@
-use Rattle.hd_map.specs.Surface.{map_of}
-use Rattle.hd_tests.proofs.merges.parted_hills_have_no_saddle.Goals as goal
-
-pub find_merges-requires : goal.find_merges-requires
-find_merges-requires g c = c.new-findings.ensures (map_of c.surface-surface.result)

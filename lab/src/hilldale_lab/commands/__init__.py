@@ -1,0 +1,1 @@
+"""The commands of hilldale-lab, a module each with `add_parser` and `run`."""
