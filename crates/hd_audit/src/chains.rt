@@ -17,7 +17,6 @@ use hd_map::{Heights, Pos, SideName, rank_of};
 use std::alloc::Global;
 
 /// Rule 18: the first pit with a parent that the highest point on its chain of parents is not within.
-/// `Memory` comes where memory is refused.
 pub fn first_far<G: Heights>(
     alloc: Global,
     surface: &G,

@@ -18,7 +18,7 @@ use std::alloc::Global;
 
 /// Whether a pruning certificate is right on a map: yes exactly where the rules 12 to 18 hold under the
 /// side and the setting that it names, whatever the setting of the map is, else the first that fails and
-/// where. `Memory` comes where memory is refused.
+/// where.
 pub fn check_audit<G: Heights>(alloc: Global, surface: &G, audit: &Audit) -> Result<Verdict, Memory>
     ensures { IfOk result (IsVerdict (G.map surface.now) audit.now) }
 {

@@ -1,6 +1,9 @@
 //! Pruning certificates: the kept pits of a pruning, shown by all points in the order in which a flood
 //! from these pits reaches them. They can be made, written, read, at once or in pieces, and checked on any
 //! map, where a right one names exactly the pits that the pruning keeps.
+//!
+//! `Memory` comes from every call that was refused memory it asked for; the doc of a call says so only where
+//! it says what else holds then.
 #![tactic(auto)]
 
 mod chains;

@@ -60,7 +60,7 @@ impl AuditLines {
         }
     }
 
-    /// No lines, and the memory for this many. `Memory` comes where it is refused.
+    /// No lines, and the memory for this many.
     pub fn with_capacity(alloc: Global, capacity: usize) -> Result<AuditLines, Memory>
         ensures { IfOk result (λ lines. lines ≡ []) }
     {

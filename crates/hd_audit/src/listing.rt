@@ -26,8 +26,8 @@ use std::alloc::Global;
 use std::collections::BinaryHeap;
 
 /// The lines of the shown certificate of a grid on a side: first the kept pits, then each time the lowest point
-/// that is not yet listed and has a listed neighbour. The kept pits are those of the pruning at the percent
-/// of the limit. It takes time in proportion to n log n of the points. `Memory` comes where memory is refused.
+/// that is not yet listed and has a listed neighbour. The kept pits are those of the pruning at the percent of
+/// the limit. It takes time in proportion to n log n of the points.
 pub fn shown_lines<S: Side, G: Heights>(
     alloc: Global,
     grid: &G,

@@ -15,7 +15,7 @@ use std::alloc::Global;
 
 /// The shown pruning certificate of a grid on a side at a percent of Sz, under the setting of the grid:
 /// first the kept pits, then the other points that are reached from them, each time the lowest. The kept
-/// pits are those of the pruning. `Memory` comes where memory is refused.
+/// pits are those of the pruning.
 pub fn make_audit<S: Side, G: Heights>(
     alloc: Global,
     grid: &G,

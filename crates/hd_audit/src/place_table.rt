@@ -23,7 +23,7 @@ impl Model for PlaceTable {
 }
 
 impl PlaceTable {
-    /// No places, for so many indexes. `Memory` comes where memory is refused.
+    /// No places, for so many indexes.
     pub fn new(alloc: Global, count: usize) -> Result<PlaceTable, Memory>
         ensures { IfOk result (λ table. table ≡ replicate count None) }
     {

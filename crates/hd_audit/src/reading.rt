@@ -10,8 +10,7 @@ use std::alloc::Global;
 /// `INDEX PARENT CUT`, then `end`; after it only lines without words.
 ///
 /// `BadLine` comes exactly where a line has not its form in its place, with the number of the first
-/// such line; where the text ends too early, with one more than the number of its lines. `Memory`
-/// comes where the list or the words of a line are refused their memory.
+/// such line; where the text ends too early, with one more than the number of its lines.
 pub fn read_audit(alloc: Global, bytes: &[u8]) -> Result<Audit, CertificateError>
     ensures { (result ≡ Err CertificateError.Memory) ⊎ (result ≡ audit_of bytes.now) }
 {

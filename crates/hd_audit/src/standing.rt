@@ -23,8 +23,7 @@ pub enum Standing {
 
 const _: () = prove!(size_of::<Standing>() == 1);
 
-/// How the points of a grid stand, in one byte each, before any is seen and without a level. `Memory` comes
-/// where memory is refused.
+/// How the points of a grid stand, in one byte each, before any is seen and without a level.
 pub fn standings<G: Heights>(alloc: Global, grid: &G) -> Result<Vec<Standing>, Memory>
     ensures standing { IfOk result (λ standings. (side : SideName) → AreStanding (G.map grid.now) side None standings.items) }
     ensures blank { IfOk result (λ standings. seen_of standings.items ≡ replicate (cell_count (G.map grid.now).size) false) }

@@ -16,7 +16,6 @@ use std::alloc::Global;
 const LONGEST_LINE: usize = 24;
 
 /// The text of a pruning certificate, in the form that `read_audit` reads. The room for it is taken at once.
-/// `Memory` comes where memory is refused.
 pub fn text_of_audit(alloc: Global, audit: &Audit) -> Result<List<u8>, Memory>
     ensures { IfOk result (λ text. text ≡ audit_text audit.now) }
 {

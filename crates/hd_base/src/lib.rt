@@ -2,6 +2,9 @@
 //!
 //! A source or a sink counts its faults, so that a caller can tell which of them a call has met.
 //! Those in memory tell each byte; those over readers and writers of the library tell what these do.
+//!
+//! `Memory` comes from every call that was refused memory it asked for; the doc of a call says so only where
+//! it says what else holds then.
 #![tactic(auto)]
 
 mod access;

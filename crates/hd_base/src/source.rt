@@ -74,7 +74,7 @@ pub trait Source {
 /// Opens the file of a name, once, and reads it to its end, or to one byte past the limit of bytes.
 ///
 /// `ReadFault` comes only where the source failed, `TooLong(limit)` exactly where more bytes than
-/// the limit are there, and `Memory` where the bytes are refused their memory.
+/// the limit are there.
 pub fn read_all<S: Source>(
     alloc: Global,
     source: &mut S,

@@ -46,8 +46,7 @@ impl<W: Write + Drop> Model for StdoutSink<W> {
 }
 
 impl<W: Write + Drop> StdoutSink<W> {
-    /// A sink that is open, has gathered nothing and has not failed. `Memory` comes where the memory
-    /// for the bytes that are gathered is refused.
+    /// A sink that is open, has gathered nothing and has not failed.
     pub fn new(alloc: Global, to: W) -> Result<Self, Memory>
         ensures open { IfOk result (λ sink. IsTrue (⟦<StdoutSink<W> as Sink>⟧.is_open sink)) }
         ensures no_fault { IfOk result (λ sink. ⟦<StdoutSink<W> as Sink>⟧.faults sink ≡ 0) }

@@ -57,7 +57,6 @@ impl<S: Side> Model for Basins<S> {
 impl<S: Side> Basins<S> {
     /// A pool of a grid of this size in tiles of this side, from 8 to 256 points, that holds no node and has
     /// seen no tile.
-    /// `Memory` comes where it is refused its memory.
     pub fn new(alloc: Global, size: Size, side: u32) -> Result<Basins<S>, Memory>
         requires limits { IsSize size }
         requires side { IsTileSide side }
@@ -83,8 +82,8 @@ impl<S: Side> Basins<S> {
     /// Brings the pool up to the present map. It looks at no more than (t + 2)² positions for each tile of
     /// side t whose stamp is not the one that it was seen with, all of them in that tile or beside it.
     ///
-    /// `Memory` comes where memory is refused. The pool is in step then too, what was seen with its
-    /// present stamp stays seen, and the next refresh does what is missing.
+    /// The pool is in step then too, what was seen with its present stamp stays seen, and the next
+    /// refresh does what is missing.
     pub fn refresh<T: Looked, L: Ledger>(
         &mut self,
         tiles: &T,
@@ -201,7 +200,7 @@ impl<S: Side> Basins<S> {
     }
 
     /// The roots of all nodes. The pool is that of a whole map. It takes time in proportion to the nodes and the
-    /// points. `Memory` comes where the roots are refused their memory.
+    /// points.
     pub fn find_roots(&self) -> Result<Roots, Memory>
         requires { HasMap S.NAME self.now }
         ensures { IfOk result (AreRoots S.NAME self.now) }
@@ -307,8 +306,7 @@ impl<S: Side> Basins<S> {
     }
 
     /// The graph of the local basins: their sinks as lows, which are pits exactly where they have no
-    /// next, and the passes between them. The pool is that of a whole map. `Memory` comes where the
-    /// lists are refused their memory.
+    /// next, and the passes between them. The pool is that of a whole map.
     pub fn as_graph(&self) -> Result<Graph<S>, Memory>
         requires { HasMap S.NAME self.now }
         ensures { IfOk result (λ graph. (m : Map) → IsMap m → IsPoolOf m S.NAME self.now → IsGraphOf m S.NAME self.now.side graph) }
@@ -319,7 +317,7 @@ impl<S: Side> Basins<S> {
     }
 
     /// The regions of all pits, by what their points sum up to, in position order. The pool is that of a
-    /// whole map. `Memory` comes where the list, or what it is made from, is refused its memory.
+    /// whole map.
     pub fn extents(&self) -> Result<List<Extent>, Memory>
         requires { HasMap S.NAME self.now }
         ensures { IfOk result (λ extents. (m : Map) → IsMap m → IsPoolOf m S.NAME self.now → AreExtents m S.NAME extents) }

@@ -30,7 +30,7 @@ impl Model for ExtentTable {
 }
 
 impl ExtentTable {
-    /// No extent of a grid of so many points. `Memory` comes where the numbers are refused their memory.
+    /// No extent of a grid of so many points.
     pub fn new(alloc: Global, points: usize) -> Result<ExtentTable, Memory>
         requires { points < 2 ^ 31 }
         ensures points { IfOk result (λ t. length t.numbers ≡ points) }
@@ -52,7 +52,7 @@ impl ExtentTable {
             .copied()
     }
 
-    /// Keeps an extent, in place of another one of its pit. `Memory` comes where it is refused its memory.
+    /// Keeps an extent, in place of another one of its pit.
     pub fn put(&mut self, extent: Extent) -> Result<(), Memory>
         requires { extent.pit.index < length self.old.numbers }
         ensures { OnOk result (Files self.old self.new extent) }
@@ -69,7 +69,7 @@ impl ExtentTable {
         Ok(())
     }
 
-    /// The extents in the order of the indexes of their pits. `Memory` comes where the list is refused its memory.
+    /// The extents in the order of the indexes of their pits.
     pub fn listed(&self, alloc: Global) -> Result<List<Extent>, Memory>
         ensures { IfOk result (AreListedTo self.now (length self.now.numbers)) }
     {

@@ -11,7 +11,7 @@ use crate::{Extent, Node};
 use hd_list::Memory;
 use hd_map::Rank;
 
-/// Adds the basin of a node to the region of its pit. `Memory` comes where the table is refused its memory.
+/// Adds the basin of a node to the region of its pit.
 pub fn add_basin(extents: &mut ExtentTable, pit: Rank, node: Node) -> Result<(), Memory>
     requires inside { pit.index < length extents.old.numbers }
     requires few { ForSome (found extents.old pit.index) (λ e. e.points + node.points < 2 ^ 64) }

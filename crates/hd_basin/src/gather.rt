@@ -113,8 +113,7 @@ impl Gathered {
     }
 }
 
-/// The nodes, the labels and the numbers of the nodes of a tile, from the sinks of its points. `Memory`
-/// comes where the lists are refused their memory.
+/// The nodes, the labels and the numbers of the nodes of a tile, from the sinks of its points.
 pub fn gather<S: Side, G: Heights>(
     alloc: Global,
     grid: &G,

@@ -11,7 +11,7 @@ use hd_list::{List, Memory};
 use hd_map::{Pass, Rank, Side};
 use std::alloc::Global;
 
-/// The lows of all nodes, tile by tile. `Memory` comes where the list is refused its memory.
+/// The lows of all nodes, tile by tile.
 pub fn lows_of(alloc: Global, parts: &[Part]) -> Result<List<Low>, Memory>
     ensures { IfOk result (λ lows. lows ≡ flat_map lows_in parts.now) }
 {
@@ -42,8 +42,7 @@ fn as_low(node: Node) -> Low
     }
 }
 
-/// The passes of all tiles, each with its lower end first, without the void seams. `Memory` comes where
-/// the list is refused its memory.
+/// The passes of all tiles, each with its lower end first, without the void seams.
 pub fn passes_of<S: Side>(alloc: Global, parts: &[Part]) -> Result<List<Pass>, Memory>
     ensures { IfOk result (λ passes. passes ≡ flat_map (passes_in S.NAME parts.now) parts.now) }
 {

@@ -19,7 +19,7 @@ use hd_map::{Heights, Pos, Rank, Side, are_beside, higher_of};
 use hd_tiles::Tiling;
 use std::alloc::Global;
 
-/// The passes between two basins of a tile. `Memory` comes where memory is refused.
+/// The passes between two basins of a tile.
 pub fn passes_inside<S: Side, G: Heights>(
     alloc: Global,
     grid: &G,

@@ -14,7 +14,7 @@ use hd_map::{Heights, Side};
 use hd_tiles::{Looked, Tiling};
 use std::alloc::Global;
 
-/// What is kept of a tile, from its nodes, its labels and its passes. `Memory` comes where memory is refused.
+/// What is kept of a tile, from its nodes, its labels and its passes.
 pub fn joined<S: Side, G: Heights, T: Looked>(
     alloc: Global,
     tiling: Tiling,

@@ -1,4 +1,7 @@
 //! A pool of the local basins of a map in tiles, which follows the changes of the map tile by tile.
+//!
+//! `Memory` comes from every call that was refused memory it asked for; the doc of a call says so only where
+//! it says what else holds then.
 #![tactic(auto)]
 
 mod adding;

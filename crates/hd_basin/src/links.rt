@@ -18,7 +18,7 @@ use std::alloc::Global;
 pub const NO_LINK: u32 = u32::MAX;
 
 /// By place of the tile the link of each present point: the place of its next, and where that is none
-/// or lies in another tile its own. `Memory` comes where the list is refused its memory.
+/// or lies in another tile its own.
 pub fn links_in<S: Side, G: Heights>(
     alloc: Global,
     grid: &G,

@@ -10,7 +10,7 @@ use hd_map::Side;
 use std::alloc::Global;
 use std::collections::BTreeMap;
 
-/// Of the seams with the same ends one of the lowest. `Memory` comes where memory is refused.
+/// Of the seams with the same ends one of the lowest.
 pub fn lowest_of<S: Side>(alloc: Global, all: &[Seam]) -> Result<Vec<Seam>, Memory>
     ensures { IfOk result (λ kept. KeepLowest S.NAME all.now kept.items) }
 {

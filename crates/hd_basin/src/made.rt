@@ -18,7 +18,7 @@ use hd_tiles::{Looked, Steps, Tiling};
 use std::alloc::Global;
 use std::sync::ledger::Ledger;
 
-/// What is to be kept of a tile whose stamp differs. `Memory` comes where memory is refused.
+/// What is to be kept of a tile whose stamp differs.
 pub fn made<S: Side, T: Looked, L: Ledger>(
     alloc: Global,
     tiling: Tiling,

@@ -29,7 +29,7 @@ pub struct Meetings {
 }
 
 impl Meetings {
-    /// No meetings of so many nodes. `Memory` comes where memory is refused.
+    /// No meetings of so many nodes.
     pub fn new(alloc: Global, nodes: usize) -> Result<Meetings, Memory>
         ensures chained { IfOk result (λ m. AreChained m.lasts.items m.list.items) }
         ensures none { IfOk result (λ m. m.list.items ≡ []) }
@@ -41,7 +41,7 @@ impl Meetings {
     }
 
     /// Notes that two nodes, the lesser number first, meet at a point; of two such places the lower one
-    /// is kept. `Memory` comes where memory is refused.
+    /// is kept.
     #[inline]
     pub fn note<S: Side>(&mut self, a: u32, b: u32, at: Rank) -> Result<(), Memory>
         requires chained { AreChained self.old.lasts.items self.old.list.items }

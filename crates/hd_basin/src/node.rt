@@ -37,7 +37,7 @@ pub struct Node {
     pub edge_high: Option<i64>,
 }
 
-/// The nodes of all tiles, tile by tile. `Memory` comes where the list is refused its memory.
+/// The nodes of all tiles, tile by tile.
 pub fn nodes_of(alloc: Global, parts: &[Part]) -> Result<List<Node>, Memory>
     ensures { IfOk result (λ nodes. nodes ≡ flat_map nodes_in parts.now) }
 {

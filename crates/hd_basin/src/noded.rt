@@ -14,7 +14,7 @@ use hd_map::{Heights, Side};
 use hd_tiles::Tiling;
 use std::alloc::Global;
 
-/// What is kept of a tile, still without seams. `Memory` comes where memory is refused.
+/// What is kept of a tile, still without seams.
 pub fn noded<S: Side, G: Heights>(
     alloc: Global,
     grid: &G,

@@ -12,8 +12,7 @@ use hd_steep::{lower, missing_rank};
 use std::alloc::Global;
 
 /// The ranks of the positions of a part of a grid and of those beside it, profile by profile, with
-/// `missing_rank` where no point is present and past the grid. `Memory` comes where the list is
-/// refused its memory.
+/// `missing_rank` where no point is present and past the grid.
 pub fn ranks_round<S: Side, G: Heights>(
     alloc: Global,
     grid: &G,

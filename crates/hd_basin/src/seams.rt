@@ -250,7 +250,7 @@ fn note_row<S: Side, G: Heights, T: Looked>(
 }
 
 /// The seams at the points of a tile with all known basins of other tiles that they meet, each pair of
-/// neighbours once. `Memory` comes where the list is refused its memory.
+/// neighbours once.
 pub fn seams_at<S: Side, G: Heights, T: Looked>(
     alloc: Global,
     tiling: Tiling,

@@ -14,7 +14,7 @@ use hd_tiles::Tiling;
 use std::alloc::Global;
 
 /// By place of the tile the place of the local sink of each point, and `NO_LINK` where no point is
-/// present. `Memory` comes where the list is refused its memory.
+/// present.
 pub fn sinks_in<S: Side, G: Heights>(
     alloc: Global,
     grid: &G,

@@ -50,8 +50,7 @@ impl Heights for Window {
 impl Window {
     ghost use Rattle.hd_basin.specs.WindowMap.{map_of_window};
 
-    /// Looks once at each position of a part of the grid. `Memory` comes where the heights are refused
-    /// their memory.
+    /// Looks once at each position of a part of the grid.
     pub fn look<T: Looked, L: Ledger>(
         alloc: Global,
         tiles: &T,

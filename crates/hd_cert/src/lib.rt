@@ -1,5 +1,8 @@
 //! The saddle certificate of two pits: the shortest path over their saddle, and the points reached from
 //! the first below it, found by two floods, or by one where the regions of the points are known.
+//!
+//! `Memory` comes from every call that was refused memory it asked for; the doc of a call says so only where
+//! it says what else holds then.
 #![tactic(auto)]
 
 mod bound;

@@ -23,12 +23,11 @@ use std::alloc::Global;
 
 /// The certificate of two different pits and their saddle.
 ///
-/// Of the paths from the first to the second with that top, its path is one with the fewest points,
-/// and of those with the fewest the first by the list of indexes. Its cut is the points that are
-/// reached from the first by paths wholly below the saddle, or by any path where there is no saddle.
-/// The certificate is right. It takes 9 bytes a point, the 8 for the cut among them, and 4 for each point
-/// that waits in a flood, beside the path, and time in proportion to the points. `Memory` comes where
-/// memory is refused.
+/// Of the paths from the first to the second with that top, its path is one with the fewest points, and
+/// of those with the fewest the first by the list of indexes. Its cut is the points that are reached from
+/// the first by paths wholly below the saddle, or by any path where there is no saddle. The certificate
+/// is right. It takes 9 bytes a point, the 8 for the cut among them, and 4 for each point that waits in a
+/// flood, beside the path, and time in proportion to the points.
 pub fn certify<S: Side, G: Heights>(
     alloc: Global,
     grid: &G,

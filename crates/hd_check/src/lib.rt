@@ -1,5 +1,8 @@
 //! Saddle certificates: their text, the eleven rules that make one right, and a checker of them that
 //! takes no memory. On any map a right certificate names the saddle of its two pits.
+//!
+//! `Memory` comes from every call that was refused memory it asked for; the doc of a call says so only where
+//! it says what else holds then.
 #![tactic(auto)]
 
 mod checking;

@@ -14,8 +14,7 @@ use hd_words::Demo;
 use std::alloc::Global;
 
 /// What a demo prints: its numbers, the summary of its surface, how many edits there are, and the
-/// summary after them. `Memory` comes where the surface, an answer or the text is refused its
-/// memory.
+/// summary after them.
 pub fn demo_text<E: SurfaceSession>(alloc: Global, demo: Demo) -> Result<List<u8>, Memory>
     requires { IsDemo demo }
     ensures { IfOk result (λ text. IsTheDemoText demo text) }

@@ -36,7 +36,7 @@ impl Draws {
 }
 
 /// The file of a surface of this size, whose heights are drawn, one for each cell in position order.
-/// Its three scales are 1. `Memory` comes where the file is refused its memory.
+/// Its three scales are 1.
 pub fn drawn_file(alloc: Global, size: Size, draws: &mut Draws) -> Result<SdfFile, Memory>
     requires { IsSize size }
     ensures file { IfOk result (λ file. file_of file ≡ drawn_file size draws.old.last) }
@@ -112,7 +112,7 @@ fn unit(alloc: Global, negative: bool, literal: &[u8]) -> Result<Decimal, Memory
 }
 
 /// The line of the next edit of a surface of this size, of two drawn numbers: the first makes the
-/// index, the second the height. `Memory` comes where the line is refused its memory.
+/// index, the second the height.
 pub fn drawn_edit(alloc: Global, size: Size, draws: &mut Draws) -> Result<List<u8>, Memory>
     requires { IsSize size }
     ensures edit { IfOk result (λ line. line ≡ edit_by size (next_draw draws.old.last) (next_draw (next_draw draws.old.last))) }

@@ -45,8 +45,6 @@ impl<G: Grid> Model for Board<G> {
 
 impl<G: Grid> Board<G> {
     /// A board of this grid, with no earlier map and no element.
-    ///
-    /// `Memory` comes where the log is refused its memory.
     pub fn new(alloc: Global, grid: G) -> Result<Board<G>, Memory>
     where
         G: Drop,
@@ -91,8 +89,6 @@ impl<G: Grid> Board<G> {
     }
 
     /// The names and sizes of the elements, in the order of first naming.
-    ///
-    /// `Memory` comes where the list is refused its memory.
     pub fn elements(&self) -> Result<List<ElementLine>, Memory>
         ensures { IfOk result (λ lines. lines ≡ map line_of self.now.elements) }
     {

@@ -1,4 +1,7 @@
 //! Edits of a measured surface, on a board that keeps what they work on.
+//!
+//! `Memory` comes from every call that was refused memory it asked for; the doc of a call says so only where
+//! it says what else holds then.
 #![tactic(auto)]
 
 mod board;

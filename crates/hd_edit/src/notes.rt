@@ -95,7 +95,7 @@ impl Model for NewNotes {
 }
 
 impl NewNotes {
-    /// No notes, with room for this many. `Memory` comes where 18 bytes for each are refused.
+    /// No notes, with room for this many, 18 bytes each.
     pub fn with_room(alloc: Global, count: u32) -> Result<NewNotes, Memory>
         ensures { IfOk result (λ notes. notes ≡ record { changes = []; room = count }) }
     {

@@ -25,8 +25,8 @@ pub(crate) enum Need {
     Pruning(Percent),
 }
 
-/// Finds what a report on a side asks for, unless it is found: by the pool of the side where it serves, else by its links
-/// where they are kept. `Memory` comes where the pool, the links or what is asked for are refused their memory.
+/// Finds what a report on a side asks for, unless it is found: by the pool of the side where it serves, else by its
+/// links where they are kept.
 pub(crate) fn find_by_pool_or_links<S: Side, G: Grid>(
     alloc: Global,
     tiles: &Tiles<G>,

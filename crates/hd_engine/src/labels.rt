@@ -21,8 +21,6 @@ use std::alloc::Global;
 
 /// The answer to `label`: the pit of the region of a side that a point lies in. A position outside is refused, then
 /// one that is not present.
-///
-/// `Memory` comes where the pool, the regions or the text are refused their memory.
 pub fn show_label<S: Side, G: Grid>(
     work: &Workpiece<Tiles<G>>,
     pool: &mut SidePool<S>,

@@ -1,4 +1,7 @@
 //! A session on a surface: the answer to each line of a script.
+//!
+//! `Memory` comes from every call that was refused memory it asked for; the doc of a call says so only where
+//! it says what else holds then.
 #![tactic(auto)]
 
 mod by_pool_or_links;

@@ -46,8 +46,7 @@ pub(crate) fn parted(file: SdfFile) -> (Texts, Surface)
     (texts, surface)
 }
 
-/// The file of a copy of these texts and a surface. `Memory` comes where the copy is refused its
-/// memory.
+/// The file of a copy of these texts and a surface.
 pub(crate) fn joined(alloc: Global, texts: &Texts, surface: Surface) -> Result<SdfFile, Memory>
     ensures { IfOk result (λ file. file_of file ≡ file_with (texts_view texts.now) (map_of surface)) }
 {

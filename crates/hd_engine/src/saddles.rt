@@ -24,8 +24,7 @@ use std::alloc::Global;
 /// The answer to `saddle`: the certificate of the pits of two points' regions on a side. A position
 /// outside is refused, then one that is not present, then two points in one region.
 ///
-/// It takes time in proportion to the points, beside the merges of the pits. `Memory` comes where these, the
-/// certificate or its text are refused their memory.
+/// It takes time in proportion to the points, beside the merges of the pits.
 pub fn show_saddle<S: Side, G: Heights>(
     alloc: Global,
     grid: &G,

@@ -47,8 +47,6 @@ impl Model for Session {
 impl Session {
     /// A session on the surface of a file, in tiles of this side, from 8 to 256 points, with no line asked.
     /// The side has no effect on any answer.
-    ///
-    /// `Memory` comes where the session is refused its memory.
     pub fn new(alloc: Global, file: SdfFile, tile: u32) -> Result<Session, Memory>
         requires least { 8 ≤ tile }
         requires greatest { tile ≤ 256 }
@@ -79,7 +77,7 @@ impl Session {
     }
 
     /// The file with the texts as they were read and all cells of the present map: masked points
-    /// keep their heights, and no mask is kept. `Memory` comes where the file is refused its memory.
+    /// keep their heights, and no mask is kept.
     pub fn file(&self) -> Result<SdfFile, Memory>
         ensures { IfOk result (λ file. file_of file ≡ saved_file self.now.state) }
     {

@@ -54,7 +54,7 @@ impl<G: Grid> Model for Surveyed<G> {
 
 impl<G: Grid> Surveyed<G> {
     /// A grid with the texts of its file, in tiles of this side, from 8 to 256 points, with no earlier map and no
-    /// element, of which nothing is found yet. `Memory` comes where it is refused its memory.
+    /// element, of which nothing is found yet.
     pub fn new(
         alloc: Global,
         texts: Texts,

@@ -61,8 +61,7 @@ pub struct Workpiece<G: Grid> {
 }
 
 impl<G: Grid> Workpiece<G> {
-    /// A grid with the texts of its file, no earlier map and no element. `Memory` comes where it is
-    /// refused its memory.
+    /// A grid with the texts of its file, no earlier map and no element.
     pub fn new(alloc: Global, texts: Texts, grid: G) -> Result<Workpiece<G>, Memory>
     where
         G: Drop,

@@ -1,5 +1,8 @@
 //! Feature parameters of the regions of a surface, after ISO 25178-2: the notation, the named
 //! parameters, and the value of a notation.
+//!
+//! `Memory` comes from every call that was refused memory it asked for; the doc of a call says so only where
+//! it says what else holds then.
 #![tactic(auto)]
 
 mod laws;

@@ -13,7 +13,7 @@ use std::alloc::Global;
 /// The value of a notation, after the feature parameters of ISO 25178-2, over the regions of its side
 /// after its pruning, in position order, on a surface with `area` present points: a fraction of steps,
 /// points or features. No region has more than 4,194,304 points. None comes exactly where no region is
-/// significant or the area is 0, and `Memory` where memory is refused.
+/// significant or the area is 0.
 pub fn evaluate(
     alloc: Global,
     notation: &Notation,
@@ -34,7 +34,7 @@ pub fn evaluate(
 }
 
 /// The attributes of the regions that are significant to a notation, in their order, in steps, points
-/// or features. No region has more than 4,194,304 points. `Memory` comes where memory is refused.
+/// or features. No region has more than 4,194,304 points.
 pub fn attributes(
     alloc: Global,
     notation: &Notation,

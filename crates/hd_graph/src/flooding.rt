@@ -20,10 +20,9 @@ use std::alloc::Global;
 
 /// The flood line of a graph, a Prim order: each low once; each rise is a pass from a stop before, and no pass
 /// from the stops before to those from here on is below it; no rise is where there is no such pass. For each two
-/// stops the highest rise of the places between, as `FloodLine::between` gives it, is the least highest pass
-/// of all walks between the two lows, and none exactly where there is no walk. With which low each connected
-/// part begins is left open. `Memory` comes where the links, their order, the classes of the lows, the parts that
-/// links join or the stops are refused their memory.
+/// stops the highest rise of the places between, as `FloodLine::between` gives it, is the least highest pass of
+/// all walks between the two lows, and none exactly where there is no walk. With which low each connected part
+/// begins is left open.
 pub fn flood<S: Side>(alloc: Global, graph: &Graph<S>) -> Result<FloodLine<S>, Memory>
     ensures { IfOk result (IsFloodLine (below_by S.NAME) graph.now.lows graph.now.passes) }
 {

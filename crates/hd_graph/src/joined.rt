@@ -12,9 +12,8 @@ use hd_list::Memory;
 use hd_map::{Rank, Side};
 use std::alloc::Global;
 
-/// By pit of a map, whether it is this one or has a saddle with it that is below a level, or any saddle where there is
-/// no level: by the pits and their merges. This pit is named by its place in the list. It takes 5 bytes a pit, and
-/// `Memory` comes where these are refused.
+/// By pit of a map, whether it is this one or has a saddle with it that is below a level, or any saddle where there
+/// is no level: by the pits and their merges. This pit is named by its place in the list. It takes 5 bytes a pit.
 pub fn joined_lows<S: Side>(
     alloc: Global,
     lows: &[Low],

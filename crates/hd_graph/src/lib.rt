@@ -1,5 +1,8 @@
 //! The least highest pass between two lows of a graph, over all walks, the change tree of those lows
 //! that are pits, and the merges of lows as the water rises.
+//!
+//! `Memory` comes from every call that was refused memory it asked for; the doc of a call says so only where
+//! it says what else holds then.
 #![tactic(auto)]
 
 mod classes;

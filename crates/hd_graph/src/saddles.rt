@@ -14,8 +14,7 @@ use hd_map::{Rank, Side, higher_of};
 use std::alloc::Global;
 
 /// The saddle of two different pits of a map, by the pits and their merges, and none where no path joins the two.
-/// The pits are named by their places in the list. `Memory` comes where the numbers of the merges are refused
-/// their memory.
+/// The pits are named by their places in the list.
 pub fn saddle_of_merges<S: Side>(
     alloc: Global,
     lows: &[Low],

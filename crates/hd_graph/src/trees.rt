@@ -34,8 +34,7 @@ pub struct ChangeTree {
 
 /// The change tree of the stops that are pits: for each saddle of two of them, as
 /// `FloodLine::between` gives it, the lowest pits of the classes that it joins. Where the line tells
-/// the pits of a map and their saddles, it is the change tree of the map. `Memory` comes where the
-/// merges of the pits or the joins are refused their memory.
+/// the pits of a map and their saddles, it is the change tree of the map.
 pub fn tree<S: Side>(alloc: Global, line: &FloodLine<S>) -> Result<ChangeTree, Memory>
     ensures of_line { IfOk result (λ tree. IsTree (below_by S.NAME) (IsSaddleOn (below_by S.NAME) line.now)
         (IsPitOn line.now) (joins_of tree.joins)) }
@@ -50,7 +49,7 @@ pub fn tree<S: Side>(alloc: Global, line: &FloodLine<S>) -> Result<ChangeTree, M
 }
 
 /// The change tree of a map, by its pits and their merges: a merge joins the classes of its two pits, which are the
-/// lowest of them. `Memory` comes where the joins are refused their memory.
+/// lowest of them.
 pub fn tree_of_merges<S: Side>(
     alloc: Global,
     lows: &[Low],

@@ -1,4 +1,7 @@
 //! Ridge and course lines of ISO 25178-2: the borders between the regions that a pruning leaves.
+//!
+//! `Memory` comes from every call that was refused memory it asked for; the doc of a call says so only where
+//! it says what else holds then.
 #![tactic(auto)]
 
 mod laws;

@@ -19,8 +19,7 @@ const BORDERS_EACH: usize = 4;
 
 /// The border lines of the pruning of a grid on a side (for dales the ridge lines, for hills the course
 /// lines of ISO 25178-2): one for each two kept pits of whose points some are neighbours, by the index of
-/// the first pit and then of the second. The regions are those of this grid and side. `Memory` comes where
-/// memory is refused.
+/// the first pit and then of the second. The regions are those of this grid and side.
 pub fn border_lines<S: Side, G: Heights>(
     alloc: Global,
     grid: &G,

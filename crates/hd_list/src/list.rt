@@ -46,7 +46,7 @@ impl<T> List<T> {
         }
     }
 
-    /// A list with no items. `Memory` comes where the memory for this many is refused.
+    /// A list with no items.
     pub fn with_capacity(alloc: Global, capacity: usize) -> Result<Self, Memory>
         ensures { IfOk result (λ list. list ≡ []) }
     {
@@ -62,7 +62,7 @@ impl<T> List<T> {
         List { items }
     }
 
-    /// A list of a slice's items. `Memory` comes where their memory is refused.
+    /// A list of a slice's items.
     pub fn from_slice(alloc: Global, items: &[T]) -> Result<Self, Memory>
     where
         T: Copy,

@@ -27,7 +27,7 @@ impl Cells {
     ghost use Rattle.hd_map.specs.Cells.{cells_in};
 
     /// No cells, and the memory for this many. The data type is one whose heights four bytes tell
-    /// apart. `Memory` comes where the memory is refused.
+    /// apart.
     pub fn with_capacity(
         alloc: Global,
         data_type: DataType,

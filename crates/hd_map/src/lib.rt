@@ -1,5 +1,8 @@
 //! A measured surface on a grid of whole-number heights: its points, their neighbours and ranks,
 //! and the definitions that everything above rests on (specs/).
+//!
+//! `Memory` comes from every call that was refused memory it asked for; the doc of a call says so only where
+//! it says what else holds then.
 #![tactic(auto)]
 
 mod cells;

@@ -91,7 +91,7 @@ impl Mark {
     }
 }
 
-/// The same marks without the masks. `Memory` comes where the copy is refused its memory.
+/// The same marks without the masks.
 pub fn unmasked_marks(alloc: Global, marks: &[Mark]) -> Result<Vec<Mark>, Memory>
     ensures { IfOk result (λ copy. AreUnmasked marks.now copy.items) }
 {

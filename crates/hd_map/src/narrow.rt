@@ -73,7 +73,7 @@ impl Narrow {
     /// A surface on which no point is measured and none is masked, with eight neighbours.
     ///
     /// Both sizes are from 1 to 65,535 with at most 4,194,304 cells, and the data type is one whose
-    /// heights four bytes tell apart. `Memory` comes where the surface is refused its memory.
+    /// heights four bytes tell apart.
     pub(crate) fn unmeasured(
         alloc: Global,
         size: Size,
@@ -94,8 +94,7 @@ impl Narrow {
         })
     }
 
-    /// A copy with the same cells, none of them masked, and with eight neighbours. `Memory` comes
-    /// where the copy is refused its memory.
+    /// A copy with the same cells, none of them masked, and with eight neighbours.
     pub fn without_masks(&self, alloc: Global) -> Result<Narrow, Memory>
         ensures { IfOk result (λ s. narrow_map s ≡ unmasked (narrow_map self.now)) }
     {

@@ -40,7 +40,7 @@ impl Surface {
     /// A surface on which no point is measured and none is masked, with eight neighbours.
     ///
     /// Both sizes are from 1 to 65,535 with at most 4,194,304 cells, and the heights of the data type
-    /// have at most 18 decimal places. `Memory` comes where the surface is refused its memory.
+    /// have at most 18 decimal places.
     pub fn unmeasured(alloc: Global, size: Size, data_type: DataType) -> Result<Surface, Memory>
         requires limits { IsSize size }
         requires places { places_of data_type ≤ most_places }
@@ -55,8 +55,7 @@ impl Surface {
         }
     }
 
-    /// A copy with the same cells, none of them masked, and with eight neighbours. `Memory` comes
-    /// where the copy is refused its memory.
+    /// A copy with the same cells, none of them masked, and with eight neighbours.
     pub fn without_masks(&self, alloc: Global) -> Result<Surface, Memory>
         ensures { IfOk result (λ s. map_of s ≡ unmasked (map_of self.now)) }
     {

@@ -26,7 +26,7 @@ impl WideCells {
     ghost use Rattle.hd_map.specs.Cells.{wide_cells_in};
 
     /// No cells, and the memory for this many. The heights of the data type have at most 18 decimal
-    /// places. `Memory` comes where the memory is refused.
+    /// places.
     pub fn with_capacity(
         alloc: Global,
         data_type: DataType,

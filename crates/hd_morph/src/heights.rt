@@ -141,8 +141,6 @@ fn filtered_numbers<L: Raise, G: Grid>(
 }
 
 /// The heights of a map by index, as numbers that stand for them, unless one is too far from zero.
-///
-/// `Memory` comes where the list is refused its memory.
 pub fn heights_of<L: Lane, G: Grid>(alloc: Global, grid: &G) -> Result<Option<Vec<L>>, Memory>
     ensures { let m = G.map grid.now in IfOk result (λ found. MatchOption found (IsBeyond L.code m)
         (λ heights. AreHeightsOf L.code m heights.items)) }

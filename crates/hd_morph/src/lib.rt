@@ -4,6 +4,9 @@
 //! Heights are worked on as plain numbers by index, of 32 bits where they fit and else of 64, so that
 //! each pass is over whole rows without a test for missing points. Measured, the time that an element
 //! with one and the same number everywhere takes hardly grows with its size.
+//!
+//! `Memory` comes from every call that was refused memory it asked for; the doc of a call says so only where
+//! it says what else holds then.
 #![tactic(auto)]
 
 mod cells;

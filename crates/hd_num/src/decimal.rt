@@ -25,9 +25,8 @@ pub struct Decimal {
 }
 
 /// Reads a word as a decimal: at most one sign; one to 38 digits with at most one `.` before,
-/// between or after them; then optionally `e` or `E`, at most one sign and one to three digits.
-/// A decimal has at most 64 bytes. None comes exactly where the word has not this form, and
-/// `Memory` where the copy of the word is refused its memory.
+/// between or after them; then optionally `e` or `E`, at most one sign and one to three digits. A
+/// decimal has at most 64 bytes. None comes exactly where the word has not this form.
 pub fn read_decimal(alloc: Global, word: &[u8]) -> Result<Option<Decimal>, Memory>
     ensures { IfOk result (λ found. found ≡ decimal_of word.now) }
 {

@@ -1,4 +1,7 @@
 //! Numbers, lines and words of a text, and the text of numbers.
+//!
+//! `Memory` comes from every call that was refused memory it asked for; the doc of a call says so only where
+//! it says what else holds then.
 #![tactic(auto)]
 
 mod blanks;

@@ -10,8 +10,7 @@ use hd_list::{List, Memory};
 use std::alloc::Global;
 
 /// The words of a line in order, each at its place: the longest runs of bytes that are not blanks.
-/// A blank is a space, a tab or a carriage return. `Memory` comes where the list is refused its
-/// memory.
+/// A blank is a space, a tab or a carriage return.
 pub fn split_words(alloc: Global, line: &[u8]) -> Result<List<Span>, Memory>
     ensures words { IfOk result (λ words. map (text_at line.now) words ≡ words_of line.now) }
     ensures parts { IfOk result (λ words. All (IsPart line.now) words) }

@@ -22,7 +22,7 @@ pub(crate) fn count_bands(tiling: Tiling) -> u32
     (tiling.size().profiles + tiling.side() - 1) / tiling.side()
 }
 
-/// The descents of all rows of tiles. `Memory` comes where memory is refused.
+/// The descents of all rows of tiles.
 pub(crate) fn all_bands<S: Side, G: Grid>(
     alloc: Global,
     tiles: &Tiles<G>,
@@ -38,7 +38,7 @@ pub(crate) fn all_bands<S: Side, G: Grid>(
     Ok(bands)
 }
 
-/// The descents of a row of tiles. `Memory` comes where memory is refused.
+/// The descents of a row of tiles.
 pub(crate) fn band_of<S: Side, G: Grid>(
     alloc: Global,
     tiles: &Tiles<G>,

@@ -12,7 +12,6 @@ use hd_map::{Heights, Pass, Rank, Side, position_of, rank_of};
 use std::alloc::Global;
 
 /// These passes with their ends at the roots, the lower end first, without those that join a region with itself.
-/// `Memory` comes where the list is refused its memory.
 pub fn passes_between_regions<S: Side, G: Heights>(
     alloc: Global,
     grid: &G,

@@ -10,7 +10,7 @@ use hd_map::Rank;
 use std::alloc::Global;
 use std::cmp::Ordering;
 
-/// The pits among these lows, in position order. `Memory` comes where the list is refused its memory.
+/// The pits among these lows, in position order.
 pub fn pits_among(alloc: Global, lows: &[Low]) -> Result<List<Rank>, Memory>
     ensures { IfOk result (AreInOrder (pits_of lows.now)) }
 {

@@ -36,7 +36,7 @@ impl Model for SideDescents {
 
 /// The descents of the grid: those that are kept, brought up to it, or all of them found anew where none are kept.
 ///
-/// They take 8 bytes each and 8 a tile. `Memory` comes where these are refused, or what it takes to find them.
+/// They take 8 bytes each and 8 a tile.
 pub(crate) fn descents_of<S: Side, G: Grid>(
     alloc: Global,
     kept: Option<SideDescents>,
@@ -135,8 +135,7 @@ impl SideDescents {
         }
     }
 
-    /// The pits of the side and their merges. The links and the descents are those of the grid. `Memory` comes where the
-    /// crossings, the pits or the merges are refused their memory.
+    /// The pits of the side and their merges. The links and the descents are those of the grid.
     pub(crate) fn merges<S: Side, G: Heights>(
         &self,
         alloc: Global,

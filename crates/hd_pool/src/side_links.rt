@@ -35,7 +35,7 @@ impl Model for SideLinks {
 /// The links of the grid: those that are kept, brought up to it, or all of them found anew where none are kept or many
 /// tiles were touched since.
 ///
-/// They take 4 bytes a point and 8 a tile. `Memory` comes where these are refused.
+/// They take 4 bytes a point and 8 a tile.
 pub(crate) fn links_of<S: Side, G: Grid>(
     alloc: Global,
     kept: Option<SideLinks>,
@@ -67,7 +67,7 @@ fn all_links<S: Side, G: Grid>(alloc: Global, tiles: &Tiles<G>) -> Result<SideLi
     })
 }
 
-/// The stamps of all tiles. `Memory` comes where the list is refused its memory.
+/// The stamps of all tiles.
 pub(crate) fn stamps_of<G: Grid>(alloc: Global, tiles: &Tiles<G>) -> Result<Vec<u64>, Memory>
     ensures { IfOk result (λ seen. seen.items ≡ tiles.now.stamps.items) }
 {
@@ -116,7 +116,7 @@ impl SideLinks {
         &self.links
     }
 
-    /// The regions of the side. The links are those of the grid. `Memory` comes where the regions are refused theirs.
+    /// The regions of the side. The links are those of the grid.
     pub(crate) fn regions<S: Side, G: Heights>(
         &self,
         alloc: Global,

@@ -55,8 +55,6 @@ impl<S: Side> SidePool<S> {
     }
 
     /// Tells whether a question about the side is answered by the pool, and brings it up to the grid if so.
-    ///
-    /// `Memory` comes where the pool is refused its memory.
     pub fn serves<G: Grid>(
         &mut self,
         alloc: Global,
@@ -112,8 +110,6 @@ impl<S: Side> SidePool<S> {
 
     /// Tells whether the links of the side are kept, and brings them up to the grid if so. They are kept from the first
     /// report on that is asked for after changes since an earlier one.
-    ///
-    /// `Memory` comes where the links are refused their memory.
     pub fn keeps_links<G: Grid>(&mut self, alloc: Global, tiles: &Tiles<G>) -> Result<bool, Memory>
         requires { Follows (G.map tiles.now.grid) S.NAME tiles.now.tiling.side tiles.now.stamps.items self.old }
         ensures follows { Follows (G.map tiles.now.grid) S.NAME tiles.now.tiling.side tiles.now.stamps.items self.new }
@@ -136,8 +132,7 @@ impl<S: Side> SidePool<S> {
         first < changes
     }
 
-    /// The side, by regions that are found by its links. The links are those of the grid. `Memory` comes where the
-    /// regions are refused their memory.
+    /// The side, by regions that are found by its links. The links are those of the grid.
     pub fn view_by_links<'a, G: Heights>(
         &self,
         alloc: Global,
@@ -155,8 +150,7 @@ impl<S: Side> SidePool<S> {
 
     /// Brings the descents of the side up to the grid, and finds all of them first where none are kept.
     ///
-    /// They take 8 bytes each and 8 a tile. `Memory` comes where these are refused, or what it takes to find them; none
-    /// are kept then.
+    /// They take 8 bytes each and 8 a tile. None are kept after `Memory`.
     pub fn bring_descents_up<G: Grid>(
         &mut self,
         alloc: Global,
@@ -172,8 +166,7 @@ impl<S: Side> SidePool<S> {
         Ok(())
     }
 
-    /// The pits of the side and their merges, by its links and descents, which are those of the grid. `Memory` comes where
-    /// the crossings, the pits or the merges are refused their memory.
+    /// The pits of the side and their merges, by its links and descents, which are those of the grid.
     pub fn merges_by_links<G: Heights>(&self, alloc: Global, grid: &G) -> Result<PitMerges, Memory>
         requires links { HasLinks (G.map grid.now) S.NAME self.now }
         requires descents { HasDescents (G.map grid.now) S.NAME self.now }

@@ -8,8 +8,7 @@ use hd_map::{HeightRange, RegionSize};
 use hd_regions::Tally;
 use std::alloc::Global;
 
-/// The regions of these extents with the numbers of their points. `Memory` comes where the list is refused its
-/// memory.
+/// The regions of these extents with the numbers of their points.
 pub fn sizes_told(alloc: Global, extents: &[Extent]) -> Result<List<RegionSize>, Memory>
     requires { All (λ e. e.points < 2 ^ 32) extents.now }
     ensures { IfOk result (λ sizes. sizes ≡ map size_told extents.now) }
@@ -24,7 +23,7 @@ pub fn sizes_told(alloc: Global, extents: &[Extent]) -> Result<List<RegionSize>,
     Ok(sizes)
 }
 
-/// The tallies of the regions of these extents. `Memory` comes where the list is refused its memory.
+/// The tallies of the regions of these extents.
 pub fn tallies_told(alloc: Global, extents: &[Extent]) -> Result<List<Tally>, Memory>
     requires { All (λ e. e.points < 2 ^ 32) extents.now }
     ensures { IfOk result (λ tallies. tallies ≡ map tally_told extents.now) }

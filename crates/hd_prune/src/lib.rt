@@ -1,4 +1,7 @@
 //! Wolf pruning of the pits of a surface, after ISO 25178-2.
+//!
+//! `Memory` comes from every call that was refused memory it asked for; the doc of a call says so only where
+//! it says what else holds then.
 #![tactic(auto)]
 
 mod around;

@@ -32,11 +32,10 @@ pub struct Pruned {
     pub owners: List<Owned>,
 }
 
-/// Prunes the pits of a map at a percent of Sz: as long as the smallest local height of a pit is below
-/// it, that pit leaves, and the pit across its nearest saddle takes over what it owned (Wolf pruning of
-/// ISO 25178-2). The line tells the pits of the map and their saddles; `sz` is the greatest height of a
-/// present point less the least, in steps. `Memory` comes where the merges of its pits, the steps, the kept
-/// pits or the owners are refused their memory.
+/// Prunes the pits of a map at a percent of Sz: as long as the smallest local height of a pit is below it,
+/// that pit leaves, and the pit across its nearest saddle takes over what it owned (Wolf pruning of ISO
+/// 25178-2). The line tells the pits of the map and their saddles; `sz` is the greatest height of a present
+/// point less the least, in steps.
 pub fn prune<S: Side, A: Around>(
     alloc: Global,
     line: &FloodLine<S>,
@@ -62,8 +61,7 @@ pub fn prune<S: Side, A: Around>(
 }
 
 /// The same pruning as `prune` gives, without a line: from the merges of all pits of the map, which stand in
-/// position order. `sz` is the greatest height of a present point less the least, in steps. `Memory` comes
-/// where the steps, the kept pits or the owners are refused their memory.
+/// position order. `sz` is the greatest height of a present point less the least, in steps.
 pub fn prune_by_merges<S: Side, A: Around>(
     alloc: Global,
     lows: &[Low],

@@ -21,7 +21,7 @@ pub struct Reached {
 /// By index the number of the start that reaches the point: the start itself, or by a path under the
 /// setting of the grid whose points after the start are all allowed to that start; none where no start
 /// does. The starts are present points, and no point is reached from two of them. It takes time in
-/// proportion to the points of the grid. `Memory` comes where memory is refused.
+/// proportion to the points of the grid.
 pub fn reached_from<B: Bounds, G: Heights>(
     alloc: Global,
     grid: &G,

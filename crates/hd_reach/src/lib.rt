@@ -1,4 +1,7 @@
 //! What several starts of a grid reach, each within bounds of its own, by one flood for all of them.
+//!
+//! `Memory` comes from every call that was refused memory it asked for; the doc of a call says so only where
+//! it says what else holds then.
 #![tactic(auto)]
 
 mod bounds;

@@ -17,8 +17,7 @@ const BORDER_BYTES: usize = 64;
 
 /// The border lines of a pruning at a percent on a grid of this size: how many there are, and a line for
 /// each in their order with the two pits, the number of the pairs of neighbours across the border, the
-/// column, profile and height in steps of its pass, and whether that is the saddle of the two. `Memory`
-/// comes where the text is refused its memory.
+/// column, profile and height in steps of its pass, and whether that is the saddle of the two.
 pub fn list_borders(
     alloc: Global,
     side: SideName,

@@ -8,8 +8,7 @@ use hd_list::{List, Memory};
 use hd_num::{Frac, push_text, push_unsigned, push_whole};
 use std::alloc::Global;
 
-/// `hist N WORD` and the counts of the bins, each after a space, or `none` for no counts. `Memory` comes
-/// where the text is refused its memory.
+/// `hist N WORD` and the counts of the bins, each after a space, or `none` for no counts.
 pub fn tell_distribution(
     alloc: Global,
     bins: u32,
@@ -49,7 +48,7 @@ fn push_all(text: &mut List<u8>, counts: &[u64]) -> Result<(), Memory>
     Ok(())
 }
 
-/// `perc V WORD VALUE`, with `none` for no value. `Memory` comes where the text is refused its memory.
+/// `perc V WORD VALUE`, with `none` for no value.
 pub fn tell_share(
     alloc: Global,
     above: i64,

@@ -11,8 +11,7 @@ use hd_map::Pos;
 use hd_num::{push_text, push_unsigned};
 use std::alloc::Global;
 
-/// The text of the cause for which an edit is refused. Want of memory is handed on, and `Memory` comes
-/// where the text is refused its memory.
+/// The text of the cause for which an edit is refused. Want of memory is handed on.
 pub fn edit_cause(alloc: Global, error: EditError) -> Result<List<u8>, Memory>
     ensures known { IfOk result (λ text. error ≡ EditError.Memory → ⊥) }
     ensures text { IfOk result (λ text. text ≡ edit_text error) }
@@ -45,7 +44,7 @@ fn plain_cause(alloc: Global, cause: &[u8]) -> Result<List<u8>, Memory>
     Ok(text)
 }
 
-/// `only K edits kept`. `Memory` comes where the text is refused its memory.
+/// `only K edits kept`.
 pub fn kept_cause(alloc: Global, kept: u32) -> Result<List<u8>, Memory>
     ensures { IfOk result (λ text. text ≡ kept_text kept) }
 {

@@ -9,8 +9,7 @@ use hd_morph::ElementError;
 use hd_num::{push_text, push_unsigned};
 use std::alloc::Global;
 
-/// The text of the cause for which a table makes no element. `Memory` comes where it is refused its
-/// memory.
+/// The text of the cause for which a table makes no element.
 pub fn element_cause(alloc: Global, error: ElementError) -> Result<List<u8>, Memory>
     ensures { IfOk result (λ text. text ≡ element_text error) }
 {
@@ -23,8 +22,7 @@ pub fn element_cause(alloc: Global, error: ElementError) -> Result<List<u8>, Mem
     Ok(text)
 }
 
-/// The number of the elements, and a line for each with its name, width and height. `Memory` comes
-/// where the text is refused its memory.
+/// The number of the elements, and a line for each with its name, width and height.
 pub fn list_elements(alloc: Global, lines: &[ElementLine]) -> Result<List<u8>, Memory>
     ensures { IfOk result (λ text. text ≡ elements_text lines.now) }
 {

@@ -7,8 +7,7 @@ use hd_num::{push_text, push_unsigned};
 use hd_script::LineError;
 use std::alloc::Global;
 
-/// The text of the cause. Want of memory is handed on, and `Memory` comes where the text is refused its
-/// memory.
+/// The text of the cause. Want of memory is handed on.
 pub fn form_cause(alloc: Global, error: LineError) -> Result<List<u8>, Memory>
     ensures { IfOk result (λ text. text ≡ form_text error) }
 {

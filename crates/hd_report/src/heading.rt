@@ -7,8 +7,7 @@ use hd_list::{List, Memory};
 use hd_map::SideName;
 use hd_num::{Percent, push_percent, push_text, push_unsigned};
 
-/// Adds a word with the blank after it, a side, a percent and a count, and the end of the line. `Memory` comes where
-/// the text is refused its memory.
+/// Adds a word with the blank after it, a side, a percent and a count, and the end of the line.
 pub fn push_heading(
     text: &mut List<u8>,
     word: &[u8],

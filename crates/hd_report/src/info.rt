@@ -19,8 +19,8 @@ pub struct Scales<'a> {
     pub z: &'a [u8],
 }
 
-/// The lines of `info`: the size, the type's code, for a type of decimals its places, how many points are present, the range of their
-/// heights in steps, and the three scales. `Memory` comes where the text is refused its memory.
+/// The lines of `info`: the size, the type's code, for a type of decimals its places, how many points are present,
+/// the range of their heights in steps, and the three scales.
 pub fn tell_info(
     alloc: Global,
     size: Size,

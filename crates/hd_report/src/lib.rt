@@ -1,4 +1,7 @@
 //! The texts that the lines of a script print: reports, and the causes of refusals.
+//!
+//! `Memory` comes from every call that was refused memory it asked for; the doc of a call says so only where
+//! it says what else holds then.
 #![tactic(auto)]
 
 mod borders;

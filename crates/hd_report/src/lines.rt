@@ -6,7 +6,7 @@ use hd_list::{List, Memory};
 use hd_num::{push_text, push_unsigned};
 use std::alloc::Global;
 
-/// `line N ok`. `Memory` comes where the text is refused its memory.
+/// `line N ok`.
 pub fn ok_line(alloc: Global, number: u64) -> Result<List<u8>, Memory>
     ensures { IfOk result (λ text. text ≡ ok_line number) }
 {
@@ -17,7 +17,7 @@ pub fn ok_line(alloc: Global, number: u64) -> Result<List<u8>, Memory>
     Ok(text)
 }
 
-/// `line N refused: CAUSE`. `Memory` comes where the text is refused its memory.
+/// `line N refused: CAUSE`.
 pub fn refused_line(alloc: Global, number: u64, cause: &[u8]) -> Result<List<u8>, Memory>
     ensures { IfOk result (λ text. text ≡ refused_line number cause.now) }
 {

@@ -7,7 +7,7 @@ use hd_list::{List, Memory};
 use hd_num::{push_text, push_unsigned};
 use std::alloc::Global;
 
-/// The text of the cause. `Memory` comes where it is refused its memory.
+/// The text of the cause.
 pub fn notation_cause(alloc: Global, error: NotationError) -> Result<List<u8>, Memory>
     ensures { IfOk result (λ text. text ≡ notation_text error) }
 {

@@ -8,7 +8,7 @@ use hd_map::Pos;
 use hd_num::push_text;
 use std::alloc::Global;
 
-/// `X Y is outside`. `Memory` comes where the text is refused its memory.
+/// `X Y is outside`.
 pub fn outside_cause(alloc: Global, at: Pos) -> Result<List<u8>, Memory>
     ensures { IfOk result (λ text. text ≡ outside_text at) }
 {
@@ -18,7 +18,7 @@ pub fn outside_cause(alloc: Global, at: Pos) -> Result<List<u8>, Memory>
     Ok(text)
 }
 
-/// `X Y is not present`. `Memory` comes where the text is refused its memory.
+/// `X Y is not present`.
 pub fn not_present_cause(alloc: Global, at: Pos) -> Result<List<u8>, Memory>
     ensures { IfOk result (λ text. text ≡ not_present_text at) }
 {

@@ -18,8 +18,7 @@ const PIT_BYTES: usize = 32;
 
 /// A pruning at a percent on a grid of this size: how many pits leave and how many are kept, a line for
 /// each step in order, and a line for each region of a kept pit in their order with the pit's column,
-/// profile and height in steps, and the number of the points that it owns. `Memory` comes where the
-/// text is refused its memory.
+/// profile and height in steps, and the number of the points that it owns.
 pub fn list_pruning(
     alloc: Global,
     side: SideName,

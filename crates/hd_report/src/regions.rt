@@ -14,8 +14,7 @@ use std::alloc::Global;
 const REGION_BYTES: usize = 24;
 
 /// The number of these regions of a grid of this size, and a line for each in their order with its
-/// pit's column, profile and height in steps, and the number of its points. `Memory` comes where the
-/// text is refused its memory.
+/// pit's column, profile and height in steps, and the number of its points.
 pub fn list_regions(
     alloc: Global,
     side: SideName,
@@ -87,8 +86,7 @@ fn push_region(
     Ok(())
 }
 
-/// `label S X Y in PX PY`: a point, and the pit of its region. `Memory` comes where the text is
-/// refused its memory.
+/// `label S X Y in PX PY`: a point, and the pit of its region.
 pub fn tell_label(alloc: Global, side: SideName, at: Pos, pit: Pos) -> Result<List<u8>, Memory>
     ensures { IfOk result (λ text. text ≡ label_text side at pit) }
 {

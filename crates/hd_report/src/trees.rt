@@ -16,8 +16,7 @@ use std::alloc::Global;
 const JOIN_BYTES: usize = 36;
 
 /// The number of the saddles of a change tree on a grid of this size, and a line for each in their
-/// order with its column, profile and height in steps, and the pits that it joins. `Memory` comes
-/// where the text is refused its memory.
+/// order with its column, profile and height in steps, and the pits that it joins.
 pub fn list_tree(
     alloc: Global,
     side: SideName,

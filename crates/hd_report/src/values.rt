@@ -7,7 +7,7 @@ use hd_num::{Frac, push_frac, push_text, push_whole};
 use std::alloc::Global;
 
 /// `param NAME VALUE`, with the height in steps after the name where there is one, and `none` for no
-/// value. `Memory` comes where the text is refused its memory.
+/// value.
 pub fn tell_parameter(
     alloc: Global,
     name: &[u8],
@@ -20,7 +20,7 @@ pub fn tell_parameter(
 }
 
 /// `height NAME VALUE`, with the height in steps after the name where there is one, and `none` for no
-/// value. `Memory` comes where the text is refused its memory.
+/// value.
 pub fn tell_height(
     alloc: Global,
     name: &[u8],
@@ -50,7 +50,7 @@ fn tell_named(
     Ok(text)
 }
 
-/// `feature WORD VALUE`, with `none` for no value. `Memory` comes where the text is refused its memory.
+/// `feature WORD VALUE`, with `none` for no value.
 pub fn tell_feature(alloc: Global, word: &[u8], value: Option<Frac>) -> Result<List<u8>, Memory>
     ensures { IfOk result (λ text. text ≡ feature_line word.now value) }
 {

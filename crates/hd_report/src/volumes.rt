@@ -15,7 +15,7 @@ use std::alloc::Global;
 
 /// The fill volumes of the pits that a pruning at a percent keeps, on a grid of this size: how many
 /// there are, and a line for each in their order with its column and profile and its volume in steps
-/// times points, or `none`. `Memory` comes where the text is refused its memory.
+/// times points, or `none`.
 pub fn list_volumes(
     alloc: Global,
     side: SideName,

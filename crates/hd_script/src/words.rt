@@ -115,8 +115,7 @@ pub fn bins_word(number: u32, word: &[u8]) -> Result<u32, LineError>
     }
 }
 
-/// The name that the word of a number is: 1 to 32 letters, digits, `_` and `-`. `Memory` comes
-/// where its bytes are refused their memory.
+/// The name that the word of a number is: 1 to 32 letters, digits, `_` and `-`.
 pub fn name_word(alloc: Global, number: u32, word: &[u8]) -> Result<List<u8>, LineError>
     ensures { (result ≡ Err LineError.Memory) ⊎ (result ≡ name_word number word.now) }
 {
@@ -142,7 +141,7 @@ pub fn entry_word(number: u32, word: &[u8]) -> Result<Option<i64>, LineError>
     }
 }
 
-/// A word as it stands. `Memory` comes where its bytes are refused their memory.
+/// A word as it stands.
 pub fn whole_text(alloc: Global, word: &[u8]) -> Result<List<u8>, LineError>
     ensures value { (result ≡ Err LineError.Memory) ⊎ (result ≡ Ok word.now) }
 {

@@ -1,4 +1,7 @@
 //! Writes surfaces in the ASCII form of ISO 25178-71 (SDF), in one canonical text.
+//!
+//! `Memory` comes from every call that was refused memory it asked for; the doc of a call says so only where
+//! it says what else holds then.
 #![tactic(auto)]
 
 mod cells;

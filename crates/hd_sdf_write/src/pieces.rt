@@ -38,8 +38,7 @@ impl<'a, G: Grid> Model for SdfPieces<'a, G> {
 }
 
 impl<'a, G: Grid> SdfPieces<'a, G> {
-    /// The whole text of the file of these texts and a grid. `Memory` comes where the memory of all pieces is
-    /// refused.
+    /// The whole text of the file of these texts and a grid.
     pub fn new(alloc: Global, texts: &SdfTexts<'_>, grid: &'a G) -> Result<Self, Memory>
         ensures { IfOk result (λ pieces. pieces ≡ record {
           piece = [];

@@ -42,8 +42,7 @@ impl<'a, G: Grid> Model for Unwritten<'a, G> {
 }
 
 impl<'a, G: Grid> Unwritten<'a, G> {
-    /// The whole text of the file of these texts and a grid. `Memory` comes where what stands before or behind
-    /// the data is refused its memory.
+    /// The whole text of the file of these texts and a grid.
     pub fn new(alloc: Global, texts: &SdfTexts<'_>, grid: &'a G) -> Result<Self, Memory>
         ensures { IfOk result (λ u. u ≡ canonical (file_with texts.now (G.map grid.now))) }
     {

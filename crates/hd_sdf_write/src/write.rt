@@ -17,8 +17,6 @@ use std::alloc::Global;
 /// decimals of keys stand as they were read, whole numbers in plain digits. A height of type 3 or 7
 /// is `-` where it is negative, the whole part of its value in plain digits, and, where the type has
 /// decimal places, `.` and that many digits. Masks are not written.
-///
-/// `Memory` comes where the text is refused its memory.
 pub fn write_sdf(alloc: Global, file: &SdfFile) -> Result<List<u8>, Memory>
     ensures { IfOk result (λ text. text ≡ canonical (file_of file.now)) }
 {

@@ -1,5 +1,8 @@
 //! What a session on a surface is: the state that the lines of a script work on, what each line is answered, that a
 //! script determines its answers, and the calls of a session.
+//!
+//! `Memory` comes from every call that was refused memory it asked for; the doc of a call says so only where
+//! it says what else holds then.
 #![tactic(auto)]
 
 mod answer;

@@ -21,8 +21,6 @@ pub trait SurfaceSession: Drop + Sized {
 
     /// A session on the surface of a file, in tiles of this side, from 8 to 256 points, with no line asked.
     /// The side has no effect on any answer.
-    ///
-    /// `Memory` comes where the session is refused its memory.
     fn on_file(alloc: Global, file: SdfFile, tile: u32) -> Result<Self, Memory>
         requires least { 8 ≤ tile }
         requires greatest { tile ≤ 256 }

@@ -12,7 +12,7 @@ use std::alloc::Global;
 /// bins, which divide the way from the least to the greatest attribute evenly; an attribute on a border
 /// of two bins counts in the upper one, the greatest in the last bin, and all in the first where they
 /// are equal. No region has more than 4,194,304 points. None comes exactly where no region is
-/// significant, and `Memory` where memory is refused.
+/// significant.
 pub fn hist(
     alloc: Global,
     notation: &Notation,
@@ -34,8 +34,7 @@ pub fn hist(
 
 /// The part of the features that a notation keeps whose attribute is greater than `above`, whatever its
 /// statistic, over the regions of its side after its pruning, in position order. No region has more than
-/// 4,194,304 points. None comes exactly where no region is significant, and `Memory` where memory is
-/// refused.
+/// 4,194,304 points. None comes exactly where no region is significant.
 pub fn perc(
     alloc: Global,
     notation: &Notation,

@@ -1,5 +1,8 @@
 //! Further values of a surface, after ISO 25178-2: height parameters, how the attributes of its features
 //! are distributed, and what fills its pruned regions.
+//!
+//! `Memory` comes from every call that was refused memory it asked for; the doc of a call says so only where
+//! it says what else holds then.
 #![tactic(auto)]
 
 mod below;

@@ -19,8 +19,7 @@ use std::alloc::Global;
 /// The fill of each kept pit of a pruning of the grid on the side, in their order: the sum, over all
 /// points that are reached from the pit by paths wholly below its nearest saddle, of the height
 /// difference between the saddle and the point, taken positive, in steps. It is none exactly where the
-/// pit has no nearest saddle. It takes time in proportion to the points of the grid. `Memory` comes
-/// where memory is refused.
+/// pit has no nearest saddle. It takes time in proportion to the points of the grid.
 pub fn fill<S: Side, G: Heights>(
     alloc: Global,
     grid: &G,

@@ -38,7 +38,7 @@ const SPARE: Link = Link {
 /// passes for two regions, or none; `passes` gives one for each two that meet. Measured, it takes
 /// time in proportion to the points, and memory for the passes, at first for one of three points,
 /// and 281 bytes a column, or 293 where a height is more than 2 ^ 29 steps from zero; of these 192
-/// are room for eight passes. `Memory` comes where memory is refused.
+/// are room for eight passes.
 pub fn crossings<S: Side, G: Heights>(
     alloc: Global,
     grid: &G,
@@ -57,8 +57,7 @@ pub fn crossings<S: Side, G: Heights>(
     }
 }
 
-/// The passes of crossings between these regions, each with the pits that it joins, the lower one first. `Memory`
-/// comes where the list is refused its memory.
+/// The passes of crossings between these regions, each with the pits that it joins, the lower one first.
 pub fn passes_of<S: Side>(
     alloc: Global,
     regions: &Regions,

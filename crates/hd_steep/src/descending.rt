@@ -37,8 +37,7 @@ pub struct Descending<L> {
 }
 
 impl<L: Lane> Descending<L> {
-    /// It stands before a profile, unless a height is too far from zero. `Memory` comes where three lanes and 77 bytes a
-    /// column are refused.
+    /// It stands before a profile, unless a height is too far from zero.
     pub fn before<S: Side, G: Heights>(
         alloc: Global,
         grid: &G,

@@ -21,8 +21,8 @@ pub struct Descent {
 /// join regions: each lower neighbour of such a point leads round it, by lower neighbours beside one another, to its
 /// next or to one that a descent leads to.
 ///
-/// It takes time in proportion to these points, 8 bytes a descent, and 89 a column where no height is more than 2 ^ 29
-/// steps from zero, else 101. `Memory` comes where memory is refused.
+/// It takes time in proportion to these points, 8 bytes a descent, and 89 a column where no height is more than 2 ^
+/// 29 steps from zero, else 101.
 pub fn descents<S: Side, G: Heights>(
     alloc: Global,
     grid: &G,

@@ -19,8 +19,8 @@ pub fn room_for_ends(count: usize) -> usize
     count / POINTS_A_PIT + 1
 }
 
-/// Leads the link of each pit to its end, and those of points that are not present to the last one. It takes 4 bytes a
-/// pit. `Memory` comes where these are refused.
+/// Leads the link of each pit to its end, and those of points that are not present to the last one. It takes 4 bytes
+/// a pit.
 pub fn add_ends<S: Side, G: Heights>(
     grid: &G,
     pits: &[Rank],

@@ -29,8 +29,8 @@ impl Model for FirstLinks {
 }
 
 impl FirstLinks {
-    /// The links of all points. It takes 16 bytes a column besides, or 28 where a height is more than 2 ^ 29 steps from
-    /// zero. `Memory` comes where these are refused.
+    /// The links of all points. It takes 16 bytes a column besides, or 28 where a height is more than 2 ^ 29 steps
+    /// from zero.
     pub fn new<S: Side, G: Heights>(alloc: Global, grid: &G) -> Result<FirstLinks, Memory>
         ensures { IfOk result (AreFirstLinks (G.map grid.now) S.NAME) }
     {
@@ -57,7 +57,7 @@ impl FirstLinks {
     }
 
     /// The regions of the side, to whose pits the links lead. It takes the memory that `find_regions` takes, without
-    /// that for a column. `Memory` comes where this is refused.
+    /// that for a column.
     pub fn regions<S: Side, G: Heights>(&self, alloc: Global, grid: &G) -> Result<Regions, Memory>
         requires { AreFirstLinks (G.map grid.now) S.NAME self.now }
         ensures { IfOk result (AreNumbered (G.map grid.now) S.NAME) }

@@ -1,5 +1,8 @@
 //! The steepest way from each point of a map to the pit whose region it lies in, on either side, and
 //! the passes between these regions.
+//!
+//! `Memory` comes from every call that was refused memory it asked for; the doc of a call says so only where
+//! it says what else holds then.
 #![tactic(auto)]
 
 mod below;

@@ -20,8 +20,8 @@ pub const NO_LINK: u32 = u32::MAX;
 /// By index the link of each present point to the lowest of itself and its neighbours, and
 /// `NO_LINK` for the others. There is room for this many more.
 ///
-/// It takes 4 bytes a point, 4 for each more, and 16 a column, or 28 a column where a height is more than 2 ^ 29 steps
-/// from zero. `Memory` comes where these are refused.
+/// It takes 4 bytes a point, 4 for each more, and 16 a column, or 28 a column where a height is more than 2 ^ 29
+/// steps from zero.
 pub fn first_links<S: Side, G: Heights>(
     alloc: Global,
     grid: &G,

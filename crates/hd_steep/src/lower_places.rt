@@ -25,7 +25,7 @@ pub struct LowerPlaces {
 }
 
 impl LowerPlaces {
-    /// Room for this many columns. `Memory` comes where their 8 bytes each are refused.
+    /// Room for this many columns.
     pub fn with_columns(alloc: Global, columns: usize) -> Result<LowerPlaces, Memory>
         ensures { IfOk result (HasColumns columns) }
     {

@@ -81,8 +81,8 @@ impl Regions {
 ///
 /// Measured, it takes 4 bytes a point, 20 a pit, at first for one of eight points, and 16 a column,
 /// or 28 a column where a height is more than 2 ^ 29 steps from zero, and time in proportion to the
-/// points, however long the ways are. `Memory` comes where memory is refused. Dales and hills are
-/// those of ISO 25178-2; that each point has one steepest way is this project's own rule.
+/// points, however long the ways are. Dales and hills are those of ISO 25178-2; that each point has
+/// one steepest way is this project's own rule.
 pub fn find_regions<S: Side, G: Heights>(alloc: Global, grid: &G) -> Result<Regions, Memory>
     ensures { IfOk result (AreNumbered (G.map grid.now) S.NAME) }
 {
@@ -92,8 +92,8 @@ pub fn find_regions<S: Side, G: Heights>(alloc: Global, grid: &G) -> Result<Regi
     number_by_links::<S, G>(alloc, grid, links)
 }
 
-/// The regions of a side of a grid, to whose pits these first links lead. It takes 16 bytes a pit, at first for one of
-/// eight points, and 4 for a pit more than there is room for with the links. `Memory` comes where these are refused.
+/// The regions of a side of a grid, to whose pits these first links lead. It takes 16 bytes a pit, at first for one
+/// of eight points, and 4 for a pit more than there is room for with the links.
 pub(crate) fn number_by_links<S: Side, G: Heights>(
     alloc: Global,
     grid: &G,
@@ -113,7 +113,7 @@ pub(crate) fn number_by_links<S: Side, G: Heights>(
 }
 
 /// By index the index of the pit in whose region the point lies, and none for points that are not
-/// present. `Memory` comes where 8 bytes a point are refused.
+/// present.
 pub fn list_roots(alloc: Global, regions: &Regions) -> Result<List<Option<u32>>, Memory>
     ensures { IfOk result (λ roots. roots ≡ roots_of regions.now) }
 {

@@ -18,7 +18,7 @@ use hd_map::{
 use std::alloc::Global;
 
 /// The borders between the points of different places, each of which is less than `room`. Memory is reserved for
-/// `many` of them. `Memory` comes where memory is refused.
+/// `many` of them.
 pub fn borders_of<S: Side, G: Heights>(
     alloc: Global,
     grid: &G,

@@ -16,7 +16,7 @@ use std::alloc::Global;
 /// one, by the lesser index of their pits and then by the greater.
 ///
 /// The labels are those that `regions` gives for this grid and side. It takes 16 bytes a point, and
-/// memory in proportion to the passes. `Memory` comes where memory is refused.
+/// memory in proportion to the passes.
 pub fn passes<S: Side, G: Heights>(
     alloc: Global,
     grid: &G,

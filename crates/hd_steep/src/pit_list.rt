@@ -14,8 +14,8 @@ use std::alloc::Global;
 /// Heights without any order have about one pit for nine points: memory is reserved for as many.
 pub const POINTS_A_PIT: usize = 8;
 
-/// The pits in position order: the points whose links lead to themselves. It takes 16 bytes a pit, at first for one of
-/// eight points. `Memory` comes where these are refused.
+/// The pits in position order: the points whose links lead to themselves. It takes 16 bytes a pit, at first for one
+/// of eight points.
 pub fn list_pits<S: Side, G: Heights>(
     alloc: Global,
     grid: &G,

@@ -19,8 +19,7 @@ pub struct Rows<L> {
 }
 
 impl<L: Lane> Rows<L> {
-    /// The rows before those of a profile, unless a height is too far from zero. `Memory` comes where their three lanes
-    /// a column are refused.
+    /// The rows before those of a profile, unless a height is too far from zero.
     pub fn before<S: Side, G: Heights>(
         alloc: Global,
         grid: &G,

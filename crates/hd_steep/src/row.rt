@@ -19,7 +19,7 @@ pub struct Row<L> {
 }
 
 impl<L: Lane> Row<L> {
-    /// A row of this many columns in which no point is present. `Memory` comes where its lane a column is refused.
+    /// A row of this many columns in which no point is present.
     pub fn empty(alloc: Global, points: u32) -> Result<Row<L>, Memory>
         requires { points ≤ 65535 }
         ensures first { IfOk result (λ row. row.first ≡ 0) }

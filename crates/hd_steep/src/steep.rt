@@ -49,8 +49,8 @@ pub fn root<S: Side, G: Heights>(alloc: Global, grid: &G, at: Pos) -> Pos
 ///
 /// Measured, it takes 12 bytes a point, 20 a pit, at first for one of eight points, and 16 a column,
 /// or 28 a column where a height is more than 2 ^ 29 steps from zero, and time in proportion to the
-/// points, however long the ways are. `Memory` comes where memory is refused. Dales and hills are
-/// those of ISO 25178-2; that each point has one steepest way is this project's own rule.
+/// points, however long the ways are. Dales and hills are those of ISO 25178-2; that each point has
+/// one steepest way is this project's own rule.
 pub fn regions<S: Side, G: Heights>(alloc: Global, grid: &G) -> Result<List<Option<u32>>, Memory>
     ensures { IfOk result (AreRegions (G.map grid.now) S.NAME) }
 {

@@ -35,8 +35,7 @@ impl Model for Tracing {
 }
 
 impl Tracing {
-    /// The pits to which first links lead. No crossing is found yet. `Memory` comes where 4 bytes a point, and 16 a
-    /// pit, at first for one of eight points, are refused.
+    /// The pits to which first links lead. No crossing is found yet.
     pub fn new<S: Side, G: Heights>(
         alloc: Global,
         grid: &G,
@@ -58,7 +57,7 @@ impl Tracing {
     }
 
     /// Adds the crossings among descents: those whose ends lie in two regions. Ways are traced along the first links,
-    /// each point of them once. `Memory` comes where the crossings are refused their memory.
+    /// each point of them once.
     pub fn cross<S: Side, G: Heights>(
         &mut self,
         grid: &G,

@@ -21,9 +21,9 @@ use hd_prune::Kept;
 use hd_regions::Tally;
 use std::alloc::Global;
 
-/// The regions of the kept pits after the pruning of a grid at a percent, in position order, by a view of
-/// one of its sides and what was found of it, to which the merges of the pits are added. The range is that of the
-/// heights of the grid. `Memory` comes where the merges, the pruning or the list are refused their memory.
+/// The regions of the kept pits after the pruning of a grid at a percent, in position order, by a view of one of
+/// its sides and what was found of it, to which the merges of the pits are added. The range is that of the
+/// heights of the grid.
 pub fn features<S: Side, G: Heights, V: SideView<S>>(
     alloc: Global,
     grid: &G,
@@ -55,8 +55,8 @@ pub fn features<S: Side, G: Heights, V: SideView<S>>(
     )
 }
 
-/// The same regions by their pits and local heights alone, as if they had no points: nothing is counted. The kept pits
-/// are added to what was found. `Memory` comes where these or the list are refused their memory.
+/// The same regions by their pits and local heights alone, as if they had no points: nothing is counted. The kept
+/// pits are added to what was found.
 pub fn heights_alone<S: Side, G: Heights>(
     alloc: Global,
     grid: &G,

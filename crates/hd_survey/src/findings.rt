@@ -63,8 +63,7 @@ impl<S: Side> Findings<S> {
         }
     }
 
-    /// Finds the regions with the numbers of their points, where they are not found. `Memory` comes where they
-    /// are refused their memory.
+    /// Finds the regions with the numbers of their points, where they are not found.
     pub fn find_sizes<G: Heights>(&mut self, alloc: Global, grid: &G) -> Result<(), Memory>
         requires { AreFindings (G.map grid.now) S.NAME self.old }
         ensures findings { AreFindings (G.map grid.now) S.NAME self.new }
@@ -108,8 +107,7 @@ impl<S: Side> Findings<S> {
         }
     }
 
-    /// Finds the merges of the pits, where they are not found. `Memory` comes where they are refused their
-    /// memory.
+    /// Finds the merges of the pits, where they are not found.
     pub fn find_merges<G: Heights>(&mut self, alloc: Global, grid: &G) -> Result<(), Memory>
         requires { AreFindings (G.map grid.now) S.NAME self.old }
         ensures findings { AreFindings (G.map grid.now) S.NAME self.new }
@@ -163,9 +161,8 @@ impl<S: Side> Findings<S> {
         }
     }
 
-    /// Finds the pits that the pruning at a percent keeps, where they are not those that were found last. The range is
-    /// that of the heights of the grid. `Memory` comes where the merges, by which they are found, or the kept pits are
-    /// refused their memory.
+    /// Finds the pits that the pruning at a percent keeps, where they are not those that were found last. The range
+    /// is that of the heights of the grid.
     pub fn find_kept<G: Heights>(
         &mut self,
         alloc: Global,
@@ -232,8 +229,8 @@ impl<S: Side> Findings<S> {
         }
     }
 
-    /// Finds the pruning at a percent (Wolf pruning of ISO 25178-2), where it is not the one that was done last, and for
-    /// it the merges of the pits and the regions. `Memory` comes where these or the pruning are refused their memory.
+    /// Finds the pruning at a percent (Wolf pruning of ISO 25178-2), where it is not the one that was done last, and
+    /// for it the merges of the pits and the regions.
     pub fn find_pruned<G: Heights>(
         &mut self,
         alloc: Global,
@@ -313,8 +310,7 @@ impl<S: Side> Findings<S> {
         }
     }
 
-    /// Finds the region of each point, where it is not found. `Memory` comes where the regions are refused their
-    /// memory, 4 bytes a point.
+    /// Finds the region of each point, where it is not found. It takes 4 bytes a point.
     pub fn find_regions<G: Heights>(&mut self, alloc: Global, grid: &G) -> Result<(), Memory>
         requires { AreFindings (G.map grid.now) S.NAME self.old }
         ensures findings { AreFindings (G.map grid.now) S.NAME self.new }
@@ -365,7 +361,7 @@ impl<S: Side> Findings<S> {
 
     /// The pit in whose region a present point lies. The way to it is walked; once such walks together went over
     /// as many points as the grid has, the region of each point is found, and kept. What points are gone over is
-    /// added to what was spent. `Memory` comes where the regions are refused their memory.
+    /// added to what was spent.
     pub fn root<G: Heights>(
         &mut self,
         alloc: Global,

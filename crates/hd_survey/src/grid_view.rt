@@ -37,7 +37,6 @@ impl<'a, S: Side, G: Heights> Model for GridView<'a, S, G> {
 
 impl<'a, S: Side, G: Heights> GridView<'a, S, G> {
     /// A side of a grid. It takes 4 bytes a point and 16 a pit, and time in proportion to the points.
-    /// `Memory` comes where the regions are refused their memory.
     pub fn new(alloc: Global, grid: &'a G) -> Result<Self, Memory>
         ensures { IfOk result (λ view. view ≡ grid.now) }
     {
@@ -66,7 +65,7 @@ impl<'a, S: Side, G: Heights> GridView<'a, S, G> {
     }
 
     /// The regions with the numbers of their points, in position order of their pits. The view is given up, and
-    /// nothing by point is kept while the list is made. `Memory` comes where the list is refused its memory.
+    /// nothing by point is kept while the list is made.
     pub fn into_sizes(self) -> Result<List<RegionSize>, Memory>
         ensures { IfOk result (AreRegionSizes (G.map self.entry) S.NAME) }
     {
@@ -75,7 +74,7 @@ impl<'a, S: Side, G: Heights> GridView<'a, S, G> {
     }
 
     /// The pits in position order, and their merges. The view is given up, and nothing by point is kept while the
-    /// merges are made. `Memory` comes where these, or the passes between the regions, are refused their memory.
+    /// merges are made.
     pub fn into_merges(self) -> Result<PitMerges, Memory>
         ensures { IfOk result (ArePitMerges (G.map self.entry) S.NAME) }
     {

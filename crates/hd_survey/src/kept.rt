@@ -21,8 +21,7 @@ pub struct KeptPits {
 }
 
 /// The pits that the pruning of a grid on a side at a percent keeps, by the merges of its pits. Neither the
-/// steps nor the owners are found for them. The range is that of the heights of the grid. `Memory` comes where
-/// the list is refused its memory.
+/// steps nor the owners are found for them. The range is that of the heights of the grid.
 pub fn keep_pits<S: Side, G: Heights>(
     alloc: Global,
     _grid: &G,

@@ -1,5 +1,8 @@
 //! What reports are made of: the regions of a map on a side with their points, its pits with their merges
 //! and their change tree, the pruning of the pits, and the values of parameters.
+//!
+//! `Memory` comes from every call that was refused memory it asked for; the doc of a call says so only where
+//! it says what else holds then.
 #![tactic(auto)]
 
 mod edges;

@@ -15,7 +15,7 @@ use std::alloc::Global;
 
 /// The border lines of the pruning of a grid on a side at a percent: for dales the ridge lines, for hills
 /// the course lines of ISO 25178-2; by what was found of the side, to which the merges of the pits are
-/// added. `Memory` comes where the regions, the merges, the pruning or the lines are refused their memory.
+/// added.
 pub fn pruned_lines<S: Side, G: Heights>(
     alloc: Global,
     grid: &G,

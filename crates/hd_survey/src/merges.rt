@@ -25,8 +25,7 @@ pub struct PitMerges {
     pub merges: List<Merge>,
 }
 
-/// The pits of a map, in position order, and their merges by the crossings between their regions. `Memory` comes
-/// where the pits or the merges are refused their memory.
+/// The pits of a map, in position order, and their merges by the crossings between their regions.
 pub fn merges_of_passes<S: Side, G: Heights>(
     alloc: Global,
     _grid: &G,
@@ -47,8 +46,7 @@ pub fn merges_of_passes<S: Side, G: Heights>(
     Ok(PitMerges { lows, merges })
 }
 
-/// The pits of these regions and their merges. `Memory` comes where the passes, the pits or the merges are refused
-/// their memory.
+/// The pits of these regions and their merges.
 pub fn merges_of_regions<S: Side, G: Heights>(
     alloc: Global,
     grid: &G,
@@ -81,7 +79,7 @@ pub fn into_merges<S: Side, G: Heights>(
 }
 
 /// The pits of a map, in position order, and their merges by the crossings between their regions, which name the pits
-/// by their places. `Memory` comes where the pits or the merges are refused their memory.
+/// by their places.
 pub fn merges_of_crossings<S: Side, G: Heights>(
     alloc: Global,
     grid: &G,

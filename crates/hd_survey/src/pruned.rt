@@ -32,8 +32,7 @@ pub struct PrunedRegions {
 }
 
 /// The pruning of a grid on a side at a percent, by what was found of the side, to which the merges of the pits and
-/// the regions are added. The region of each point, which it needs, is given up with it. `Memory` comes where these or
-/// the pruning are refused their memory.
+/// the regions are added. The region of each point, which it needs, is given up with it.
 pub fn pruned_side<S: Side, G: Heights>(
     alloc: Global,
     grid: &G,
@@ -71,7 +70,6 @@ pub fn pruned_side_by<S: Side, G: Heights, V: SideView<S>>(
 }
 
 /// A pruning of a grid on a side at a percent with the regions that it leaves of these, which are those of the grid.
-/// `Memory` comes where the list is refused its memory.
 pub fn regions_left<S: Side, G: Heights>(
     alloc: Global,
     grid: &G,
@@ -93,7 +91,7 @@ pub fn regions_left<S: Side, G: Heights>(
 }
 
 /// The pruning of the pits of a grid by a view of one of its sides and the merges of its pits. The range is that of
-/// the heights of the grid. `Memory` comes where the pruning is refused its memory.
+/// the heights of the grid.
 pub fn pruned_pits<S: Side, G: Heights, V: SideView<S>>(
     alloc: Global,
     grid: &G,

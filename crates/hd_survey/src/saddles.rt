@@ -18,7 +18,7 @@ use hd_map::{Heights, Rank, Side};
 use std::alloc::Global;
 
 /// The saddle of two different pits of a grid on a side, and none where no path joins them, by what was found
-/// of the side, to which the merges of the pits are added. `Memory` comes where these are refused their memory.
+/// of the side, to which the merges of the pits are added.
 pub fn saddle_between<S: Side, G: Heights>(
     alloc: Global,
     grid: &G,
@@ -41,8 +41,8 @@ pub fn saddle_between<S: Side, G: Heights>(
     saddle_of_merges::<S>(alloc, lows.as_slice(), merges.as_slice(), first, second)
 }
 
-/// By pit of a grid on a side, in position order, whether it is reached from this one below a saddle, by the merges of
-/// the pits, which were found. It takes 5 bytes a pit, and `Memory` comes where these are refused.
+/// By pit of a grid on a side, in position order, whether it is reached from this one below a saddle, by the merges
+/// of the pits, which were found. It takes 5 bytes a pit.
 pub fn reached_pits<S: Side, G: Heights>(
     alloc: Global,
     _grid: &G,

@@ -8,8 +8,7 @@ use hd_map::{Rank, RegionSize};
 use hd_steep::Regions;
 use std::alloc::Global;
 
-/// The regions with the numbers of their points, in position order of their pits. `Memory` comes where the
-/// counts or the list are refused their memory.
+/// The regions with the numbers of their points, in position order of their pits.
 pub fn list_sizes(alloc: Global, regions: &Regions) -> Result<List<RegionSize>, Memory>
     requires few { length regions.now.numbers < 2 ^ 32 }
     requires ordered { AllPairs (λ a b. a.index < b.index) regions.now.pits }

@@ -13,8 +13,7 @@ use hd_regions::Tally;
 use hd_steep::Regions;
 use std::alloc::Global;
 
-/// The tallies of the regions of a grid, in position order of their pits. `Memory` comes where the tallies
-/// are refused their memory.
+/// The tallies of the regions of a grid, in position order of their pits.
 pub fn region_tallies<S: Side, G: Heights>(
     alloc: Global,
     grid: &G,

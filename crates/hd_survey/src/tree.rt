@@ -12,8 +12,7 @@ use hd_list::Memory;
 use hd_map::{Heights, Side};
 use std::alloc::Global;
 
-/// The change tree of a grid on a side, by what was found of it, to which the merges of the pits are added. `Memory`
-/// comes where the merges or the tree are refused their memory.
+/// The change tree of a grid on a side, by what was found of it, to which the merges of the pits are added.
 pub fn change_tree<S: Side, G: Heights>(
     alloc: Global,
     grid: &G,

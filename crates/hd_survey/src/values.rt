@@ -25,8 +25,7 @@ use hd_num::Frac;
 use std::alloc::Global;
 
 /// The value of a parameter of a grid, which is none where no region is significant or no point is
-/// present. If it is a sum, then one of two means of local heights. `Memory` comes where the pruning or
-/// the evaluation is refused its memory.
+/// present. If it is a sum, then one of two means of local heights.
 pub fn parameter_value<G: Heights>(
     alloc: Global,
     grid: &G,
@@ -50,7 +49,7 @@ pub fn parameter_value<G: Heights>(
 }
 
 /// The value of a notation of a grid, which is none where no region is significant or no point is
-/// present. `Memory` comes where the pruning or the evaluation is refused its memory.
+/// present.
 pub fn notation_value<G: Heights>(
     alloc: Global,
     grid: &G,
@@ -66,8 +65,7 @@ pub fn notation_value<G: Heights>(
 }
 
 /// The regions of the notation's type after its pruning, in position order; where its significance and its
-/// attribute ask for neither points nor edges, these may be as if the regions had no points. `Memory` comes
-/// where the pruning or the list is refused its memory.
+/// attribute ask for neither points nor edges, these may be as if the regions had no points.
 pub fn notation_regions<G: Heights>(
     alloc: Global,
     grid: &G,

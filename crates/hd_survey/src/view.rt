@@ -23,18 +23,15 @@ pub trait SideView<S: Side> {
         ensures present { Present (map self.now) result }
         ensures root { IsRoot (map self.now) S.NAME (rank (map self.now) at) (rank (map self.now) result) };
 
-    /// The pits in position order, and their merges. `Memory` comes where these, or the passes between the
-    /// regions, are refused their memory.
+    /// The pits in position order, and their merges.
     fn merges(&self) -> Result<PitMerges, Memory>
         ensures { IfOk result (ArePitMerges (map self.now) S.NAME) };
 
-    /// The regions with the numbers of their points, in position order of their pits. `Memory` comes
-    /// where the list is refused its memory.
+    /// The regions with the numbers of their points, in position order of their pits.
     fn sizes(&self) -> Result<List<RegionSize>, Memory>
         ensures { IfOk result (AreRegionSizes (map self.now) S.NAME) };
 
-    /// The tallies of the regions, in position order of their pits. `Memory` comes where the list is
-    /// refused its memory.
+    /// The tallies of the regions, in position order of their pits.
     fn tallies(&self) -> Result<List<Tally>, Memory>
         ensures { IfOk result (AreRegionTallies (map self.now) S.NAME) };
 

@@ -1,5 +1,8 @@
 //! A grid in square tiles. Each tile has a stamp that rises with every change in it or beside it, and
 //! looks at the points are counted.
+//!
+//! `Memory` comes from every call that was refused memory it asked for; the doc of a call says so only where
+//! it says what else holds then.
 #![tactic(auto)]
 
 mod change;

@@ -30,8 +30,6 @@ pub struct Tiles<G: Grid> {
 
 impl<G: Grid> Tiles<G> {
     /// A surface in tiles of this side, from 8 to 256 points. Nothing has changed yet.
-    ///
-    /// `Memory` comes where the stamps are refused their memory.
     pub fn from_surface(alloc: Global, surface: G, side: u32) -> Result<Tiles<G>, Memory>
     where
         G: Drop,
