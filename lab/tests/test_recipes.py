@@ -69,15 +69,33 @@ def test_parallel_goes_on_from_where_it_stopped(files: list[str]) -> None:
     assert not list(Path().glob("table.csv.rows*"))
 
 
+def standing_in_ssh(shell: str) -> None:
+    """An ssh that runs its command here, with the login shell that a machine would give it."""
+    skip = 'while [ "$1" != there ]; do shift; done\nshift\n[ "$1" != -- ] || shift\n'
+    standing_in("ssh", f'{skip}echo "$@" >>asked-over-ssh\nSHELL={shell} exec sh -c "$*"\n')
+
+
+def parallel_over_ssh(files: list[str]) -> subprocess.CompletedProcess[bytes]:
+    return parallel(files, "--sshlogin", "2/there", "--workdir", os.getcwd(), "--env", "HILLDALE_PROGRAM")
+
+
 @needs("parallel", "parallel")
 def test_parallel_over_ssh(files: list[str]) -> None:
-    standing_in(
-        "ssh",
-        'while [ "$1" != there ]; do shift; done\nshift\n[ "$1" != -- ] || shift\necho "$@" >>asked-over-ssh\nexec sh -c "$*"\n',
-    )
-    ran = parallel(files, "--sshlogin", "2/there", "--workdir", os.getcwd(), "--env", "HILLDALE_PROGRAM")
+    standing_in_ssh("/bin/sh")
+    ran = parallel_over_ssh(files)
     assert ran.returncode == 0, ran.stderr
     assert Path("asked-over-ssh").exists()
+    assert Path("table.csv").read_bytes() == Path("batch.csv").read_bytes()
+
+
+@needs("parallel", "parallel")
+def test_parallel_tells_when_a_machine_ran_nothing(files: list[str]) -> None:
+    standing_in_ssh("")
+    ran = parallel_over_ssh(files)
+    assert ran.returncode == 1 and b"was not written" in ran.stderr
+    assert not Path("table.csv").exists()
+    standing_in_ssh("/bin/sh")
+    assert parallel_over_ssh(files).returncode == 0
     assert Path("table.csv").read_bytes() == Path("batch.csv").read_bytes()
 
 
