@@ -9,7 +9,7 @@ from hilldale_lab.commands.common import add_program, add_surface, open_surface
 from hilldale_lab.job import Job
 
 DESCRIPTION = """Prints the values that a job asks for, one a line: the name, the value in its unit, and the
-program's exact fraction. Limits are compared exactly. The status is 1 where one is not kept, or a line is refused."""
+program's exact fraction. Limits are compared exactly. The status is 1 if one is not met or a line is refused."""
 
 
 def add_parser(commands: argparse._SubParsersAction) -> None:

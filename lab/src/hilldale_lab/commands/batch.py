@@ -13,9 +13,9 @@ from hilldale_lab.commands.common import add_program
 from hilldale_lab.errors import LabError
 from hilldale_lab.job import Job
 
-DESCRIPTION = """Asks a job of each file and writes a table, a row a file, in their order. A file that holds no surface
-is a row with the reason. A fault of the machine stops; so does Ctrl-C. The rows that are done then stand in
-TABLE.partial, from where --resume goes on. The status is 1 where a limit is not kept or a file is refused."""
+DESCRIPTION = """Asks one job of each file and writes a table with a row for each, in their order. A file that is no
+surface gets a row with the reason. After a fault of the machine or Ctrl-C, the finished rows are in TABLE.partial, and
+--resume goes on from there. The status is 1 if a limit is not met or a file is refused."""
 BAR = 30
 
 
@@ -26,11 +26,11 @@ def add_parser(commands: argparse._SubParsersAction) -> None:
     parser.add_argument("files", metavar="FILE", nargs="+", help="surface files, or files that `import` reads")
     parser.add_argument("-o", dest="output", metavar="TABLE", required=True, help=".csv, .xlsx or .parquet")
     where = parser.add_mutually_exclusive_group()
-    where.add_argument("--workers", metavar="N", type=int, help="how many files at once (the processors there are)")
+    where.add_argument("--workers", metavar="N", type=int, help="files at once (default: as many as processors)")
     where.add_argument("--dask", metavar="ADDRESS", help="a scheduler of dask.distributed, as tcp://10.0.0.1:8786")
     parser.add_argument("--resume", action="store_true", help="go on from TABLE.partial")
     parser.add_argument("--excel", action="store_true", help="a CSV with semicolons and decimal commas")
-    parser.add_argument("--reports", metavar="FOLDER", help="write a report there of each file that is asked and FAILs")
+    parser.add_argument("--reports", metavar="FOLDER", help="write a report there of each file that FAILs")
     add_program(parser)
 
 

@@ -8,8 +8,8 @@ from pathlib import Path
 from hilldale_lab.commands.common import add_program, add_surface, open_surface
 from hilldale_lab.errors import LabError
 
-DESCRIPTION = """Has the program check a certificate against a surface, and tells in words what was accepted: kind,
-side, percent, neighbours, how many are kept, and the digest of the surface. The status is 4 where it is refused."""
+DESCRIPTION = """Lets the program check a certificate against a surface, and says in words what was accepted: kind,
+side, percent, neighbours, how many are kept, and the digest of the surface. The status is 4 if it is refused."""
 
 
 def add_parser(commands: argparse._SubParsersAction) -> None:

@@ -15,8 +15,8 @@ from hilldale_lab.formats import Imported, Options, import_file
 from hilldale_lab.formats.field import read_length
 
 DESCRIPTION = """Makes a surface file, which hilldale reads, of each FILE: SUR (MountainsMap), SDF, X3P, GSF, GWY, PLUx,
-AL3D, OPD, text, and what Gwyddion reads where its reader is built. No height is rounded unless --step says so, missing
-points stay missing, and what a file doesn't tell is asked for."""
+AL3D, OPD, text, and what Gwyddion reads if its reader is built. No height is rounded without --step. Missing points
+stay missing. If a file does not name its units, you are asked for them."""
 MICROMETRE = Fraction(1, 10**6)
 
 
@@ -41,10 +41,10 @@ def add_parser(commands: argparse._SubParsersAction[argparse.ArgumentParser]) ->
 def add_options(parser: argparse.ArgumentParser) -> None:
     """Adds what the user may say of a file; `options_of` reads it."""
     add = parser.add_argument
-    add("--unit", metavar="U", help="the unit of the heights, as um, or the metres of the number 1")
-    add("--dx", metavar="D", help="from point to point, as 1um; a number alone is metres")
-    add("--dy", metavar="D", help="from profile to profile")
-    add("--step", metavar="S", help="round the heights to whole steps of S, as 1pm; the greatest rounding is told")
+    add("--unit", metavar="U", help="the unit of the heights, such as um; or how many metres the number 1 is")
+    add("--dx", metavar="D", help="the distance of points, such as 1um; a number alone is metres")
+    add("--dy", metavar="D", help="the distance of profiles")
+    add("--step", metavar="S", help="round heights to whole steps of S, such as 1pm; prints the greatest rounding")
     add(
         "--missing",
         metavar="V",
@@ -60,11 +60,11 @@ def add_options(parser: argparse.ArgumentParser) -> None:
         help="take a part: the first column and profile, from 0, and how many of each",
     )
     add("--channel", metavar="C", help="the channel, by its number from 1 or its name")
-    add("--skip", type=int, metavar="N", help="lines of a text before the numbers")
+    add("--skip", type=int, metavar="N", help="how many lines of a text stand before the numbers")
     add("--separator", choices=("comma", "semicolon", "tab", "blank"), help="what separates the numbers of a text")
     add("--xyz", action="store_true", help="each line of a text is a point: x, y and z")
     add("--xy-unit", metavar="U", help="the unit of x and y of a list of points")
-    add("--keep-masked", action="store_true", help="masked points of a GWY file are heights too")
+    add("--keep-masked", action="store_true", help="take the heights of masked points of a GWY file, too")
     add("--reader", choices=("own", "gwyddion"), help="which reader is right where two disagree")
 
 

@@ -7,9 +7,8 @@ import argparse
 from hilldale_lab.job import read_text
 from hilldale_lab.lint import lint
 
-DESCRIPTION = """Names each mistake of a job or a script, with its line and what was probably meant. The status is 1
-where there is one. It looks at no surface: whether a point is inside, or a height in its range, shows when the job
-is run."""
+DESCRIPTION = """Names each mistake of a job or a script, with its line and what was probably meant. The status is 1 if
+there is one. lint reads no surface, so a point outside it, or a height out of range, shows only when the job runs."""
 
 
 def add_parser(commands: argparse._SubParsersAction) -> None:

@@ -16,8 +16,8 @@ from hilldale_lab.packages import require
 from hilldale_lab.regions import Column, Regions
 from hilldale_lab.surface_file import replace_file
 
-DESCRIPTION = """Prints a table of the dales (D) or hills (H) that a pruning keeps: whole numbers as the program
-tells them, and beside them the same in um, um2 and um3. What is marked `lab's own` is measured here, and unproved."""
+DESCRIPTION = """Prints a table of the dales (D) or hills (H) that a pruning keeps: the program's whole numbers, and
+beside them the same in um, um2 and um3. Columns marked `lab's own` are measured by hilldale-lab, and unproved."""
 OWN = "lab's own: "
 
 
@@ -28,10 +28,10 @@ def add_parser(commands: argparse._SubParsersAction) -> None:
     )
     add_surface(parser)
     parser.add_argument("side", metavar="SIDE", choices=("D", "H"), help="D for dales, H for hills")
-    parser.add_argument("percent", metavar="PERCENT", help="of the pruning, such as 5%%")
+    parser.add_argument("percent", metavar="PERCENT", help="the percentage of the pruning, such as 5%%")
     parser.add_argument("--at", metavar="HEIGHT", help="a height C, such as '-1.2 um' or '-0.3 um from mean'")
     parser.add_argument("--job", metavar="JOB", help="a job whose edits come first")
-    parser.add_argument("-o", dest="output", metavar="FILE", help="a table in place of the text: FILE.csv or FILE.xlsx")
+    parser.add_argument("-o", dest="output", metavar="FILE", help="write the table to FILE.csv or FILE.xlsx")
     add_program(parser)
 
 

@@ -11,9 +11,8 @@ from hilldale_lab.job import Job
 from hilldale_lab.packages import require
 from hilldale_lab.surface_file import replace_file
 
-DESCRIPTION = """Writes a report that stands alone, and beside it what a customer checks it by: the surface as it was
-judged, the questions, certificates of each pruning, and tables of all regions. The status is 1 where a limit is not
-kept."""
+DESCRIPTION = """Writes a report, and beside it the files by which a customer checks it: the surface that was judged,
+the questions, a certificate of each pruning, and tables of all regions. The status is 1 if a limit is not met."""
 
 
 def add_parser(commands: argparse._SubParsersAction) -> None:

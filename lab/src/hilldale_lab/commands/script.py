@@ -8,8 +8,8 @@ import sys
 from hilldale_lab.commands.common import add_program, add_surface, open_surface
 from hilldale_lab.job import Job
 
-DESCRIPTION = """Prints the script that the program runs for a job: whole steps in place of units, and a line for
-each run of points that a mask by rule takes. `hilldale run` with it gives the same answers."""
+DESCRIPTION = """Prints the script that the program runs for a job: whole steps instead of units, and a line `mask` for
+each row of points that a mask of the job takes. `hilldale run` gives the same answers with it."""
 
 
 def add_parser(commands: argparse._SubParsersAction) -> None:

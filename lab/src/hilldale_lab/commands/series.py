@@ -8,8 +8,8 @@ from pathlib import Path
 from hilldale_lab.errors import LabError
 from hilldale_lab.surface_file import replace_file
 
-DESCRIPTION = """Writes a page of a table that `batch` made: of each parameter mean, least, greatest, standard
-deviation, a run chart with its limits and a histogram; and what does not pass, with links to the reports."""
+DESCRIPTION = """Writes a page of a table that `batch` made: mean, least, greatest and standard deviation of each
+parameter, a run chart with its limits, and a histogram; and the files that do not pass, with links to their reports."""
 
 
 def add_parser(commands: argparse._SubParsersAction) -> None:
