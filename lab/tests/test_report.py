@@ -173,7 +173,7 @@ def test_the_customer_checks_it(shown: Path, program: str, root: Path) -> None:
 def test_what_a_report_says(shown: Path, root: Path) -> None:
     page = shown.read_text(encoding="utf-8")
     assert "Bearing shell 12 &lt;upper half&gt;" in page and "a grain of dust &amp; no part" in page
-    assert '<p class="word">PASS</p><p>All 3 limits are kept.</p>' in page
+    assert '<p class="word">PASS</p><p>All 3 limits are met.</p>' in page
     assert "Of 384 points 7 were not measured, and 2 are masked." in page
     assert "<dt>Levelled</dt><dd>plane by least squares</dd>" in page
     assert hashlib.sha256((root / "samples" / "pockets.sdf").read_bytes()).hexdigest() in page
@@ -201,7 +201,7 @@ def test_a_limit_that_is_not_kept(root: Path, tmp_path: Path, capsys: pytest.Cap
     ]
     assert main(words) == 1
     page = (tmp_path / "r.html").read_text(encoding="utf-8")
-    assert '<p class="word">FAIL</p><p>1 of 3 limits is not kept: Sda at -350 nm.</p>' in page
+    assert '<p class="word">FAIL</p><p>1 of 3 limits is not met: Sda at -350 nm.</p>' in page
     assert [row[5] for row in tables_of(page)[0][1:] if row[4]] == ["pass", "pass", "FAIL"]
     assert capsys.readouterr().out == f"FAIL: {tmp_path / 'r.html'}\n"
     assert sorted(place.name for place in tmp_path.iterdir()) == ["job.toml", "r.html"]

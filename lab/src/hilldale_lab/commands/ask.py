@@ -21,7 +21,7 @@ def add_parser(commands: argparse._SubParsersAction) -> None:
 
 
 def run(arguments: argparse.Namespace) -> int:
-    """Prints the values. Gives 1 where a limit is not kept."""
+    """Prints the values. Gives 1 where a limit is not met."""
     job = Job.read(arguments.job)
     result = job.ask(open_surface(arguments.surface, job.options))
     sys.stdout.write(result.text)

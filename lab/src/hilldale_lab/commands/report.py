@@ -28,7 +28,7 @@ def add_parser(commands: argparse._SubParsersAction) -> None:
 
 
 def run(arguments: argparse.Namespace) -> int:
-    """Writes the report. Gives 1 where a limit is not kept."""
+    """Writes the report. Gives 1 where a limit is not met."""
     output = Path(arguments.output)
     if output.suffix.lower() not in (".html", ".pdf"):
         raise LabError(f'"{output}": a report ends with .html or .pdf')

@@ -100,12 +100,12 @@ def verdict_of(result: Result) -> dict[str, str]:
     if not limited:
         return {"kind": "none", "word": "NO LIMITS", "text": "The job states no limits, so there is no verdict."}
     if failed and len(limited) == 1:
-        return {"kind": "fail", "word": "FAIL", "text": f"The one limit is not kept: {failed[0]}."}
+        return {"kind": "fail", "word": "FAIL", "text": f"The one limit is not met: {failed[0]}."}
     if failed:
-        many = f"{len(failed)} of {len(limited)} limits {'is' if len(failed) == 1 else 'are'} not kept"
+        many = f"{len(failed)} of {len(limited)} limits {'is' if len(failed) == 1 else 'are'} not met"
         return {"kind": "fail", "word": "FAIL", "text": f"{many}: {', '.join(failed)}."}
-    kept = "The one limit is kept." if len(limited) == 1 else f"All {len(limited)} limits are kept."
-    return {"kind": "pass", "word": "PASS", "text": kept}
+    met = "The one limit is met." if len(limited) == 1 else f"All {len(limited)} limits are met."
+    return {"kind": "pass", "word": "PASS", "text": met}
 
 
 def _row(row: Row) -> dict[str, Any]:
