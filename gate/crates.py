@@ -48,8 +48,8 @@ def page(root: Path) -> str:
 
 INTRODUCTION = """# Crates
 
-`gate/crates.py` makes this page. A crate stands on the public contracts of others, named here unless it reaches them by
-another; `crates.txt` has all. Its proofs also cite lemmas.
+`gate/crates.py` makes this page. A crate stands on the public contracts of others: the second column names them but for
+those that it reaches by another; `crates.txt` has all. The third column names the crates whose lemmas its proofs cite.
 """
 
 if __name__ == "__main__":
