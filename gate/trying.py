@@ -76,7 +76,7 @@ def filtered(rows: list[list], element: list[list], greatest: bool) -> list[list
     """The dilation or the erosion by an element, of points of which None is not present."""
     high, wide, sign = len(element) // 2, len(element[0]) // 2, 1 if greatest else -1
     offsets = [(u, v, b) for v, line in enumerate(element, -high) for u, b in enumerate(line, -wide) if b is not None]
-    def at(x, y):
+    def at(x: int, y: int) -> int:
         here = [sign * rows[y - sign * v][x - sign * u] + b for u, v, b in offsets
                 if 0 <= x - sign * u < len(rows[0]) and 0 <= y - sign * v < len(rows) and rows[y - sign * v][x - sign * u] is not None]
         return sign * max(here)

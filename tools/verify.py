@@ -1,18 +1,26 @@
 #!/usr/bin/env python3
 """verify.py SURFACE CERT: checks a saddle certificate or a pruning certificate against a surface file, by
 docs/FORMATS.md alone. The surface file is taken to have its form: `hilldale dales SURFACE` refuses one that has not."""
+from __future__ import annotations
+
 import re
 import sys
 from array import array
+from typing import BinaryIO, Callable, Iterator, Optional, Sequence, Tuple, Union
 
 BLANKS = b" \t\r"
+Point = Tuple[int, int]  # column and profile
+Points = Tuple[Sequence[int], Sequence[int]]  # their columns, and their profiles
+Fault = Tuple[int, Union[int, Point]]  # the number of a rule, and the point or its index
+Below = Callable[[int, int], bool]
+Near = Callable[[int], Iterator[int]]
 
 
 class Unreadable(Exception):
     """The number of the first line of a certificate that has not its form."""
 
 
-def whole(word, form=rb"[+-]?[0-9]+"):
+def whole(word: bytes, form: bytes = rb"[+-]?[0-9]+") -> int | None:
     """The whole number of a word, or None; leading zeros may be as many as they like."""
     if not re.fullmatch(form, word):
         return None
@@ -20,7 +28,7 @@ def whole(word, form=rb"[+-]?[0-9]+"):
     return -int(digits) if word[:1] == b"-" else int(digits)
 
 
-def decimal(word):
+def decimal(word: bytes) -> tuple[int, int]:
     """The value of a decimal in units of its last place, and how many places it has."""
     sign, before, after, power = re.fullmatch(rb"([+-]?)([0-9]*)\.?([0-9]*)(?:[eE]([+-]?[0-9]{1,3}))?", word).groups()
     places = len(after) - int(power or 0)
@@ -31,7 +39,7 @@ def decimal(word):
 class Surface:
     """The heights by index, and which points are present."""
 
-    def __init__(self, name):
+    def __init__(self, name: str) -> None:
         with open(name, "rb") as file:
             keys, line = {}, file.readline()
             while (line := file.readline().strip(BLANKS + b"\n")) != b"*":
@@ -54,16 +62,16 @@ class Surface:
         of_points = [h for h, there in zip(self.heights, self.present) if there]
         self.span = max(of_points) - min(of_points) if of_points else 0
 
-    def under(self, side, setting):
+    def under(self, side: bytes, setting: int) -> tuple[Below, Near]:
         """Whether a point is below another one, and the neighbours of a point in position order."""
         heights, present, points, profiles = self.heights, self.present, self.points, self.profiles
         steps = [(y, x) for y in (-1, 0, 1) for x in (-1, 0, 1) if (y, x) != (0, 0)]
         steps = [(y, x) for y, x in steps if setting == 8 or x * y == 0 or setting == 6 and x == y]
 
-        def below(p, q):
+        def below(p: int, q: int) -> bool:
             return (heights[p], p) < (heights[q], q) if side == b"D" else (heights[q], q) < (heights[p], p)
 
-        def near(p):
+        def near(p: int) -> Iterator[int]:
             row, column = divmod(p, points)
             for y, x in steps:
                 if 0 <= row + y < profiles and 0 <= column + x < points and present[p + y * points + x]:
@@ -75,14 +83,14 @@ class Surface:
 class Lines:
     """The lines of a certificate, by their words."""
 
-    def __init__(self, file, points):
+    def __init__(self, file: BinaryIO, points: int) -> None:
         self.file, self.points, self.number = file, points, 0
 
-    def need(self, holds):
+    def need(self, holds: object) -> None:
         if not holds:
             raise Unreadable(self.number)
 
-    def words(self, count, *head):
+    def words(self, count: int | None, *head: bytes) -> list[bytes]:
         """The words of the next line after its head: so many, or any number for None."""
         line = self.file.readline()
         self.number += 1
@@ -91,20 +99,20 @@ class Lines:
         self.need(found[: len(head)] == list(head) and count in (None, len(found) - len(head)))
         return found[len(head):]
 
-    def value(self, word, form, least, greatest):
+    def value(self, word: bytes, form: bytes, least: int, greatest: int) -> int:
         value = whole(word, form)
         self.need(value is not None and least <= value <= greatest)
         return value
 
-    def count(self, word):
+    def count(self, word: bytes) -> int:
         return self.value(word, rb"[0-9]+", 0, 2**32 - 1)
 
-    def point(self, *head):
+    def point(self, *head: bytes) -> Point:
         """The column and the profile of a point."""
         x, y = self.words(2, *head)
         return self.count(x), self.count(y)
 
-    def all_points(self, key):
+    def all_points(self, key: bytes) -> Points:
         columns, profiles = array("q"), array("q")
         for _ in range(self.count(self.words(1, key)[0])):
             x, y = self.point()
@@ -112,13 +120,13 @@ class Lines:
             profiles.append(y)
         return columns, profiles
 
-    def end(self):
+    def end(self) -> None:
         self.words(0, b"end")
         while line := self.file.readline():
             self.number += 1
             self.need(not line.strip(BLANKS + b"\n"))
 
-    def saddle_certificate(self, side, setting):
+    def saddle_certificate(self, side: bytes, setting: bytes) -> tuple:
         self.need(side in (b"D", b"H") and setting in (b"4", b"6", b"8"))
         start, goal, saddle, path = self.point(b"from"), self.point(b"to"), None, ((), ())
         found = self.words(None, b"saddle")
@@ -131,7 +139,7 @@ class Lines:
         self.end()
         return side, int(setting), start, goal, saddle, path, cut
 
-    def pruning_certificate(self, side, percent, setting):
+    def pruning_certificate(self, side: bytes, percent: bytes, setting: bytes) -> tuple:
         self.need(side in (b"D", b"H") and setting in (b"4", b"6", b"8"))
         form = re.fullmatch(rb"([0-9]{1,3})(?:\.([0-9]{1,3}))?%", percent)
         self.need(form)
@@ -147,15 +155,18 @@ class Lines:
         return side, thousandths, int(setting), *lines
 
 
-def saddle_faults(surface, side, setting, start, goal, saddle, path, cut):
+def saddle_faults(
+    surface: Surface, side: bytes, setting: int, start: Point, goal: Point, saddle: Optional[Tuple[Point, int]],
+    path: Points, cut: Points,
+) -> Iterator[Fault]:
     """Each rule of a saddle certificate that fails and where, in order."""
     below, near = surface.under(side, setting)
     top, height = saddle or (None, None)
 
-    def there(at):
+    def there(at: Point) -> bool:
         return at[0] < surface.points and at[1] < surface.profiles and surface.present[index(at)]
 
-    def index(at):
+    def index(at: Point) -> int:
         return at[1] * surface.points + at[0]
 
     for at in [start, goal, *([top] if saddle else [])]:
@@ -182,17 +193,20 @@ def saddle_faults(surface, side, setting, start, goal, saddle, path, cut):
     yield from ((11, q) for p in cut for q in near(p) if not members[q] and not (saddle and not below(q, top)))
 
 
-def pruning_faults(surface, side, thousandths, setting, points, parents, cuts):
+def pruning_faults(
+    surface: Surface, side: bytes, thousandths: int, setting: int,
+    points: Sequence[int], parents: Sequence[int], cuts: Sequence[int],
+) -> Iterator[Fault]:
     """Each rule of a pruning certificate that fails and where, in order. A line is known by its place."""
     below, near = surface.under(side, setting)
     heights, present, count = surface.heights, surface.present, surface.count
     place = array("q", [-1]) * count
 
-    def within(c, x):
+    def within(c: int, x: int) -> bool:
         rise = heights[x] - heights[c] if side == b"D" else heights[c] - heights[x]
         return rise * 100000 < thousandths * surface.span
 
-    def line_of(p):
+    def line_of(p: int) -> int:
         return place[p] if p < count else -1
 
     for k, p in enumerate(points):
@@ -220,7 +234,7 @@ def pruning_faults(surface, side, thousandths, setting, points, parents, cuts):
                 yield 18, p
 
 
-def faults(surface, file):
+def faults(surface: Surface, file: BinaryIO) -> Iterator[Fault]:
     """The rules that fail of the certificate in a file, and where; first of all it is read."""
     lines = Lines(file, surface.points)
     kind, *head = lines.words(None) or [b""]
@@ -230,13 +244,13 @@ def faults(surface, file):
     return saddle_faults(surface, *lines.saddle_certificate(*head))
 
 
-def cannot_read(error, name):
+def cannot_read(error: OSError, name: str) -> int:
     print("read fault")
     print(f'verify.py: cannot read "{name}": {error.strerror}', file=sys.stderr)
     return 5
 
 
-def main(names):
+def main(names: list[str]) -> int:
     if len(names) != 2:
         print("usage: verify.py SURFACE CERT", file=sys.stderr)
         return 2

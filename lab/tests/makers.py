@@ -9,6 +9,7 @@ import hashlib
 import io
 import struct
 import zipfile
+import zlib
 
 Rows = list[list]
 
@@ -59,15 +60,16 @@ def sur(
     struct.pack_into(order + "f", head, 474, offset)
     kind = "h" if bits == 16 else "i"
     points = struct.pack(f"{order}{width * height}{kind}", *[least - 2 if v is None else v for v in flat(rows)])
-    if compressed:
-        import zlib
+    return bytes(head) + comment + private + (folded(points, blocks) if compressed else points)
 
-        step = -(-len(points) // blocks)
-        parts = [points[at : at + step] for at in range(0, len(points), step)]
-        folded = [zlib.compress(part) for part in parts]
-        table = b"".join(struct.pack("<II", len(part), len(small)) for part, small in zip(parts, folded))
-        points = struct.pack("<I", len(parts)) + table + b"".join(folded)
-    return bytes(head) + comment + private + points
+
+def folded(points: bytes, blocks: int) -> bytes:
+    """The points as so many compressed blocks behind their lengths."""
+    step = -(-len(points) // blocks)
+    parts = [points[at : at + step] for at in range(0, len(points), step)]
+    small = [zlib.compress(part) for part in parts]
+    lengths = b"".join(struct.pack("<II", len(part), len(less)) for part, less in zip(parts, small))
+    return struct.pack("<I", len(parts)) + lengths + b"".join(small)
 
 
 def binary_sdf(rows, scales=(5e-7, 4e-7, 1.234e-10), kind=6, order="<", version=b"bBCR-1.0", longer=False):
@@ -149,20 +151,7 @@ def x3p(
         each = "".join("<Datum/>" if v is None else f"<Datum>{v!r}</Datum>" for v in values)
         points = f"<DataList>{each if datums is None else datums}</DataList>"
     else:
-        form = {"I": "h", "L": "i", "F": "f", "D": "d"}[code]
-        data = struct.pack(f"<{len(values)}{form}", *[0 if v is None else v for v in values])
-        valid = bytearray((len(values) + 7) // 8)
-        for index, value in enumerate(values):
-            valid[index // 8] |= (value is not None) << index % 8
-        parts = {"bindata/data.bin": data}
-        sum_told = md5(b"" if wrong_md5 else data)
-        points = f"<DataLink><PointDataLink>{link}</PointDataLink>"
-        points += f"<MD5ChecksumPointData>{sum_told}</MD5ChecksumPointData>"
-        if None in values:
-            parts["bindata/valid.bin"] = bytes(valid)
-            points += "<ValidPointsLink>bindata/valid.bin</ValidPointsLink>"
-            points += f"<MD5ChecksumValidPoints>{md5(bytes(valid))}</MD5ChecksumValidPoints>"
-        points += "</DataLink>"
+        points, parts = linked(values, code, link, wrong_md5)
     main = X3P.format(
         dtd=dtd,
         dx=distances[0],
@@ -176,6 +165,23 @@ def x3p(
     ).encode()
     parts = {"main.xml": main, "md5checksum.hex": f"{md5(main)} *main.xml\n".encode(), **parts, **dict(extra)}
     return zipped(parts, compression)
+
+
+def linked(values: list, code: str, link: str, wrong_md5: bool) -> tuple[str, dict[str, bytes]]:
+    """What the XML says of points in a part of their own, and that part, with the one that tells which are measured."""
+    form = {"I": "h", "L": "i", "F": "f", "D": "d"}[code]
+    data = struct.pack(f"<{len(values)}{form}", *[0 if v is None else v for v in values])
+    parts = {"bindata/data.bin": data}
+    points = f"<PointDataLink>{link}</PointDataLink>"
+    points += f"<MD5ChecksumPointData>{md5(b'' if wrong_md5 else data)}</MD5ChecksumPointData>"
+    if None in values:
+        valid = bytearray((len(values) + 7) // 8)
+        for index, value in enumerate(values):
+            valid[index // 8] |= (value is not None) << index % 8
+        parts["bindata/valid.bin"] = bytes(valid)
+        points += "<ValidPointsLink>bindata/valid.bin</ValidPointsLink>"
+        points += f"<MD5ChecksumValidPoints>{md5(bytes(valid))}</MD5ChecksumValidPoints>"
+    return f"<DataLink>{points}</DataLink>", parts
 
 
 def zipped(parts, compression=zipfile.ZIP_DEFLATED):
