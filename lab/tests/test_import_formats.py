@@ -277,6 +277,12 @@ def test_the_mark_of_an_al3d(tmp_path, mark):
     assert rows_back(found) == [[1, None, 3]]
 
 
+@pytest.mark.parametrize("mark", ["--5", "1_0", "none", "1e"])
+def test_a_mark_of_an_al3d_that_is_no_number(tmp_path, mark):
+    with pytest.raises(InputRefused, match="the tag InvalidPixelValue: no number"):
+        imported(tmp_path, makers.al3d([[1.0, 2.0]], mark=mark))
+
+
 def test_objects_that_are_no_surface(tmp_path):
     data = bytearray(makers.sur([[1, 2]]))
     struct.pack_into("<h", data, 18, 12)

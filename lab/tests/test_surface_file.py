@@ -89,6 +89,14 @@ def test_what_is_refused_names_its_place(old, new, place):
     assert refused.value.place == place
 
 
+@pytest.mark.parametrize("other", [b"2", b"BAD"])
+@pytest.mark.parametrize("word", [b"-9223372036854775808", b"-99999999999999999999", b"BAD5", b"5BAD", b"BADBAD"])
+def test_no_word_but_bad_is_a_missing_point(word, other):
+    text = b"aBCR-1.0\nNumPoints = 2\nNumProfiles = 1\nXscale = 1\nYscale = 1\nZscale = 1\nDataType = 6\n*\n"
+    with pytest.raises(InputRefused):
+        surface_file.parse(text + word + b" " + other + b"\n*\n", "a")
+
+
 def test_a_scale_that_is_no_decimal_is_not_written():
     with pytest.raises(LabError):
         surface_file.encode(a_map([[1]], step=Fraction(1, 3)))

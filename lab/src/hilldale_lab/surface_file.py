@@ -164,7 +164,7 @@ def _data(
     if len(starts) != count:
         raise InputRefused(name, "the data", f"{len(starts)} data are there, and the header names {count} points")
     if not is_decimal:
-        found = whole_numbers(text, data[header.data_at : end], count)
+        found = whole_numbers(data[header.data_at : end], count)
         if found is not None:
             return found, 0
     is_bad = (ends - starts == 3) & (text[starts] == ord("B"))
@@ -196,11 +196,11 @@ def _data_end(data: bytes, start: int) -> int:
     return len(data)
 
 
-def whole_numbers(text: NDArray[np.uint8], data: bytes, count: int) -> NDArray[np.int64] | None:
+def whole_numbers(data: bytes, count: int) -> NDArray[np.int64] | None:
     """The whole numbers of a text that has nothing else but BAD, or None where it is not so simple."""
-    marked = data.replace(b"BAD", b"-9223372036854775808")
-    if marked is not data and b"9223372036854775808" in data:
+    if re.search(rb"BAD[^ \t\r\n]", data):
         return None
+    marked = data.replace(b"BAD", b"-9223372036854775808")
     text = np.frombuffer(marked, np.uint8)
     blank = IS_BLANK[text]
     sign = (text == ord("-")) | (text == ord("+"))
@@ -209,8 +209,11 @@ def whole_numbers(text: NDArray[np.uint8], data: bytes, count: int) -> NDArray[n
     if sign[-1:].any():
         return None
     numbers = np.fromstring(marked, np.int64, sep=" ")
-    is_far = (numbers != UNMEASURED) & (np.abs(numbers) > MOST_STEPS)
-    return None if len(numbers) != count or is_far.any() else numbers
+    is_bad = numbers == UNMEASURED
+    # The least number of 64 bits stands for BAD, and where it stands itself it would pass for one.
+    if len(numbers) != count or np.count_nonzero(is_bad) != data.count(b"BAD"):
+        return None
+    return None if (~is_bad & (np.abs(numbers) > MOST_STEPS)).any() else numbers
 
 
 def encode(surface: HeightMap, version: str = "aISO-1.0") -> bytes:

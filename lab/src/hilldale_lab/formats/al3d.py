@@ -9,6 +9,7 @@ from fractions import Fraction
 
 import numpy as np
 
+from hilldale_lab.decimals import parse_decimal
 from hilldale_lab.formats.field import Field, Options, Source, scale_of, table_of
 
 NAME = "AL3D of Alicona"
@@ -33,8 +34,7 @@ def read(source: Source, options: Options) -> Field:
     measured = np.isfinite(values)
     mark = tags.get("InvalidPixelValue", "")
     if mark.lower() not in ("", "nan"):
-        number = scale_of(mark.lstrip("-"))
-        if number is None and mark.strip("-0.") != "":
+        if parse_decimal(mark) is None:
             raise source.refuse("the tag InvalidPixelValue", f"no number: {mark}")
         if not options.no_marks:
             measured &= values != np.float32(float(mark))
