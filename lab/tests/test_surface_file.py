@@ -97,6 +97,15 @@ def test_no_word_but_bad_is_a_missing_point(word, other):
         surface_file.parse(text + word + b" " + other + b"\n*\n", "a")
 
 
+def test_a_file_that_is_replaced_gives_no_more_rights(tmp_path: Path):
+    kept = tmp_path / "a.csv"
+    kept.write_text("old")
+    kept.chmod(0o600)
+    surface_file.replace_file(kept, b"new")
+    assert kept.read_bytes() == b"new" and kept.stat().st_mode & 0o777 == 0o600
+    assert list(tmp_path.iterdir()) == [kept]
+
+
 def test_a_scale_that_is_no_decimal_is_not_written():
     with pytest.raises(LabError):
         surface_file.encode(a_map([[1]], step=Fraction(1, 3)))

@@ -273,16 +273,20 @@ def write(path: str | os.PathLike[str], surface: HeightMap) -> None:
 
 
 def replace_file(path: str | os.PathLike[str], data: bytes) -> None:
-    """Writes a file whole beside the old one, and then puts it in its place. What is no file, as a pipe, is written as
-    it stands. Raises LabError, with status 6, where it cannot be written."""
+    """Writes a file whole beside the old one, and then puts it in its place; nobody may do more with it than with the
+    old one. What is no file, as a pipe, is written as it stands. Raises LabError, with status 6, where it cannot be
+    written."""
     target = Path(os.path.realpath(path))
     try:
         if target.exists() and not target.is_file():
             target.write_bytes(data)
             return
+        allowed = target.stat().st_mode & 0o666 if target.exists() else 0o666
         beside = target.with_name(f"{target.name}.new{os.getpid()}")
+        beside.unlink(missing_ok=True)
         try:
-            beside.write_bytes(data)
+            with open(os.open(beside, os.O_WRONLY | os.O_CREAT | os.O_EXCL, allowed), "wb") as file:
+                file.write(data)
             os.replace(beside, target)
         finally:
             beside.unlink(missing_ok=True)
