@@ -3,7 +3,10 @@
 from __future__ import annotations
 
 import argparse
+import errno
 import importlib
+import io
+import os
 import sys
 from collections.abc import Sequence
 from types import ModuleType
@@ -26,6 +29,7 @@ COMMANDS = {
     "batch": ("batch", "do one job on a folder of files"),
     "series": ("series", "compare the surfaces of a series"),
 }
+OUTPUT_FAULTS = (errno.EPIPE, errno.ENOSPC, errno.EFBIG, errno.EDQUOT, errno.EIO)
 DESCRIPTION = """Files of instruments, questions, pictures and reports around hilldale.
 hilldale's numbers are proved; hilldale-lab is not, and shows the program's exact fractions."""
 
@@ -65,16 +69,39 @@ def main(words: Sequence[str] | None = None) -> int:
     name = words[0] if words and words[0] in COMMANDS else None
     try:
         require(*BASE)
+        _open_output()
         arguments = parser_for(name).parse_args(words)
-        return int(command_module(arguments.command).run(arguments))
+        status = int(command_module(arguments.command).run(arguments))
+        sys.stdout.flush()
+        return status
     except LabError as error:
         print(f"hilldale-lab: {error}", file=sys.stderr)
         return error.status
-    except BrokenPipeError:
-        sys.stderr.close()
-        return 6
+    except MemoryError:
+        print("hilldale-lab: not enough memory", file=sys.stderr)
+        return 7
     except OSError as error:
-        print(f"hilldale-lab: {one_line(str(error.filename or ''))}: {error.strerror or error}", file=sys.stderr)
-        return 5
+        return _fault_status(error)
     except KeyboardInterrupt:
         return 130
+
+
+def _open_output() -> None:
+    """Makes the output take any text, whatever the locale has signs for. Raises LabError where it is closed."""
+    if sys.stdout is None:
+        raise LabError("the standard output is closed", 6)
+    if isinstance(sys.stdout, io.TextIOWrapper):
+        sys.stdout.reconfigure(errors="backslashreplace")
+
+
+def _fault_status(error: OSError) -> int:
+    """Tells a fault of the system, but not that a reader of the output went away. Gives the status: 6 of the output, 5
+    of anything else."""
+    if error.filename is not None or error.errno not in OUTPUT_FAULTS:
+        print(f"hilldale-lab: {one_line(str(error.filename or ''))}: {error.strerror or error}", file=sys.stderr)
+        return 5
+    if not isinstance(error, BrokenPipeError):
+        print(f"hilldale-lab: cannot write the standard output: {error.strerror}", file=sys.stderr)
+    # What is left of the output is dropped. Else Python would try again at its end, and end with another status.
+    os.dup2(os.open(os.devnull, os.O_WRONLY), sys.stdout.fileno())
+    return 6
