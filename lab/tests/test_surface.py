@@ -20,7 +20,9 @@ from surfaces import height_maps, noise
 import hilldale_lab as lab
 from hilldale_lab import program as programs
 from hilldale_lab.answers import Tree, parse
+from hilldale_lab.file_rows import wanted_of
 from hilldale_lab.height_map import HeightMap
+from hilldale_lab.job import Job, edits_of
 
 
 @pytest.fixture(autouse=True)
@@ -265,6 +267,15 @@ def test_arrays() -> None:
         lab.Surface([[1]], dx=0, dy=1, step=1)
     with pytest.raises(lab.LabError):
         surface.mask_where(np.ones((1, 1), bool))
+
+
+@pytest.mark.parametrize("line", ["\f", "\u00a0", "info\u00a0", " " * 5000])
+def test_words_are_parted_as_the_program_parts_them(line: str) -> None:
+    job = Job.from_text(f"param S10z\n{line}\ninfo\n", "a.txt")
+    assert [wanted.name for wanted in wanted_of(job)] == ["S10z"]
+    assert edits_of(job.text) == [";", line, ";"]
+    surface = lab.Surface([[1]], 1, 1, 1).line(line)
+    assert surface.replayed().steps.tolist() == [[1]] and surface.setting == 8
 
 
 EDITS = st.sampled_from(

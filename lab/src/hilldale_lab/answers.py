@@ -245,6 +245,16 @@ def script_lines(script: str) -> Iterator[tuple[int, str]]:
             yield number, line.strip(" \t\r")
 
 
+def line_words(line: str) -> list[str]:
+    """The words of a line of a script, as the program parts them: no other blank than these three does."""
+    return re.findall(r"[^ \t\r]+", line)
+
+
+def command_of(line: str) -> str:
+    """The first word of a line of a script; nothing where it has none."""
+    return next(iter(line_words(line)), "")
+
+
 def parse(output: bytes, script: str) -> list[Answer]:
     """The answers to a script, one for each line that is not skipped. Raises UnknownAnswer for any other line."""
     return [answer for answer, _ in parse_with_text(output, script)]
@@ -353,13 +363,12 @@ def _answer(lines: _Lines, number: int, text: str) -> Answer:
     """The answer to the line of this number. Raises UnknownAnswer."""
     if lines.peek().startswith(b"line "):
         match = lines.take(rf"line {number} (?:(ok)|refused: ({REFUSALS}))")
-        words = text.split()
         if not match[1]:
             return Refused(number, match[2])
-        if not words or words[0] not in EDITS:
+        if command_of(text) not in EDITS:
             raise UnknownAnswer(f"the program answered {match[0]!r} to {text[:80]!r}")
         return Accepted(number)
-    reader = READERS.get(text.split(maxsplit=1)[0] if text else "")
+    reader = READERS.get(command_of(text))
     if reader is None:
         raise lines.unknown(f"line {number} ok, or line {number} refused")
     return reader(lines)

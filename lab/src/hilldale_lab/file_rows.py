@@ -9,7 +9,7 @@ from collections.abc import Callable
 from dataclasses import dataclass
 from fractions import Fraction
 
-from hilldale_lab.answers import UnknownAnswer, script_lines
+from hilldale_lab.answers import UnknownAnswer, line_words, script_lines
 from hilldale_lab.asked import Asked
 from hilldale_lab.errors import InputRefused, LabError, MissingPackage, one_line
 from hilldale_lab.job import Job, Result, Row
@@ -116,7 +116,7 @@ def wanted_of(job: Job) -> list[Wanted]:
         return [_wanted(asked, job) for asked in job.asked]
     found: dict[str, Wanted] = {}
     for number, line in script_lines(job.text):
-        command, *words = line.split()
+        command, *words = line_words(line) or [""]
         if command in NUMBER_COMMANDS and words:
             name = line if command == "perc" else f"{words[0]} at {words[1]} steps" if words[1:] else words[0]
             name = f"{name} (line {number})" if name in found else name

@@ -12,7 +12,7 @@ from pathlib import Path
 from typing import Any
 
 from hilldale_lab import program
-from hilldale_lab.answers import EDITS, QUESTIONS, Info, Number, Refused, parse_with_text, script_lines
+from hilldale_lab.answers import EDITS, QUESTIONS, Info, Number, Refused, command_of, parse_with_text, script_lines
 from hilldale_lab.asked import Asked, meant
 from hilldale_lab.errors import LabError
 from hilldale_lab.levels import Level
@@ -224,7 +224,7 @@ class Job:
             if isinstance(answer, Number):
                 rows.append(_row_of(answer, line, surface))
                 told.append(f"{rows[-1]}\n")
-            elif line.split()[0] not in EDITS:
+            elif command_of(line) not in EDITS:
                 told.append(text)
         self.apply(surface)
         return Result(rows, self.text, surface, "".join(told))
@@ -234,7 +234,7 @@ def edits_of(script: str) -> list[str]:
     """The lines of a script without its questions: a comment stands in the place of each, so that lines keep their
     numbers."""
     lines = [line.rstrip("\r") for line in script.rstrip("\n").split("\n")]
-    return [";" if line.split()[:1] and line.split()[0] in QUESTIONS else line for line in lines]
+    return [";" if command_of(line) in QUESTIONS else line for line in lines]
 
 
 def _row_of(answer: Number, line: str, surface: Surface) -> Row:

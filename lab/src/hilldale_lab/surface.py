@@ -28,7 +28,9 @@ from hilldale_lab.answers import (
     Refused,
     Tree,
     UnknownAnswer,
+    command_of,
     is_skipped,
+    line_words,
     parse,
     script_lines,
 )
@@ -263,21 +265,21 @@ class Surface:
     @property
     def setting(self) -> int:
         """The setting of the neighbours: 4, 6 or 8."""
-        words = [text.split() for _, text in script_lines(self._text([]))]
-        found = [line[1] for line in words if line[0] == "neighbours" and len(line) == 2]
+        words = [line_words(text) for _, text in script_lines(self._text([]))]
+        found = [line[1] for line in words if len(line) == 2 and line[0] == "neighbours"]
         return int(found[-1]) if found and found[-1] in ("4", "6", "8") else 8
 
     def _kept_edits(self) -> list[list[str]]:
         """The words of the edits that no `undo` takes back. Raises LineRefused where a line has not its form."""
         kept: list[list[str]] = []
         for _, text in script_lines(self._text([])):
-            words = text.split()
-            is_edit = words[0] in HEIGHT_EDITS or words[0] in MASKS
-            if words[0] in ("undo", *MASKS) and not re.fullmatch(r"undo [0-9]+|(un)?mask( [0-9]+){4}", " ".join(words)):
+            words, command = line_words(text), command_of(text)
+            is_edit = command in HEIGHT_EDITS or command in MASKS
+            if command in ("undo", *MASKS) and not re.fullmatch(r"undo [0-9]+|(un)?mask( [0-9]+){4}", " ".join(words)):
                 self.ask("info")
             elif is_edit:
                 kept.append(words)
-            elif words[0] == "undo" and int(words[1]):
+            elif command == "undo" and int(words[1]):
                 del kept[-int(words[1]) :]
         return kept
 
@@ -358,7 +360,7 @@ class Surface:
         """
         asked = [text for text in lines if not is_skipped(text)]
         for text in asked:
-            if "\n" in text or text.split()[0] in EDITS:
+            if "\n" in text or command_of(text) in EDITS:
                 raise LabError(f"{text!r} is no question")
         new = list(dict.fromkeys(text for text in asked if text not in self._answers))
         if new:

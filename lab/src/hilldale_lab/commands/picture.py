@@ -7,7 +7,6 @@ import sys
 
 import numpy as np
 
-from hilldale_lab.answers import QUESTIONS
 from hilldale_lab.commands.common import add_program, add_surface, open_surface
 from hilldale_lab.drawing import drawing_of
 from hilldale_lab.errors import LabError
@@ -68,20 +67,11 @@ def edited_surface(name: str, job_name: str | None, widest: int | None = None) -
     if job is None:
         return surface
     try:
-        if job.is_script:
-            surface.line(*numbered_edits(job.text))
-        else:
-            job.apply(surface)
+        job.apply(surface)
         surface.present()
     except LineRefused as error:
         raise LabError(f"{job_name}: {error.line}", 1) from error
     return surface
-
-
-def numbered_edits(script: str) -> list[str]:
-    """A script without its questions, each of which becomes an empty comment, so that every line keeps its number."""
-    lines = [line.replace("\r", " ") for line in script.split("\n")]
-    return [";" if not line.split() or line.split()[0] in QUESTIONS else line for line in lines]
 
 
 def letters(surface: Surface, side: str, percent: str | None, arguments: argparse.Namespace) -> str:

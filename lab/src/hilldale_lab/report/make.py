@@ -4,7 +4,7 @@ from __future__ import annotations
 
 from collections.abc import Sequence
 
-from hilldale_lab.answers import EDITS, PruningCertificate, Tree, script_lines
+from hilldale_lab.answers import EDITS, PruningCertificate, Tree, command_of, script_lines
 from hilldale_lab.job import Job, Result, Row
 from hilldale_lab.report.beside import Beside, customer_files, prunings_of, table_file
 from hilldale_lab.report.page import Report, Side, report_page
@@ -45,7 +45,7 @@ def rows_at_end(job: Job, rows: Sequence[Row]) -> Sequence[Row]:
     """The values that are those of the surface as the job leaves it: of a script those asked after its last edit."""
     if not job.is_script:
         return rows
-    words = [text.split()[0] for _, text in script_lines(job.text)]
+    words = [command_of(text) for _, text in script_lines(job.text)]
     last = max((place for place, word in enumerate(words) if word in EDITS), default=-1)
     count = sum(word in NUMBERS for word in words[last + 1 :])
     return rows[len(rows) - count :]
