@@ -269,6 +269,19 @@ def test_arrays() -> None:
         surface.mask_where(np.ones((1, 1), bool))
 
 
+def test_what_is_not_measured_may_hold_any_number() -> None:
+    surface = lab.Surface([[1, -(2**63)]], 1, 1, 1, measured=[[True, False]])
+    assert surface.map.steps.tolist() == [[1, 0]] and surface.map.missing == 1
+
+
+def test_an_element_whose_name_was_taken_is_defined_again() -> None:
+    surface = lab.Surface([[1]], 1, 1, 1)
+    for element in ("ball 1/2 mm 3x3", "ball 1.2 mm 3x3", "ball 1/2 mm 3x3", "ball 1/2 mm 3x3"):
+        surface.open(element)
+    commands = [text.split()[0] for text in surface.edits]
+    assert commands == ["element", "open", "element", "open", "element", "open", "open"]
+
+
 @pytest.mark.parametrize("line", ["\f", "\u00a0", "info\u00a0", " " * 5000])
 def test_words_are_parted_as_the_program_parts_them(line: str) -> None:
     job = Job.from_text(f"param S10z\n{line}\ninfo\n", "a.txt")

@@ -234,7 +234,8 @@ class Surface:
         if made is None:
             return self.line(f"{command} {words}")
         name, line = made
-        return self.line(*([] if line in self._lines else [line]), f"{command} {name}")
+        defined = (text for text in reversed(self._lines) if line_words(text)[:2] == ["element", name])
+        return self.line(*([] if next(defined, None) == line else [line]), f"{command} {name}")
 
     def dilate(self: Self, by: str) -> Self:
         """Dilates by an element: `flat 3x3`, `ball 1 mm 7x7`, or the name of one that was defined."""
@@ -484,10 +485,12 @@ def _steps_of(
     numbers = np.ma.getdata(heights)
     if numbers.dtype.kind == "f":
         there &= ~np.isnan(numbers)
-        numbers = _whole_steps(np.where(there, numbers, 0), step, rounding)
+    numbers = np.where(there, numbers, 0)
+    if numbers.dtype.kind == "f":
+        numbers = _whole_steps(numbers, step, rounding)
     if max(-int(numbers.min()), int(numbers.max())) > surface_file.MOST_STEPS:
         raise LabError("heights are beyond 2^53 steps")
-    return np.where(there, numbers, 0).astype(np.int64), there
+    return numbers.astype(np.int64), there
 
 
 def _whole_steps(metres: NDArray[np.floating], step: Fraction, rounding: str) -> NDArray[np.floating]:
