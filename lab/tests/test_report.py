@@ -17,6 +17,7 @@ from surfaces import noise
 
 from hilldale_lab import surface_file
 from hilldale_lab.cli import main
+from hilldale_lab.report.beside import Beside, check_commands
 
 JOB = """\
 title = "Bearing shell 12 <upper half>"
@@ -291,3 +292,12 @@ def test_100000_kept_dales(tmp_path: Path) -> None:
         and f"The 200 of greatest depth of {found[1]} are shown; all stand in noise.dales.csv." in page
     )
     assert len((tmp_path / "noise.dales.csv").read_text().splitlines()) == int(found[1]) + 1
+
+
+def test_names_with_blanks_stand_in_quotes() -> None:
+    ends = ("checked.sdf", "questions.txt", "dales-5.certificate")
+    assert check_commands([Beside(f"a part.{end}", "", b"") for end in ends]).splitlines() == [
+        "sha256sum 'a part'.*",
+        "hilldale check 'a part.checked.sdf' 'a part.dales-5.certificate'",
+        "hilldale run 'a part.checked.sdf' 'a part.questions.txt'",
+    ]

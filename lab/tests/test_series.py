@@ -16,7 +16,9 @@ import pytest
 from folders import JOB, ODD, make_folder
 
 from hilldale_lab.cli import main
-from hilldale_lab.series import read_folder, root_text
+from hilldale_lab.file_rows import report_name
+from hilldale_lab.series import _plain, read_folder, root_text
+from hilldale_lab.table import _excel_cell
 
 
 @pytest.fixture
@@ -82,3 +84,13 @@ def test_what_is_no_table(text: str, tmp_path: Path, capsys: pytest.CaptureFixtu
 )
 def test_roots(square: str, root: str) -> None:
     assert root_text(Fraction(square)) == root
+
+
+@pytest.mark.parametrize("text", ["'quoted'.sdf", "-a.sdf", "=1", "plain.sdf", ""])
+def test_a_name_comes_back_from_a_spreadsheet(text: str) -> None:
+    assert _plain(_excel_cell("text", text)) == text
+
+
+def test_the_name_of_a_report_has_room_in_a_folder() -> None:
+    name = report_name("\u8868" * 85, "0123456789")
+    assert len(name.encode()) < 240 and name.endswith("\u8868-01234567.html")

@@ -25,6 +25,7 @@ from hilldale_lab.units import HEIGHTS, PARAMETERS, Kind, kind_of
 from hilldale_lab.values import Value
 
 DIGITS = 12
+NAME_BYTES = 200
 FIRST = ("file", "sha256", "verdict", "status", "reason")
 LAST = ("warnings",)
 OWN = "lab's own: "
@@ -162,8 +163,9 @@ class Done:
 
 
 def report_name(file: str, sha256: str) -> str:
-    """The name of the report of a file: its own, with the first digits of its digest."""
-    return f"{one_line(os.path.basename(file))[:80]}-{sha256[:8]}.html"
+    """The name of the report of a file: its own, as far as a name may be long, with the first digits of its digest."""
+    name = one_line(os.path.basename(file))[:80].encode()[:NAME_BYTES].decode(errors="ignore")
+    return f"{name}-{sha256[:8]}.html"
 
 
 def ask_file(job: Job, file: str, place: str | None = None, reports: str | None = None) -> Done:

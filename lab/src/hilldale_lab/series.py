@@ -15,6 +15,7 @@ from hilldale_lab.decimals import parse_decimal
 from hilldale_lab.errors import LabError
 from hilldale_lab.file_rows import FIRST, OWN, exact_heading
 from hilldale_lab.limits import Limit
+from hilldale_lab.table import FORMULA_SIGNS
 from hilldale_lab.values import rounded_text
 
 BOM = "\ufeff"
@@ -136,7 +137,9 @@ def read_folder(path: str | Path) -> Folder:
 
 def _plain(cell: str) -> str:
     """A cell as it stands in a table that is not for a spreadsheet."""
-    return cell[2:-1] if cell.startswith('="') else cell.removeprefix("'")
+    if cell.startswith('="'):
+        return cell[2:-1]
+    return cell[1:] if cell.startswith("'") and cell[1:].startswith(FORMULA_SIGNS) else cell
 
 
 def _series(lines: Sequence[Sequence[str]], at: int) -> Series:

@@ -6,6 +6,7 @@ import hashlib
 import re
 from collections.abc import Iterable, Sequence
 from dataclasses import dataclass
+from shlex import quote
 
 from hilldale_lab import surface_file
 from hilldale_lab.regions import Column, Regions
@@ -82,7 +83,7 @@ def check_commands(files: Sequence[Beside]) -> str:
     if not files:
         return ""
     surface, *others = (file.name for file in files)
-    lines = [f"sha256sum {surface.removesuffix('.checked.sdf')}.*"]
-    lines += [f"hilldale check {surface} {name}" for name in others if name.endswith(".certificate")]
-    lines += [f"hilldale run {surface} {name}" for name in others if name.endswith(".questions.txt")]
+    lines = [f"sha256sum {quote(surface.removesuffix('.checked.sdf'))}.*"]
+    lines += [f"hilldale check {quote(surface)} {quote(name)}" for name in others if name.endswith(".certificate")]
+    lines += [f"hilldale run {quote(surface)} {quote(name)}" for name in others if name.endswith(".questions.txt")]
     return "\n".join(lines)
