@@ -35,7 +35,7 @@ def program() -> str:
     """The path of the proved program; a test that needs it is skipped where it is not built."""
     found = program_path()
     if found is None:
-        pytest.skip("the program is not built: call ./hilldale once")
+        pytest.skip("there is no program of these sources: call ./prove once")
     return found
 
 

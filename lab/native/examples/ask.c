@@ -21,9 +21,13 @@ int main(int count, char **words) {
   uint64_t needed;
   uint8_t *surface = read_file(words[1], &surface_length), *script = read_file(words[2], &script_length);
   uint8_t *out = malloc(room);
+  if (out == NULL) return HILLDALE_MEMORY;
   int status = hilldale_run(surface, surface_length, script, script_length, HILLDALE_TILE, out, room, &needed);
-  if (needed > room && (out = realloc(out, room = needed)) != NULL)
+  if (needed > room) {
+    out = realloc(out, room = needed);
+    if (out == NULL) return HILLDALE_MEMORY;
     status = hilldale_run(surface, surface_length, script, script_length, HILLDALE_TILE, out, room, &needed);
+  }
   fwrite(out, 1, needed, stdout);
   free(out), free(script), free(surface);
   return status;

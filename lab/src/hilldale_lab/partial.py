@@ -34,7 +34,7 @@ class Partial:
 
     def __enter__(self) -> Partial:
         try:
-            self._file = open(self.path, "a+", encoding="ascii")
+            self._file = open(self.path, "a+", encoding="ascii", errors="replace")
             fcntl.flock(self._file, fcntl.LOCK_EX | fcntl.LOCK_NB)
         except BlockingIOError as error:
             self._file.close()
@@ -59,10 +59,10 @@ class Partial:
         self._begin()
 
     def _row(self, line: str) -> tuple[str, list[str]] | None:
-        """A row of the file; None where it is another job's, or its line was not written whole."""
+        """A row of the file; None where it is another job's, or its line is none or was not written whole."""
         try:
             key, file, cells = json.loads(line)
-        except ValueError:
+        except (TypeError, ValueError):
             return None
         return (file, cells) if key == self._key and len(cells) == self._width else None
 
