@@ -2,6 +2,7 @@
 
 from __future__ import annotations
 
+import errno
 import os
 import subprocess
 import sys
@@ -17,7 +18,7 @@ from matplotlib.axis import Axis
 import hilldale_lab as lab
 from hilldale_lab.cli import main
 from hilldale_lab.drawing import Drawing, drawing_of
-from hilldale_lab.picture import MASKED, NOT_MEASURED, as_bytes, height_figure
+from hilldale_lab.picture import MASKED, NOT_MEASURED, as_bytes, height_figure, save
 from hilldale_lab.tree import tree_figure_of
 
 SMALL = """\
@@ -169,6 +170,21 @@ def test_the_tree_has_the_heights_of_the_program(side: str, pockets: lab.Surface
 def test_the_same_surface_gives_the_same_bytes(kind: str, date: bytes, pockets: lab.Surface) -> None:
     first, second = (as_bytes(height_figure(drawing_of(pockets, "D", "5%"), range(4)), kind) for _ in range(2))
     assert first == second and date not in first
+
+
+def test_a_picture_that_cannot_be_written_leaves_the_old_one(
+    pockets: lab.Surface, tmp_path: Path, monkeypatch: pytest.MonkeyPatch
+) -> None:
+    def fail(*_: object) -> None:
+        raise OSError(errno.ENOSPC, os.strerror(errno.ENOSPC))
+
+    place = tmp_path / "a.png"
+    place.write_text("old")
+    figure = height_figure(drawing_of(pockets))
+    monkeypatch.setattr(os, "replace", fail)
+    with pytest.raises(lab.LabError) as told:
+        save(figure, place)
+    assert told.value.status == 6 and place.read_text() == "old" and list(tmp_path.iterdir()) == [place]
 
 
 CALLS = """

@@ -25,6 +25,7 @@ from matplotlib.ticker import FixedFormatter, FixedLocator
 
 from hilldale_lab.drawing import MICROMETRES, Drawing, border_lines, micrometres
 from hilldale_lab.errors import LabError
+from hilldale_lab.surface_file import replace_file
 from hilldale_lab.ticks import ticks
 
 NOT_MEASURED, MASKED = "#d9d9d9", "#f2a3b8"
@@ -228,11 +229,7 @@ def save(figure: Figure, name: str | Path) -> None:
 
     Raises LabError for another end of the name, and with status 6 where the file cannot be written.
     """
-    data = as_bytes(figure, kind_of_file(name))
-    try:
-        Path(name).write_bytes(data)
-    except OSError as error:
-        raise LabError(f'cannot write "{name}": {error.strerror}', 6) from error
+    replace_file(name, as_bytes(figure, kind_of_file(name)))
 
 
 def as_bytes(figure: Figure, kind: str) -> bytes:

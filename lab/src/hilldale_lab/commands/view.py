@@ -10,7 +10,7 @@ from pathlib import Path
 
 from hilldale_lab.commands.common import add_program, add_surface
 from hilldale_lab.commands.picture import edited_surface
-from hilldale_lab.errors import LabError
+from hilldale_lab.surface_file import replace_file
 
 
 def add_parser(commands: argparse._SubParsersAction) -> None:
@@ -30,10 +30,7 @@ def run(arguments: argparse.Namespace) -> int:
     page = view_page(surface)
     stem = Path(surface.name).name
     name = Path(arguments.output or Path(tempfile.mkdtemp(prefix="hilldale-view-")) / f"{stem}.html")
-    try:
-        name.write_text(page, encoding="utf-8")
-    except OSError as error:
-        raise LabError(f'cannot write "{name}": {error.strerror}', 6) from error
+    replace_file(name, page.encode())
     if not arguments.output:
         print(f"the page is {name}")
         if os.environ.get("DISPLAY") or os.environ.get("WAYLAND_DISPLAY"):

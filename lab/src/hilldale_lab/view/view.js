@@ -116,7 +116,7 @@
 
   // ---- the map
   const mapCanvas = element("map"), lines = element("lines"), treeCanvas = element("tree");
-    let columnAt, profileAt, state = null, pointed = null;
+  let columnAt, profileAt, state = null, pointed = null;
 
   function colourOf(at) {
     if (states[at]) return data.absent[states[at] - 1];
