@@ -275,7 +275,7 @@ def test_what_is_not_measured_may_hold_any_number() -> None:
 
 
 def test_an_element_whose_name_was_taken_is_defined_again() -> None:
-    surface = lab.Surface([[1]], 1, 1, 1)
+    surface = lab.Surface([[1]], "1e-4", "1e-4", "1e-9")
     for element in ("ball 1/2 mm 3x3", "ball 1.2 mm 3x3", "ball 1/2 mm 3x3", "ball 1/2 mm 3x3"):
         surface.open(element)
     commands = [text.split()[0] for text in surface.edits]
