@@ -59,6 +59,12 @@ def test_several_files_go_into_a_folder(tmp_path, capsys):
     assert "two files would be written to" in capsys.readouterr().err
 
 
+@pytest.mark.parametrize("name", [".", "/", ".."])
+def test_a_folder_is_refused(capsys, name):
+    assert main(["import", name]) == 3
+    assert capsys.readouterr().err == f"hilldale-lab: {name}: it is no file\n"
+
+
 def test_one_refused_file_leaves_the_others(tmp_path, capsys):
     (tmp_path / "a.sur").write_bytes(makers.sur(ROWS))
     (tmp_path / "broken.sur").write_bytes(makers.sur(ROWS)[:520])

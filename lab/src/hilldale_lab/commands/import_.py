@@ -110,6 +110,8 @@ def options_of(arguments: argparse.Namespace) -> Options:
 
 def out_path(file: str, out: str | None, is_several: bool) -> Path:
     """Where the surface file of a file goes: never onto the file itself. Raises LabError."""
+    if not Path(file).name:
+        raise InputRefused(file, "", "it is no file")
     name = Path(file).with_suffix(".sdf").name
     if out is not None and (is_several or os.path.isdir(out)):
         path = Path(out) / name
