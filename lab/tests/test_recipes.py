@@ -99,10 +99,14 @@ def test_parallel_tells_when_a_machine_ran_nothing(files: list[str]) -> None:
     assert Path("table.csv").read_bytes() == Path("batch.csv").read_bytes()
 
 
-def snakemake(*words: str) -> str:
-    config = ["--config", "job=job.toml", "folder=parts", "table=table.csv"]
+def called(*words: str, folder: str = "parts") -> subprocess.CompletedProcess[str]:
+    config = ["--config", "job=job.toml", f"folder={folder}", "table=table.csv"]
     call = ["snakemake", "-s", str(RECIPES / "snakemake" / "Snakefile"), *words, *config]
-    ran = subprocess.run(call, env=with_bin(), capture_output=True, text=True, check=False)
+    return subprocess.run(call, env=with_bin(), capture_output=True, text=True, check=False)
+
+
+def snakemake(*words: str) -> str:
+    ran = called(*words)
     assert ran.returncode == 0, ran.stderr
     return ran.stderr
 
@@ -120,6 +124,13 @@ def test_snakemake_on_slurm_and_here_asks_what_changed(files: list[str]) -> None
     assert re.search(r"^row +1 ", told, re.M)
     main(["batch", "job.toml", *files, "-o", "batch.csv", "--workers", "1"])
     assert Path("table.csv").read_bytes() == Path("batch.csv").read_bytes()
+
+
+@needs("snakemake", "snakemake")
+def test_snakemake_on_a_folder_without_files(files: list[str]) -> None:
+    Path("empty").mkdir()
+    ran = called("--cores", "1", folder="empty")
+    assert ran.returncode == 1 and "empty: no files" in ran.stderr and not Path("table.csv").exists()
 
 
 @pytest.fixture
