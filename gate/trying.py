@@ -1,4 +1,4 @@
-"""What check-answers, check-sizes and check-lengths share: how a case is tried, surface files, and a few definitions in plain Python."""
+"""What check-answers, check-sizes and check-lengths share: how a case is tried, surface files, and definitions in plain Python."""
 from __future__ import annotations
 
 import subprocess
