@@ -137,7 +137,7 @@ module _ (m : Map) (side : SideName) (t tile : ℕ) (f : Frame) (some : 1 ≤ t)
 told : (h k : ℤ) → int_eq h k ≡ true → h ≡ k
 told h k e = grind (arith, ints, nat_tests)
 
-told-apart : (h k : ℤ) → int_eq h k ≡ false → h ≡ k → ⊥
+pub told-apart : (h k : ℤ) → int_eq h k ≡ false → h ≡ k → ⊥
 told-apart h k e same = grind (arith, ints, nat_tests)
 
 -- where the rank at a place is missing, no point is present there

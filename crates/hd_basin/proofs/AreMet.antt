@@ -1,9 +1,10 @@
 -- The pairs of neighbours of a tile, each tried once, and the passes from them.
-use Rattle.std.proofs.Common.{◌≡◌, ◌≢◌, ◌<◌, ◌≤◌, ◌+◌, ◌*◌, ℕ, zero, suc, ◌⊎◌, inl, inr, List, [], get_or, length, map, Option, Some, None, slice_get, refl, sym, ◌∙◌, ap, subst, arith}
+use Rattle.std.proofs.Common.{◌≡◌, ◌≢◌, ◌<◌, ◌≤◌, ◌+◌, ◌-◌, ◌*◌, ℕ, zero, suc, ◌⊎◌, inl, inr, List, [], get_or, slice_index, length, map, Option, Some, None, slice_get, refl, sym, ◌∙◌, ap, subst, arith}
 use Rattle.std.specs.Prelude.{AllPairs, Contains}
+use Rattle.std.proofs.Math.Nat.{mul-le-mul_right}
 use Rattle.std.proofs.lemmas.List.{get_or-map, length-map}
 use Rattle.std.proofs.lemmas.Bool.{cases_eq, cases_lt}
-use Rattle.std.proofs.lemmas.Option.{same_Some, slice_get-get_or, slice_get_within}
+use Rattle.std.proofs.lemmas.Option.{same_Some, get_or_from_slice_get, slice_get-get_or, slice_get_within}
 use Rattle.hd_map.specs.declared.types.Pass.{Pass}
 use Rattle.hd_map.specs.declared.types.Pos.{Pos}
 use Rattle.hd_map.specs.declared.types.Rank.{Rank}
@@ -26,10 +27,10 @@ use Rattle.hd_basin.specs.declared.node.Node.{Node}
 use Rattle.hd_basin.specs.Basin.{IsSinkOf, IsBasinMeeting, tile_at}
 use Rattle.hd_basin.specs.Built.{HasPasses, IsRightPass}
 use Rattle.hd_basin.specs.Frames.{InFrame}
-use Rattle.hd_basin.specs.Inside.{AreNamed, IsStep, IsTried, IsPairAt, MeetsPair, IsMet, AreMet, join_of, label_at, place_of_frame, step_right, step_down}
+use Rattle.hd_basin.specs.Inside.{AreNamed, IsAlone, IsStep, IsTried, IsPairAt, MeetsPair, IsMet, AreMet, join_of, label_at, place_of_frame, step_right, step_down}
 use Rattle.hd_basin.specs.Meetings.{AreChained, AreKept}
 use Rattle.hd_basin.specs.Parts.{IsBetween, JoinOthers, low_or_none, pass_named}
-use Rattle.hd_basin.specs.Sinks.{IsArea, at_place}
+use Rattle.hd_basin.specs.Sinks.{IsArea, at_place, no_node}
 use Rattle.hd_basin.proofs.Areas.{area-in, area-tile, area-fits, tile-of_point}
 use Rattle.hd_basin.proofs.ChainedMeetings.{kept-notes}
 use Rattle.hd_basin.proofs.Frames.{frame_step, frame-in_grid}
@@ -92,6 +93,45 @@ kept-map side E F list to from kept = record {
   every = λ a b w event. kept.every a b w (from a b w event);
   once = kept.once;
 }
+
+-- a label inside the list
+label-inside : (ls : List ℕ) (k : ℕ) → k < length ls → get_or ls k no_node ≡ get_or ls k 0
+label-inside ls k inside = get_or_from_slice_get ls k (get_or ls k 0) no_node (slice_get-get_or ls k 0 inside)
+
+-- a place above another one and before one has its labels
+pub alone-inside : (f : Frame) (ls : List ℕ) (p : Pos) → length ls ≡ f.columns * f.rows → p.x - f.left + 1 < f.columns → p.y - f.top + 1 < f.rows → (p.y - f.top) * f.columns + (p.x - f.left) + f.columns + 1 < length ls
+alone-inside f ls p whole column row = (let rows = mul-le-mul_right f.columns (let h : p.y - f.top + 2 ≤ f.rows = omega (arith, row) in h) in omega (arith, rows, whole, column))
+
+-- the labels after that at a place, and below it
+module _ (f : Frame) (ls : List ℕ) (p : Pos) (within : InFrame f p) (k : ℕ) (at : k ≡ place_of_frame f p) (left : f.left < p.x) (inside : k + f.columns + 1 < length ls)
+    (after : slice_index ls (k + 1) ≡ slice_index ls k) (one : slice_index ls (k + f.columns - 1) ≡ slice_index ls k) (two : slice_index ls (k + f.columns) ≡ slice_index ls k) (three : slice_index ls (k + f.columns + 1) ≡ slice_index ls k) where
+  named-alike : (q : Pos) (j : ℕ) → place_of_frame f q ≡ j → j < length ls → slice_index ls j ≡ slice_index ls k → label_at f ls q ≡ label_at f ls p
+  named-alike q j place below e =
+      let own : k < length ls = omega (arith, inside) in
+      ap (λ (n : ℕ). get_or ls n no_node) place ∙ label-inside ls j below ∙ e ∙ sym (label-inside ls k own) ∙ ap (λ (n : ℕ). get_or ls n no_node) at
+
+  pub alone-from : IsAlone f ls p
+  alone-from q zero few there is =
+      let column = is.column in
+      let profile = is.profile in
+      let row : q.y - f.top ≡ p.y - f.top = omega (arith, profile) in
+      let product : (q.y - f.top) * f.columns ≡ (p.y - f.top) * f.columns = ap (λ (n : ℕ). n * f.columns) row in
+      named-alike q (k + 1) (omega (arith, at, product, column, left)) (omega (arith, inside)) after
+  alone-from q (suc s) few there is =
+      let column = is.column in
+      let profile = is.profile in
+      let top = within.top in
+      let row : q.y - f.top ≡ p.y - f.top + 1 = omega (arith, profile, top) in
+      let product : (q.y - f.top) * f.columns ≡ (p.y - f.top + 1) * f.columns = ap (λ (n : ℕ). n * f.columns) row in
+      let some : 1 ≤ f.columns = (let a = within.left in let b = within.right in omega (arith, a, b)) in
+      let place : place_of_frame f q ≡ k + f.columns + s - 1 = omega (arith, at, product, column, left, some) in
+      elim (cases_eq s 0) [
+        | inl e ↦ named-alike q (k + f.columns - 1) (omega (arith, place, e)) (omega (arith, inside)) one
+        | inr other ↦ elim (cases_eq s 1) [
+          | inl e ↦ named-alike q (k + f.columns) (omega (arith, place, e)) (omega (arith, inside)) two
+          | inr more ↦ named-alike q (k + f.columns + 1) (omega (arith, place, few, other, more)) (omega (arith, inside)) three
+        ]
+      ]
 
 module _ (m : Map) (side : SideName) (f : Frame) (ls : List ℕ) (count : ℕ) where
   -- a pair meets in one way
@@ -160,6 +200,21 @@ module _ (m : Map) (side : SideName) (f : Frame) (ls : List ℕ) (count : ℕ) w
       kept = kept-map side (Met k s) (Met k (s + 1)) list (later k s) (λ a b w is. elim (earlier k s a b w at within place is) [ inl was ↦ was | inr new ↦ absurd (none new.0 new.1 new.2) ]) are.kept;
     }
 
+    -- or to a position of the same label
+    pub met-alone : s < 4 → IsAlone f ls at → AreMet m side f ls count k (s + 1) lasts list
+    met-alone few alone = record {
+      chained = are.chained;
+      count_is = are.count_is;
+      kept = kept-map side (Met k s) (Met k (s + 1)) list (later k s) (λ a b w is. elim (earlier k s a b w at within place is) [
+        | inl was ↦ was
+        | inr new ↦ absurd (
+            let same = alone new.0 s few new.1 new.2 in
+            let pair = new.3 in
+            let less = pair.less in
+            elim pair.labels [ inl h ↦ (let x = h.0 in let y = h.1 in omega (arith, x, y, same, less)) | inr h ↦ (let x = h.0 in let y = h.1 in omega (arith, x, y, same, less)) ])
+      ]) are.kept;
+    }
+
     -- or to a position of the tile
     pub met-step : (q : Pos) → InFrame f q → s < 4 → IsStep at q s → (lasts' : List (Option ℕ)) (list' : List Meeting) → AreChained lasts' list' → length lasts' ≡ count → MeetsPair m side f ls count at q list list' → AreMet m side f ls count k (s + 1) lasts' list'
     met-step q there few leads lasts' list' chained count_is meets = record {
@@ -223,6 +278,14 @@ module _ (m : Map) (side : SideName) (f : Frame) (ls : List ℕ) (count : ℕ) w
         }))
         are.kept;
   }
+
+  -- or where all its steps lead to its own label
+  pub met-by : (k : ℕ) (at : Pos) → InFrame f at → place_of_frame f at ≡ k → (lasts : List (Option ℕ)) (list : List Meeting) → IsAlone f ls at → AreMet m side f ls count k 0 lasts list → AreMet m side f ls count (k + 1) 0 lasts list
+  met-by k at within place lasts list alone are =
+      let one = met-alone k 0 at within place lasts list are (omega arith) alone in
+      let two = met-alone k 1 at within place lasts list one (omega arith) alone in
+      let three = met-alone k 2 at within place lasts list two (omega arith) alone in
+      met-place k lasts list (met-alone k 3 at within place lasts list three (omega arith) alone)
 
   -- before the first one nothing has met
   pub met-none : (lasts : List (Option ℕ)) → AreChained lasts [] → length lasts ≡ count → AreMet m side f ls count 0 0 lasts []

@@ -10,6 +10,7 @@ use Rattle.hd_tiles.specs.Tile.{tile_of, tiles_across}
 use Rattle.hd_tiles.proofs.TilesAlong.{part_below, part_is}
 use Rattle.hd_basin.specs.declared.frame.Frame.{Frame}
 use Rattle.hd_basin.specs.Frames.{InFrame, FitsGrid}
+use Rattle.hd_basin.specs.Inside.{place_of_frame}
 use Rattle.hd_basin.specs.Parts.{place_in_tile, columns_from}
 use Rattle.hd_basin.specs.Sinks.{IsArea, at_place}
 use Rattle.hd_basin.proofs.Frames.{tile_parts, frame_step}
@@ -107,6 +108,20 @@ place-of-at f k p e =
 -- the place of a row and a column is one of those of the rectangle
 pub place-below : (f : Frame) (i j : ℕ) → i < f.rows → j < f.columns → i * f.columns + j < f.columns * f.rows
 place-below f i j row column = (let rows = mul-le-mul_right f.columns (let h : i + 1 ≤ f.rows = omega (arith, row) in h) in omega (arith, rows, column))
+
+-- the position in a row and a column
+abbrev pub point_in : Frame → ℕ → ℕ → Pos
+point_in f i j = record { x = f.left + j; y = f.top + i }
+
+pub point_in-frame : (f : Frame) (i j : ℕ) → i < f.rows → j < f.columns → InFrame f (point_in f i j)
+point_in-frame f i j row column = record { left = omega arith; right = omega (arith, column); top = omega arith; bottom = omega (arith, row) }
+
+-- and its place
+pub point_in-place : (f : Frame) (i j : ℕ) → place_of_frame f (point_in f i j) ≡ i * f.columns + j
+point_in-place f i j =
+    let row : f.top + i - f.top ≡ i = omega arith in
+    let column : f.left + j - f.left ≡ j = omega arith in
+    ap (λ (n : ℕ). n * f.columns + (f.left + j - f.left)) row ∙ ap (λ (n : ℕ). i * f.columns + n) column
 
 -- a tile has few positions
 pub area-small : (s : Size) (t tile : ℕ) (f : Frame) → t ≤ 256 → IsArea s t tile f → f.columns * f.rows ≤ 65536

@@ -24,7 +24,7 @@ use Rattle.hd_basin.specs.declared.frame.Frame.{Frame}
 use Rattle.hd_tiles.specs.Tile.{tiles_across}
 use Rattle.hd_tiles.proofs.TilesAlong.{part_below, part_is}
 use Rattle.hd_basin.specs.Views.{ShowSame}
-use Rattle.hd_basin.specs.Frames.{InFrame, FitsGrid, HoldsRound, IsRoundOnly, is_in, seen_at, cell_of, any_type, framed_map, IsWindow, ShowsFrame}
+use Rattle.hd_basin.specs.Frames.{AreFilled, at_step, InFrame, FitsGrid, HoldsRound, IsRoundOnly, is_in, seen_at, cell_of, any_type, framed_map, IsWindow, ShowsFrame}
 
 -- the part of a number below the count of parts times another begins below the limit
 pub part_start : (tile across limit t : ℕ) → 1 ≤ t → 1 ≤ across → tile < (limit + t - 1) / t * across → tile / across * t < limit
@@ -140,10 +140,6 @@ seen-inside f heights p h = rw (is_in-true f p h)
 pub seen-outside : (f : Frame) (heights : List (Option ℤ)) (p : Pos) → (InFrame f p → ⊥) → seen_at f heights p ≡ None
 seen-outside f heights p h = rw (is_in-false f p h)
 
--- the position at a step through a part, profile by profile
-abbrev pub at_step : Frame → ℕ → Pos
-at_step f k = record { x = f.left + k % f.columns; y = f.top + k / f.columns }
-
 -- the steps of a part lie in it
 pub step-in_frame : (f : Frame) (k : ℕ) → k < f.columns * f.rows → InFrame f (at_step f k)
 step-in_frame f k below =
@@ -175,11 +171,6 @@ frame_step f p inside =
     let ex : f.left + k % f.columns ≡ p.x = omega (arith, parts.1, inside.left) in
     let ey : f.top + k / f.columns ≡ p.y = omega (arith, parts.0, inside.top) in
     (below, same_pos (at_step f k) p ex ey)
-
--- the heights of the first steps
-pub record AreFilled (m : Map) (f : Frame) (n : ℕ) (heights : List (Option ℤ)) : Type 0 where
-  pub whole : length heights ≡ n
-  pub each : (k : ℕ) → k < n → slice_index_or heights k None ≡ height_at m (at_step f k)
 
 pub filled_more : (m : Map) (f : Frame) (n : ℕ) (heights : List (Option ℤ)) (o : Option ℤ) → AreFilled m f n heights → o ≡ height_at m (at_step f n) → AreFilled m f (n + 1) (heights ++ o ∷ [])
 filled_more m f n heights o filled e = record {

@@ -1,5 +1,5 @@
 -- A part of a grid, and the map of which only the heights of that part are measured.
-use Rattle.std.specs.Prelude.{◌≡◌, ◌<◌, ◌≤◌, ◌≤ℤ◌, ◌+◌, ◌-◌, ◌*◌, ◌&&◌, ℕ, ℤ, Bool, false, List, length, map, replicate, nat_le, nat_lt, Option, Some, None, slice_index_or, if◌then◌else◌}
+use Rattle.std.specs.Prelude.{◌≡◌, ◌<◌, ◌≤◌, ◌≤ℤ◌, ◌+◌, ◌-◌, ◌*◌, ◌/◌, ◌%◌, ◌&&◌, ℕ, ℤ, Bool, false, List, length, map, replicate, nat_le, nat_lt, Option, Some, None, slice_index_or, if◌then◌else◌}
 use Rattle.std.specs.List.{range_with_len}
 use Rattle.hd_map.specs.declared.types.Adjacency.{Adjacency}
 use Rattle.hd_map.specs.declared.types.Pos.{Pos}
@@ -71,3 +71,12 @@ pub record ShowsFrame (m : Map) (f : Frame) (n : Map) : Type 0 where
   pub size : m.size ≡ n.size
   pub adjacency : m.adjacency ≡ n.adjacency
   pub heights : (q : Pos) → InGrid m.size q → InFrame f q → height_at m q ≡ height_at n q
+
+-- the position at a step through a part, profile by profile
+abbrev pub at_step : Frame → ℕ → Pos
+at_step f k = record { x = f.left + k % f.columns; y = f.top + k / f.columns }
+
+-- the heights at the first steps
+pub record AreFilled (m : Map) (f : Frame) (n : ℕ) (heights : List (Option ℤ)) : Type 0 where
+  pub whole : length heights ≡ n
+  pub each : (k : ℕ) → k < n → slice_index_or heights k None ≡ height_at m (at_step f k)

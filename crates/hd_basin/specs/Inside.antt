@@ -44,6 +44,10 @@ pub record IsStep (p q : Pos) (step : ℕ) : Type 0 where
   pub column : q.x + 1 ≡ p.x + step_right step
   pub profile : q.y ≡ p.y + step_down step
 
+-- the positions of the tile a step after p have its label
+abbrev pub IsAlone : Frame → List ℕ → Pos → Type 0
+IsAlone f ls p = (q : Pos) (step : ℕ) → step < 4 → InFrame f q → IsStep p q step → label_at f ls q ≡ label_at f ls p
+
 -- of two positions of the tile the second is a step from the first, which is at one of the first places, or at the
 -- place k where the step is one of the first
 pub record IsTried (f : Frame) (k first : ℕ) (p q : Pos) : Type 0 where

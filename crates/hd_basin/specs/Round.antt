@@ -1,11 +1,12 @@
 -- The ranks of the positions of a part of a grid and of those beside it, and the lowest round each point.
-use Rattle.std.specs.Prelude.{◌≡◌, ◌<◌, ◌+◌, ◌*◌, ℕ, List, length}
+use Rattle.std.specs.Prelude.{◌≡◌, ◌<◌, ◌+◌, ◌*◌, ◌||◌, ℕ, Bool, List, length}
+use Rattle.std.specs.Ordering.{int_eq}
 use Rattle.hd_map.specs.declared.types.Adjacency.{Adjacency}
 use Rattle.hd_map.specs.declared.types.Adjacency.TheVariants.{Four, Six, Eight}
 use Rattle.hd_map.specs.declared.types.Rank.{Rank}
 use Rattle.hd_map.specs.declared.types.SideName.{SideName}
 use Rattle.hd_map.specs.Map.{Map}
-use Rattle.hd_steep.specs.Lowest.{lower_of, IsLow, IsAtPlace}
+use Rattle.hd_steep.specs.Lowest.{missing, lower_of, IsLow, IsAtPlace}
 use Rattle.hd_steep.specs.Rows.{rank_in}
 use Rattle.hd_basin.specs.declared.frame.Frame.{Frame}
 
@@ -14,6 +15,14 @@ pub record AreRanks (m : Map) (side : SideName) (f : Frame) (n : ℕ) (ranks : L
   pub whole : length ranks ≡ n
   pub each : (i j : ℕ) → j < f.columns + 2 → i * (f.columns + 2) + j < n
       → IsLow m side (IsAtPlace (f.top + i) (f.left + j)) (rank_in ranks (i * (f.columns + 2) + j))
+
+-- whether a rank is that of no point
+abbrev pub is_missing : SideName → Rank → Bool
+is_missing side r = int_eq r.height (missing side).height
+
+-- whether one of three ranks side by side is
+abbrev pub lacks_one : SideName → List Rank → ℕ → Bool
+lacks_one side ranks k = is_missing side (rank_in ranks k) || is_missing side (rank_in ranks (k + 1)) || is_missing side (rank_in ranks (k + 2))
 
 -- the lowest of three ranks
 abbrev pub low_level : SideName → Rank → Rank → Rank → Rank

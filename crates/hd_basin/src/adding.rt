@@ -6,6 +6,7 @@ use crate::Node;
 use hd_map::Rank;
 
 /// Counts one more point of the basin, which may be an edge point.
+#[inline]
 pub fn add_point(node: &mut Node, point: Rank, edge: bool)
     requires { node.old.points < 2 ^ 63 }
     ensures { AddsPoint point.height edge node.old node.new }
@@ -18,6 +19,7 @@ pub fn add_point(node: &mut Node, point: Rank, edge: bool)
 }
 
 // The least height of the edge points with one more point.
+#[inline]
 fn lesser_edge(old: Option<i64>, height: i64, edge: bool) -> Option<i64>
     ensures { GoesOn IsLesser edge old height result }
 {
@@ -31,6 +33,7 @@ fn lesser_edge(old: Option<i64>, height: i64, edge: bool) -> Option<i64>
 }
 
 // The greatest height of the edge points with one more point.
+#[inline]
 fn greater_edge(old: Option<i64>, height: i64, edge: bool) -> Option<i64>
     ensures { GoesOn IsGreater edge old height result }
 {
@@ -44,6 +47,7 @@ fn greater_edge(old: Option<i64>, height: i64, edge: bool) -> Option<i64>
 }
 
 /// The greater of two heights.
+#[inline]
 pub fn greater(a: i64, b: i64) -> i64
     ensures { IsGreater a b result }
 {
@@ -51,6 +55,7 @@ pub fn greater(a: i64, b: i64) -> i64
 }
 
 /// The lesser of two heights.
+#[inline]
 pub fn lesser(a: i64, b: i64) -> i64
     ensures { IsLesser a b result }
 {

@@ -21,6 +21,17 @@ pub struct Frame {
     pub rows: u32,
 }
 
+/// A tile of a tiling, and the rectangle of its positions.
+#[derive(Clone, Copy, Debug, PartialEq, Eq)]
+pub struct Plot {
+    /// The tiling.
+    pub tiling: Tiling,
+    /// The number of the tile.
+    pub tile: u32,
+    /// Its positions.
+    pub area: Frame,
+}
+
 /// Whether the position lies in the rectangle.
 #[inline]
 pub fn is_in_frame(frame: Frame, at: Pos) -> bool

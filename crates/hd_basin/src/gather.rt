@@ -5,6 +5,7 @@ ghost use Rattle.hd_tiles.specs.Tile.{tile_count};
 ghost use Rattle.hd_basin.specs.declared.node.Node.{Node};
 ghost use Rattle.hd_basin.specs.Frames.{InFrame};
 ghost use Rattle.hd_basin.specs.Gathering.{Counts, IsGathered};
+ghost use Rattle.hd_basin.specs.Inside.{place_of_frame};
 ghost use Rattle.hd_basin.specs.Parts.{place_in_tile};
 ghost use Rattle.hd_basin.specs.Round.{AreRanks};
 ghost use Rattle.hd_basin.specs.Sinks.{AreSunk, IsArea, IsSunk, at_place, no_node};
@@ -16,11 +17,11 @@ use crate::Node;
 use crate::adding::add_point;
 use crate::edge::is_edge;
 use crate::flows::flows_of;
-use crate::frame::{Frame, position_in};
+use crate::frame::{Frame, Plot, position_in};
 use crate::links::NO_LINK;
+use crate::round::rank_in;
 use hd_list::Memory;
 use hd_map::{Heights, Pos, Rank, Side, rank_of};
-use hd_tiles::Tiling;
 use std::alloc::Global;
 
 /// Stands where no node is.
@@ -38,77 +39,103 @@ pub struct Gathered {
 }
 
 impl Gathered {
-    // Gathers the point at a place, if one is present there.
+    // Gathers the points of a row of the tile.
+    fn take_row<S: Side, G: Heights>(
+        &mut self,
+        grid: &G,
+        plot: Plot,
+        ranks: &[Rank],
+        sinks: &[u32],
+        row: u32,
+    ) -> Result<(), Memory>
+        requires size { plot.tiling.size ≡ (G.map grid.now).size }
+        requires area { IsArea (G.map grid.now).size plot.tiling.side plot.tile plot.area }
+        requires ranks { AreRanks (G.map grid.now) S.NAME plot.area ((plot.area.rows + 2) * (plot.area.columns + 2)) ranks.now }
+        requires sunk { AreSunk (G.map grid.now) S.NAME plot.tiling.side plot.area sinks.now }
+        requires row { row < plot.area.rows }
+        requires before { IsGathered (G.map grid.now) S.NAME plot.tiling.side plot.tile plot.area (row * plot.area.columns) self.old.nodes.items self.old.numbers.items self.old.labels.items }
+        ensures { OnOk result (IsGathered (G.map grid.now) S.NAME plot.tiling.side plot.tile plot.area ((row + 1) * plot.area.columns) self.new.nodes.items self.new.numbers.items self.new.labels.items) }
+    {
+        let area = plot.area;
+        for column in 0..area.columns {
+            let at = Pos {
+                x: area.left + column,
+                y: area.top + row,
+            };
+            let sink = sinks[(row * area.columns + column) as usize];
+            self.take::<S, G>(grid, plot, ranks, at, sink)?;
+        }
+        Ok(())
+    }
+
+    // Gathers the point at a position, if one is present there.
+    #[inline]
     fn take<S: Side, G: Heights>(
         &mut self,
         grid: &G,
-        tiling: Tiling,
-        tile: u32,
-        area: Frame,
+        plot: Plot,
         ranks: &[Rank],
-        place: u32,
+        at: Pos,
         sink: u32,
     ) -> Result<(), Memory>
-        requires size { tiling.size ≡ (G.map grid.now).size }
-        requires area { IsArea (G.map grid.now).size tiling.side tile area }
-        requires ranks { AreRanks (G.map grid.now) S.NAME area ((area.rows + 2) * (area.columns + 2)) ranks.now }
-        requires place { place < area.columns * area.rows }
-        requires sunk { IsSunk (G.map grid.now) S.NAME tiling.side area place sink }
-        requires before { IsGathered (G.map grid.now) S.NAME tiling.side tile area place self.old.nodes.items self.old.numbers.items self.old.labels.items }
-        ensures { OnOk result (IsGathered (G.map grid.now) S.NAME tiling.side tile area (place + 1) self.new.nodes.items self.new.numbers.items self.new.labels.items) }
+        requires size { plot.tiling.size ≡ (G.map grid.now).size }
+        requires area { IsArea (G.map grid.now).size plot.tiling.side plot.tile plot.area }
+        requires ranks { AreRanks (G.map grid.now) S.NAME plot.area ((plot.area.rows + 2) * (plot.area.columns + 2)) ranks.now }
+        requires at { InFrame plot.area at }
+        requires sunk { IsSunk (G.map grid.now) S.NAME plot.tiling.side plot.area (place_of_frame plot.area at) sink }
+        requires before { IsGathered (G.map grid.now) S.NAME plot.tiling.side plot.tile plot.area (place_of_frame plot.area at) self.old.nodes.items self.old.numbers.items self.old.labels.items }
+        ensures { OnOk result (IsGathered (G.map grid.now) S.NAME plot.tiling.side plot.tile plot.area (place_of_frame plot.area at + 1) self.new.nodes.items self.new.numbers.items self.new.labels.items) }
     {
         if sink == NO_LINK {
             self.labels.push(NO_NODE)?;
             return Ok(());
         }
-        let at = position_in(area, place);
-        let low = position_in(area, sink);
-        let label = self.count::<S, G>(grid, tiling, tile, area, ranks, at, low, sink)?;
+        let label = self.count::<S, G>(grid, plot, ranks, at, sink)?;
         self.labels.push(label)?;
         Ok(())
     }
 
-    // Counts a point in the basin of a sink, and tells the number of the node.
+    // Counts a point in the basin of the sink at a place, and tells the number of the node.
+    #[inline]
     fn count<S: Side, G: Heights>(
         &mut self,
         grid: &G,
-        _tiling: Tiling,
-        tile: u32,
-        area: Frame,
+        plot: Plot,
         ranks: &[Rank],
         at: Pos,
-        sink: Pos,
         home: u32,
     ) -> Result<u32, Memory>
-        requires size { _tiling.size ≡ (G.map grid.now).size }
-        requires ranks { AreRanks (G.map grid.now) S.NAME area ((area.rows + 2) * (area.columns + 2)) ranks.now }
-        requires columns { area.columns ≤ 256 }
-        requires rows { area.rows ≤ 256 }
+        requires size { plot.tiling.size ≡ (G.map grid.now).size }
+        requires ranks { AreRanks (G.map grid.now) S.NAME plot.area ((plot.area.rows + 2) * (plot.area.columns + 2)) ranks.now }
+        requires columns { plot.area.columns ≤ 256 }
+        requires rows { plot.area.rows ≤ 256 }
         requires at { Present (G.map grid.now) at }
-        requires at_in { InFrame area at }
-        requires sink { Present (G.map grid.now) sink }
-        requires sink_in { InFrame area sink }
-        requires home { home ≡ place_in_tile _tiling.size _tiling.side sink }
+        requires at_in { InFrame plot.area at }
+        requires sink { Present (G.map grid.now) (at_place plot.area home) }
+        requires sink_in { home < plot.area.columns * plot.area.rows }
+        requires home { home ≡ place_in_tile plot.tiling.size plot.tiling.side (at_place plot.area home) }
+        requires right { plot.area.left + plot.area.columns < 65536 }
+        requires bottom { plot.area.top + plot.area.rows < 65536 }
         requires inside { home < length self.old.numbers.items }
         requires few { length self.old.nodes.items < 2 ^ 31 }
         requires known { (j i : ℕ) → slice_get self.old.numbers.items j ≡ Some i → i ≢ no_node → i < length self.old.nodes.items }
         requires small { (i : ℕ) (n : Node) → slice_get self.old.nodes.items i ≡ Some n → n.points < 2 ^ 31 }
-        ensures counts { IfOk result (λ label. Counts (G.map grid.now) S.NAME _tiling.side tile at sink self.old.nodes.items self.new.nodes.items self.old.numbers.items self.new.numbers.items label) }
+        ensures counts { IfOk result (λ label. Counts (G.map grid.now) S.NAME plot.tiling.side plot.tile at (at_place plot.area home) self.old.nodes.items self.new.nodes.items self.old.numbers.items self.new.numbers.items label) }
         ensures labels { self.new.labels.items ≡ self.old.labels.items }
     {
-        let point = rank_of(grid, at);
+        let area = plot.area;
+        let point = rank_in::<S, G>(grid, area, ranks, at);
         let edge = is_edge::<S, G>(grid, area, ranks, at);
         let number = self.numbers[home as usize];
         if number == NO_NODE {
             let number = self.nodes.len() as u32;
-            let node = first_node::<S, G>(grid, tile, area, ranks, sink, point, edge);
+            let sink = position_in(area, home);
+            let node = first_node::<S, G>(grid, plot.tile, area, ranks, sink, point, edge);
             self.nodes.push(node)?;
             self.numbers[home as usize] = number;
             return Ok(number);
         }
-        let mut node = self.nodes[number as usize];
-        add_point(&mut node, point, edge);
-        self.nodes[number as usize] = node;
+        add_point(&mut self.nodes[number as usize], point, edge);
         Ok(number)
     }
 }
@@ -117,35 +144,25 @@ impl Gathered {
 pub fn gather<S: Side, G: Heights>(
     alloc: Global,
     grid: &G,
-    tiling: Tiling,
-    tile: u32,
-    area: Frame,
+    plot: Plot,
     ranks: &[Rank],
     sinks: &[u32],
 ) -> Result<Gathered, Memory>
-    requires size { tiling.size ≡ (G.map grid.now).size }
-    requires tile { tile < tile_count tiling.size tiling.side }
-    requires area { IsArea (G.map grid.now).size tiling.side tile area }
-    requires ranks { AreRanks (G.map grid.now) S.NAME area ((area.rows + 2) * (area.columns + 2)) ranks.now }
-    requires sunk { AreSunk (G.map grid.now) S.NAME tiling.side area sinks.now }
-    ensures { IfOk result (λ all. IsGathered (G.map grid.now) S.NAME tiling.side tile area (area.columns * area.rows) all.nodes.items all.numbers.items all.labels.items) }
+    requires size { plot.tiling.size ≡ (G.map grid.now).size }
+    requires tile { plot.tile < tile_count plot.tiling.size plot.tiling.side }
+    requires area { IsArea (G.map grid.now).size plot.tiling.side plot.tile plot.area }
+    requires ranks { AreRanks (G.map grid.now) S.NAME plot.area ((plot.area.rows + 2) * (plot.area.columns + 2)) ranks.now }
+    requires sunk { AreSunk (G.map grid.now) S.NAME plot.tiling.side plot.area sinks.now }
+    ensures { IfOk result (λ all. IsGathered (G.map grid.now) S.NAME plot.tiling.side plot.tile plot.area (plot.area.columns * plot.area.rows) all.nodes.items all.numbers.items all.labels.items) }
 {
-    let count = area.columns * area.rows;
+    let count = (plot.area.columns * plot.area.rows) as usize;
     let mut all = Gathered {
         nodes: Vec::new(alloc),
-        numbers: vec![in alloc; NO_NODE; count as usize]?,
-        labels: Vec::with_capacity(alloc, count as usize)?,
+        numbers: vec![in alloc; NO_NODE; count]?,
+        labels: Vec::with_capacity(alloc, count)?,
     };
-    for place in 0..count {
-        all.take::<S, G>(
-            grid,
-            tiling,
-            tile,
-            area,
-            ranks,
-            place,
-            sinks[place as usize],
-        )?;
+    for row in 0..plot.area.rows {
+        all.take_row::<S, G>(grid, plot, ranks, sinks, row)?;
     }
     Ok(all)
 }

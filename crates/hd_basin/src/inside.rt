@@ -1,54 +1,42 @@
 // The passes between two basins of a tile, from the pairs of neighbours that lie in two of them.
 ghost use Rattle.std.specs.Prelude.{◌≡◌, ◌<◌, ◌≤◌, ◌*◌, ◌+◌, ℕ, Some, IfOk, MatchOption, OnOk, length, map};
+ghost use Rattle.std.specs.Bool.{OnTrue};
 ghost use Rattle.hd_map.specs.declared.types.Pos.{Pos};
 ghost use Rattle.hd_map.specs.declared.types.Rank.{Rank};
 ghost use Rattle.hd_basin.specs.Built.{HasPasses};
 ghost use Rattle.hd_basin.specs.Frames.{InFrame};
-ghost use Rattle.hd_basin.specs.Inside.{AreMet, AreNamed, IsPairAt, IsStep, join_of, label_at, place_of_frame, step_down, step_right};
+ghost use Rattle.hd_basin.specs.Inside.{AreMet, AreNamed, IsAlone, IsPairAt, IsStep, join_of, label_at, place_of_frame, step_down, step_right};
 ghost use Rattle.hd_basin.specs.Parts.{JoinBelow, pass_named};
 ghost use Rattle.hd_basin.specs.Round.{AreRanks};
 ghost use Rattle.hd_basin.specs.Sinks.{IsArea};
 
 use crate::Node;
-use crate::frame::{Frame, is_in_frame, place_in};
+use crate::frame::{Frame, Plot, is_in_frame, place_in};
 use crate::meetings::{Meeting, Meetings};
 use crate::part::Join;
 use crate::round::rank_in;
 use hd_list::{List, Memory};
 use hd_map::{Heights, Pos, Rank, Side, are_beside, higher_of};
-use hd_tiles::Tiling;
 use std::alloc::Global;
 
 /// The passes between two basins of a tile.
 pub fn passes_inside<S: Side, G: Heights>(
     alloc: Global,
     grid: &G,
-    _tiling: Tiling,
-    _tile: u32,
-    area: Frame,
+    plot: Plot,
     ranks: &[Rank],
     labels: &[u32],
     nodes: &[Node],
 ) -> Result<List<Join>, Memory>
-    requires area { IsArea (G.map grid.now).size _tiling.side _tile area }
-    requires ranks { AreRanks (G.map grid.now) S.NAME area ((area.rows + 2) * (area.columns + 2)) ranks.now }
-    requires named { AreNamed (G.map grid.now) S.NAME _tiling.side area nodes.now labels.now }
-    ensures passes { IfOk result (λ joins. HasPasses (G.map grid.now) S.NAME _tiling.side _tile (map (pass_named nodes.now) joins)) }
+    requires area { IsArea (G.map grid.now).size plot.tiling.side plot.tile plot.area }
+    requires ranks { AreRanks (G.map grid.now) S.NAME plot.area ((plot.area.rows + 2) * (plot.area.columns + 2)) ranks.now }
+    requires named { AreNamed (G.map grid.now) S.NAME plot.tiling.side plot.area nodes.now labels.now }
+    ensures passes { IfOk result (λ joins. HasPasses (G.map grid.now) S.NAME plot.tiling.side plot.tile (map (pass_named nodes.now) joins)) }
     ensures named { IfOk result (λ joins. JoinBelow (length nodes.now) joins) }
 {
     let mut meetings = Meetings::new(alloc, nodes.len())?;
-    for row in 0..area.rows {
-        meet_row::<S, G>(
-            grid,
-            _tiling,
-            _tile,
-            area,
-            ranks,
-            labels,
-            nodes,
-            row,
-            &mut meetings,
-        )?;
+    for row in 0..plot.area.rows {
+        meet_row::<S, G>(grid, plot, ranks, labels, nodes, row, &mut meetings)?;
     }
     let joins = list_joins(alloc, meetings.list.as_slice())?;
     Ok(joins)
@@ -57,30 +45,26 @@ pub fn passes_inside<S: Side, G: Heights>(
 // Notes the meetings of the points of a row with those after them.
 fn meet_row<S: Side, G: Heights>(
     grid: &G,
-    _tiling: Tiling,
-    _tile: u32,
-    area: Frame,
+    plot: Plot,
     ranks: &[Rank],
     labels: &[u32],
     _nodes: &[Node],
     row: u32,
     meetings: &mut Meetings,
 ) -> Result<(), Memory>
-    requires area { IsArea (G.map grid.now).size _tiling.side _tile area }
-    requires ranks { AreRanks (G.map grid.now) S.NAME area ((area.rows + 2) * (area.columns + 2)) ranks.now }
-    requires named { AreNamed (G.map grid.now) S.NAME _tiling.side area _nodes.now labels.now }
-    requires row { row < area.rows }
-    requires before { AreMet (G.map grid.now) S.NAME area labels.now (length _nodes.now) (row * area.columns) 0 meetings.old.lasts.items meetings.old.list.items }
-    ensures { OnOk result (AreMet (G.map grid.now) S.NAME area labels.now (length _nodes.now) ((row + 1) * area.columns) 0 meetings.new.lasts.items meetings.new.list.items) }
+    requires area { IsArea (G.map grid.now).size plot.tiling.side plot.tile plot.area }
+    requires ranks { AreRanks (G.map grid.now) S.NAME plot.area ((plot.area.rows + 2) * (plot.area.columns + 2)) ranks.now }
+    requires named { AreNamed (G.map grid.now) S.NAME plot.tiling.side plot.area _nodes.now labels.now }
+    requires row { row < plot.area.rows }
+    requires before { AreMet (G.map grid.now) S.NAME plot.area labels.now (length _nodes.now) (row * plot.area.columns) 0 meetings.old.lasts.items meetings.old.list.items }
+    ensures { OnOk result (AreMet (G.map grid.now) S.NAME plot.area labels.now (length _nodes.now) ((row + 1) * plot.area.columns) 0 meetings.new.lasts.items meetings.new.list.items) }
 {
-    for column in 0..area.columns {
+    for column in 0..plot.area.columns {
         let at = Pos {
-            x: area.left + column,
-            y: area.top + row,
+            x: plot.area.left + column,
+            y: plot.area.top + row,
         };
-        meet_point::<S, G>(
-            grid, _tiling, _tile, area, ranks, labels, _nodes, at, meetings,
-        )?;
+        meet_point::<S, G>(grid, plot, ranks, labels, _nodes, at, meetings)?;
     }
     Ok(())
 }
@@ -89,37 +73,57 @@ fn meet_row<S: Side, G: Heights>(
 #[inline]
 fn meet_point<S: Side, G: Heights>(
     grid: &G,
-    _tiling: Tiling,
-    _tile: u32,
-    area: Frame,
+    plot: Plot,
     ranks: &[Rank],
     labels: &[u32],
     _nodes: &[Node],
     at: Pos,
     meetings: &mut Meetings,
 ) -> Result<(), Memory>
-    requires area { IsArea (G.map grid.now).size _tiling.side _tile area }
-    requires ranks { AreRanks (G.map grid.now) S.NAME area ((area.rows + 2) * (area.columns + 2)) ranks.now }
-    requires named { AreNamed (G.map grid.now) S.NAME _tiling.side area _nodes.now labels.now }
-    requires at { InFrame area at }
-    requires before { AreMet (G.map grid.now) S.NAME area labels.now (length _nodes.now) (place_of_frame area at) 0 meetings.old.lasts.items meetings.old.list.items }
-    ensures { OnOk result (AreMet (G.map grid.now) S.NAME area labels.now (length _nodes.now) (place_of_frame area at + 1) 0 meetings.new.lasts.items meetings.new.list.items) }
+    requires area { IsArea (G.map grid.now).size plot.tiling.side plot.tile plot.area }
+    requires ranks { AreRanks (G.map grid.now) S.NAME plot.area ((plot.area.rows + 2) * (plot.area.columns + 2)) ranks.now }
+    requires named { AreNamed (G.map grid.now) S.NAME plot.tiling.side plot.area _nodes.now labels.now }
+    requires at { InFrame plot.area at }
+    requires before { AreMet (G.map grid.now) S.NAME plot.area labels.now (length _nodes.now) (place_of_frame plot.area at) 0 meetings.old.lasts.items meetings.old.list.items }
+    ensures { OnOk result (AreMet (G.map grid.now) S.NAME plot.area labels.now (length _nodes.now) (place_of_frame plot.area at + 1) 0 meetings.new.lasts.items meetings.new.list.items) }
 {
+    if is_alone(plot.area, labels, at) {
+        return Ok(());
+    }
     for step in 0..4u32 {
-        meet_step::<S, G>(
-            grid, _tiling, _tile, area, ranks, labels, _nodes, at, step, meetings,
-        )?;
+        meet_step::<S, G>(grid, plot, ranks, labels, _nodes, at, step, meetings)?;
     }
     Ok(())
+}
+
+// Whether the four positions a step after one are in the tile and have its label, so that no two basins meet there.
+// Most points of large basins are so.
+#[inline]
+fn is_alone(area: Frame, labels: &[u32], at: Pos) -> bool
+    requires few { area.columns * area.rows ≤ 65536 }
+    requires whole { length labels.now ≡ area.columns * area.rows }
+    requires at { InFrame area at }
+    ensures { OnTrue result (IsAlone area labels.now at) }
+{
+    let column = at.x - area.left;
+    let row = at.y - area.top;
+    if column == 0 || column + 1 >= area.columns || row + 1 >= area.rows {
+        return false;
+    }
+    let place = (row * area.columns + column) as usize;
+    let below = place + area.columns as usize;
+    let own = labels[place];
+    labels[place + 1] == own
+        && labels[below - 1] == own
+        && labels[below] == own
+        && labels[below + 1] == own
 }
 
 // Notes the meeting of a point with the one a step after it, if they have one.
 #[inline]
 fn meet_step<S: Side, G: Heights>(
     grid: &G,
-    _tiling: Tiling,
-    _tile: u32,
-    area: Frame,
+    plot: Plot,
     ranks: &[Rank],
     labels: &[u32],
     _nodes: &[Node],
@@ -127,21 +131,20 @@ fn meet_step<S: Side, G: Heights>(
     step: u32,
     meetings: &mut Meetings,
 ) -> Result<(), Memory>
-    requires area { IsArea (G.map grid.now).size _tiling.side _tile area }
-    requires ranks { AreRanks (G.map grid.now) S.NAME area ((area.rows + 2) * (area.columns + 2)) ranks.now }
-    requires named { AreNamed (G.map grid.now) S.NAME _tiling.side area _nodes.now labels.now }
-    requires at { InFrame area at }
+    requires area { IsArea (G.map grid.now).size plot.tiling.side plot.tile plot.area }
+    requires ranks { AreRanks (G.map grid.now) S.NAME plot.area ((plot.area.rows + 2) * (plot.area.columns + 2)) ranks.now }
+    requires named { AreNamed (G.map grid.now) S.NAME plot.tiling.side plot.area _nodes.now labels.now }
+    requires at { InFrame plot.area at }
     requires step { step < 4 }
-    requires before { AreMet (G.map grid.now) S.NAME area labels.now (length _nodes.now) (place_of_frame area at) step meetings.old.lasts.items meetings.old.list.items }
-    ensures { OnOk result (AreMet (G.map grid.now) S.NAME area labels.now (length _nodes.now) (place_of_frame area at) (step + 1) meetings.new.lasts.items meetings.new.list.items) }
+    requires before { AreMet (G.map grid.now) S.NAME plot.area labels.now (length _nodes.now) (place_of_frame plot.area at) step meetings.old.lasts.items meetings.old.list.items }
+    ensures { OnOk result (AreMet (G.map grid.now) S.NAME plot.area labels.now (length _nodes.now) (place_of_frame plot.area at) (step + 1) meetings.new.lasts.items meetings.new.list.items) }
 {
-    let Some(near) = stepped(area, at, step) else {
+    let Some(near) = stepped(plot.area, at, step) else {
         return Ok(());
     };
     let count = meetings.lasts.len();
-    let Some((a, b, higher)) = pair_at::<S, G>(
-        grid, _tiling, _tile, area, ranks, labels, _nodes, count, at, near,
-    ) else {
+    let Some((a, b, higher)) = pair_at::<S, G>(grid, plot, ranks, labels, _nodes, count, at, near)
+    else {
         return Ok(());
     };
     meetings.note::<S>(a, b, higher)?;
@@ -197,9 +200,7 @@ fn step_down(step: u32) -> u32
 #[inline]
 fn pair_at<S: Side, G: Heights>(
     grid: &G,
-    _tiling: Tiling,
-    _tile: u32,
-    area: Frame,
+    plot: Plot,
     ranks: &[Rank],
     labels: &[u32],
     _nodes: &[Node],
@@ -207,18 +208,18 @@ fn pair_at<S: Side, G: Heights>(
     at: Pos,
     near: Pos,
 ) -> Option<(u32, u32, Rank)>
-    requires area { IsArea (G.map grid.now).size _tiling.side _tile area }
-    requires ranks { AreRanks (G.map grid.now) S.NAME area ((area.rows + 2) * (area.columns + 2)) ranks.now }
-    requires named { AreNamed (G.map grid.now) S.NAME _tiling.side area _nodes.now labels.now }
+    requires area { IsArea (G.map grid.now).size plot.tiling.side plot.tile plot.area }
+    requires ranks { AreRanks (G.map grid.now) S.NAME plot.area ((plot.area.rows + 2) * (plot.area.columns + 2)) ranks.now }
+    requires named { AreNamed (G.map grid.now) S.NAME plot.tiling.side plot.area _nodes.now labels.now }
     requires count { count ≡ length _nodes.now }
-    requires at { InFrame area at }
-    requires near { InFrame area near }
+    requires at { InFrame plot.area at }
+    requires near { InFrame plot.area near }
     requires step { (step : _) × (step < 4) × IsStep at near step }
-    ensures { MatchOption result ((a b : ℕ) (w : Rank) → IsPairAt (G.map grid.now) S.NAME area labels.now count at near a b w → ⊥)
-        (λ x. IsPairAt (G.map grid.now) S.NAME area labels.now count at near x.0 x.1 x.2) }
+    ensures { MatchOption result ((a b : ℕ) (w : Rank) → IsPairAt (G.map grid.now) S.NAME plot.area labels.now count at near a b w → ⊥)
+        (λ x. IsPairAt (G.map grid.now) S.NAME plot.area labels.now count at near x.0 x.1 x.2) }
 {
-    let a = label_in(area, labels, at);
-    let b = label_in(area, labels, near);
+    let a = label_in(plot.area, labels, at);
+    let b = label_in(plot.area, labels, near);
     if a == b {
         return None;
     }
@@ -231,8 +232,8 @@ fn pair_at<S: Side, G: Heights>(
     if !are_beside(grid.adjacency(), at, near) {
         return None;
     }
-    let here = rank_in::<S, G>(grid, area, ranks, at);
-    let there = rank_in::<S, G>(grid, area, ranks, near);
+    let here = rank_in::<S, G>(grid, plot.area, ranks, at);
+    let there = rank_in::<S, G>(grid, plot.area, ranks, near);
     let higher = higher_of::<S>(here, there);
     if a < b {
         Some((a, b, higher))

@@ -3,7 +3,7 @@ ghost use Rattle.std.specs.Prelude.{◌≡◌, ◌<◌, IfOk, Some};
 ghost use Rattle.hd_tiles.specs.Tile.{tile_count};
 ghost use Rattle.hd_basin.specs.Built.{IsNoded};
 
-use crate::frame::area_of;
+use crate::frame::{Plot, area_of};
 use crate::gather::{Gathered, gather};
 use crate::inside::passes_inside;
 use crate::part::Part;
@@ -28,27 +28,18 @@ pub fn noded<S: Side, G: Heights>(
     ensures seen { IfOk result (λ part. part.seen ≡ Some stamp) }
 {
     let area = area_of(tiling, tile);
+    let plot = Plot { tiling, tile, area };
     let ranks = ranks_round::<S, G>(alloc, grid, area)?;
     let sinks = sinks_in::<S, G>(alloc, grid, tiling, tile, area, ranks.as_slice())?;
     let Gathered {
         nodes,
         numbers: _,
         labels,
-    } = gather::<S, G>(
-        alloc,
-        grid,
-        tiling,
-        tile,
-        area,
-        ranks.as_slice(),
-        sinks.as_slice(),
-    )?;
+    } = gather::<S, G>(alloc, grid, plot, ranks.as_slice(), sinks.as_slice())?;
     let joins = passes_inside::<S, G>(
         alloc,
         grid,
-        tiling,
-        tile,
-        area,
+        plot,
         ranks.as_slice(),
         labels.as_slice(),
         nodes.as_slice(),

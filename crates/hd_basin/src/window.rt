@@ -1,8 +1,8 @@
 // A window on a tile and what is beside it, seen as a map of which nothing else is measured.
-ghost use Rattle.std.specs.Prelude.{◌≡◌, ◌<◌, ◌≤◌, ◌+◌, ◌*◌, IfOk, true, Some, slice_get};
+ghost use Rattle.std.specs.Prelude.{◌≡◌, ◌<◌, ◌≤◌, ◌+◌, ◌*◌, IfOk, OnOk, true, Some, slice_get};
 ghost use Rattle.hd_map.specs.declared.types.Pos.{Pos};
 ghost use Rattle.hd_map.specs.Map.{InGrid, place_of};
-ghost use Rattle.hd_basin.specs.Frames.{InFrame, FitsGrid, IsWindow, ShowsFrame};
+ghost use Rattle.hd_basin.specs.Frames.{AreFilled, InFrame, FitsGrid, IsWindow, ShowsFrame};
 
 use crate::frame::{Frame, is_in_frame};
 use hd_list::Memory;
@@ -62,14 +62,9 @@ impl Window {
         ensures shows { IfOk result (λ w. ShowsFrame (T.map tiles.now) frame (map_of_window w)) }
         ensures counted { looks.new ≤ looks.old + frame.columns * frame.rows }
     {
-        let mut heights = Vec::new(alloc);
-        for index in 0..frame.columns * frame.rows {
-            let at = Pos {
-                x: frame.left + index % frame.columns,
-                y: frame.top + index / frame.columns,
-            };
-            let height = tiles.look(at, looks);
-            heights.push(height)?;
+        let mut heights = Vec::with_capacity(alloc, (frame.columns * frame.rows) as usize)?;
+        for row in 0..frame.rows {
+            look_along(tiles, frame, row, &mut heights, looks)?;
         }
         Ok(Window {
             size: tiles.size(),
@@ -78,4 +73,30 @@ impl Window {
             heights,
         })
     }
+}
+
+// Looks once at each position of a row of a part of the grid.
+fn look_along<T: Looked, L: Ledger>(
+    tiles: &T,
+    frame: Frame,
+    row: u32,
+    heights: &mut Vec<Option<i64>>,
+    looks: &mut Steps<L>,
+) -> Result<(), Memory>
+    requires fits { FitsGrid (T.map tiles.now).size frame }
+    requires allowed { (p : Pos) → InFrame frame p → slice_get (T.leave tiles.now) (place_of (T.map tiles.now).size p) ≡ Some true }
+    requires row { row < frame.rows }
+    requires before { AreFilled (T.map tiles.now) frame (row * frame.columns) heights.old.items }
+    ensures filled { OnOk result (AreFilled (T.map tiles.now) frame ((row + 1) * frame.columns) heights.new.items) }
+    ensures counted { looks.new ≤ looks.old + frame.columns }
+{
+    for column in 0..frame.columns {
+        let at = Pos {
+            x: frame.left + column,
+            y: frame.top + row,
+        };
+        let height = tiles.look(at, looks);
+        heights.push(height)?;
+    }
+    Ok(())
 }

@@ -1,24 +1,15 @@
-use Rattle.std.proofs.Common.{inl, inr, ◌∙◌, ap, sym}
-use Rattle.hd_map.specs.declared.types.Size.{Size}
-use Rattle.hd_map.specs.Map.{Map}
-use Rattle.hd_basin.specs.Edge.{OnBorder}
-use Rattle.hd_basin.proofs.Edges.{edge-absent_beside, no_edge}
+use Rattle.std.proofs.Common.{◌≡◌, ◌+◌, ◌-◌, ◌*◌, ℕ, sym, ◌∙◌, arith}
+use Rattle.hd_basin.proofs.Edges.{row-open, rows-closed}
 use Rattle.hd_basin.proofs.edge.is_edge.Goals as goal
 
-pub returns : goal.returns
-returns g c =
-    let m : Map = g.G.Heights.map c.args.grid.now in
-    let inner : OnBorder m.size c.args.at → ⊥ = λ border. elim border [
-      | inl left ↦ c.if-at-eq0.false left
-      | inr rest ↦ elim rest [
-        | inl top ↦ c.if-at-eq0-2.false top
-        | inr rest2 ↦ elim rest2 [
-          | inl right ↦ c.if-at-size.false (right ∙ ap (λ (s : Size). s.points) (sym c.size-size.ensures))
-          | inr bottom ↦ c.if-at-size-2.false (bottom ∙ ap (λ (s : Size). s.profiles) (sym c.size-size.ensures))
-        ]
-      ]
-    ] in
-    record {
-      edge = λ e. edge-absent_beside m c.args.at c.requires.present (c.has_absent_beside.ensures.absent e);
-      inner = λ e edge. no_edge m c.args.at c.requires.present inner (c.has_absent_beside.ensures.none e) edge;
-    }
+pub returns-then-lacks_one-clause-edge : goal.returns-then-lacks_one-clause-edge
+returns-then-lacks_one-clause-edge g c = λ e. row-open (g.G.Heights.map c.args._grid.now) g.S.Side.NAME (g.met.G.Heights.whole c.args._grid.now) c.args.at c.requires.present c.args.area c.args.ranks.now c.requires.ranks c.requires.at 0 _ (omega arith) (omega arith) (sym c.lacks_one.ensures ∙ c.if-lacks_one.true)
+
+pub returns-then-lacks_one-2-clause-edge : goal.returns-then-lacks_one-2-clause-edge
+returns-then-lacks_one-2-clause-edge g c = λ e. row-open (g.G.Heights.map c.args._grid.now) g.S.Side.NAME (g.met.G.Heights.whole c.args._grid.now) c.args.at c.requires.present c.args.area c.args.ranks.now c.requires.ranks c.requires.at 1 _ (omega arith) (omega arith) (sym c.lacks_one-2.ensures ∙ c.if-lacks_one-2.true)
+
+pub returns-clause-edge : goal.returns-clause-edge
+returns-clause-edge g c = λ e. row-open (g.G.Heights.map c.args._grid.now) g.S.Side.NAME (g.met.G.Heights.whole c.args._grid.now) c.args.at c.requires.present c.args.area c.args.ranks.now c.requires.ranks c.requires.at 2 _ (omega arith) (omega arith) (sym c.lacks_one-3.ensures ∙ e)
+
+pub returns-clause-inner : goal.returns-clause-inner
+returns-clause-inner g c = λ e. rows-closed (g.G.Heights.map c.args._grid.now) g.S.Side.NAME (g.met.G.Heights.whole c.args._grid.now) c.args.at c.requires.present c.args.area c.args.ranks.now c.requires.ranks c.requires.at _ _ _ (omega arith) (omega arith) (omega arith) (sym c.lacks_one.ensures ∙ c.if-lacks_one.false) (sym c.lacks_one-2.ensures ∙ c.if-lacks_one-2.false) (sym c.lacks_one-3.ensures ∙ e)

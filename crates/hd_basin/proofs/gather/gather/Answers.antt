@@ -1,4 +1,4 @@
-use Rattle.std.proofs.Common.{◌≡◌, ◌*◌, ℕ, List, length, Some, sym, ◌∙◌, arith, ap, slice_get}
+use Rattle.std.proofs.Common.{◌≡◌, ◌*◌, ℕ, List, length, Some, sym, ◌∙◌, arith, ap, subst, slice_get}
 use Rattle.std.specs.Prelude.{replicate}
 use Rattle.std.proofs.lemmas.List.{length-replicate, get_or-replicate}
 use Rattle.std.proofs.lemmas.Option.{slice_get_within, get_or_from_slice_get}
@@ -13,14 +13,17 @@ none-there numbers n e j i at =
     let inside = slice_get_within (replicate n no_node) j i at' in
     sym (get_or_from_slice_get (replicate n no_node) j i 0 at') ∙ get_or-replicate n j no_node 0 (rw (length-replicate n no_node) at inside)
 
-pub loop-place-init : goal.loop-place-init
-loop-place-init g c =
+pub loop-row-init : goal.loop-row-init
+loop-row-init g c =
     let numbers : List ℕ = c.in_ok-vec.field-0.items in
-    let n : ℕ = c.args.area.columns * c.args.area.rows in
+    let f = c.args.plot.area in
+    let n : ℕ = f.columns * f.rows in
     let all : numbers ≡ replicate n no_node = c.in_ok-vec.ensures.items_if_clones_equal (λ _ e. e) in
-    rw (c.new.ensures.items, c.in_ok-with_capacity.ensures.items) (gathered-none (g.G.Heights.map c.args.grid.now) g.S.Side.NAME c.args.tiling.side c.args.tile c.args.area numbers (ap (λ (xs : List ℕ). length xs) all ∙ length-replicate n no_node) (none-there numbers n all))
+    let zero : 0 * f.columns ≡ 0 = omega arith in
+    rw (c.new.ensures.items, c.in_ok-with_capacity.ensures.items, zero) (gathered-none (g.G.Heights.map c.args.grid.now) g.S.Side.NAME c.args.plot.tiling.side c.args.plot.tile f numbers (ap (λ (xs : List ℕ). length xs) all ∙ length-replicate n no_node) (none-there numbers n all))
 
 pub returns : goal.returns
 returns g c =
-    let all : c.loop-place.place ≡ c.args.area.columns * c.args.area.rows = omega arith in
-    rw (← all) c.loop-place.invariant
+    let f = c.args.plot.area in
+    let all : c.loop-row.row * f.columns ≡ f.columns * f.rows = (let e : c.loop-row.row ≡ f.rows = omega arith in subst (λ (r : ℕ). r * f.columns ≡ f.columns * f.rows) (sym e) (omega arith)) in
+    rw (← all) c.loop-row.invariant

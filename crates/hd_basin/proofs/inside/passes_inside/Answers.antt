@@ -18,25 +18,25 @@ loop-row-init g c =
     let made = c.in_ok-meetings.ensures in
     let lasts : List (Option ℕ) = c.in_ok-meetings.meetings.lasts.items in
     let list : List Meeting = c.in_ok-meetings.meetings.list.items in
-    let start = met-none m side c.args.area c.args.labels.now count lasts (subst (AreChained lasts) made.none made.chained) made.count in
-    let first : AreMet m side c.args.area c.args.labels.now count 0 0 lasts list = subst (AreMet m side c.args.area c.args.labels.now count 0 0 lasts) (sym made.none) start in
-    let zero : 0 ≡ 0 * c.args.area.columns = omega arith in
-    subst (λ (k : ℕ). AreMet m side c.args.area c.args.labels.now count k 0 lasts list) zero first
+    let start = met-none m side c.args.plot.area c.args.labels.now count lasts (subst (AreChained lasts) made.none made.chained) made.count in
+    let first : AreMet m side c.args.plot.area c.args.labels.now count 0 0 lasts list = subst (AreMet m side c.args.plot.area c.args.labels.now count 0 0 lasts) (sym made.none) start in
+    let zero : 0 ≡ 0 * c.args.plot.area.columns = omega arith in
+    subst (λ (k : ℕ). AreMet m side c.args.plot.area c.args.labels.now count k 0 lasts list) zero first
 
 pub returns-clause-passes : goal.returns-clause-passes
 returns-clause-passes g c =
     let m = g.G.Heights.map c.args.grid.now in
     let side = g.S.Side.NAME in
-    let f = c.args.area in
+    let f = c.args.plot.area in
     let count : ℕ = length c.args.nodes.now in
     let lasts : List (Option ℕ) = c.loop-row.meetings.lasts.items in
     let list : List Meeting = c.loop-row.meetings.list.items in
-    let least = c.args._tiling.tile_side.least in
+    let least = c.args.plot.tiling.tile_side.least in
     let done : c.loop-row.row * f.columns ≡ f.columns * f.rows = (let e : c.loop-row.row ≡ f.rows = omega arith in subst (λ (r : ℕ). r * f.columns ≡ f.columns * f.rows) (sym e) (omega arith)) in
     let all : AreMet m side f c.args.labels.now count (f.columns * f.rows) 0 lasts list = subst (λ (k : ℕ). AreMet m side f c.args.labels.now count k 0 lasts list) done c.loop-row.invariant in
     let joins : c.in_ok-joins.joins ≡ map join_of list = c.in_ok-joins.ensures ∙ ap (map join_of) c.as_slice.ensures.value in
-    subst (λ (js : List Join). HasPasses m side c.args._tiling.side c.args._tile (map (pass_named c.args.nodes.now) js)) (sym joins)
-    (passes-all m side c.args._tiling.side c.args._tile f (omega (arith, least)) c.requires.area c.args.nodes.now c.args.labels.now c.requires.named list all.kept)
+    subst (λ (js : List Join). HasPasses m side c.args.plot.tiling.side c.args.plot.tile (map (pass_named c.args.nodes.now) js)) (sym joins)
+    (passes-all m side c.args.plot.tiling.side c.args.plot.tile f (omega (arith, least)) c.requires.area c.args.nodes.now c.args.labels.now c.requires.named list all.kept)
 
 -- the numbers of the meetings are those of nodes
 below : (list : List Meeting) (count : ℕ) → ((i : ℕ) (x : Meeting) → slice_get list i ≡ Some x → (x.a < count) × (x.b < count)) → JoinBelow count (map join_of list)
