@@ -1,6 +1,9 @@
 -- The map before an entry, and the heights that stood before an exchange.
-use Rattle.std.proofs.Common.{◌≡◌, ◌<◌, ℕ, ℤ, List, length, get_or, Option, Some, None, inl, inr, refl, sym, ap, subst, ◌∙◌, arith}
-use Rattle.std.proofs.lemmas.Bool.{cases_lt}
+use Rattle.std.proofs.Common.{◌≡◌, ◌<◌, ◌+◌, ◌||◌, ℕ, zero, suc, ℤ, Bool, false, List, length, get_or, Option, Some, None, inl, inr, refl, sym, ap, subst, ◌∙◌, arith}
+use Rattle.std.specs.Prelude.{if◌then◌else◌}
+use Rattle.std.proofs.lemmas.Bool.{cases_lt, false_from_ne_true}
+use Rattle.std.proofs.lemmas.Bool.Decides.{nat_tests}
+use Rattle.std.proofs.lemmas.Int.{ints}
 use Rattle.std.proofs.lemmas.List.{get_or_past}
 use Rattle.std.proofs.lemmas.List.FromFn.{fill_by_all}
 use Rattle.hd_map.specs.declared.types.Adjacency.{Adjacency}
@@ -9,7 +12,8 @@ use Rattle.hd_map.specs.declared.types.Size.{Size}
 use Rattle.hd_map.specs.declared.types.Cell.{Cell}
 use Rattle.hd_map.specs.declared.types.Cell.TheVariants.{Height, Bad}
 use Rattle.hd_map.specs.declared.types.DataType.{DataType}
-use Rattle.hd_map.specs.Encoding.{Encoding, values_of}
+use Rattle.hd_map.specs.Encoding.{Encoding, narrow, wide, values_of}
+use Rattle.hd_map.specs.Lanes.{exceeds}
 use Rattle.hd_map.specs.Map.{Map, IsMap, InGrid, IsCellOf, AreCellsOf, cell_at, cell_count, height_at, mask_at, place_of, position_at}
 use Rattle.hd_map.specs.Sets.{AreHeightsIn, cell_with, under}
 use Rattle.hd_map.proofs.Points.{place_inside, position_at-inside, position_at-place}
@@ -19,14 +23,19 @@ use Rattle.hd_morph.specs.Filter.{IsFiltered, Relief, relief_of}
 use Rattle.hd_morph.specs.declared.filter.Filter.{Filter}
 use Rattle.hd_morph.specs.declared.filter.Filter.TheVariants.{Dilation, Erosion, Opening, Closing}
 use Rattle.hd_morph.specs.NewHeights.{cell_after, cells_after}
+use Rattle.hd_morph.specs.Lists.{AreOldAndNew}
+use Rattle.hd_morph.specs.declared.new_heights.OldAndNew.{OldAndNew}
+use Rattle.hd_morph.specs.declared.new_heights.OldAndNew.TheVariants.{Narrow, Wide}
 use Rattle.hd_morph.proofs.Encodings.{length_values}
 use Rattle.hd_morph.proofs.Listed.{get_or_cells_after, length_cells_after}
 use Rattle.hd_morph.proofs.PlainNumbers.{some_or_none}
 use Rattle.hd_edit.specs.declared.entry.Entry.{Entry}
 use Rattle.hd_edit.specs.declared.entry.Entry.TheVariants as entry
 use Rattle.hd_edit.specs.Entry.{AreHeightsFor, before_entry}
-use Rattle.hd_edit.specs.Exchange.{AreExchanged}
-use Rattle.hd_edit.specs.Filtered.{LeavesOthers}
+use Rattle.hd_edit.specs.Exchange.{AreExchanged, different, differs}
+use Rattle.hd_edit.specs.Filter.{IsFilteredMap}
+use Rattle.hd_edit.specs.Filtered.{IsNewFor, LeavesOthers, map_after}
+use Rattle.hd_edit.specs.Stroke.{count_below}
 use Rattle.hd_edit.proofs.Changes.{cell_of, kind_stays, under_before}
 use Rattle.hd_edit.proofs.ProfileChanges.{shown-told}
 
@@ -48,9 +57,53 @@ filtered_absent Opening s e f g is = λ p inside none. is.second.absent p inside
 filtered_absent Closing s e f g is = λ p inside none. is.second.absent p inside (is.first.absent p inside none)
 
 -- so its cell stays
-pub others_left : (filter : Filter) (m : Map) (e : ElementTable) (heights : List (Option ℤ)) → AreFilteredCells filter m e (cells_after m heights) → LeavesOthers m heights
+others_left : (filter : Filter) (m : Map) (e : ElementTable) (heights : List (Option ℤ)) → AreFilteredCells filter m e (cells_after m heights) → LeavesOthers m heights
 others_left filter m e heights are = λ p inside none.
     sym (get_or_cells_after m heights (place_of m.size p) Bad (place_inside m.size p inside)) ∙ are.are_cells.absent p inside (filtered_absent filter m.size e (relief_of m) are.heights are.filtered p inside none)
+
+-- new heights of a filter, in lists of either type
+pub lists_new : (filter : Filter) (m : Map) (e : ElementTable) (lists : OldAndNew) → AreOldAndNew filter m e lists → IsNewFor m lists
+lists_new filter m e (Narrow lists) are = record {
+  held = are.held;
+  plain = are.plain;
+  of_type = are.made.filtered.are_cells.of_type;
+  others = others_left filter m e (values_of narrow lists.after.items) are.made.filtered;
+}
+lists_new filter m e (Wide lists) are = record {
+  held = are.held;
+  plain = are.plain;
+  of_type = are.made.filtered.are_cells.of_type;
+  others = others_left filter m e (values_of wide lists.after.items) are.made.filtered;
+}
+
+-- the map with them is the filtered one
+pub lists_filtered : (filter : Filter) (m : Map) (e : ElementTable) (lists : OldAndNew) → AreOldAndNew filter m e lists → IsFilteredMap filter m e (map_after m lists)
+lists_filtered filter m e (Narrow lists) are = record { cells = cells_after m (values_of narrow lists.after.items); are_filtered = are.made.filtered; is_map = refl }
+lists_filtered filter m e (Wide lists) are = record { cells = cells_after m (values_of wide lists.after.items); are_filtered = are.made.filtered; is_map = refl }
+
+-- two heights of which neither exceeds the other do not differ
+pub exceeds_differs : (a b : Option ℤ) → (exceeds a b || exceeds b a) ≡ differs a b
+exceeds_differs (Some x) (Some y) = grind (arith, ints, nat_tests)
+exceeds_differs (Some x) None = refl
+exceeds_differs None (Some y) = refl
+exceeds_differs None None = refl
+
+-- heights that do not differ are one
+one_height : (a b : Option ℤ) → differs a b ≡ false → a ≡ b
+one_height (Some x) (Some y) same = ap Some (grind (arith, ints, nat_tests))
+one_height (Some x) None same = cc
+one_height None (Some y) same = cc
+one_height None None same = refl
+
+-- where none of the first numbers passes a test, each of them fails it
+none_passes : (p : ℕ → Bool) (n : ℕ) → count_below p n ≡ 0 → (k : ℕ) → k < n → p k ≡ false
+none_passes p zero none k below = absurd (omega arith)
+none_passes p (suc n) none k below = elim (cases_lt k n) [
+  | inl before ↦ none_passes p n (omega (arith, none)) k before
+  | inr not ↦
+      let here : k ≡ n = omega (arith, below, not) in
+      rw here (false_from_ne_true (p n) (λ passes. let one : count_below p (suc n) ≡ count_below p n + 1 = ap (λ (b : Bool). count_below p n + (if b then 1 else 0)) passes in absurd (omega (arith, one, none))))
+]
 
 -- a new height of the type, or the old cell of it, is of it
 new_or_old : (t : DataType) (new : Option ℤ) (old : Cell) → ((z : ℤ) → new ≡ Some z → IsCellOf t (Height z)) → IsCellOf t old → IsCellOf t (cell_with new old)
@@ -83,6 +136,24 @@ module _ (m : Map) (whole : IsMap m) (olds : List (Option ℤ)) (held : (p : Pos
       | inr past ↦ absurd (let none : None ≡ Some z = sym (get_or_past olds k None (omega (arith, past, long))) ∙ is in cc)
     ];
   }
+
+  module _ (news : List (Option ℤ)) (none : different olds news (cell_count m.size) ≡ 0) where
+    -- where no height becomes another one, the cell at an index stays
+    stays_at : (k : ℕ) → k < cell_count m.size → cell_after m news k ≡ get_or m.cells k Bad
+    stays_at k below =
+        let p : Pos = position_at m.size k in
+        let place : place_of m.size p ≡ k = position_at-place m.size k whole.size.some_points in
+        let here : cell_at m p ≡ get_or m.cells k Bad = ap (λ (i : ℕ). get_or m.cells i Bad) place in
+        let same : get_or olds k None ≡ get_or news k None = one_height (get_or olds k None) (get_or news k None) (none_passes (λ i. differs (get_or olds i None) (get_or news i None)) (cell_count m.size) none k below) in
+        let told = sym same ∙ held_at k below in
+        elim (some_or_none (height_at m p)) [
+          | inl some ↦ ap (λ (v : Option ℤ). cell_with v (get_or m.cells k Bad)) (told ∙ some.1) ∙ sym (shown-told (cell_at m p) (mask_at m p) some.0 some.1) ∙ here
+          | inr gone ↦ ap (λ (v : Option ℤ). cell_with v (get_or m.cells k Bad)) (told ∙ gone)
+        ]
+
+    -- and so does the map
+    pub heights_stay : with_cells m (cells_after m news) ≡ m
+    heights_stay = ap (λ (cs : List Cell). record m { cells = cs }) (sym (fill_by_all (cell_after m news) m.cells (cell_count m.size) Bad whole.cells (λ k h. sym (stays_at k h))))
 
   module _ (heights : List (Option ℤ)) (others : LeavesOthers m heights) where
     abbrev after : Map

@@ -1,67 +1,64 @@
-// Heights of a grid exchanged for those that stood there.
-ghost use Rattle.std.specs.Prelude.{◌≡◌, ◌<◌, ◌^◌, IfOk, OnErr, MatchOption, length};
-ghost use Rattle.hd_map.specs.Encoding.{values_of};
-ghost use Rattle.hd_map.specs.Map.{AreCellsOf, cell_count};
-ghost use Rattle.hd_morph.specs.NewHeights.{cells_after};
-ghost use Rattle.hd_edit.specs.Board.{RisesUpTo};
-ghost use Rattle.hd_edit.specs.Exchange.{AreExchanged, different, differs};
+// How the heights of a grid are exchanged for others.
+ghost use Rattle.std.specs.Prelude.{◌≡◌, ◌<◌, ◌^◌, length};
+ghost use Rattle.hd_map.specs.Encoding.{most_filtered, values_of};
+ghost use Rattle.hd_map.specs.Lanes.{IsPlainNumber};
+ghost use Rattle.hd_morph.specs.Plain.{IsPlain};
+ghost use Rattle.hd_edit.specs.Exchange.{IsWayFor, different, differs};
 
-use crate::profile::set_profiles;
-use hd_list::Memory;
-use hd_map::{Grid, Lane};
-use hd_morph::heights_of;
-use std::alloc::Global;
+use hd_map::Lane;
 
-/// Exchanges the heights of a grid for those for which numbers stand, and tells by index those that stood at its
-/// points, if three in five of them or more become others. The masks stay where they are. Else, and refused its
-/// memory, it leaves the grid.
-pub fn exchanged<L: Lane, G: Grid>(
-    alloc: Global,
-    grid: &mut G,
-    numbers: &[L],
-) -> Result<Option<Vec<L>>, Memory>
-    requires whole { length numbers.now ≡ cell_count (G.map grid.old).size }
-    requires of_type { let m = G.map grid.old in AreCellsOf m.data_type (cells_after m (values_of L.code numbers.now)) }
-    requires count { G.changes grid.old < 2 ^ 62 }
-    ensures memory { OnErr result (grid.new ≡ grid.old) }
-    ensures exchanged { IfOk result (λ told. MatchOption told (grid.new ≡ grid.old)
-        (λ old. AreExchanged L.code (G.map grid.old) (G.map grid.new) numbers.now old.items)) }
-    ensures origin { G.comes_from grid.old grid.new }
-    ensures count { RisesUpTo (cell_count (G.map grid.old).size) (G.changes grid.old) (G.changes grid.new) }
+/// How new heights are put in the place of others.
+#[derive(Clone, Copy)]
+pub enum Way {
+    /// No height becomes another one, so all stay.
+    Leave,
+    /// Most become others: the list of the heights before undoes that.
+    Exchange,
+    /// Few become others, and these are noted.
+    Note,
+}
+
+/// How heights are put in the place of those of another list.
+pub fn way_for<L: Lane>(olds: &[L], news: &[L]) -> Way
+    requires same { length olds.now ≡ length news.now }
+    requires few { length news.now < 2 ^ 32 }
+    requires olds { IsPlain L.code (most_filtered L.code) olds.now }
+    requires news { IsPlain L.code (most_filtered L.code) news.now }
+    ensures { IsWayFor (values_of L.code olds.now) (values_of L.code news.now) (length news.now) result }
 {
-    let Some(old) = heights_of::<L, G>(alloc, grid)? else {
-        return Ok(None);
-    };
-    let different = count_different(&old, numbers);
-    // A list takes 4 or 8 bytes a point, and notes take 6 or 12 for each that becomes another.
-    if 5 * u64::from(different) < 3 * numbers.len() as u64 {
-        return Ok(None);
+    let different = count_different(olds, news);
+    if different == 0 {
+        return Way::Leave;
     }
-    set_profiles(grid, numbers);
-    Ok(Some(old))
+    // A list takes 4 or 8 bytes a point, and notes take 6 or 12 for each that becomes another.
+    if 5 * u64::from(different) < 3 * news.len() as u64 {
+        return Way::Note;
+    }
+    Way::Exchange
 }
 
 // How many numbers stand for other heights than those of another list at their places.
-fn count_different<L: Lane>(old: &[L], new: &[L]) -> u32
-    requires same { length old.now ≡ length new.now }
-    requires few { length new.now < 2 ^ 32 }
-    ensures { result ≡ different (values_of L.code old.now) (values_of L.code new.now) (length new.now) }
+fn count_different<L: Lane>(olds: &[L], news: &[L]) -> u32
+    requires same { length olds.now ≡ length news.now }
+    requires few { length news.now < 2 ^ 32 }
+    requires olds { IsPlain L.code (most_filtered L.code) olds.now }
+    requires news { IsPlain L.code (most_filtered L.code) news.now }
+    ensures { result ≡ different (values_of L.code olds.now) (values_of L.code news.now) (length news.now) }
 {
     let mut count: u32 = 0;
-    for place in 0..new.len() {
-        count += u32::from(differ(old[place].height(), new[place].height()));
+    for place in 0..news.len() {
+        count += u32::from(differ(olds[place], news[place]));
     }
     count
 }
 
-// Whether two heights, or none, are not the same.
+// Whether two numbers stand for different heights, or one of them alone for one.
 #[inline]
-fn differ(old: Option<i64>, new: Option<i64>) -> bool
-    ensures { result ≡ differs old new }
+#[tactic(auto, using(crate::proofs::Entries::exceeds_differs))]
+fn differ<L: Lane>(one: L, other: L) -> bool
+    requires one { IsPlainNumber L.code (most_filtered L.code) one }
+    requires other { IsPlainNumber L.code (most_filtered L.code) other }
+    ensures { result ≡ differs (L.code.shown one) (L.code.shown other) }
 {
-    match (old, new) {
-        (Some(old), Some(new)) => old != new,
-        (None, None) => false,
-        _ => true,
-    }
+    one.exceeds(other) | other.exceeds(one)
 }

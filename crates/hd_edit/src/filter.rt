@@ -1,5 +1,5 @@
 // The filters of a grid: all its heights at once.
-ghost use Rattle.std.specs.Prelude.{◌≡◌, ◌<◌, ◌^◌, IfOk, OnOk, OnErr, MatchResult, None, length};
+ghost use Rattle.std.specs.Prelude.{◌≡◌, ◌<◌, ◌^◌, IfOk, OnOk, OnErr, MatchResult, None, Ok, length};
 ghost use Rattle.hd_map.specs.Encoding.{narrow, values_of, wide};
 ghost use Rattle.hd_map.specs.Map.{AreCellsOf, cell_count};
 ghost use Rattle.hd_morph.specs.Answer.{with_cells};
@@ -7,127 +7,134 @@ ghost use Rattle.hd_morph.specs.NewHeights.{cells_after};
 ghost use Rattle.hd_edit.specs.Board.{IsEdited, IsRefusalBy, RisesUpTo};
 ghost use Rattle.hd_edit.specs.Change.{AreChanges, before_changes};
 ghost use Rattle.hd_edit.specs.Entry.{IsEntry, before_entry};
-ghost use Rattle.hd_edit.specs.Filtered.{AreEditHeights, LeavesOthers};
+ghost use Rattle.hd_edit.specs.Filtered.{AreNewFor, IsNewFor, map_after};
 ghost use Rattle.hd_edit.specs.Stroke.{stroke_parts};
 
 use crate::elements::Elements;
 use crate::entry::Entry;
-use crate::exchange::exchanged;
+use crate::exchange::{Way, way_for};
 use crate::notes::{NewNotes, Notes};
-use crate::profile::put_profiles;
+use crate::profile::{put_profiles, set_profiles};
 use crate::{Edit, EditError};
 use hd_list::Memory;
 use hd_map::{Grid, Heights, Lane, is_narrow};
-use hd_morph::{
-    MorphError, NewHeights, Numbers, closed_heights, dilated_heights, eroded_heights,
-    opened_heights,
-};
+use hd_morph::{Filter, Lists, MorphError, Numbers, OldAndNew, filtered_lists};
 use std::alloc::Global;
 
-/// The new heights of a filter.
+/// The heights of a grid, and those that a filter makes of them.
 pub fn filtered<G: Grid>(
     alloc: Global,
     grid: &G,
     elements: &Elements,
     edit: &Edit,
-) -> Result<NewHeights, EditError>
+) -> Result<OldAndNew, EditError>
     requires { stroke_parts edit.now ≡ None }
-    ensures heights { let m = G.map grid.now in MatchResult result
-        (AreEditHeights elements.now m edit.now)
+    ensures edit { let m = G.map grid.now in MatchResult result
+        (λ lists. IsEdited elements.now m edit.now (Ok (map_after m lists)))
         (IsRefusalBy (IsEdited elements.now m edit.now)) }
-    ensures others { IfOk result (LeavesOthers (G.map grid.now)) }
+    ensures heights { IfOk result (IsNewFor (G.map grid.now)) }
 {
     match edit {
         Edit::Dilate { name } => {
             let element = elements.find(name)?;
-            let heights = dilated_heights(alloc, grid, element)?;
-            Ok(heights)
+            let lists = filtered_lists(alloc, grid, element, Filter::Dilation)?;
+            Ok(lists)
         }
         Edit::Erode { name } => {
             let element = elements.find(name)?;
-            let heights = eroded_heights(alloc, grid, element)?;
-            Ok(heights)
+            let lists = filtered_lists(alloc, grid, element, Filter::Erosion)?;
+            Ok(lists)
         }
         Edit::Open { name } => {
             let element = elements.find(name)?;
-            let heights = opened_heights(alloc, grid, element)?;
-            Ok(heights)
+            let lists = filtered_lists(alloc, grid, element, Filter::Opening)?;
+            Ok(lists)
         }
         Edit::Close { name } => {
             let element = elements.find(name)?;
-            let heights = closed_heights(alloc, grid, element)?;
-            Ok(heights)
+            let lists = filtered_lists(alloc, grid, element, Filter::Closing)?;
+            Ok(lists)
         }
         _ => unreachable!(),
     }
 }
 
-/// Puts the new heights in, and tells what undoes that. Refused its memory it leaves the grid.
-pub fn put_heights<G: Grid>(
-    alloc: Global,
-    grid: &mut G,
-    heights: &NewHeights,
-) -> Result<Entry, Memory>
-    requires whole { length heights.now ≡ cell_count (G.map grid.old).size }
-    requires of_type { let m = G.map grid.old in AreCellsOf m.data_type (cells_after m heights.now) }
-    requires stays { LeavesOthers (G.map grid.old) heights.now }
+/// Puts new heights in, and tells what undoes that: the list of those before, which is kept and not copied, or notes.
+/// Refused its memory it leaves the grid.
+pub fn put_heights<G: Grid>(alloc: Global, grid: &mut G, lists: OldAndNew) -> Result<Entry, Memory>
+    requires lists { IsNewFor (G.map grid.old) lists }
     requires count { G.changes grid.old < 2 ^ 62 }
     ensures memory { OnErr result (grid.new ≡ grid.old) }
-    ensures map { let m = G.map grid.old in
-        OnOk result (G.map grid.new ≡ with_cells m (cells_after m heights.now)) }
+    ensures map { OnOk result (G.map grid.new ≡ map_after (G.map grid.old) lists) }
     ensures before { IfOk result (λ entry. before_entry entry (G.map grid.new) ≡ G.map grid.old) }
     ensures entry { IfOk result (IsEntry (G.map grid.old)) }
     ensures origin { G.comes_from grid.old grid.new }
     ensures count { RisesUpTo (cell_count (G.map grid.old).size) (G.changes grid.old) (G.changes grid.new) }
 {
-    match heights.numbers() {
-        Numbers::Narrow(numbers) => put_narrow(alloc, grid, numbers),
-        Numbers::Wide(numbers) => put_wide(alloc, grid, numbers),
+    match lists {
+        OldAndNew::Narrow(lists) => put_narrow(alloc, grid, lists),
+        OldAndNew::Wide(lists) => put_wide(alloc, grid, lists),
     }
 }
 
 // The same of numbers of 32 bits.
-fn put_narrow<G: Grid>(alloc: Global, grid: &mut G, numbers: &[i32]) -> Result<Entry, Memory>
-    requires whole { length numbers.now ≡ cell_count (G.map grid.old).size }
-    requires of_type { let m = G.map grid.old in AreCellsOf m.data_type (cells_after m (values_of narrow numbers.now)) }
-    requires stays { LeavesOthers (G.map grid.old) (values_of narrow numbers.now) }
+fn put_narrow<G: Grid>(alloc: Global, grid: &mut G, lists: Lists<i32>) -> Result<Entry, Memory>
+    requires lists { AreNewFor narrow (G.map grid.old) lists.before.items lists.after.items }
     requires count { G.changes grid.old < 2 ^ 62 }
     ensures memory { OnErr result (grid.new ≡ grid.old) }
     ensures map { let m = G.map grid.old in
-        OnOk result (G.map grid.new ≡ with_cells m (cells_after m (values_of narrow numbers.now))) }
+        OnOk result (G.map grid.new ≡ with_cells m (cells_after m (values_of narrow lists.after.items))) }
     ensures before { IfOk result (λ entry. before_entry entry (G.map grid.new) ≡ G.map grid.old) }
     ensures entry { IfOk result (IsEntry (G.map grid.old)) }
     ensures origin { G.comes_from grid.old grid.new }
     ensures count { RisesUpTo (cell_count (G.map grid.old).size) (G.changes grid.old) (G.changes grid.new) }
 {
-    if let Some(old) = exchanged(alloc, grid, numbers)? {
-        return Ok(Entry::Heights(Numbers::Narrow(old)));
+    let Lists { before, after } = lists;
+    match way_for(&before, &after) {
+        Way::Leave => {
+            let nothing = NewNotes::with_room(alloc, 0)?;
+            Ok(Entry::Changes(nothing.into_notes()))
+        }
+        Way::Exchange => {
+            set_profiles(grid, &after);
+            Ok(Entry::Heights(Numbers::Narrow(before)))
+        }
+        Way::Note => {
+            drop(before);
+            let changes = put_and_note(alloc, grid, &after)?;
+            Ok(Entry::Changes(changes))
+        }
     }
-    let changes = put_and_note(alloc, grid, numbers)?;
-    Ok(Entry::Changes(changes))
 }
 
 // The same of numbers of 64 bits. A note of a height that four bytes hold takes less than one of these.
-fn put_wide<G: Grid>(alloc: Global, grid: &mut G, numbers: &[i64]) -> Result<Entry, Memory>
-    requires whole { length numbers.now ≡ cell_count (G.map grid.old).size }
-    requires of_type { let m = G.map grid.old in AreCellsOf m.data_type (cells_after m (values_of wide numbers.now)) }
-    requires stays { LeavesOthers (G.map grid.old) (values_of wide numbers.now) }
+fn put_wide<G: Grid>(alloc: Global, grid: &mut G, lists: Lists<i64>) -> Result<Entry, Memory>
+    requires lists { AreNewFor wide (G.map grid.old) lists.before.items lists.after.items }
     requires count { G.changes grid.old < 2 ^ 62 }
     ensures memory { OnErr result (grid.new ≡ grid.old) }
     ensures map { let m = G.map grid.old in
-        OnOk result (G.map grid.new ≡ with_cells m (cells_after m (values_of wide numbers.now))) }
+        OnOk result (G.map grid.new ≡ with_cells m (cells_after m (values_of wide lists.after.items))) }
     ensures before { IfOk result (λ entry. before_entry entry (G.map grid.new) ≡ G.map grid.old) }
     ensures entry { IfOk result (IsEntry (G.map grid.old)) }
     ensures origin { G.comes_from grid.old grid.new }
     ensures count { RisesUpTo (cell_count (G.map grid.old).size) (G.changes grid.old) (G.changes grid.new) }
 {
-    if !is_narrow(grid.data_type()) {
-        if let Some(old) = exchanged(alloc, grid, numbers)? {
-            return Ok(Entry::Heights(Numbers::Wide(old)));
+    let Lists { before, after } = lists;
+    match way_for(&before, &after) {
+        Way::Leave => {
+            let nothing = NewNotes::with_room(alloc, 0)?;
+            Ok(Entry::Changes(nothing.into_notes()))
+        }
+        Way::Exchange if !is_narrow(grid.data_type()) => {
+            set_profiles(grid, &after);
+            Ok(Entry::Heights(Numbers::Wide(before)))
+        }
+        _ => {
+            drop(before);
+            let changes = put_and_note(alloc, grid, &after)?;
+            Ok(Entry::Changes(changes))
         }
     }
-    let changes = put_and_note(alloc, grid, numbers)?;
-    Ok(Entry::Changes(changes))
 }
 
 // Puts the heights for which numbers stand in, and notes what the cells were that became others, in their order.

@@ -97,8 +97,8 @@ fn filter_grid<G: Grid>(
     ensures origin { G.comes_from grid.old grid.new }
     ensures count { RisesUpTo (cell_count (G.map grid.old).size) (G.changes grid.old) (G.changes grid.new) }
 {
-    let heights = filtered(alloc, grid, elements, edit)?;
-    let entry = put_heights(alloc, grid, &heights)?;
+    let lists = filtered(alloc, grid, elements, edit)?;
+    let entry = put_heights(alloc, grid, lists)?;
     Ok(entry)
 }
 

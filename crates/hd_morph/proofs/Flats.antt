@@ -13,9 +13,11 @@ use Rattle.hd_morph.specs.Filter.{IsRaised}
 use Rattle.hd_morph.specs.Plain.{relief, ArePlain, HasNumbersWithin}
 use Rattle.hd_morph.specs.Raised.{IsFlat, AreFlatlyDilated, AreTopped, AreSettled, plus}
 use Rattle.hd_morph.specs.Round.{IsRound, AreRoundGreatests}
+use Rattle.hd_morph.specs.Turned.{turned_table}
 use Rattle.hd_morph.proofs.Encodings.{length_values}
 use Rattle.hd_morph.proofs.PlainNumbers.{IsBounded-value, some_inside}
 use Rattle.hd_morph.proofs.Settling.{settled_filtered}
+use Rattle.hd_morph.proofs.Turning.{opposite, turned_number}
 
 -- the heights round a position are those that the element leads from
 round_raised : (s : Size) (e : ElementTable) (across down : ℕ) (n : ℤ) (f : List (Option ℤ)) (p : Pos) (z : ℤ) → IsFlat e across down n → InGrid s p → IsRound s across down f p z → IsRaised s e (relief s f) p (z +ℤ n)
@@ -110,3 +112,11 @@ flat_within e across down m n is numbers flat =
     let number : number_at e (centre e) ≡ Some n = flat.each (centre e) (omega (arith, is.odd_width)) (omega (arith, is.odd_height)) in
     let within = numbers.each ((centre e).y * e.width + (centre e).x) in
     (within.least n number, within.greatest n number)
+
+-- a flat element, turned, is flat
+pub flat_turned : (e : ElementTable) (across down : ℕ) (n : ℤ) → IsElement e → IsFlat e across down n → IsFlat (turned_table e) across down n
+flat_turned e across down n is flat = record {
+  columns = flat.columns;
+  rows = flat.rows;
+  each = λ u column row. turned_number e u is.whole column row ∙ flat.each (opposite e u) (omega (arith, column)) (omega (arith, row));
+}

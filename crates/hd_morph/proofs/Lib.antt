@@ -8,6 +8,7 @@ pub mod Settling
 pub mod Flats
 pub mod Turning
 pub mod Adjunction
+pub mod Alike
 pub mod Determined
 pub mod Stable
 pub mod Raising

@@ -21,13 +21,15 @@ use Rattle.hd_morph.specs.Element.{ElementTable}
 use Rattle.hd_morph.specs.declared.filter.Filter.{Filter}
 use Rattle.hd_morph.specs.Filter.{relief_of}
 use Rattle.hd_morph.specs.Answer.{AreCellsWith, IsFirstOutside, IsOutOfRange}
-use Rattle.hd_morph.specs.Plain.{relief}
+use Rattle.hd_morph.specs.Lists.{AreFilteredFrom}
+use Rattle.hd_morph.specs.Plain.{HasNumbersWithin, relief}
 use Rattle.hd_morph.specs.Raised.{ArePlainlyFiltered}
 use Rattle.hd_morph.specs.Listed.{AreHeightsOf, AreOfType, IsBeyond}
 use Rattle.hd_morph.specs.NewHeights.{cell_after, cells_after, AreNewHeights}
 use Rattle.hd_morph.proofs.Encodings.{value_of_number, length_values}
 use Rattle.hd_morph.proofs.PlainNumbers.{mid_inside, mid_before, mid_length}
 use Rattle.hd_morph.proofs.Determined.{filtered_of_same}
+use Rattle.hd_morph.proofs.Settling.{filtered_plain}
 
 -- each cell of a map is of its type
 cell_of_type : (m : Map) (p : Pos) → IsMap m → InGrid m.size p → IsCellOf m.data_type (cell_at m p)
@@ -145,21 +147,21 @@ cells_of_heights m heights is of_type =
     }
 
 module _ {L : Type 0} (code : Encoding L) (filter : Filter) (m : Map) (e : ElementTable) (old new : List L) where
+  -- what is made of the heights of the map
+  pub filtered_from : IsMap m → HasNumbersWithin code.most_number e → AreHeightsOf code m old → ArePlainlyFiltered code filter m.size e old new → AreFilteredFrom code filter m e new
+  filtered_from is numbers are made = record {
+    filtered = filtered_of_same filter m.size e (relief m.size (values_of code old)) (relief_of m) (relief m.size (values_of code new)) are.each made.filtered;
+    plain = filtered_plain code filter m.size e old new is.size.some_points numbers are.plain made;
+  }
+
+module _ {L : Type 0} (code : Encoding L) (filter : Filter) (m : Map) (e : ElementTable) (new : List L) (made : AreFilteredFrom code filter m e new) where
   -- new heights that are those of the filtered map
-  pub heights_filtered : IsMap m → AreHeightsOf code m old → ArePlainlyFiltered code filter m.size e old new → AreOfType m (relief m.size (values_of code new)) → AreNewHeights filter m e (values_of code new)
-  heights_filtered is are made of_type = record {
-    whole = length_values code new ∙ made.whole;
-    filtered = record {
-      heights = relief m.size (values_of code new);
-      filtered = filtered_of_same filter m.size e (relief m.size (values_of code old)) (relief_of m) (relief m.size (values_of code new)) are.each made.filtered;
-      are_cells = cells_of_heights m (values_of code new) is of_type;
-    };
+  pub heights_filtered : IsMap m → AreOfType m (relief m.size (values_of code new)) → AreNewHeights filter m e (values_of code new)
+  heights_filtered is of_type = record {
+    whole = length_values code new ∙ made.plain.whole;
+    filtered = record { heights = relief m.size (values_of code new); filtered = made.filtered; are_cells = cells_of_heights m (values_of code new) is of_type };
   }
 
   -- and a first one that is out of range
-  pub heights_refused : (p : Pos) → AreHeightsOf code m old → ArePlainlyFiltered code filter m.size e old new → IsFirstOutside m (relief m.size (values_of code new)) p → IsOutOfRange filter m e p
-  heights_refused p are made outside = record {
-    heights = relief m.size (values_of code new);
-    filtered = filtered_of_same filter m.size e (relief m.size (values_of code old)) (relief_of m) (relief m.size (values_of code new)) are.each made.filtered;
-    first_outside = outside;
-  }
+  pub heights_refused : (p : Pos) → IsFirstOutside m (relief m.size (values_of code new)) p → IsOutOfRange filter m e p
+  heights_refused p outside = record { heights = relief m.size (values_of code new); filtered = made.filtered; first_outside = outside }

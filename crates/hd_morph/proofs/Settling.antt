@@ -6,18 +6,18 @@ use Rattle.std.proofs.lemmas.List.{get_or_past}
 use Rattle.hd_map.specs.declared.types.Pos.{Pos}
 use Rattle.hd_map.specs.declared.types.Size.{Size}
 use Rattle.hd_map.specs.Map.{InGrid, place_of, position_at, cell_count}
-use Rattle.hd_map.specs.Encoding.{Encoding, values_of, number_in, most_filtered}
+use Rattle.hd_map.specs.Encoding.{Encoding, values_of, number_in, most_between, most_filtered}
 use Rattle.hd_map.specs.Lanes.{IsBounded}
 use Rattle.hd_map.proofs.Points.{place_inside, position_at-place, position_at-inside}
 use Rattle.hd_morph.specs.Element.{ElementTable}
 use Rattle.hd_morph.specs.Greatest.{IsGreatest}
 use Rattle.hd_morph.specs.declared.filter.Filter.{Filter}
-use Rattle.hd_morph.specs.declared.filter.Filter.TheVariants.{Dilation, Erosion}
+use Rattle.hd_morph.specs.declared.filter.Filter.TheVariants.{Dilation, Erosion, Opening, Closing}
 use Rattle.hd_morph.specs.Filter.{Relief, IsRaised, IsLowered, IsDilation, IsErosion}
 use Rattle.hd_morph.specs.Plain.{value_at, relief, ArePlain, HasNumbersWithin}
 use Rattle.hd_morph.specs.Raised.{ArePlainlyFiltered, AreTopped, IsSettled, AreSettled, plus}
 use Rattle.hd_morph.proofs.Encodings.{value_of_number, length_values}
-use Rattle.hd_morph.proofs.PlainNumbers.{some_or_none, IsBounded-relief}
+use Rattle.hd_morph.proofs.PlainNumbers.{some_or_none, plain_more, IsBounded-relief}
 
 module _ {L : Type 0} (code : Encoding L) where
   -- what settled tops are, in one step with what they were made for
@@ -127,3 +127,20 @@ module _ {L : Type 0} (code : Encoding L) where
   pub eroded_plain : (s : Size) (e : ElementTable) (m n : ℕ) (old new : List L) → 1 ≤ s.points → HasNumbersWithin n e → ArePlain code s m old → ArePlainlyFiltered code Erosion s e old new → ArePlain code s (m + n) new
   eroded_plain s e m n old new some numbers plain made =
       plain_of code Erosion s e (m + n) old new some made (IsBounded-erosion s e m n (relief s (values_of code old)) (relief s (values_of code new)) numbers (IsBounded-relief code s m old plain) made.filtered)
+
+  -- whatever a filter makes of plain heights is plain, within more
+  pub filtered_plain : (filter : Filter) (s : Size) (e : ElementTable) (old new : List L) → 1 ≤ s.points → HasNumbersWithin code.most_number e → ArePlain code s code.most_height old → ArePlainlyFiltered code filter s e old new → ArePlain code s (most_filtered code) new
+  filtered_plain Dilation s e old new some numbers plain made =
+      plain_more code s (most_between code) (most_filtered code) new (omega arith) (dilated_plain s e code.most_height code.most_number old new some numbers plain made)
+  filtered_plain Erosion s e old new some numbers plain made =
+      plain_more code s (most_between code) (most_filtered code) new (omega arith) (eroded_plain s e code.most_height code.most_number old new some numbers plain made)
+  filtered_plain Opening s e old new some numbers plain made =
+      let f = made.filtered in
+      plain_of code Opening s e (most_filtered code) old new some made
+      (IsBounded-dilation s e (most_between code) code.most_number f.between (relief s (values_of code new)) numbers
+      (IsBounded-erosion s e code.most_height code.most_number (relief s (values_of code old)) f.between numbers (IsBounded-relief code s code.most_height old plain) f.first) f.second)
+  filtered_plain Closing s e old new some numbers plain made =
+      let f = made.filtered in
+      plain_of code Closing s e (most_filtered code) old new some made
+      (IsBounded-erosion s e (most_between code) code.most_number f.between (relief s (values_of code new)) numbers
+      (IsBounded-dilation s e code.most_height code.most_number (relief s (values_of code old)) f.between numbers (IsBounded-relief code s code.most_height old plain) f.first) f.second)

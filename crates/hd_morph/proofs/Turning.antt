@@ -58,11 +58,11 @@ turned_offset e u p q is o = record {
   down = omega (arith, o.row, o.down, is.odd_height);
 }
 
-minus_some : (v : Option ℤ) (z : ℤ) → minus v ≡ Some z → v ≡ Some (neg_ℤ z)
+pub minus_some : (v : Option ℤ) (z : ℤ) → minus v ≡ Some z → v ≡ Some (neg_ℤ z)
 minus_some (Some x) z e = let same : neg_ℤ x ≡ z = cc in ap Some (omega (arith, ints))
 minus_some None z e = let e' : None ≡ Some z = e in cc
 
-minus_of : (v : Option ℤ) (z : ℤ) → v ≡ Some z → minus v ≡ Some (neg_ℤ z)
+pub minus_of : (v : Option ℤ) (z : ℤ) → v ≡ Some z → minus v ≡ Some (neg_ℤ z)
 minus_of v z e = rw e
 
 minus_none : (v : Option ℤ) → v ≡ None → minus v ≡ None

@@ -11,3 +11,4 @@ pub mod Raised
 pub mod Turned
 pub mod Listed
 pub mod Numbers
+pub mod Lists

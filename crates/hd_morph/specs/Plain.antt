@@ -35,3 +35,9 @@ pub record IsPlain {L : Type 0} (code : Encoding L) (n : ℕ) (numbers : List L)
 pub record ArePlain {L : Type 0} (code : Encoding L) (s : Size) (n : ℕ) (numbers : List L) : Type 0 where
   pub whole : length numbers ≡ cell_count s
   pub plain : IsPlain code n numbers
+
+-- heights stand at the same places
+pub record StandAlike (f g : List (Option ℤ)) : Type 0 where
+  pub whole : length g ≡ length f
+  pub there : (k : ℕ) (z : ℤ) → value_at f k ≡ Some z → (y : ℤ) × (value_at g k ≡ Some y)
+  pub back : (k : ℕ) (z : ℤ) → value_at g k ≡ Some z → (y : ℤ) × (value_at f k ≡ Some y)

@@ -5,12 +5,14 @@ ghost use Rattle.hd_map.specs.Encoding.{narrow, values_of};
 ghost use Rattle.hd_morph.specs.Element.{IsElement};
 ghost use Rattle.hd_morph.specs.declared.filter.Filter.TheVariants.{Dilation, Erosion, Opening, Closing};
 ghost use Rattle.hd_morph.specs.Answer.{IsFirstOutside, IsFilterRefusal};
-ghost use Rattle.hd_morph.specs.NewHeights.{AreNewHeights, MakesNewHeights};
+ghost use Rattle.hd_morph.specs.NewHeights.{MakesNewHeights};
+ghost use Rattle.hd_morph.specs.Lists.{AreFilteredFrom, AreListsOf, MakesLists};
 ghost use Rattle.hd_morph.specs.Plain.{HasNumbersWithin, IsBetween, relief};
 ghost use Rattle.hd_morph.specs.Listed.{AreHeightsOf, AreOfType, IsBeyond};
 
 use crate::filter::{Filter, filtered};
-use crate::new_heights::{NewHeights, Numbers};
+use crate::flat::{filtered_flatly, flat_number};
+use crate::new_heights::{Lists, NewHeights, Numbers, OldAndNew};
 use crate::plain::are_between;
 use crate::raise::{MOST_NARROW_NUMBER, Raise};
 use crate::{Element, MorphError};
@@ -92,13 +94,30 @@ fn filtered_heights<G: Grid>(
 ) -> Result<NewHeights, MorphError>
     ensures { MakesNewHeights filter (G.map grid.now) element.now result }
 {
+    match filtered_lists(alloc, grid, element, filter)? {
+        OldAndNew::Narrow(lists) => Ok(NewHeights::new(Numbers::Narrow(lists.after))),
+        OldAndNew::Wide(lists) => Ok(NewHeights::new(Numbers::Wide(lists.after))),
+    }
+}
+
+/// The heights of a map by index, and what a filter makes of them, in 32 bits each where they fit.
+///
+/// All is as for [`dilated_heights`] and the calls beside it, but that the memory of both lists is kept.
+pub fn filtered_lists<G: Grid>(
+    alloc: Global,
+    grid: &G,
+    element: &Element,
+    filter: Filter,
+) -> Result<OldAndNew, MorphError>
+    ensures { MakesLists filter (G.map grid.now) element.now result }
+{
     if has_narrow_numbers(element) {
-        if let Some(numbers) = filtered_numbers::<i32, G>(alloc, grid, element, filter)? {
-            return Ok(NewHeights::new(Numbers::Narrow(numbers)));
+        if let Some(lists) = filtered_numbers::<i32, G>(alloc, grid, element, filter)? {
+            return Ok(OldAndNew::Narrow(lists));
         }
     }
     match filtered_numbers::<i64, G>(alloc, grid, element, filter)? {
-        Some(numbers) => Ok(NewHeights::new(Numbers::Wide(numbers))),
+        Some(lists) => Ok(OldAndNew::Wide(lists)),
         None => unreachable!(),
     }
 }
@@ -117,27 +136,56 @@ fn has_narrow_numbers(element: &Element) -> bool
     true
 }
 
-// The new heights of a filtered map as plain numbers of one type, unless a height is beyond it.
+// The heights of a map and what a filter makes of them as plain numbers of one type, unless a height is beyond it.
 fn filtered_numbers<L: Raise, G: Grid>(
     alloc: Global,
     grid: &G,
     element: &Element,
     filter: Filter,
-) -> Result<Option<Vec<L>>, MorphError>
+) -> Result<Option<Lists<L>>, MorphError>
     requires { HasNumbersWithin L.code.most_number element.now }
     ensures { let m = G.map grid.now in MatchResult result
         (λ found. MatchOption found (IsBeyond L.code m)
-        (λ g. AreNewHeights filter m element.now (values_of L.code g.items)))
+        (λ lists. AreListsOf L.code filter m element.now lists.before.items lists.after.items))
         (IsFilterRefusal filter m element.now) }
 {
-    let Some(heights) = heights_of::<L, G>(alloc, grid)? else {
+    let Some(lists) = lists_of::<L, G>(alloc, grid, element, filter)? else {
         return Ok(None);
     };
-    let filtered = filtered(alloc, heights, grid.size(), element, filter)?;
-    if let Some(at) = first_outside(grid, &filtered) {
+    if let Some(at) = first_outside(grid, &lists.after) {
         return Err(MorphError::HeightRange(at));
     }
-    Ok(Some(filtered))
+    Ok(Some(lists))
+}
+
+// The same, where heights may be outside the range of the data type.
+fn lists_of<L: Raise, G: Grid>(
+    alloc: Global,
+    grid: &G,
+    element: &Element,
+    filter: Filter,
+) -> Result<Option<Lists<L>>, Memory>
+    requires { HasNumbersWithin L.code.most_number element.now }
+    ensures { let m = G.map grid.now in IfOk result (λ found. MatchOption found (IsBeyond L.code m)
+        (λ lists. AreHeightsOf L.code m lists.before.items × AreFilteredFrom L.code filter m element.now lists.after.items)) }
+{
+    let Some(before) = heights_of::<L, G>(alloc, grid)? else {
+        return Ok(None);
+    };
+    let size = grid.size();
+    if let Some(number) = flat_number(element) {
+        let after = filtered_flatly(alloc, &before, size, element, number, filter)?;
+        return Ok(Some(Lists { before, after }));
+    }
+    let after = filtered(alloc, before, size, element, filter)?;
+    // The first list was room for others, so that no third one is needed.
+    let Some(again) = heights_of::<L, G>(alloc, grid)? else {
+        return Ok(None);
+    };
+    Ok(Some(Lists {
+        before: again,
+        after,
+    }))
 }
 
 /// The heights of a map by index, as numbers that stand for them, unless one is too far from zero.

@@ -26,9 +26,12 @@ mod window;
 pub use cells::{close, dilate, erode, open};
 pub use element::Element;
 pub use errors::{ElementError, MorphError};
-pub use heights::{closed_heights, dilated_heights, eroded_heights, heights_of, opened_heights};
+pub use filter::Filter;
+pub use heights::{
+    closed_heights, dilated_heights, eroded_heights, filtered_lists, heights_of, opened_heights,
+};
 pub use laws::{
     accepted_cells_make_a_map, dilation_and_erosion_are_adjoint, filter_is_determined,
     filtered_again_is_the_same,
 };
-pub use new_heights::{NewHeights, Numbers};
+pub use new_heights::{Lists, NewHeights, Numbers, OldAndNew};

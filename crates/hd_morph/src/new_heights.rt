@@ -12,6 +12,20 @@ pub enum Numbers {
     Wide(Vec<i64>),
 }
 
+/// The heights of a map before and after a filter, by index, as numbers that stand for them.
+#[derive(Drop)]
+pub struct Lists<L: Lane> {
+    pub before: Vec<L>,
+    pub after: Vec<L>,
+}
+
+/// The heights before and after a filter, in 32 bits each or in 64.
+#[derive(Drop)]
+pub enum OldAndNew {
+    Narrow(Lists<i32>),
+    Wide(Lists<i64>),
+}
+
 /// The new heights of a filtered map. Contracts see the list of them by index, with none where a
 /// point keeps its cell. The type promises neither how many they are nor their range: by
 /// [`dilated_heights`](crate::dilated_heights) and the calls beside it there is one entry for each point of their map, and

@@ -5,6 +5,6 @@ use Rattle.hd_edit.proofs.exchange.count_different.Given as goal
 
 abbrev pub invariant-loop-place : goal.invariant-loop-place
 invariant-loop-place g l = record {
-  counted : l.count ≡ different (values_of g.L.Lane.code l.old) (values_of g.L.Lane.code l.new) l.place;
+  counted : l.count ≡ different (values_of g.L.Lane.code l.olds) (values_of g.L.Lane.code l.news) l.place;
   few : l.count ≤ l.place;
 }

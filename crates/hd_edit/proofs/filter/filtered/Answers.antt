@@ -1,19 +1,55 @@
+use Rattle.std.proofs.Common.{Option, Ok, subst, sym}
 use Rattle.hd_morph.specs.declared.filter.Filter.TheVariants.{Dilation, Erosion, Opening, Closing}
-use Rattle.hd_edit.proofs.Entries.{others_left}
+use Rattle.hd_morph.specs.Element.{ElementTable}
+use Rattle.hd_edit.specs.Filter.{IsFilteredBy}
+use Rattle.hd_edit.specs.Filtered.{map_after}
+use Rattle.hd_edit.proofs.Entries.{lists_filtered, lists_new}
 use Rattle.hd_edit.proofs.filter.filtered.Goals as goal
 
-pub returns-in_ok-heights-in-Dilate-clause-others : goal.returns-in_ok-heights-in-Dilate-clause-others
-returns-in_ok-heights-in-Dilate-clause-others g c =
-    others_left Dilation (g.G.Heights.map c.args.grid.now) c.in_ok-element-in-Dilate.element.now c.in_ok-heights-in-Dilate.heights c.in_ok-heights-in-Dilate.ensures.filtered
+pub returns-in_ok-lists-in-Dilate-clause-edit : goal.returns-in_ok-lists-in-Dilate-clause-edit
+returns-in_ok-lists-in-Dilate-clause-edit g c =
+    let m = g.G.Heights.map c.args.grid.now in
+    let e : ElementTable = c.in_ok-element-in-Dilate.element.now in
+    let lists = c.in_ok-lists-in-Dilate.lists in
+    rw c.in-Dilate.is (subst (λ (found : Option ElementTable). IsFilteredBy Dilation m found (Ok (map_after m lists))) (sym c.in_ok-element-in-Dilate.ensures) (lists_filtered Dilation m e lists c.in_ok-lists-in-Dilate.ensures))
 
-pub returns-in_ok-heights-in-Erode-clause-others : goal.returns-in_ok-heights-in-Erode-clause-others
-returns-in_ok-heights-in-Erode-clause-others g c =
-    others_left Erosion (g.G.Heights.map c.args.grid.now) c.in_ok-element-in-Erode.element.now c.in_ok-heights-in-Erode.heights c.in_ok-heights-in-Erode.ensures.filtered
+pub returns-in_ok-lists-in-Dilate-clause-heights : goal.returns-in_ok-lists-in-Dilate-clause-heights
+returns-in_ok-lists-in-Dilate-clause-heights g c =
+    let m = g.G.Heights.map c.args.grid.now in
+    lists_new Dilation m c.in_ok-element-in-Dilate.element.now c.in_ok-lists-in-Dilate.lists c.in_ok-lists-in-Dilate.ensures
 
-pub returns-in_ok-heights-in-Open-clause-others : goal.returns-in_ok-heights-in-Open-clause-others
-returns-in_ok-heights-in-Open-clause-others g c =
-    others_left Opening (g.G.Heights.map c.args.grid.now) c.in_ok-element-in-Open.element.now c.in_ok-heights-in-Open.heights c.in_ok-heights-in-Open.ensures.filtered
+pub returns-in_ok-lists-in-Erode-clause-edit : goal.returns-in_ok-lists-in-Erode-clause-edit
+returns-in_ok-lists-in-Erode-clause-edit g c =
+    let m = g.G.Heights.map c.args.grid.now in
+    let e : ElementTable = c.in_ok-element-in-Erode.element.now in
+    let lists = c.in_ok-lists-in-Erode.lists in
+    rw c.in-Erode.is (subst (λ (found : Option ElementTable). IsFilteredBy Erosion m found (Ok (map_after m lists))) (sym c.in_ok-element-in-Erode.ensures) (lists_filtered Erosion m e lists c.in_ok-lists-in-Erode.ensures))
 
-pub returns-in_ok-heights-in-Close-clause-others : goal.returns-in_ok-heights-in-Close-clause-others
-returns-in_ok-heights-in-Close-clause-others g c =
-    others_left Closing (g.G.Heights.map c.args.grid.now) c.in_ok-element-in-Close.element.now c.in_ok-heights-in-Close.heights c.in_ok-heights-in-Close.ensures.filtered
+pub returns-in_ok-lists-in-Erode-clause-heights : goal.returns-in_ok-lists-in-Erode-clause-heights
+returns-in_ok-lists-in-Erode-clause-heights g c =
+    let m = g.G.Heights.map c.args.grid.now in
+    lists_new Erosion m c.in_ok-element-in-Erode.element.now c.in_ok-lists-in-Erode.lists c.in_ok-lists-in-Erode.ensures
+
+pub returns-in_ok-lists-in-Open-clause-edit : goal.returns-in_ok-lists-in-Open-clause-edit
+returns-in_ok-lists-in-Open-clause-edit g c =
+    let m = g.G.Heights.map c.args.grid.now in
+    let e : ElementTable = c.in_ok-element-in-Open.element.now in
+    let lists = c.in_ok-lists-in-Open.lists in
+    rw c.in-Open.is (subst (λ (found : Option ElementTable). IsFilteredBy Opening m found (Ok (map_after m lists))) (sym c.in_ok-element-in-Open.ensures) (lists_filtered Opening m e lists c.in_ok-lists-in-Open.ensures))
+
+pub returns-in_ok-lists-in-Open-clause-heights : goal.returns-in_ok-lists-in-Open-clause-heights
+returns-in_ok-lists-in-Open-clause-heights g c =
+    let m = g.G.Heights.map c.args.grid.now in
+    lists_new Opening m c.in_ok-element-in-Open.element.now c.in_ok-lists-in-Open.lists c.in_ok-lists-in-Open.ensures
+
+pub returns-in_ok-lists-in-Close-clause-edit : goal.returns-in_ok-lists-in-Close-clause-edit
+returns-in_ok-lists-in-Close-clause-edit g c =
+    let m = g.G.Heights.map c.args.grid.now in
+    let e : ElementTable = c.in_ok-element-in-Close.element.now in
+    let lists = c.in_ok-lists-in-Close.lists in
+    rw c.in-Close.is (subst (λ (found : Option ElementTable). IsFilteredBy Closing m found (Ok (map_after m lists))) (sym c.in_ok-element-in-Close.ensures) (lists_filtered Closing m e lists c.in_ok-lists-in-Close.ensures))
+
+pub returns-in_ok-lists-in-Close-clause-heights : goal.returns-in_ok-lists-in-Close-clause-heights
+returns-in_ok-lists-in-Close-clause-heights g c =
+    let m = g.G.Heights.map c.args.grid.now in
+    lists_new Closing m c.in_ok-element-in-Close.element.now c.in_ok-lists-in-Close.lists c.in_ok-lists-in-Close.ensures

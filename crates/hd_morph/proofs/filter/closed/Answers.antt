@@ -4,8 +4,8 @@ use Rattle.hd_morph.proofs.PlainNumbers.{plain_more}
 use Rattle.hd_morph.proofs.Settling.{dilated_plain}
 use Rattle.hd_morph.proofs.filter.closed.Goals as goal
 
-pub dilated-requires-clause-heights : goal.dilated-requires-clause-heights
-dilated-requires-clause-heights g c =
+pub dilate_by_offsets-requires-clause-heights : goal.dilate_by_offsets-requires-clause-heights
+dilate_by_offsets-requires-clause-heights g c =
     let code = g.L.Lane.code in
     rw c.deref.ensures.value (plain_more code c.args.size code.most_height (most_between code) c.args.heights.items (omega arith) c.requires.heights)
 
@@ -13,4 +13,4 @@ pub eroded-requires-clause-heights : goal.eroded-requires-clause-heights
 eroded-requires-clause-heights g c =
     let code = g.L.Lane.code in
     rw c.deref_mut.ensures.value (dilated_plain code c.args.size c.args.element.now code.most_height code.most_number c.args.heights.items c.in_ok-between.between.items c.requires.size.some_points c.requires.numbers c.requires.heights
-    (rw c.deref.ensures.value at c.in_ok-between.ensures.dilation))
+    (rw c.deref.ensures.value at c.in_ok-between.ensures))

@@ -3,8 +3,8 @@ use Rattle.hd_map.specs.Encoding.{most_between}
 use Rattle.hd_morph.proofs.PlainNumbers.{plain_more}
 use Rattle.hd_morph.proofs.filter.filtered.Goals as goal
 
-pub dilated-requires-clause-heights : goal.dilated-requires-clause-heights
-dilated-requires-clause-heights g c =
+pub dilate_by_offsets-requires-clause-heights : goal.dilate_by_offsets-requires-clause-heights
+dilate_by_offsets-requires-clause-heights g c =
     let code = g.L.Lane.code in
     rw c.deref.ensures.value (plain_more code c.args.size code.most_height (most_between code) c.args.heights.items (omega arith) c.requires.heights)
 

@@ -1,4 +1,5 @@
-use Rattle.hd_morph.specs.Raised.{ArePlainlyFiltered}
+use Rattle.hd_morph.specs.Listed.{AreHeightsOf}
+use Rattle.hd_morph.specs.Lists.{AreFilteredFrom}
 use Rattle.hd_morph.proofs.Listed.{heights_filtered, heights_refused}
 use Rattle.hd_morph.proofs.heights.filtered_numbers.Goals as goal
 
@@ -6,18 +7,18 @@ pub returns-in-Some-first_outside : goal.returns-in-Some-first_outside
 returns-in-Some-first_outside g c =
     let m = g.G.Heights.map c.args.grid.now in
     let code = g.L.Lane.code in
-    let filter = c.args.filter in
-    let old = c.in-Some.heights.items in
-    let new = c.in_ok-filtered.filtered.items in
-    let made : ArePlainlyFiltered code filter m.size c.args.element.now old new = rw c.size.ensures at c.in_ok-filtered.ensures in
-    heights_refused code filter m c.args.element.now old new c.in-Some-first_outside.at (rw c.in-Some.is at c.in_ok-heights.ensures) made (rw c.deref.ensures.value at c.in-Some-first_outside.ensures)
+    let lists = c.in-Some.lists in
+    let made : AreHeightsOf code m lists.before.items × AreFilteredFrom code c.args.filter m c.args.element.now lists.after.items = rw c.in-Some.is at c.in_ok-lists.ensures in
+    heights_refused code c.args.filter m c.args.element.now lists.after.items made.1 c.in-Some-first_outside.at (rw c.deref.ensures.value at c.in-Some-first_outside.ensures)
 
 pub returns : goal.returns
 returns g c =
     let m = g.G.Heights.map c.args.grid.now in
     let code = g.L.Lane.code in
-    let filter = c.args.filter in
-    let old = c.in-Some.heights.items in
-    let new = c.in_ok-filtered.filtered.items in
-    let made : ArePlainlyFiltered code filter m.size c.args.element.now old new = rw c.size.ensures at c.in_ok-filtered.ensures in
-    heights_filtered code filter m c.args.element.now old new (g.met.G.Heights.whole c.args.grid.now) (rw c.in-Some.is at c.in_ok-heights.ensures) made (rw c.deref.ensures.value at c.in_default-first_outside.ensures)
+    let lists = c.in-Some.lists in
+    let made : AreHeightsOf code m lists.before.items × AreFilteredFrom code c.args.filter m c.args.element.now lists.after.items = rw c.in-Some.is at c.in_ok-lists.ensures in
+    record {
+      held = made.0;
+      made = heights_filtered code c.args.filter m c.args.element.now lists.after.items made.1 (g.met.G.Heights.whole c.args.grid.now) (rw c.deref.ensures.value at c.in_default-first_outside.ensures);
+      plain = made.1.plain;
+    }

@@ -1,6 +1,6 @@
 use Rattle.std.proofs.Common.{arith, ap, length}
 use Rattle.hd_morph.proofs.Flats.{all_flat}
-use Rattle.hd_morph.proofs.filter.flat_number.Goals as goal
+use Rattle.hd_morph.proofs.flat.flat_number.Goals as goal
 
 pub returns-clause-flat : goal.returns-clause-flat
 returns-clause-flat c =
