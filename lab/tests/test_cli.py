@@ -1,4 +1,4 @@
-"""The statuses of hilldale-lab where its output cannot be written, is closed, or is read in part."""
+"""The statuses of hilldale-lab where its output cannot be written, is closed, or is read in part, and of a defect."""
 
 from __future__ import annotations
 
@@ -6,6 +6,8 @@ import subprocess
 from pathlib import Path
 
 import pytest
+
+from hilldale_lab import cli
 
 
 def mistakes(folder: Path, lines: int) -> Path:
@@ -42,3 +44,13 @@ def test_signs_that_the_locale_has_not(root: Path, tmp_path: Path) -> None:
     call = ["env", "LC_ALL=C", "PYTHONIOENCODING=latin-1", root / "hilldale-lab", "lint", name]
     done = subprocess.run(call, capture_output=True, check=False)
     assert done.returncode == 1 and done.stdout.startswith(str(tmp_path).encode() + b"/\\u8868.txt: line 1:")
+
+
+def test_a_defect_is_no_verdict(monkeypatch: pytest.MonkeyPatch, capsys: pytest.CaptureFixture[str]) -> None:
+    def broken(_: str) -> None:
+        raise ZeroDivisionError("so far so good")
+
+    monkeypatch.setattr(cli, "command_module", broken)
+    assert cli.main(["lint", "script.txt"]) == 70
+    told = capsys.readouterr().err
+    assert "ZeroDivisionError: so far so good" in told and told.endswith("please report the lines above\n")

@@ -234,6 +234,7 @@ def test_each_mistake_of_a_job(toml: str, meant: str) -> None:
         ("param Spd 3", "takes no height"),
         ("FC;D", "feature FC;D?"),
         ("feature FC;D;Wolfprune:5%;Bot:5;lpvh;mean", "Mean?"),
+        ("hist 4 FC;D;Wolfprune:5%;All;lpvh;Sum", "five parts"),
         ("neighbours 5", "4, 6 or 8"),
         ("element f 2 1 0 0", "odd"),
         ("element f 3 1 0 - 0", "centre"),

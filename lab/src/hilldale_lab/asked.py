@@ -103,14 +103,16 @@ def _notation(text: str) -> str:
     return ";".join(parts)
 
 
-def notation_fault(parts: list[str], takes_units: bool = True) -> str | None:
-    """What is wrong with the six parts of a notation, in the program's order, and what was probably meant; or None."""
-    for number, part in enumerate(parts[:6], 1):
+def notation_fault(parts: list[str], takes_units: bool = True, has_statistic: bool = True) -> str | None:
+    """What is wrong with the parts of a notation, in the program's order, and what was probably meant; or None. The
+    statistic is the sixth part, which the notations of `hist` and `perc` lack."""
+    count, word = (6, "six") if has_statistic else (5, "five")
+    for number, part in enumerate(parts[:count], 1):
         fault = _part_fault(number, part, takes_units)
         if fault:
             return f"part {number} of the notation, {part!r}, {fault}"
-    if len(parts) != 6:
-        return f"a notation has six parts with ; between them, and here are {len(parts)}"
+    if len(parts) != count:
+        return f"a notation has {word} parts here, with ; between them, and these are {len(parts)}"
     kind, significance, attribute = parts[1], parts[3].partition(":")[0], parts[4]
     taken = {
         "H": ("All", "Top", "Closed", "Open"),

@@ -8,6 +8,7 @@ import importlib
 import io
 import os
 import sys
+import traceback
 from collections.abc import Sequence
 from types import ModuleType
 
@@ -29,6 +30,7 @@ COMMANDS = {
     "batch": ("batch", "do one job on a folder of files"),
     "series": ("series", "compare the surfaces of a series"),
 }
+DEFECT = 70
 OUTPUT_FAULTS = (errno.EPIPE, errno.ENOSPC, errno.EFBIG, errno.EDQUOT, errno.EIO)
 DESCRIPTION = """Files of instruments, questions, pictures and reports around hilldale.
 hilldale's numbers are proved; hilldale-lab is not, and shows the program's exact fractions."""
@@ -84,6 +86,11 @@ def main(words: Sequence[str] | None = None) -> int:
         return _fault_status(error)
     except KeyboardInterrupt:
         return 130
+    except Exception:
+        # Python would end with 1, which says that a limit is not met.
+        traceback.print_exc()
+        print("hilldale-lab: this is a defect of hilldale-lab: please report the lines above", file=sys.stderr)
+        return DEFECT
 
 
 def _open_output() -> None:

@@ -109,7 +109,7 @@ class ScriptReader:
             return _parameter_fault(command, words)
         if command in ("feature", "hist", "perc"):
             parts = words[-1].split(";")
-            return notation_fault(parts if command == "feature" else [*parts, "Sum"], takes_units=False)
+            return notation_fault(parts, takes_units=False, has_statistic=command == "feature")
         return None
 
     def _keep(self, command: str, words: Sequence[str]) -> None:

@@ -1,3 +1,3 @@
 """The version of hilldale-lab, which is that of pyproject.toml."""
 
-VERSION = "0.1.0"
+VERSION = "1.0.0"
