@@ -5,7 +5,7 @@ use Rattle.hd_map.specs.declared.types.Rank.{Rank}
 use Rattle.hd_map.specs.declared.types.SideName.{SideName}
 use Rattle.hd_map.specs.Map.{Map, InGrid, Present, cell_count, place_of}
 use Rattle.hd_map.specs.Neighbour.{IsNear}
-use Rattle.hd_map.specs.Rank.{rank, IsPoint}
+use Rattle.hd_map.specs.Rank.{rank}
 use Rattle.hd_map.proofs.Points.{place_inside, same_place, present_or_not, point_at}
 use Rattle.hd_steep.specs.FirstLinks.{AreFirstLinks, IsFirst, IsFirstLink}
 use Rattle.hd_steep.specs.Links.{no_link}

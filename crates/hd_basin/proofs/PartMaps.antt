@@ -1,8 +1,8 @@
 -- A part of a map as a map of its own has the points of the part, in the same order, and their first links.
-use Rattle.std.proofs.Common.{◌≡◌, ◌<◌, ◌≤◌, ◌+◌, ◌-◌, ◌*◌, ◌&&◌, ◌||◌, ℕ, ℤ, true, false, ◌⊎◌, inl, inr, Some, refl, sym, ◌∙◌, ap, subst, arith}
+use Rattle.std.proofs.Common.{◌≡◌, ◌<◌, ◌≤◌, ◌+◌, ◌-◌, ◌&&◌, ◌||◌, ℕ, ℤ, true, false, inl, inr, refl, sym, ◌∙◌, ap, subst, arith}
 use Rattle.std.specs.Prelude.{nat_lt, int_lt}
 use Rattle.std.specs.Ordering.{int_eq}
-use Rattle.std.proofs.lemmas.Bool.{cases_eq, cases_lt}
+use Rattle.std.proofs.lemmas.Bool.{cases_lt}
 use Rattle.std.proofs.lemmas.Bool.Decides.{nat_tests}
 use Rattle.hd_map.specs.declared.types.Adjacency.{Adjacency}
 use Rattle.hd_map.specs.declared.types.Adjacency.TheVariants.{Four, Six, Eight}
@@ -10,10 +10,10 @@ use Rattle.hd_map.specs.declared.types.Pos.{Pos}
 use Rattle.hd_map.specs.declared.types.Rank.{Rank}
 use Rattle.hd_map.specs.declared.types.SideName.{SideName}
 use Rattle.hd_map.specs.declared.types.SideName.TheVariants.{Dales, Hills}
-use Rattle.hd_map.specs.Map.{Map, InGrid, Present, cell_at, mask_at, height_at, height_or_zero, place_of}
+use Rattle.hd_map.specs.Map.{Map, InGrid, Present, cell_at, mask_at, height_or_zero, place_of}
 use Rattle.hd_map.specs.Neighbour.{IsNear, AreBesideUnder, Neighbour}
 use Rattle.hd_map.specs.Rank.{rank, below_by, comes_before}
-use Rattle.hd_map.specs.Region.{LowerNeighbour, IsNext, IsPit}
+use Rattle.hd_map.specs.Region.{LowerNeighbour}
 use Rattle.hd_map.proofs.Gather.{same_pos}
 use Rattle.hd_map.proofs.Points.{same_point, shown_of, of_shown, point_at, Near-at}
 use Rattle.hd_steep.specs.FirstLinks.{IsFirst}

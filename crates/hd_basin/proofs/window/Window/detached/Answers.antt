@@ -1,4 +1,3 @@
-use Rattle.std.proofs.Common.{◌≡◌, ◌∙◌}
 use Rattle.hd_basin.proofs.Frames.{part-shows, part-window}
 use Rattle.hd_basin.proofs.window.Window.detached.Goals as goal
 
