@@ -1,5 +1,5 @@
 -- Links by place of a tile, as they are made, followed and set.
-use Rattle.std.proofs.Common.{◌≡◌, ◌<◌, ◌≤◌, ◌+◌, ◌*◌, ℕ, true, false, List, [], ◌∷◌, ◌++◌, length, set, slice_index, ◌⊎◌, inl, inr, refl, sym, ◌∙◌, ap, subst, arith}
+use Rattle.std.proofs.Common.{◌≡◌, ◌<◌, ◌+◌, ◌*◌, ℕ, true, false, List, [], ◌∷◌, ◌++◌, length, set, slice_index, ◌⊎◌, inl, inr, refl, sym, ◌∙◌, ap, subst, arith}
 use Rattle.std.specs.Prelude.{◌↔◌, ℤ}
 use Rattle.std.specs.Ordering.{int_eq}
 use Rattle.std.proofs.lemmas.Int.{ints}
@@ -10,30 +10,25 @@ use Rattle.std.proofs.lemmas.List.{get_or-set_same, get_or-set_other, get_or_app
 use Rattle.hd_map.specs.declared.types.Pos.{Pos}
 use Rattle.hd_map.specs.declared.types.Rank.{Rank}
 use Rattle.hd_map.specs.declared.types.SideName.{SideName}
-use Rattle.hd_map.specs.Map.{Map, IsMap, Present, place_of, position_at}
+use Rattle.hd_map.specs.Map.{Map, IsMap, Present, place_of}
 use Rattle.hd_map.specs.Rank.{rank, below_by}
 use Rattle.hd_map.specs.Region.{IsNext}
 use Rattle.hd_map.specs.SideLaws.{below_by-order}
 use Rattle.hd_map.proofs.Gather.{same_pos}
 use Rattle.hd_map.proofs.Depth.{depth_by, depth_falls}
 use Rattle.hd_map.proofs.Nexts.{next-unique}
-use Rattle.hd_map.proofs.Points.{point_at, present_or_not, rank_position, same_index, same_point}
+use Rattle.hd_map.proofs.Points.{point_at, present_or_not, same_index, same_point}
 use Rattle.hd_map.proofs.Order.{below-apart}
-use Rattle.hd_steep.specs.Lowest.{missing, IsLow, IsAtPlace, IsRound}
-use Rattle.hd_steep.specs.Rows.{rank_in}
+use Rattle.hd_steep.specs.Lowest.{missing, IsLow, IsAtPlace}
 use Rattle.hd_steep.proofs.Lows.{low_missing, point_apart}
-use Rattle.hd_steep.proofs.Round.{pit_found, next_found, same_or_below}
-use Rattle.hd_tiles.specs.Tile.{tile_of}
+use Rattle.hd_steep.proofs.Round.{same_or_below}
 use Rattle.hd_basin.specs.declared.frame.Frame.{Frame}
 use Rattle.hd_basin.specs.Basin.{IsSink, IsSinkOf, AreNextsInside, tile_at}
-use Rattle.hd_basin.specs.Frames.{InFrame}
 use Rattle.hd_basin.specs.Links.{IsOnward, LeadsOnward, IsLink, AreLinksTo, AreLinks, LedTo}
-use Rattle.hd_basin.specs.Round.{AreRanks, low_round}
-use Rattle.hd_basin.specs.Sinks.{IsArea, IsSunk, at_place, no_node}
-use Rattle.hd_basin.proofs.Areas.{area-in, area-tile, place-at, place-one, tile-of_point}
+use Rattle.hd_basin.specs.Sinks.{IsSunk, at_place, no_node}
+use Rattle.hd_basin.proofs.Areas.{place-one}
 use Rattle.hd_basin.proofs.Frames.{frame-in_grid, step-in_frame}
-use Rattle.hd_basin.proofs.LowRound.{own-rank, lowest-round}
-use Rattle.hd_basin.proofs.SinkLaws.{pit-sink, sink-own, sink-unique, sink-is_sink, sink-not_above, sink_by_next}
+use Rattle.hd_basin.proofs.SinkLaws.{sink-own, sink-unique, sink-is_sink, sink-not_above}
 
 module _ (m : Map) (side : SideName) (t : ℕ) where
   -- a sink is onward from itself
@@ -83,56 +78,6 @@ same_or_not m p q here there = elim (cases_eq (place_of m.size q) (place_of m.si
   | inr other ↦ inr (λ e. other (ap (λ (r : Rank). r.index) e))
 ]
 
--- the link of a point of a tile, from the lowest round it
-module _ (m : Map) (side : SideName) (t tile : ℕ) (f : Frame) (some : 1 ≤ t) (area : IsArea m.size t tile f) (whole : IsMap m) (k : ℕ) (below : k < f.columns * f.rows) (here : Present m (at_place f k)) (low : Rank)
-    (of : IsLow m side (IsRound m.adjacency (at_place f k)) low) where
-  abbrev at : Pos
-  at = at_place f k
-
-  own-tile : tile_at m.size t (rank m at) ≡ tile
-  own-tile = tile-of_point m t (rank m at) at here refl ∙ area-tile m.size t tile f some area at (step-in_frame f k below)
-
-  abbrev to : Pos
-  to = position_at m.size low.index
-
-  stays-own : IsSink m side t (rank m at) → LeadsOnward m side t f k k
-  stays-own sink = record { inside = below; present = here; onward = onward-own m side t (rank m at) sink }
-
-  pub link-inside : (q : Pos) → q ≡ to → InFrame f q → (l : ℕ) → l < f.columns * f.rows → at_place f l ≡ q → LeadsOnward m side t f k l
-  link-inside q is within l inside there = elim (cases_eq low.index (place_of m.size at)) [
-    | inl e ↦ (
-        let pit = pit_found m side whole at here low of e in
-        let back : at ≡ at_place f l = sym (there ∙ is ∙ rank_position m low at here pit.0) in
-        record {
-          inside = inside;
-          present = subst (Present m) back here;
-          onward = subst (λ (z : Pos). IsOnward m side t (rank m at) (rank m z)) back (onward-own m side t (rank m at) (pit-sink m side t (rank m at) pit.1));
-        })
-    | inr other ↦ (
-        let next = next_found m side whole at here low of other in
-        let back : next.0 ≡ at_place f l = sym (there ∙ is ∙ rank_position m low next.0 next.1 next.2) in
-        let in_frame : InFrame f next.0 = subst (InFrame f) (there' next.0 back) within in
-        let its : tile_at m.size t (rank m next.0) ≡ tile = tile-of_point m t (rank m next.0) next.0 next.1 refl ∙ area-tile m.size t tile f some area next.0 in_frame in
-        record {
-          inside = inside;
-          present = subst (Present m) back next.1;
-          onward = subst (λ (z : Pos). IsOnward m side t (rank m at) (rank m z)) back (onward-next m side t (rank m at) (rank m next.0) next.3 (its ∙ sym own-tile));
-        })
-  ]
-    where
-      there' : (z : Pos) → z ≡ at_place f l → q ≡ z
-      there' z back = sym there ∙ sym back
-
-  pub link-outside : (q : Pos) → q ≡ to → (InFrame f q → ⊥) → LeadsOnward m side t f k k
-  link-outside q is outside = elim (cases_eq low.index (place_of m.size at)) [
-    | inl e ↦ (let pit = pit_found m side whole at here low of e in stays-own (pit-sink m side t (rank m at) pit.1))
-    | inr other ↦ (
-        let next = next_found m side whole at here low of other in
-        let same : q ≡ next.0 = is ∙ rank_position m low next.0 next.1 next.2 in
-        let mine : tile_of m.size t at ≡ tile = area-tile m.size t tile f some area at (step-in_frame f k below) in
-        stays-own (sink_by_next m side t at next.0 here next.1 next.3 (λ e. outside (subst (InFrame f) (sym same) (area-in m.size t tile f some area next.0 next.1.in_grid (e ∙ mine))))))
-  ]
-
 -- equal numbers are told
 told : (h k : ℤ) → int_eq h k ≡ true → h ≡ k
 told h k e = grind (arith, ints, nat_tests)
@@ -162,35 +107,6 @@ low-own m side whole p r of here = elim of.origin [
   | inl none ↦ absurd (low_missing m side whole (IsAtPlace (p.y + 1) (p.x + 1)) r of none p (record { profile = refl; place = refl }) here)
   | inr one ↦ one.low_is ∙ ap (rank m) (same_pos one.at p (let a = one.chosen.place in omega (arith, a)) (let a = one.chosen.profile in omega (arith, a)))
 ]
-
--- the ranks at a point and round it
-module _ (m : Map) (side : SideName) (f : Frame) (whole : IsMap m) (ranks : List Rank) (are : AreRanks m side f ((f.rows + 2) * (f.columns + 2)) ranks) (i j : ℕ) (row : i < f.rows) (column : j < f.columns) where
-  abbrev own : Rank
-  own = rank_in ranks (i * (f.columns + 2) + j + (f.columns + 2) + 1)
-
-  abbrev point : Pos
-  point = record { x = f.left + j; y = f.top + i }
-
-  own-is : IsLow m side (IsAtPlace (f.top + i + 1) (f.left + j + 1)) own
-  own-is = own-rank m side whole f ranks are i j row column (i * (f.columns + 2) + j + (f.columns + 2) + 1) refl
-
-  pub own-absent : int_eq own.height (missing side).height ≡ true → Present m point → ⊥
-  own-absent e here = low-absent m side whole (f.top + i + 1) (f.left + j + 1) own own-is e point refl refl here
-
-  own-chosen : int_eq own.height (missing side).height ≡ false → Present m point × (own ≡ rank m point)
-  own-chosen e = low-present m side (f.top + i + 1) (f.left + j + 1) own own-is e point refl refl
-
-  pub own-present : int_eq own.height (missing side).height ≡ false → Present m point
-  own-present e = (own-chosen e).0
-
-  pub place-absent : int_eq own.height (missing side).height ≡ true → Present m (at_place f (i * f.columns + j)) → ⊥
-  place-absent e here = own-absent e (subst (Present m) (place-at f i j column) here)
-
-  pub place-present : int_eq own.height (missing side).height ≡ false → Present m (at_place f (i * f.columns + j))
-  place-present e = subst (Present m) (sym (place-at f i j column)) (own-present e)
-
-  pub place-low : IsLow m side (IsRound m.adjacency (at_place f (i * f.columns + j))) (low_round side m.adjacency ranks (f.columns + 2) (i * (f.columns + 2) + j))
-  place-low = subst (λ (p : Pos). IsLow m side (IsRound m.adjacency p) (low_round side m.adjacency ranks (f.columns + 2) (i * (f.columns + 2) + j))) (sym (place-at f i j column)) (lowest-round m side whole f ranks are i j row column)
 
 pub links-more : (m : Map) (side : SideName) (t : ℕ) (f : Frame) (n : ℕ) (links : List ℕ) (link : ℕ) → AreLinksTo m side t f n links → IsLink m side t f n link → AreLinksTo m side t f (n + 1) (links ++ link ∷ [])
 links-more m side t f n links link are new = record {

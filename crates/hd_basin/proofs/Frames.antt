@@ -7,7 +7,7 @@ use Rattle.std.proofs.lemmas.Bool.Decides.{nat_tests}
 use Rattle.std.proofs.Math.ListN.{get_or-eq_default}
 use Rattle.std.proofs.lemmas.List.{get_or-replicate, get_or_append_left, get_or_push}
 use Rattle.std.proofs.lemmas.Int.{ints}
-use Rattle.std.proofs.lemmas.Nat.{same_from_place, div-add-mod'}
+use Rattle.std.proofs.lemmas.Nat.{same_from_place, div-add-mod', mul-le}
 use Rattle.std.proofs.lemmas.List.FromFn.{get_or-map-range_with_len}
 use Rattle.hd_map.specs.declared.types.Pos.{Pos}
 use Rattle.hd_map.specs.declared.types.Size.{Size}
@@ -24,7 +24,7 @@ use Rattle.hd_basin.specs.declared.frame.Frame.{Frame}
 use Rattle.hd_tiles.specs.Tile.{tiles_across}
 use Rattle.hd_tiles.proofs.TilesAlong.{part_below, part_is}
 use Rattle.hd_basin.specs.Views.{ShowSame}
-use Rattle.hd_basin.specs.Frames.{AreFilled, at_step, InFrame, FitsGrid, HoldsRound, IsRoundOnly, is_in, seen_at, cell_of, any_type, framed_map, IsWindow, ShowsFrame}
+use Rattle.hd_basin.specs.Frames.{AreFilled, at_step, InFrame, FitsGrid, HoldsRound, IsRoundOnly, is_in, seen_at, cell_of, any_type, framed_map, IsPartOf, IsWindow, ShowsFrame, moved}
 
 -- the part of a number below the count of parts times another begins below the limit
 pub part_start : (tile across limit t : ℕ) → 1 ≤ t → 1 ≤ across → tile < (limit + t - 1) / t * across → tile / across * t < limit
@@ -216,4 +216,48 @@ filled-shows m f heights fits filled = record {
       let step = frame_step f q within in
       let k : ℕ = (q.y - f.top) * f.columns + (q.x - f.left) in
       ap (height_at m) (sym step.1) ∙ sym (filled.each k step.0) ∙ sym (seen-inside f heights q within) ∙ sym (framed-height m.size m.adjacency f heights q inside));
+}
+
+-- the heights of a part are also those of a map of its own
+abbrev pub own_size : Frame → Size
+own_size f = record { points = f.columns; profiles = f.rows }
+
+abbrev pub own_frame : Frame → Frame
+own_frame f = record { left = 0; top = 0; columns = f.columns; rows = f.rows }
+
+pub part-window : (s : Size) (f : Frame) (heights : List (Option ℤ)) → IsWindow s f heights → 1 ≤ f.columns → 1 ≤ f.rows → IsWindow (own_size f) (own_frame f) heights
+part-window s f heights w columns rows =
+    let right = w.fits.right in
+    let bottom = w.fits.bottom in
+    let size = w.size in
+    let points = size.points in
+    let profiles = size.profiles in
+    let most = size.cells in
+    let cells = mul-le f.rows f.columns s.profiles s.points (omega (arith, bottom)) (omega (arith, right)) in
+    record {
+      size = record { some_points = columns; points = omega (arith, right, points); some_profiles = rows; profiles = omega (arith, bottom, profiles); cells = omega (arith, cells, most) };
+      fits = record { right = omega arith; bottom = omega arith };
+      whole = w.whole;
+      range = w.range;
+    }
+
+pub part-shows : (s : Size) (a : Adjacency) (f : Frame) (heights : List (Option ℤ)) → FitsGrid s f → IsPartOf (framed_map s a f heights) f (framed_map (own_size f) a (own_frame f) heights)
+part-shows s a f heights fits = record {
+  fits = fits;
+  columns = refl;
+  rows = refl;
+  adjacency = refl;
+  heights = λ q inside. (
+      let column = inside.column in
+      let profile = inside.profile in
+      let own : InFrame (own_frame f) q = record { left = omega arith; right = omega (arith, column); top = omega arith; bottom = omega (arith, profile) } in
+      let within : InFrame f (moved f q) = record { left = omega arith; right = omega (arith, column); top = omega arith; bottom = omega (arith, profile) } in
+      let row : q.y - 0 ≡ f.top + q.y - f.top = omega arith in
+      let across : q.x - 0 ≡ f.left + q.x - f.left = omega arith in
+      framed-height (own_size f) a (own_frame f) heights q inside
+      ∙ seen-inside (own_frame f) heights q own
+      ∙ ap (λ (k : ℕ). slice_index_or heights (k * f.columns + (q.x - 0)) None) row
+      ∙ ap (λ (k : ℕ). slice_index_or heights ((f.top + q.y - f.top) * f.columns + k) None) across
+      ∙ sym (seen-inside f heights (moved f q) within)
+      ∙ sym (framed-height s a f heights (moved f q) (frame-in_grid s f (moved f q) fits within)));
 }

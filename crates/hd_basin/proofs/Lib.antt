@@ -16,6 +16,8 @@ pub mod Areas
 pub mod ChainedMeetings
 pub mod LowRound
 pub mod AreLinks
+pub mod PartMaps
+pub mod PartLinks
 pub mod IsSunk
 pub mod Gathers
 pub mod HasLowest

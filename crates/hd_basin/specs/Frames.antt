@@ -80,3 +80,15 @@ at_step f k = record { x = f.left + k % f.columns; y = f.top + k / f.columns }
 pub record AreFilled (m : Map) (f : Frame) (n : ℕ) (heights : List (Option ℤ)) : Type 0 where
   pub whole : length heights ≡ n
   pub each : (k : ℕ) → k < n → slice_index_or heights k None ≡ height_at m (at_step f k)
+
+-- the position in the grid of one of the part, which is counted from its first one
+abbrev pub moved : Frame → Pos → Pos
+moved f q = record { x = f.left + q.x; y = f.top + q.y }
+
+-- the second map is the part of the first as a map of its own
+pub record IsPartOf (m : Map) (f : Frame) (n : Map) : Type 0 where
+  pub fits : FitsGrid m.size f
+  pub columns : n.size.points ≡ f.columns
+  pub rows : n.size.profiles ≡ f.rows
+  pub adjacency : n.adjacency ≡ m.adjacency
+  pub heights : (q : Pos) → InGrid n.size q → height_at n q ≡ height_at m (moved f q)

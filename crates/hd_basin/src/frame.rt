@@ -53,6 +53,8 @@ pub fn frame_of(tiling: Tiling, tile: u32) -> Frame
     ensures only { IsRoundOnly tiling.size tiling.side tile result }
     ensures columns { result.columns ≤ tiling.side + 2 }
     ensures rows { result.rows ≤ tiling.side + 2 }
+    ensures some_columns { 1 ≤ result.columns }
+    ensures some_rows { 1 ≤ result.rows }
 {
     let size = tiling.size();
     let across = tiling.across();
@@ -123,6 +125,7 @@ fn stretch_of(limit: u32, side: u32, part: u32) -> Stretch
     requires some { part * side < limit }
     ensures fits { result.from + result.count ≤ limit }
     ensures count { result.count ≤ side + 2 }
+    ensures some { 1 ≤ result.count }
     ensures from { result.from ≡ part * side - 1 }
     ensures within { result.from + result.count ≤ part * side + side + 1 }
     ensures after { result.from + result.count ≡ limit ⊎ (part * side + side + 1 ≤ result.from + result.count) }

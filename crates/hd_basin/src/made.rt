@@ -43,6 +43,7 @@ pub fn made<S: Side, T: Looked, L: Ledger>(
 {
     let frame = frame_of(tiling, tile);
     let window = Window::look(alloc, tiles, frame, looks)?;
-    let part = noded::<S, Window>(alloc, &window, tiling, tile, stamp)?;
+    let own = window.detached(alloc)?;
+    let part = noded::<S, Window, Window>(alloc, &window, &own, frame, tiling, tile, stamp)?;
     joined::<S, Window, T>(alloc, tiling, parts, tiles, &window, part, tile, stamp)
 }

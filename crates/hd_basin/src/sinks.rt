@@ -1,38 +1,39 @@
 // The local sinks of the points of a tile, by links that are led on in place: most of them by sweeps
 // that do not branch, the rest by walks.
 ghost use Rattle.std.specs.Prelude.{◌≡◌, ◌≢◌, ◌<◌, ◌≤◌, ◌*◌, ◌+◌, IfOk, length, slice_index};
-ghost use Rattle.hd_tiles.specs.Tile.{tile_count};
+ghost use Rattle.hd_steep.specs.FirstLinks.{AreFirstLinks};
+ghost use Rattle.hd_basin.specs.Frames.{HoldsRound, IsPartOf};
 ghost use Rattle.hd_basin.specs.Links.{AreLinks, LedTo};
-ghost use Rattle.hd_basin.specs.Round.{AreRanks};
 ghost use Rattle.hd_basin.specs.Sinks.{AreSunk, IsArea, IsSunk, no_node};
 
-use crate::frame::Frame;
+use crate::frame::{Frame, Plot};
 use crate::links::{NO_LINK, links_in};
 use hd_list::Memory;
-use hd_map::{Heights, Rank, Side};
+use hd_map::{Heights, Side};
 use hd_tiles::Tiling;
 use std::alloc::Global;
 
 /// By place of the tile the place of the local sink of each point, and `NO_LINK` where no point is
 /// present.
-pub fn sinks_in<S: Side, G: Heights>(
+pub fn sinks_in<S: Side, G: Heights, P: Heights>(
     alloc: Global,
     grid: &G,
-    tiling: Tiling,
-    tile: u32,
-    area: Frame,
-    ranks: &[Rank],
+    part: &P,
+    frame: Frame,
+    firsts: &[u32],
+    plot: Plot,
 ) -> Result<Vec<u32>, Memory>
-    requires size { tiling.size ≡ (G.map grid.now).size }
-    requires tile { tile < tile_count tiling.size tiling.side }
-    requires area { IsArea (G.map grid.now).size tiling.side tile area }
-    requires ranks { AreRanks (G.map grid.now) S.NAME area ((area.rows + 2) * (area.columns + 2)) ranks.now }
-    ensures { IfOk result (λ sinks. AreSunk (G.map grid.now) S.NAME tiling.side area sinks.items) }
+    requires size { plot.tiling.size ≡ (G.map grid.now).size }
+    requires area { IsArea (G.map grid.now).size plot.tiling.side plot.tile plot.area }
+    requires part { IsPartOf (G.map grid.now) frame (P.map part.now) }
+    requires holds { HoldsRound (G.map grid.now).size plot.tiling.side plot.tile frame }
+    requires firsts { AreFirstLinks (P.map part.now) S.NAME firsts.now }
+    ensures { IfOk result (λ sinks. AreSunk (G.map grid.now) S.NAME plot.tiling.side plot.area sinks.items) }
 {
-    let mut links = links_in::<S, G>(alloc, grid, tiling, tile, area, ranks)?;
-    sweep::<S, G>(grid, tiling, area, &mut links);
-    sweep_back::<S, G>(grid, tiling, area, &mut links);
-    lead::<S, G>(grid, tiling, area, &mut links);
+    let mut links = links_in::<S, G, P>(alloc, grid, part, frame, firsts, plot)?;
+    sweep::<S, G>(grid, plot.tiling, plot.area, &mut links);
+    sweep_back::<S, G>(grid, plot.tiling, plot.area, &mut links);
+    lead::<S, G>(grid, plot.tiling, plot.area, &mut links);
     Ok(links)
 }
 

@@ -2,7 +2,7 @@
 ghost use Rattle.std.specs.Prelude.{◌≡◌, ◌<◌, ◌≤◌, ◌+◌, ◌*◌, IfOk, OnOk, true, Some, slice_get};
 ghost use Rattle.hd_map.specs.declared.types.Pos.{Pos};
 ghost use Rattle.hd_map.specs.Map.{InGrid, place_of};
-ghost use Rattle.hd_basin.specs.Frames.{AreFilled, InFrame, FitsGrid, IsWindow, ShowsFrame};
+ghost use Rattle.hd_basin.specs.Frames.{AreFilled, InFrame, FitsGrid, IsPartOf, IsWindow, ShowsFrame};
 
 use crate::frame::{Frame, is_in_frame};
 use hd_list::Memory;
@@ -60,6 +60,7 @@ impl Window {
         requires fits { FitsGrid (T.map tiles.now).size frame }
         requires allowed { (p : Pos) → InFrame frame p → slice_get (T.leave tiles.now) (place_of (T.map tiles.now).size p) ≡ Some true }
         ensures shows { IfOk result (λ w. ShowsFrame (T.map tiles.now) frame (map_of_window w)) }
+        ensures framed { IfOk result (λ w. w.frame ≡ frame) }
         ensures counted { looks.new ≤ looks.old + frame.columns * frame.rows }
     {
         let mut heights = Vec::with_capacity(alloc, (frame.columns * frame.rows) as usize)?;
@@ -70,6 +71,31 @@ impl Window {
             size: tiles.size(),
             adjacency: tiles.adjacency(),
             frame,
+            heights,
+        })
+    }
+
+    /// The heights as a map of their own, which has no other position.
+    pub fn detached(&self, alloc: Global) -> Result<Window, Memory>
+        requires columns { 1 ≤ self.now.frame.columns }
+        requires rows { 1 ≤ self.now.frame.rows }
+        ensures { IfOk result (λ w. IsPartOf (map_of_window self.now) self.now.frame (map_of_window w)) }
+    {
+        let Frame { columns, rows, .. } = self.frame;
+        let mut heights = Vec::with_capacity(alloc, self.heights.len())?;
+        heights.extend_from_slice(&self.heights)?;
+        Ok(Window {
+            size: Size {
+                points: columns,
+                profiles: rows,
+            },
+            adjacency: self.adjacency,
+            frame: Frame {
+                left: 0,
+                top: 0,
+                columns,
+                rows,
+            },
             heights,
         })
     }

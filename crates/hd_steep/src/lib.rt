@@ -39,6 +39,7 @@ pub use kept_links::FirstLinks;
 pub use laws::{
     next_is_determined, pit_is_its_own_root, regions_are_determined, root_is_determined,
 };
+pub use links::first_links;
 pub use lowest::{is_missing, lower, missing_rank};
 pub use numbering::{Regions, find_regions};
 pub use pairs::borders_of;

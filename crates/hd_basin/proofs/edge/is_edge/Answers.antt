@@ -1,4 +1,4 @@
-use Rattle.std.proofs.Common.{◌≡◌, ◌+◌, ◌-◌, ◌*◌, ℕ, sym, ◌∙◌, arith}
+use Rattle.std.proofs.Common.{sym, ◌∙◌, arith}
 use Rattle.hd_basin.proofs.Edges.{row-open, rows-closed}
 use Rattle.hd_basin.proofs.edge.is_edge.Goals as goal
 

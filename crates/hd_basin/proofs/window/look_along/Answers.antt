@@ -1,7 +1,6 @@
 use Rattle.std.proofs.Common.{◌≡◌, ◌+◌, ◌*◌, ℕ, sym, ◌∙◌, ap, subst, arith}
-use Rattle.hd_map.specs.declared.types.Pos.{Pos}
 use Rattle.hd_map.specs.Map.{height_at}
-use Rattle.hd_basin.specs.Frames.{AreFilled, at_step}
+use Rattle.hd_basin.specs.Frames.{AreFilled}
 use Rattle.hd_basin.proofs.Areas.{place-at, point_in-frame}
 use Rattle.hd_basin.proofs.Frames.{filled_more, frame-in_grid}
 use Rattle.hd_basin.proofs.window.look_along.Goals as goal
