@@ -1,5 +1,5 @@
 -- Edge points by the nine ranks round them.
-use Rattle.std.proofs.Common.{◌≡◌, ◌≤◌, ◌+◌, ◌-◌, ◌*◌, ◌||◌, ℕ, true, false, List, inl, inr, refl, sym, ap, subst, arith}
+use Rattle.std.proofs.Common.{◌≡◌, ◌<◌, ◌≤◌, ◌+◌, ◌-◌, ◌*◌, ◌/◌, ◌%◌, ◌||◌, ℕ, true, false, List, inl, inr, refl, sym, ap, subst, arith}
 use Rattle.std.proofs.lemmas.Bool.{cases_eq, cases_lt, or_cases, or_parts}
 use Rattle.hd_map.specs.declared.types.Pos.{Pos}
 use Rattle.hd_map.specs.declared.types.Rank.{Rank}
@@ -16,6 +16,17 @@ use Rattle.hd_basin.specs.Frames.{InFrame}
 use Rattle.hd_basin.specs.Round.{AreRanks, is_missing, lacks_one}
 use Rattle.hd_basin.proofs.AreLinks.{low-absent, told-apart}
 use Rattle.hd_basin.proofs.LowRound.{entry-at}
+
+-- where all nine are present, no position beside is without a present point
+pub none_absent_beside : (m : Map) (p : Pos) → 0 < p.x → 0 < p.y → ((k : ℕ) → k < 9 → Present m (record { x = p.x + k % 3 - 1; y = p.y + k / 3 - 1 })) → HasAbsentBeside m p → ⊥
+none_absent_beside m p left top all missing =
+    let k : ℕ = 3 * (missing.at.y + 1 - p.y) + (missing.at.x + 1 - p.x) in
+    let c = missing.columns in
+    let r = missing.rows in
+    let below : k < 9 = omega (arith, c.0, c.1, r.0, r.1, left, top) in
+    let x : p.x + k % 3 - 1 ≡ missing.at.x = omega (arith, c.0, c.1, r.0, r.1, left, top) in
+    let y : p.y + k / 3 - 1 ≡ missing.at.y = omega (arith, c.0, c.1, r.0, r.1, left, top) in
+    missing.absent (subst (Present m) (same_pos (record { x = p.x + k % 3 - 1; y = p.y + k / 3 - 1 }) missing.at x y) (all k below))
 
 -- an edge point is told by its position
 pub edge-on : (m : Map) (p : Pos) → Present m p → OnBorder m.size p → IsEdge m (rank m p)

@@ -22,7 +22,7 @@ use Rattle.hd_map.proofs.Items.{Contains-map, map-Contains}
 use Rattle.hd_map.proofs.Order.{below-not_above, not_above-refl, not_above-trans}
 use Rattle.hd_basin.specs.declared.part.Seam.{Seam}
 use Rattle.hd_basin.specs.Seams.{HaveSameEnds, KeepLowest}
-use Rattle.hd_basin.specs.Lowest.{HasLowest, key_of, lower_of, pair_cmp}
+use Rattle.hd_basin.specs.Lowest.{HasLowest, NotesLower, is_lower, key_of, lower_of, pair_cmp}
 use Rattle.hd_basin.proofs.FlatLists.{AllPairs-map}
 
 pair-total : IsTotalOrder pair_cmp
@@ -114,8 +114,26 @@ module _ (side : SideName) (all : List Seam) (table next : ℕ × ℕ → Option
   }
 
 -- an update notes the seam
-pub lowest-updates : (side : SideName) (all : List Seam) (old new : BTreeMap (ℕ × ℕ) Seam) (s : Seam) → HasLowest side all (get pair_cmp old) → Updates pair_cmp old new (key_of s) (Some (lower_of side (get pair_cmp old (key_of s)) s)) → HasLowest side (all ++ s ∷ []) (get pair_cmp new)
-lowest-updates side all old new s has u = lowest-more side all (get pair_cmp old) (get pair_cmp new) s has u.1 (λ k other. u.2 k (key_apart (key_of s) k other))
+pub lowest-notes : (side : SideName) (all : List Seam) (old new : BTreeMap (ℕ × ℕ) Seam) (s : Seam) → HasLowest side all (get pair_cmp old) → NotesLower side (get pair_cmp old) (get pair_cmp new) s → HasLowest side (all ++ s ∷ []) (get pair_cmp new)
+lowest-notes side all old new s has notes = lowest-more side all (get pair_cmp old) (get pair_cmp new) s has notes.here notes.others
+
+-- a lower one is kept
+low-new : (side : SideName) (known : Option Seam) (s : Seam) → is_lower side known s ≡ true → lower_of side known s ≡ s
+low-new side (Some known) s e = rw e
+low-new side None s e = refl
+
+low-old : (side : SideName) (known : Option Seam) (s : Seam) → is_lower side known s ≡ false → known ≡ Some (lower_of side known s)
+low-old side (Some known) s e = rw e
+low-old side None s e = absurd cc
+
+pub notes-new : (side : SideName) (old new : BTreeMap (ℕ × ℕ) Seam) (s : Seam) → is_lower side (get pair_cmp old (key_of s)) s ≡ true → Updates pair_cmp old new (key_of s) (Some s) → NotesLower side (get pair_cmp old) (get pair_cmp new) s
+notes-new side old new s e u = record {
+  here = u.1 ∙ ap (λ (x : Seam). Some x) (sym (low-new side (get pair_cmp old (key_of s)) s e));
+  others = λ k other. u.2 k (key_apart (key_of s) k other);
+}
+
+pub notes-none : (side : SideName) (old : BTreeMap (ℕ × ℕ) Seam) (s : Seam) → is_lower side (get pair_cmp old (key_of s)) s ≡ false → NotesLower side (get pair_cmp old) (get pair_cmp old) s
+notes-none side old s e = record { here = low-old side (get pair_cmp old (key_of s)) s e; others = λ k other. refl }
 
 -- a key is not below itself
 key-once : (k q : ℕ × ℕ) → pair_cmp k q ≡ Less → k ≡ q → ⊥

@@ -1,5 +1,5 @@
 -- The lowest seam of each two basins, by the indexes of their sinks.
-use Rattle.std.specs.Prelude.{◌≡◌, ℕ, List, Option, Some, None, Contains, if◌then◌else◌}
+use Rattle.std.specs.Prelude.{◌≡◌, ℕ, Bool, true, List, Option, Some, None, Contains, if◌then◌else◌}
 use Rattle.std.specs.declared.cmp.Ordering.{Ordering}
 use Rattle.std.specs.Ordering.{nat_cmp, ordering_then}
 use Rattle.hd_map.specs.declared.types.SideName.{SideName}
@@ -14,10 +14,20 @@ pair_cmp x y = ordering_then (nat_cmp x.0 y.0) (nat_cmp x.1 y.1)
 abbrev pub key_of : Seam → ℕ × ℕ
 key_of s = (s.pass.a.index, s.pass.b.index)
 
+-- whether a seam is lower than what is known
+abbrev pub is_lower : SideName → Option Seam → Seam → Bool
+is_lower side (Some known) s = below_by side s.pass.at known.pass.at
+is_lower side None s = true
+
 -- the lower of what is known and one more seam
 abbrev pub lower_of : SideName → Option Seam → Seam → Seam
 lower_of side (Some known) s = if below_by side s.pass.at known.pass.at then s else known
 lower_of side None s = s
+
+-- under the key of the seam is the lower of what was there and the seam, and under each other one what was there
+pub record NotesLower (side : SideName) (old new : ℕ × ℕ → Option Seam) (s : Seam) : Type 0 where
+  pub here : new (key_of s) ≡ Some (lower_of side (old (key_of s)) s)
+  pub others : (k : ℕ × ℕ) → (k ≡ key_of s → ⊥) → new k ≡ old k
 
 -- under the key of each of the seams is the lowest of those with that key
 pub record HasLowest (side : SideName) (all : List Seam) (table : ℕ × ℕ → Option Seam) : Type 0 where

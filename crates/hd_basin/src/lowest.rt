@@ -1,8 +1,8 @@
 // The lowest seam of each two basins.
-ghost use Rattle.std.specs.Prelude.{◌≡◌, IfOk, OnOk, Some, map};
-ghost use Rattle.std.specs.BTreeMap.{IsOrdered, Updates, get};
+ghost use Rattle.std.specs.Prelude.{◌≡◌, IfOk, OnOk, map};
+ghost use Rattle.std.specs.BTreeMap.{IsOrdered, get};
 ghost use Rattle.hd_basin.specs.Seams.{KeepLowest};
-ghost use Rattle.hd_basin.specs.Lowest.{HasLowest, key_of, lower_of, pair_cmp};
+ghost use Rattle.hd_basin.specs.Lowest.{HasLowest, NotesLower, is_lower, pair_cmp};
 
 use crate::part::Seam;
 use hd_list::Memory;
@@ -24,27 +24,25 @@ pub fn lowest_of<S: Side>(alloc: Global, all: &[Seam]) -> Result<Vec<Seam>, Memo
 
 // Notes a seam, where none of the same ends is known that is as low.
 fn note<S: Side>(lowest: &mut BTreeMap<(u32, u32), Seam>, seam: Seam) -> Result<(), Memory>
-    ensures { OnOk result (Updates pair_cmp lowest.old lowest.new (key_of seam) (Some (lower_of S.NAME (get pair_cmp lowest.old (key_of seam)) seam))) }
+    ensures { OnOk result (NotesLower S.NAME (get pair_cmp lowest.old) (get pair_cmp lowest.new) seam) }
 {
     let key = (seam.pass.a.index, seam.pass.b.index);
     let known = lowest.get(&key).copied();
-    lowest.insert(key, lower::<S>(known, seam))?;
+    if !is_lower::<S>(known, seam) {
+        return Ok(());
+    }
+    lowest.insert(key, seam)?;
     Ok(())
 }
 
-// The lower of what is known and another seam.
-fn lower<S: Side>(known: Option<Seam>, seam: Seam) -> Seam
-    ensures { result ≡ lower_of S.NAME known seam }
+// Whether a seam is lower than what is known.
+#[inline]
+fn is_lower<S: Side>(known: Option<Seam>, seam: Seam) -> bool
+    ensures { result ≡ is_lower S.NAME known seam }
 {
     match known {
-        Some(known) => {
-            if S::below(seam.pass.at, known.pass.at) {
-                seam
-            } else {
-                known
-            }
-        }
-        None => seam,
+        Some(known) => S::below(seam.pass.at, known.pass.at),
+        None => true,
     }
 }
 

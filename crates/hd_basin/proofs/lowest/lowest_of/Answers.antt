@@ -3,7 +3,7 @@ use Rattle.std.specs.BTreeMap.{get}
 use Rattle.std.proofs.lemmas.List.{take_more}
 use Rattle.hd_basin.specs.declared.part.Seam.{Seam}
 use Rattle.hd_basin.specs.Lowest.{HasLowest, pair_cmp}
-use Rattle.hd_basin.proofs.HasLowest.{lowest-updates, lowest-kept}
+use Rattle.hd_basin.proofs.HasLowest.{lowest-notes, lowest-kept}
 use Rattle.hd_basin.proofs.lowest.lowest_of.Goals as goal
 
 pub loop-seam-preserved : goal.loop-seam-preserved
@@ -11,7 +11,7 @@ loop-seam-preserved g c =
     let all : List Seam = c.args.all.now in
     let i : ℕ = c.loop-seam.seam-index in
     subst (λ (xs : List Seam). HasLowest g.S.Side.NAME xs (get pair_cmp c.note.new.lowest)) (sym (take_more all i _ c.loop-seam-test.true))
-    (lowest-updates g.S.Side.NAME (take i all) c.loop-seam.lowest c.note.new.lowest _ c.loop-seam.invariant c.in_ok-note.ensures)
+    (lowest-notes g.S.Side.NAME (take i all) c.loop-seam.lowest c.note.new.lowest _ c.loop-seam.invariant c.in_ok-note.ensures)
 
 pub returns : goal.returns
 returns g c =
