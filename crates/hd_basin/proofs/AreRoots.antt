@@ -4,7 +4,7 @@ use Rattle.std.specs.Prelude.{◌≢◌, Contains, slice_index}
 use Rattle.std.proofs.lemmas.Bool.{cases_eq}
 use Rattle.std.proofs.lemmas.Grind.{get_or-set_at}
 use Rattle.std.proofs.lemmas.List.{get_or-replicate, get_or-set_other, length-replicate, length-set, take_all, take_more}
-use Rattle.std.proofs.lemmas.List.Elements.{Contains-append_cases, Contains-get_or}
+use Rattle.std.proofs.lemmas.List.Elements.{Contains-append_cases}
 use Rattle.std.proofs.lemmas.Option.{slice_get-get_or}
 use Rattle.hd_map.specs.declared.types.Pos.{Pos}
 use Rattle.hd_map.specs.declared.types.Rank.{Rank}
@@ -182,9 +182,6 @@ roots-none side pool n has e = record {
 -- the parts of a pool are its tiles
 pub part-at : (parts : List Part) (part : Part) → Contains parts part → (n : Node) → Contains part.nodes n → (tile : ℕ) × HasNode parts tile n
 part-at parts part at n has = (at.0, record { part = part; at = slice_get-get_or parts at.0 part at.1 ∙ ap (λ (p : Part). Some p) at.2; has = has })
-
-pub part-item : (parts : List Part) (part : Part) → Contains parts part → (nodes : List Node) → nodes ≡ part.nodes → (k : ℕ) (d : Node) → k < length nodes → (tile : ℕ) × HasNode parts tile (get_or nodes k d)
-part-item parts part at nodes e k d inside = part-at parts part at (get_or nodes k d) (subst (λ (ns : List Node). Contains ns (get_or nodes k d)) e (Contains-get_or nodes k d inside))
 
 -- before the first part the roots that are known are right
 pub parts-first : (side : SideName) (pool : Pool) (parts : List Part) (roots : List ℕ) → AreKnownRoots side pool roots → ArePartsSettled side pool parts 0 roots

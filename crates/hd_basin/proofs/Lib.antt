@@ -11,6 +11,7 @@ pub mod FreshPools
 pub mod Frames
 pub mod Edges
 pub mod Lists
+pub mod Stocked
 pub mod Areas
 pub mod ChainedMeetings
 pub mod LowRound

@@ -1,5 +1,5 @@
 -- A pool that has seen no tile is in step with every map of its size.
-use Rattle.std.proofs.Common.{◌≡◌, ℕ, List, [], length, map, Some, None, sym, subst, arith, slice_get}
+use Rattle.std.proofs.Common.{◌≡◌, ℕ, List, length, map, Some, None, sym, subst, arith, slice_get}
 use Rattle.std.specs.Prelude.{All, AllPairs, Contains}
 use Rattle.hd_map.proofs.Items.{Contains-none}
 use Rattle.hd_basin.specs.declared.part.Seam.{Seam}
@@ -12,15 +12,8 @@ use Rattle.hd_basin.specs.declared.part.Join.{Join}
 use Rattle.hd_basin.specs.declared.part.Part.{Part}
 use Rattle.hd_basin.specs.InStep.{IsInStep}
 use Rattle.hd_basin.specs.Parts.{pass_named, JoinOthers, Pool, HasNode, IsFresh, IsSound}
+use Rattle.hd_basin.specs.Stock.{IsUnseen}
 use Rattle.hd_basin.proofs.PointRoots.{read-contains}
-
--- a tile that was not seen has no nodes and no passes
-pub record IsUnseen (part : Part) : Type 0 where
-  pub seen : part.seen ≡ None
-  pub nodes : part.nodes ≡ []
-  pub labels : part.labels.items ≡ []
-  pub joins : part.joins ≡ []
-  pub seams : part.seams ≡ []
 
 module _ (pool : Pool) (unseen : All IsUnseen pool.parts) where
   none_at : (tile : ℕ) (part : Part) → slice_get pool.parts tile ≡ Some part → IsUnseen part

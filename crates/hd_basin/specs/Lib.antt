@@ -24,3 +24,4 @@ pub mod Graph
 pub mod ExtentTable
 pub mod Extents
 pub mod Roots
+pub mod Stock

@@ -22,6 +22,8 @@ use crate::node::nodes_of;
 use crate::part::Part;
 use crate::place::place_in_tile;
 use crate::roots::{Roots, UNKNOWN};
+use crate::shown::Shown;
+use crate::stock::Stock;
 use crate::{Extent, Node, NodeKey};
 use hd_graph::Graph;
 use hd_list::{List, Memory};
@@ -38,7 +40,7 @@ use std::sync::ledger::Ledger;
 pub struct Basins<S: Side> {
     alloc: Global,
     tiling: Tiling,
-    parts: Vec<Part>,
+    stock: Stock,
     side: PhantomData<S>,
 }
 
@@ -49,9 +51,9 @@ impl<S: Side> Model for Basins<S> {
 
     ghost Value = { Pool };
 
-    ghost view = { λ b. record { size = b.tiling.size; side = b.tiling.side; parts = b.parts.items } };
+    ghost view = { λ b. record { size = b.tiling.size; side = b.tiling.side; parts = b.stock } };
 
-    ghost invariant = { λ b. IsSound (record { size = b.tiling.size; side = b.tiling.side; parts = b.parts.items }) };
+    ghost invariant = { λ b. IsSound (record { size = b.tiling.size; side = b.tiling.side; parts = b.stock }) };
 }
 
 impl<S: Side> Basins<S> {
@@ -67,14 +69,11 @@ impl<S: Side> Basins<S> {
         ensures in_step { IfOk result (λ pool. (m : Map) (stamps : List ℕ) → m.size ≡ size → IsInStep m S.NAME stamps pool) }
     {
         let tiling = Tiling::new(size, side);
-        let mut parts = Vec::new(alloc);
-        for _tile in 0..tiling.count() {
-            parts.push(Part::unseen(alloc))?;
-        }
+        let stock = Stock::new(alloc, tiling.count())?;
         Ok(Basins {
             alloc,
             tiling,
-            parts,
+            stock,
             side: PhantomData,
         })
     }
@@ -125,13 +124,13 @@ impl<S: Side> Basins<S> {
         ensures looks { OnOk result (looks.new + stale_count (T.stamps tiles.now) self.new.parts * ((self.old.side + 2) * (self.old.side + 2)) ≤ looks.old + stale_count (T.stamps tiles.now) self.old.parts * ((self.old.side + 2) * (self.old.side + 2))) }
         ensures in_vain { OnErr result (looks.new ≤ looks.old + stale_count (T.stamps tiles.now) self.old.parts * ((self.old.side + 2) * (self.old.side + 2))) }
     {
-        let seen = self.parts[tile as usize].seen;
+        let seen = self.stock.seen(tile);
         let stamp = tiles.stamp(tile);
         if seen == Some(stamp) {
             return Ok(());
         }
         let part = self.build(tiles, looks, tile, stamp)?;
-        self.parts[tile as usize] = part;
+        self.stock.replace(self.alloc, tile, part)?;
         Ok(())
     }
 
@@ -156,7 +155,7 @@ impl<S: Side> Basins<S> {
         made::<S, T, L>(
             self.alloc,
             self.tiling,
-            self.parts.as_slice(),
+            &self.stock,
             tiles,
             looks,
             tile,
@@ -208,15 +207,16 @@ impl<S: Side> Basins<S> {
         let size = self.tiling.size();
         let cells = size.points as usize * size.profiles as usize;
         let mut by_sink = vec![in self.alloc; UNKNOWN; cells]?;
-        let parts = self.parts.as_slice();
-        'parts: for part in parts {
-            self.settle_part(&mut by_sink, part);
+        let tiles = self.stock.count();
+        'tiles: for tile in 0..tiles {
+            let part = self.stock.part(tile);
+            self.settle_part(&mut by_sink, &part);
         }
         Ok(Roots { by_sink })
     }
 
     // Notes the roots of the nodes of a tile.
-    fn settle_part(&self, roots: &mut Vec<u32>, part: &Part)
+    fn settle_part(&self, roots: &mut Vec<u32>, part: &Shown)
         requires map { HasMap S.NAME self.now }
         requires part { Contains self.now.parts part.now }
         requires known { AreKnownRoots S.NAME self.now roots.old.items }
@@ -224,10 +224,11 @@ impl<S: Side> Basins<S> {
         ensures settled { AreSettled roots.new.items part.now.nodes }
         ensures kept { KeepsKnown roots.old.items roots.new.items }
     {
-        let nodes = part.nodes.as_slice();
-        'nodes: for node in nodes {
-            let root = self.known_root(roots, *node);
-            self.note_root(roots, *node, root);
+        let count = part.count();
+        'numbers: for number in 0..count {
+            let node = part.node(number);
+            let root = self.known_root(roots, node);
+            self.note_root(roots, node, root);
         }
     }
 
@@ -301,7 +302,7 @@ impl<S: Side> Basins<S> {
         requires { InGrid self.now.size at }
         ensures { result ≡ node_of self.now.size self.now.side self.now.parts at }
     {
-        let part = &self.parts[self.tiling.tile_of(at) as usize];
+        let part = self.stock.part(self.tiling.tile_of(at) as usize);
         part.node_at(place_in_tile(self.tiling, at))
     }
 
@@ -311,8 +312,8 @@ impl<S: Side> Basins<S> {
         requires { HasMap S.NAME self.now }
         ensures { IfOk result (λ graph. (m : Map) → IsMap m → IsPoolOf m S.NAME self.now → IsGraphOf m S.NAME self.now.side graph) }
     {
-        let lows = lows_of(self.alloc, &self.parts)?;
-        let passes = passes_of::<S>(self.alloc, &self.parts)?;
+        let lows = lows_of(self.alloc, &self.stock)?;
+        let passes = passes_of::<S>(self.alloc, &self.stock)?;
         Ok(Graph::new(lows, passes))
     }
 
@@ -323,7 +324,7 @@ impl<S: Side> Basins<S> {
         ensures { IfOk result (λ extents. (m : Map) → IsMap m → IsPoolOf m S.NAME self.now → AreExtents m S.NAME extents) }
     {
         let roots = self.find_roots()?;
-        let nodes = nodes_of(self.alloc, &self.parts)?;
+        let nodes = nodes_of(self.alloc, &self.stock)?;
         let extents = self.gather(nodes.as_slice(), &roots)?;
         extents.listed(self.alloc)
     }

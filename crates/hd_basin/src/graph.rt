@@ -1,33 +1,38 @@
 // The lows and passes of a graph of local basins, from the tiles.
 ghost use Rattle.std.specs.Prelude.{◌≡◌, ◌++◌, IfOk, OnOk, map, slice_get};
 ghost use Rattle.std.specs.List.{flat_map};
-ghost use Rattle.hd_basin.specs.Parts.{low_or_none, pass_named};
+ghost use Rattle.hd_basin.specs.Parts.{inner_passes, low_or_none, pass_named};
 ghost use Rattle.hd_basin.specs.Graph.{as_low, lows_in, in_order, pass_of, passes_in, was_seen_with};
 
 use crate::Node;
-use crate::part::{Join, Part, Seam};
+use crate::part::{Join, Seam};
+use crate::shown::Shown;
+use crate::stock::Stock;
 use hd_graph::Low;
 use hd_list::{List, Memory};
 use hd_map::{Pass, Rank, Side};
 use std::alloc::Global;
 
 /// The lows of all nodes, tile by tile.
-pub fn lows_of(alloc: Global, parts: &[Part]) -> Result<List<Low>, Memory>
-    ensures { IfOk result (λ lows. lows ≡ flat_map lows_in parts.now) }
+pub fn lows_of(alloc: Global, stock: &Stock) -> Result<List<Low>, Memory>
+    ensures { IfOk result (λ lows. lows ≡ flat_map lows_in stock.now) }
 {
     let mut lows = List::new(alloc);
-    'parts: for part in parts {
-        push_lows(&mut lows, part.nodes.as_slice())?;
+    let tiles = stock.count();
+    'tiles: for tile in 0..tiles {
+        let part = stock.part(tile);
+        push_lows(&mut lows, &part)?;
     }
     Ok(lows)
 }
 
-// Adds the lows of these nodes.
-fn push_lows(lows: &mut List<Low>, nodes: &[Node]) -> Result<(), Memory>
-    ensures { OnOk result (lows.new ≡ lows.old ++ map as_low nodes.now) }
+// Adds the lows of a tile.
+fn push_lows(lows: &mut List<Low>, part: &Shown) -> Result<(), Memory>
+    ensures { OnOk result (lows.new ≡ lows.old ++ lows_in part.now) }
 {
-    'nodes: for node in nodes {
-        lows.push(as_low(*node))?;
+    let count = part.count();
+    'numbers: for number in 0..count {
+        lows.push(as_low(part.node(number)))?;
     }
     Ok(())
 }
@@ -43,51 +48,55 @@ fn as_low(node: Node) -> Low
 }
 
 /// The passes of all tiles, each with its lower end first, without the void seams.
-pub fn passes_of<S: Side>(alloc: Global, parts: &[Part]) -> Result<List<Pass>, Memory>
-    ensures { IfOk result (λ passes. passes ≡ flat_map (passes_in S.NAME parts.now) parts.now) }
+pub fn passes_of<S: Side>(alloc: Global, stock: &Stock) -> Result<List<Pass>, Memory>
+    ensures { IfOk result (λ passes. passes ≡ flat_map (passes_in S.NAME stock.now) stock.now) }
 {
     let mut passes = List::new(alloc);
-    'parts: for part in parts {
-        let nodes = part.nodes.as_slice();
-        let joins = part.joins.as_slice();
-        let seams = part.seams.as_slice();
-        push_inside::<S>(&mut passes, nodes, joins)?;
-        push_across::<S>(&mut passes, parts, seams)?;
+    let tiles = stock.count();
+    'tiles: for tile in 0..tiles {
+        let part = stock.part(tile);
+        push_passes::<S>(&mut passes, stock, &part)?;
     }
     Ok(passes)
 }
 
-// Adds the passes between these nodes.
-fn push_inside<S: Side>(
-    passes: &mut List<Pass>,
-    nodes: &[Node],
-    found: &[Join],
-) -> Result<(), Memory>
-    ensures { OnOk result (passes.new ≡ passes.old ++ map (in_order S.NAME) (map (pass_named nodes.now) found.now)) }
+// Adds the passes of a tile, without the void seams.
+fn push_passes<S: Side>(passes: &mut List<Pass>, stock: &Stock, part: &Shown) -> Result<(), Memory>
+    ensures { OnOk result (passes.new ≡ passes.old ++ passes_in S.NAME stock.now part.now) }
 {
+    push_inside::<S>(passes, part)?;
+    push_across::<S>(passes, stock, part.seams())?;
+    Ok(())
+}
+
+// Adds the passes between two nodes of a tile.
+fn push_inside<S: Side>(passes: &mut List<Pass>, part: &Shown) -> Result<(), Memory>
+    ensures { OnOk result (passes.new ≡ passes.old ++ map (in_order S.NAME) (inner_passes part.now)) }
+{
+    let found = part.joins();
     'found: for join in found {
-        let pass = pass_named(nodes, *join);
+        let pass = pass_named(part, *join);
         passes.push(in_order::<S>(pass))?;
     }
     Ok(())
 }
 
 // The pass between two nodes, by their numbers.
-fn pass_named(nodes: &[Node], join: Join) -> Pass
-    ensures { result ≡ pass_named nodes.now join }
+fn pass_named(part: &Shown, join: Join) -> Pass
+    ensures { result ≡ pass_named part.now.nodes join }
 {
     Pass {
-        a: low_of(nodes, join.a),
-        b: low_of(nodes, join.b),
+        a: low_of(part, join.a),
+        b: low_of(part, join.b),
         at: join.at,
     }
 }
 
 // The sink of the node of a number, and no point where there is no node.
-fn low_of(nodes: &[Node], number: u32) -> Rank
-    ensures { result ≡ low_or_none (slice_get nodes.now number) }
+fn low_of(part: &Shown, number: u32) -> Rank
+    ensures { result ≡ low_or_none (slice_get part.now.nodes number) }
 {
-    match nodes.get(number as usize) {
+    match part.find(number) {
         Some(node) => node.low,
         None => Rank {
             height: 0,
@@ -99,35 +108,32 @@ fn low_of(nodes: &[Node], number: u32) -> Rank
 // Adds the passes of these seams, without the void ones.
 fn push_across<S: Side>(
     passes: &mut List<Pass>,
-    parts: &[Part],
+    stock: &Stock,
     seams: &[Seam],
 ) -> Result<(), Memory>
-    ensures { OnOk result (passes.new ≡ passes.old ++ flat_map (pass_of S.NAME parts.now) seams.now) }
+    ensures { OnOk result (passes.new ≡ passes.old ++ flat_map (pass_of S.NAME stock.now) seams.now) }
 {
     'seams: for seam in seams {
-        push_seam::<S>(passes, parts, *seam)?;
+        push_seam::<S>(passes, stock, *seam)?;
     }
     Ok(())
 }
 
 // Adds the pass of a seam, unless it is void.
-fn push_seam<S: Side>(passes: &mut List<Pass>, parts: &[Part], seam: Seam) -> Result<(), Memory>
-    ensures { OnOk result (passes.new ≡ passes.old ++ pass_of S.NAME parts.now seam) }
+fn push_seam<S: Side>(passes: &mut List<Pass>, stock: &Stock, seam: Seam) -> Result<(), Memory>
+    ensures { OnOk result (passes.new ≡ passes.old ++ pass_of S.NAME stock.now seam) }
 {
-    if was_seen_with(parts, seam.with, seam.stamp) {
+    if was_seen_with(stock, seam.with, seam.stamp) {
         passes.push(in_order::<S>(seam.pass))?;
     }
     Ok(())
 }
 
 // Whether a tile was seen with this stamp.
-fn was_seen_with(parts: &[Part], tile: u32, stamp: u64) -> bool
-    ensures { result ≡ was_seen_with (slice_get parts.now tile) stamp }
+fn was_seen_with(stock: &Stock, tile: u32, stamp: u64) -> bool
+    ensures { result ≡ was_seen_with (slice_get stock.now tile) stamp }
 {
-    match parts.get(tile as usize) {
-        Some(part) => part.seen == Some(stamp),
-        None => false,
-    }
+    stock.seen(tile) == Some(stamp)
 }
 
 // The pass with its lower end first.

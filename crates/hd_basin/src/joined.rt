@@ -9,6 +9,7 @@ use crate::frame::area_of;
 use crate::lowest::lowest_of;
 use crate::part::Part;
 use crate::seams::seams_at;
+use crate::stock::Stock;
 use hd_list::{List, Memory};
 use hd_map::{Heights, Side};
 use hd_tiles::{Looked, Tiling};
@@ -18,7 +19,7 @@ use std::alloc::Global;
 pub fn joined<S: Side, G: Heights, T: Looked>(
     alloc: Global,
     tiling: Tiling,
-    parts: &[Part],
+    parts: &Stock,
     tiles: &T,
     window: &G,
     part: Part,

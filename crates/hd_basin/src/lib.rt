@@ -17,6 +17,7 @@ mod gather;
 mod graph;
 mod inside;
 mod joined;
+mod kept;
 mod laws;
 mod links;
 mod lowest;
@@ -29,7 +30,9 @@ mod place;
 mod roots;
 mod round;
 mod seams;
+mod shown;
 mod sinks;
+mod stock;
 mod window;
 
 pub use basins::Basins;

@@ -11,6 +11,7 @@ use crate::frame::frame_of;
 use crate::joined::joined;
 use crate::noded::noded;
 use crate::part::Part;
+use crate::stock::Stock;
 use crate::window::Window;
 use hd_list::Memory;
 use hd_map::Side;
@@ -22,7 +23,7 @@ use std::sync::ledger::Ledger;
 pub fn made<S: Side, T: Looked, L: Ledger>(
     alloc: Global,
     tiling: Tiling,
-    parts: &[Part],
+    parts: &Stock,
     tiles: &T,
     looks: &mut Steps<L>,
     tile: u32,

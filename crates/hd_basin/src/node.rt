@@ -1,9 +1,10 @@
 // The nodes of local basins.
-ghost use Rattle.std.specs.Prelude.{◌≡◌, IfOk};
+ghost use Rattle.std.specs.Prelude.{◌≡◌, ◌++◌, IfOk, OnOk};
 ghost use Rattle.std.specs.List.{flat_map};
 ghost use Rattle.hd_basin.specs.Extents.{nodes_in};
 
-use crate::part::Part;
+use crate::shown::Shown;
+use crate::stock::Stock;
 use hd_list::{List, Memory};
 use hd_map::{Pos, Rank};
 use std::alloc::Global;
@@ -38,12 +39,25 @@ pub struct Node {
 }
 
 /// The nodes of all tiles, tile by tile.
-pub fn nodes_of(alloc: Global, parts: &[Part]) -> Result<List<Node>, Memory>
-    ensures { IfOk result (λ nodes. nodes ≡ flat_map nodes_in parts.now) }
+pub fn nodes_of(alloc: Global, stock: &Stock) -> Result<List<Node>, Memory>
+    ensures { IfOk result (λ nodes. nodes ≡ flat_map nodes_in stock.now) }
 {
     let mut nodes = List::new(alloc);
-    'parts: for part in parts {
-        nodes.extend_from_slice(part.nodes.as_slice())?;
+    let tiles = stock.count();
+    'tiles: for tile in 0..tiles {
+        let part = stock.part(tile);
+        push_nodes(&mut nodes, &part)?;
     }
     Ok(nodes)
+}
+
+// Adds the nodes of a tile.
+fn push_nodes(nodes: &mut List<Node>, part: &Shown) -> Result<(), Memory>
+    ensures { OnOk result (nodes.new ≡ nodes.old ++ part.now.nodes) }
+{
+    let count = part.count();
+    'numbers: for number in 0..count {
+        nodes.push(part.node(number))?;
+    }
+    Ok(())
 }

@@ -53,10 +53,9 @@ pub fn noded<S: Side, G: Heights>(
         labels.as_slice(),
         nodes.as_slice(),
     )?;
-    let nodes = List::from_slice(alloc, nodes.as_slice())?;
     Ok(Part {
         seen: Some(stamp),
-        nodes,
+        nodes: List::from_vec(nodes),
         labels,
         joins,
         seams: List::new(alloc),

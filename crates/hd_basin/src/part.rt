@@ -1,11 +1,10 @@
 // What a pool keeps of one tile.
-ghost use Rattle.std.specs.Prelude.{◌≡◌, None, [], Some};
+ghost use Rattle.std.specs.Prelude.{◌≡◌, Some};
 ghost use Rattle.hd_basin.specs.Parts.{node_at};
 
 use crate::Node;
 use hd_list::List;
 use hd_map::{Pass, Rank};
-use std::alloc::Global;
 
 /// A pass between a basin of a tile and one of another tile, found when the tile was seen.
 #[derive(Clone, Copy, Debug, PartialEq, Eq)]
@@ -47,23 +46,6 @@ pub struct Part {
 }
 
 impl Part {
-    /// What a pool keeps of a tile that it has not seen.
-    pub fn unseen(alloc: Global) -> Part
-        ensures seen { result.seen ≡ None }
-        ensures nodes { result.nodes ≡ [] }
-        ensures labels { result.labels.items ≡ [] }
-        ensures joins { result.joins ≡ [] }
-        ensures seams { result.seams ≡ [] }
-    {
-        Part {
-            seen: None,
-            nodes: List::new(alloc),
-            labels: Vec::new(alloc),
-            joins: List::new(alloc),
-            seams: List::new(alloc),
-        }
-    }
-
     /// The node that the label at a place of the tile names, and none where there is no label.
     pub fn node_at(&self, place: u32) -> Option<Node>
         ensures { result ≡ node_at (Some self.now) place }

@@ -17,6 +17,7 @@ use crate::ends::{End, seam_between};
 use crate::frame::Frame;
 use crate::part::{Part, Seam};
 use crate::place::place_in_tile;
+use crate::stock::Stock;
 use hd_list::Memory;
 use hd_map::{Heights, Pos, Rank, Side, neighbours, rank_of};
 use hd_tiles::{Looked, Tiling};
@@ -27,7 +28,7 @@ use std::alloc::Global;
 // present.
 fn end_at<S: Side, T: Looked>(
     tiling: Tiling,
-    parts: &[Part],
+    parts: &Stock,
     tiles: &T,
     _part: &Part,
     _tile: u32,
@@ -41,8 +42,8 @@ fn end_at<S: Side, T: Looked>(
 {
     let number = tiling.tile_of(at);
     let present = tiles.stamp(number);
-    let other = &parts[number as usize];
-    if other.seen != Some(present) {
+    let other = parts.part(number as usize);
+    if other.seen() != Some(present) {
         return None;
     }
     let node = other.node_at(place_in_tile(tiling, at))?;
@@ -56,7 +57,7 @@ fn end_at<S: Side, T: Looked>(
 // Notes the seam of a point of the tile and a neighbour, if their basins are two and known.
 fn note_pair<S: Side, T: Looked>(
     tiling: Tiling,
-    parts: &[Part],
+    parts: &Stock,
     tiles: &T,
     part: &Part,
     tile: u32,
@@ -89,7 +90,7 @@ fn note_pair<S: Side, T: Looked>(
 fn note_point<S: Side, G: Heights, T: Looked>(
     alloc: Global,
     tiling: Tiling,
-    parts: &[Part],
+    parts: &Stock,
     tiles: &T,
     window: &G,
     part: &Part,
@@ -134,7 +135,7 @@ fn note_point<S: Side, G: Heights, T: Looked>(
 // Notes the seams of the point at a place of the tile and these neighbours.
 fn note_nears<S: Side, G: Heights, T: Looked>(
     tiling: Tiling,
-    parts: &[Part],
+    parts: &Stock,
     tiles: &T,
     window: &G,
     part: &Part,
@@ -184,7 +185,7 @@ fn is_inner(area: Frame, row: u32, column: u32) -> bool
 fn note_place<S: Side, G: Heights, T: Looked>(
     alloc: Global,
     tiling: Tiling,
-    parts: &[Part],
+    parts: &Stock,
     tiles: &T,
     window: &G,
     part: &Part,
@@ -222,7 +223,7 @@ fn note_place<S: Side, G: Heights, T: Looked>(
 fn note_row<S: Side, G: Heights, T: Looked>(
     alloc: Global,
     tiling: Tiling,
-    parts: &[Part],
+    parts: &Stock,
     tiles: &T,
     window: &G,
     part: &Part,
@@ -254,7 +255,7 @@ fn note_row<S: Side, G: Heights, T: Looked>(
 pub fn seams_at<S: Side, G: Heights, T: Looked>(
     alloc: Global,
     tiling: Tiling,
-    parts: &[Part],
+    parts: &Stock,
     tiles: &T,
     window: &G,
     part: &Part,

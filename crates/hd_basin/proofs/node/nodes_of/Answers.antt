@@ -1,10 +1,15 @@
-use Rattle.std.proofs.Common.{◌∙◌, [], ap}
+use Rattle.std.proofs.Common.{◌∙◌, [], ap, arith, sym}
+use Rattle.std.proofs.lemmas.Option.{get_or_from_slice_get, slice_get_within}
 use Rattle.hd_basin.specs.Extents.{nodes_in}
 use Rattle.hd_basin.proofs.FlatLists.{flat-more, flat-whole}
 use Rattle.hd_basin.proofs.node.nodes_of.Goals as goal
 
-pub parts-preserved : goal.parts-preserved
-parts-preserved c = flat-more nodes_in [] c.parts.nodes c.extend_from_slice.new.self c.args.parts.now c.parts.part-index _ c.as_slice.result.now c.parts-test.true (c.as_slice.ensures ∙ ap nodes_in c.part-item.is) c.parts.invariant c.in_ok-extend_from_slice.ensures.ok
+pub tiles-preserved : goal.tiles-preserved
+tiles-preserved c =
+    let part = c.part-part.result in
+    let at = c.part-part.ensures in
+    flat-more nodes_in [] c.tiles.nodes c.push_nodes.new.nodes c.args.stock.now c.tiles.tile part part.nodes (slice_get_within c.args.stock.now c.tiles.tile part at)
+    (ap nodes_in (sym (get_or_from_slice_get c.args.stock.now c.tiles.tile part part at))) c.tiles.invariant c.in_ok-push_nodes.ensures
 
 pub returns : goal.returns
-returns c = c.parts.invariant ∙ flat-whole nodes_in [] c.args.parts.now c.parts.part-index c.parts-test.false
+returns c = (let count = c.count-tiles.ensures in let past = c.tiles-test.false in c.tiles.invariant ∙ flat-whole nodes_in [] c.args.stock.now c.tiles.tile (omega (arith, count, past)))

@@ -1,4 +1,4 @@
-use Rattle.std.proofs.Common.{ℕ, List, length, map, refl, sym, ◌∙◌, subst, arith}
+use Rattle.std.proofs.Common.{ℕ, List, length, map, refl, sym, subst, arith}
 use Rattle.hd_map.specs.declared.types.Size.{Size}
 use Rattle.hd_map.specs.Map.{Map}
 use Rattle.hd_basin.specs.declared.frame.Frame.{Frame}
@@ -34,5 +34,5 @@ returns-clause-noded g c =
     let area : IsArea m.size t c.args.tile f = subst (λ (s : Size). IsArea s t c.args.tile f) c.requires.size c.area_of-area.ensures in
     let of = c.in_ok-nodes.field-0 in
     gathered-noded m g.S.Side.NAME t c.args.tile f (omega (arith, least)) area (area-small m.size t c.args.tile f c.args.tiling.tile_side.greatest area)
-    of.nodes.items of.numbers.items of.labels.items c.in_ok-nodes.ensures _ (c.in_ok-nodes-2.ensures ∙ c.as_slice-7.ensures.value) refl (subst (λ (xs : List Node). HasPasses m g.S.Side.NAME t c.args.tile (map (pass_named xs) c.in_ok-joins.joins)) c.as_slice-6.ensures.value c.in_ok-joins.ensures.passes)
+    of.nodes.items of.numbers.items of.labels.items c.in_ok-nodes.ensures _ c.from_vec.ensures refl (subst (λ (xs : List Node). HasPasses m g.S.Side.NAME t c.args.tile (map (pass_named xs) c.in_ok-joins.joins)) c.as_slice-6.ensures.value c.in_ok-joins.ensures.passes)
     (subst (λ (xs : List Node). JoinBelow (length xs) c.in_ok-joins.joins) c.as_slice-6.ensures.value c.in_ok-joins.ensures.named)

@@ -1,8 +1,7 @@
-use Rattle.std.proofs.Common.{◌≡◌, ◌<◌, ℕ, List, length, Option, Some, None, slice_get, refl, sym, ◌∙◌, ap, subst, rules}
-use Rattle.std.proofs.lemmas.Option.{slice_get_read}
+use Rattle.std.proofs.Common.{◌≡◌, ℕ, List, Option, Some, None, slice_get, sym, ◌∙◌, ap, subst, rules}
 use Rattle.hd_map.specs.declared.types.Size.{Size}
 use Rattle.hd_map.specs.Map.{Map}
-use Rattle.hd_tiles.specs.Tile.{tile_of, tile_count}
+use Rattle.hd_tiles.specs.Tile.{tile_of}
 use Rattle.hd_basin.specs.declared.node.Node.{Node}
 use Rattle.hd_basin.specs.declared.part.Part.{Part}
 use Rattle.hd_basin.specs.Basin.{IsLabel}
@@ -18,13 +17,12 @@ returns g c =
     let stamps : List ℕ = g.T.Looked.stamps c.args.tiles.now in
     let parts : List Part = c.args.parts.now in
     let number : ℕ = c.tile_of-number.result in
-    let other : Part = c.index-parts-number.result in
+    let other : Part = c.part-other.result in
     let number_is : number ≡ tile_of m.size t c.args.at = c.tile_of-number.ensures.value ∙ ap (λ (s : Size). tile_of s t c.args.at) c.requires.size in
     let place_is : c.place_in_tile.result ≡ place_in_tile m.size t c.args.at = c.place_in_tile.ensures ∙ ap (λ (s : Size). place_in_tile s t c.args.at) c.requires.size in
-    let below : number < tile_count m.size t = subst (λ (s : Size). number < tile_count s t) c.requires.size c.tile_of-number.ensures.tile in
-    let within : number < length parts = rw c.requires.sight.whole below in
-    let at : slice_get parts number ≡ Some other = slice_get_read parts (length parts) number other refl within c.index-parts-number.is in
-    let seen : other.seen ≡ Some c.stamp-present.result = search rules in
+    let at : slice_get parts number ≡ Some other = c.part-other.ensures in
+    let known : c.seen.result ≡ Some c.stamp-present.result = search rules in
+    let seen : other.seen ≡ Some c.stamp-present.result = sym c.seen.ensures ∙ known in
     let fresh : IsFresh stamps parts number = record { stamp = c.stamp-present.result; part = other; now = c.stamp-present.ensures; at = at; seen = seen } in
     let here : IsFresh stamps parts (tile_of m.size t c.args.at) = subst (IsFresh stamps parts) number_is fresh in
     let label = c.requires.sight.fresh c.args.at c.requires.at here in
@@ -39,13 +37,12 @@ returns-in_err-node g c =
     let stamps : List ℕ = g.T.Looked.stamps c.args.tiles.now in
     let parts : List Part = c.args.parts.now in
     let number : ℕ = c.tile_of-number.result in
-    let other : Part = c.index-parts-number.result in
+    let other : Part = c.part-other.result in
     let number_is : number ≡ tile_of m.size t c.args.at = c.tile_of-number.ensures.value ∙ ap (λ (s : Size). tile_of s t c.args.at) c.requires.size in
     let place_is : c.place_in_tile.result ≡ place_in_tile m.size t c.args.at = c.place_in_tile.ensures ∙ ap (λ (s : Size). place_in_tile s t c.args.at) c.requires.size in
-    let below : number < tile_count m.size t = subst (λ (s : Size). number < tile_count s t) c.requires.size c.tile_of-number.ensures.tile in
-    let within : number < length parts = rw c.requires.sight.whole below in
-    let at : slice_get parts number ≡ Some other = slice_get_read parts (length parts) number other refl within c.index-parts-number.is in
-    let seen : other.seen ≡ Some c.stamp-present.result = search rules in
+    let at : slice_get parts number ≡ Some other = c.part-other.ensures in
+    let known : c.seen.result ≡ Some c.stamp-present.result = search rules in
+    let seen : other.seen ≡ Some c.stamp-present.result = sym c.seen.ensures ∙ known in
     let fresh : IsFresh stamps parts number = record { stamp = c.stamp-present.result; part = other; now = c.stamp-present.ensures; at = at; seen = seen } in
     let here : IsFresh stamps parts (tile_of m.size t c.args.at) = subst (IsFresh stamps parts) number_is fresh in
     let label = c.requires.sight.fresh c.args.at c.requires.at here in

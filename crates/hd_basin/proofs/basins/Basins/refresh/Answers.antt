@@ -68,9 +68,9 @@ returns-clause-pool g c =
     let least = looked.side.least in
     let side = i.side ∙ c.requires.side in
     let some : 1 ≤ c.each.self.side = omega (arith, least, side) in
-    let entry : length b.parts.items ≡ length c.args.self.now.parts = ap (λ (p : Pool). length p.parts) c.self.view_is in
+    let entry : length b.stock ≡ length c.args.self.now.parts = ap (λ (p : Pool). length p.parts) c.self.view_is in
     let count = c.count-tile-end.ensures in
-    let counts : length b.parts.items ≡ tile_count b.tiling.size b.tiling.side = c.self.invariant.whole in
+    let counts : length b.stock ≡ tile_count b.tiling.size b.tiling.side = c.self.invariant.whole in
     let after = i.whole in
     let done = c.each-test.false in
     all-pool_of (g.T.Looked.map c.args.tiles.now) g.S.Side.NAME (g.T.Looked.stamps c.args.tiles.now) c.each.self i.sound i.in_step some

@@ -1,19 +1,28 @@
-use Rattle.std.proofs.Common.{List, subst, ◌∙◌}
+use Rattle.std.proofs.Common.{◌≢◌, List, arith, sym, subst}
+use Rattle.std.specs.Prelude.{slice_index}
 use Rattle.std.proofs.lemmas.List.{take_all}
+use Rattle.std.proofs.lemmas.Option.{get_or_from_slice_get, slice_get_within}
 use Rattle.hd_basin.specs.declared.node.Node.{Node}
-use Rattle.hd_basin.specs.Roots.{AreSettled}
-use Rattle.hd_basin.proofs.AreRoots.{part-item, settled-more}
+use Rattle.hd_basin.specs.Roots.{AreSettled, unknown}
+use Rattle.hd_basin.proofs.AreRoots.{part-at, settled-more}
+use Rattle.hd_basin.proofs.PointRoots.{read-contains}
 use Rattle.hd_basin.proofs.basins.Basins.settle_part.Goals as goal
 
 pub known_root-root-requires-clause-node : goal.known_root-root-requires-clause-node
-known_root-root-requires-clause-node g c = part-item c.args.self.now.parts c.args.part.now c.requires.part c.as_slice-nodes.result.now c.as_slice-nodes.ensures c.nodes.node-index _ c.nodes-test.true
+known_root-root-requires-clause-node g c = part-at c.args.self.now.parts c.args.part.now c.requires.part c.node-node.result (read-contains c.args.part.now.nodes c.numbers.number c.node-node.result c.node-node.ensures)
 
 pub note_root-requires-clause-node : goal.note_root-requires-clause-node
-note_root-requires-clause-node g c = part-item c.args.self.now.parts c.args.part.now c.requires.part c.as_slice-nodes.result.now c.as_slice-nodes.ensures c.nodes.node-index _ c.nodes-test.true
+note_root-requires-clause-node g c = part-at c.args.self.now.parts c.args.part.now c.requires.part c.node-node.result (read-contains c.args.part.now.nodes c.numbers.number c.node-node.result c.node-node.ensures)
 
-pub nodes-preserved : goal.nodes-preserved
-nodes-preserved g c = settled-more g.S.Side.NAME c.args.self.now c.as_slice-nodes.result.now c.nodes.node-index _ c.nodes-test.true c.args.roots.now.items c.nodes.roots.items c.note_root.new.roots.items c.nodes.invariant c.note_root.ensures.known c.note_root.ensures.kept c.note_root.ensures.noted
+pub numbers-preserved : goal.numbers-preserved
+numbers-preserved g c =
+    let nodes = c.args.part.now.nodes in
+    let node = c.node-node.result in
+    settled-more g.S.Side.NAME c.args.self.now nodes c.numbers.number node (slice_get_within nodes c.numbers.number node c.node-node.ensures) c.args.roots.now.items c.numbers.roots.items c.note_root.new.roots.items c.numbers.invariant c.note_root.ensures.known c.note_root.ensures.kept
+    (subst (λ (n : Node). slice_index c.note_root.new.roots.items n.low.index ≢ unknown) (sym (get_or_from_slice_get nodes c.numbers.number node node c.node-node.ensures)) c.note_root.ensures.noted)
 
 pub returns-clause-settled : goal.returns-clause-settled
 returns-clause-settled g c =
-    subst (λ (ns : List Node). AreSettled c.nodes.roots.items ns) (take_all c.nodes.node-index c.as_slice-nodes.result.now c.nodes-test.false ∙ c.as_slice-nodes.ensures) c.nodes.invariant.before
+    let count = c.count-count.ensures in
+    let past = c.numbers-test.false in
+    subst (λ (ns : List Node). AreSettled c.numbers.roots.items ns) (take_all c.numbers.number c.args.part.now.nodes (omega (arith, count, past))) c.numbers.invariant.before
