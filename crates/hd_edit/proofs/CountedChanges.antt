@@ -12,7 +12,7 @@ use Rattle.hd_map.specs.declared.types.Pos.{Pos}
 use Rattle.hd_map.specs.declared.types.Cell.{Cell}
 use Rattle.hd_map.specs.declared.types.Cell.TheVariants.{Height, Bad}
 use Rattle.hd_map.specs.declared.types.DataType.{DataType}
-use Rattle.hd_map.specs.Map.{Map, IsMap, IsCellOf, cell_at, mask_at, cell_count, place_of, position_at}
+use Rattle.hd_map.specs.Map.{Map, InGrid, IsMap, IsCellOf, cell_at, mask_at, cell_count, place_of, position_at}
 use Rattle.hd_map.proofs.Points.{position_at-inside, position_at-of, place_inside}
 use Rattle.hd_edit.specs.declared.stroke.Stroke.{Stroke}
 use Rattle.hd_edit.specs.declared.edit.EditError.TheVariants.{HeightRange}
@@ -57,6 +57,22 @@ module _ (m : Map) (from to : Pos) (s : Stroke) where
   fits_outside : IsMap m → (k : ℕ) → k < cell_count m.size → in_rectangle from to (position_at m.size k) ≡ false → IsCellOf m.data_type (new_cells m from to s k)
   fits_outside whole k below out = rw out (cell_of m whole (position_at m.size k) (position_at-inside m.size k whole.size.some_points below))
 
+  -- a stroke is refused at the first point whose new height is not of the type
+  pub first_refused : (at : Pos) → InGrid m.size at → ((k : ℕ) → k < place_of m.size at → IsCellOf m.data_type (new_cells m from to s k)) → (IsCellOf m.data_type (new_cell m from to s at) → ⊥)
+      → height_refusal m (stroked m from to s).cells ≡ Some (HeightRange at)
+  first_refused at inside fit never =
+      let n = place_of m.size at in
+      let cells = map (new_cells m from to s) (range_with_len 0 (cell_count m.size)) in
+      let below = place_inside m.size at inside in
+      let len = length-map-range_with_len (new_cells m from to s) 0 (cell_count m.size) in
+      let here : new_cells m from to s n ≡ new_cell m from to s at = ap (new_cell m from to s) (position_at-of m.size at inside) in
+      let out : Cell → Bool = λ c. not (cell_in_range m.data_type c) in
+      let first : position_or_len out cells ≡ n = position_or_len_is out cells n Bad (omega (arith, len, below))
+      (λ k before. rw (get_or-map-range_with_len (new_cells m from to s) 0 (cell_count m.size) k k Bad (omega (arith, before, below)) (omega arith)) (rw (cell_in_range-is m.data_type (new_cells m from to s k) (fit k before))))
+      (λ _. rw (get_or-map-range_with_len (new_cells m from to s) 0 (cell_count m.size) n n Bad below (omega arith), here) (rw (cell_out_of_range m.data_type (new_cell m from to s at) never))) in
+      ap (option_map (λ k. HeightRange (position_at m.size k))) (position_is out cells n first (omega (arith, len, below)))
+      ∙ ap (λ (p : Pos). Some (HeightRange p)) (position_at-of m.size at inside)
+
   -- over indexes without a point of the rectangle
   pub counted_skip : IsMap m → (n n' count : ℕ) → n ≤ n' → ((k : ℕ) → n ≤ k → k < n' → in_rectangle from to (position_at m.size k) ≡ false) → Counted n count → Counted n' count
   counted_skip whole n n' count on none so = record {
@@ -97,17 +113,10 @@ module _ (m : Map) (from to : Pos) (s : Stroke) where
       pub refused_here : (count : ℕ) → Counted (place_of m.size at) count → (IsCellOf m.data_type (cell_after s (cell_at m at) (mask_at m at)) → ⊥)
           → height_refusal m (stroked m from to s).cells ≡ Some (HeightRange at)
       refused_here count so never =
-          let n = place_of m.size at in
-          let cells = map (new_cells m from to s) (range_with_len 0 (cell_count m.size)) in
           let inside = stands_inside m.size from to at is stands here in
           let below = place_inside m.size at inside in
-          let len = length-map-range_with_len (new_cells m from to s) 0 (cell_count m.size) in
-          let out : Cell → Bool = λ c. not (cell_in_range m.data_type c) in
-          let first : position_or_len out cells ≡ n = position_or_len_is out cells n Bad (omega (arith, len, below))
-          (λ k before. rw (get_or-map-range_with_len (new_cells m from to s) 0 (cell_count m.size) k k Bad (omega (arith, before, below)) (omega arith)) (rw (cell_in_range-is m.data_type (new_cells m from to s k) (so.fit k before (omega (arith, before, below))))))
-          (λ _. rw (get_or-map-range_with_len (new_cells m from to s) 0 (cell_count m.size) n n Bad below (omega arith), new_here) (rw (cell_out_of_range m.data_type (cell_after s (cell_at m at) (mask_at m at)) never))) in
-          ap (option_map (λ k. HeightRange (position_at m.size k))) (position_is out cells n first (omega (arith, len, below)))
-          ∙ ap (λ (p : Pos). Some (HeightRange p)) (position_at-of m.size at inside)
+          first_refused at inside (λ k before. so.fit k before (omega (arith, before, below)))
+          (λ of. never (subst (λ (c : Cell). IsCellOf m.data_type c) (new_cell-in m from to s at (stands_in m.size from to at is stands here)) of))
 
     -- past the last profile all points are counted
     pub count_all : (at : Pos) → to.y < at.y → count_below (changes_at m from to s) (place_of m.size at) ≡ count_below (changes_at m from to s) (cell_count m.size)

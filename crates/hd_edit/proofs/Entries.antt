@@ -106,7 +106,7 @@ none_passes p (suc n) none k below = elim (cases_lt k n) [
 ]
 
 -- a new height of the type, or the old cell of it, is of it
-new_or_old : (t : DataType) (new : Option ℤ) (old : Cell) → ((z : ℤ) → new ≡ Some z → IsCellOf t (Height z)) → IsCellOf t old → IsCellOf t (cell_with new old)
+pub new_or_old : (t : DataType) (new : Option ℤ) (old : Cell) → ((z : ℤ) → new ≡ Some z → IsCellOf t (Height z)) → IsCellOf t old → IsCellOf t (cell_with new old)
 new_or_old t (Some z) old fits before = fits z refl
 new_or_old t None old fits before = before
 

@@ -10,6 +10,7 @@ pub mod NotedStrokes
 pub mod Entries
 pub mod Logs
 pub mod Outcomes
+pub mod Added
 pub mod Determined
 pub mod ProfileChanges
 pub mod FilteredCells

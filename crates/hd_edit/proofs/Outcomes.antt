@@ -57,7 +57,7 @@ passes_from true e = refl
 passes_from false e = cc
 
 -- a choice between one thing and itself
-either_way : {X : Type 0} (b : Bool) (x : X) → (if b then x else x) ≡ x
+pub either_way : {X : Type 0} (b : Bool) (x : X) → (if b then x else x) ≡ x
 either_way true x = refl
 either_way false x = refl
 

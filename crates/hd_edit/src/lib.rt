@@ -4,6 +4,7 @@
 //! it says what else holds then.
 #![tactic(auto)]
 
+mod add;
 mod board;
 mod change;
 mod edit;

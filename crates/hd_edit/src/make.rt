@@ -6,6 +6,7 @@ ghost use Rattle.hd_edit.specs.Board.{IsEdited, IsRefusalBy, RisesUpTo};
 ghost use Rattle.hd_edit.specs.Entry.{IsEntry, before_entry};
 ghost use Rattle.hd_edit.specs.Stroke.{IsRectangle, IsStroked, stroke_parts};
 
+use crate::add::raised;
 use crate::elements::Elements;
 use crate::entry::Entry;
 use crate::filter::{filtered, put_heights};
@@ -70,6 +71,10 @@ fn stroke_grid<G: Grid>(
     ensures count { RisesUpTo (cell_count (G.map grid.old).size) (G.changes grid.old) (G.changes grid.new) }
 {
     check_rectangle(grid.size(), from, to)?;
+    if let Some(lists) = raised(alloc, grid, from, to, stroke)? {
+        let entry = put_heights(alloc, grid, lists)?;
+        return Ok(entry);
+    }
     let count = match count_changes(grid, from, to, stroke) {
         Ok(count) => count,
         Err(at) => return Err(EditError::HeightRange(at)),

@@ -13,4 +13,5 @@ pub mod Determined
 pub mod Stable
 pub mod Raising
 pub mod Listed
+pub mod RaisedRectangles
 pub mod Between

@@ -40,7 +40,8 @@ pub never_beyond : (m : Map) → IsMap m → IsBeyond wide m → ⊥
 never_beyond m is far = far.beyond (height_near m far.at is)
 
 module _ {L : Type 0} (code : Encoding L) where
-  missing_plain : (n : ℕ) → IsPlainNumber code n code.missing
+  -- what stands for none is plain
+  pub missing_plain : (n : ℕ) → IsPlainNumber code n code.missing
   missing_plain n = record {
     bounded = record { least = λ z e. let e' : None ≡ Some z = sym code.missing_none ∙ e in cc; greatest = λ z e. let e' : None ≡ Some z = sym code.missing_none ∙ e in cc };
     absent = λ none. refl;
@@ -128,7 +129,7 @@ cell_with_of_type t (Some z) old new is = new z refl
 cell_with_of_type t None old new is = is
 
 -- the cells with new heights
-cells_of_heights : (m : Map) (heights : List (Option ℤ)) → IsMap m → AreOfType m (relief m.size heights) → AreCellsWith m (relief m.size heights) (cells_after m heights)
+pub cells_of_heights : (m : Map) (heights : List (Option ℤ)) → IsMap m → AreOfType m (relief m.size heights) → AreCellsWith m (relief m.size heights) (cells_after m heights)
 cells_of_heights m heights is of_type =
     let new : (p : Pos) → InGrid m.size p → get_or (cells_after m heights) (place_of m.size p) Bad ≡ cell_with (relief m.size heights p) (cell_at m p) = λ p inside.
     get_or_cells_after m heights (place_of m.size p) Bad (place_inside m.size p inside) in

@@ -12,3 +12,4 @@ pub mod Turned
 pub mod Listed
 pub mod Numbers
 pub mod Lists
+pub mod Rectangle

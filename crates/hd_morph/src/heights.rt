@@ -206,9 +206,9 @@ pub fn heights_of<L: Lane, G: Grid>(alloc: Global, grid: &G) -> Result<Option<Ve
     Ok(Some(heights))
 }
 
-// The first position whose height is outside the range of the data type. Mostly there is none, which
-// one pass without a branch tells.
-fn first_outside<L: Raise, G: Grid>(grid: &G, numbers: &[L]) -> Option<Pos>
+/// The first position whose height is outside the range of the data type. Mostly there is none, which
+/// one pass without a branch tells.
+pub fn first_outside<L: Raise, G: Grid>(grid: &G, numbers: &[L]) -> Option<Pos>
     requires { length numbers.now ≡ cell_count (G.map grid.now).size }
     ensures { let m = G.map grid.now in let heights = relief m.size (values_of L.code numbers.now) in
         MatchOption result (AreOfType m heights) (IsFirstOutside m heights) }

@@ -20,6 +20,7 @@ mod new_heights;
 mod offsets;
 mod plain;
 mod raise;
+mod rectangle;
 mod round;
 mod window;
 
@@ -35,3 +36,4 @@ pub use laws::{
     filtered_again_is_the_same,
 };
 pub use new_heights::{Lists, NewHeights, Numbers, OldAndNew};
+pub use rectangle::raised_lists;
