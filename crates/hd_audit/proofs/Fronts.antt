@@ -25,10 +25,6 @@ use Rattle.hd_audit.specs.Lines.{point_at}
 use Rattle.hd_audit.proofs.Flooding.{flood-add, flood-on}
 use Rattle.hd_audit.proofs.SeenAt.{seen-here, seen-kept}
 
-none_or_some : (o : Option ℕ) → (o ≡ None) ⊎ ((p : ℕ) × (o ≡ Some p))
-none_or_some None = inl refl
-none_or_some (Some p) = inr (p, refl)
-
 -- what is not below the level, and is not its point, is above it
 over-unless_under : (side : SideName) (level : Option Rank) (x : Rank) → ((l : Rank) → level ≡ Some l → x ≡ l → ⊥) → is_under (below_by side) level x ≡ false → IsOver (below_by side) level x
 over-unless_under side None x apart h = tt

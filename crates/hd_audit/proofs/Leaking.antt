@@ -52,7 +52,3 @@ module _ (m : Map) (side : SideName) (thousandths : ℕ) (sz : ℤ) (lines : Lis
         (let same : other.cut ≡ cut = same_Some other.cut cut (sym other.cut_is ∙ is) in
         first r other.neighbour (subst (λ (c : ℕ). LeaksTo m side thousandths sz lines c r) same (record { within = other.within; outside = other.outside }))),
   )
-
-  -- a line without a cut does not leak
-  pub no_leak : (k : ℕ) → (line_at lines k).cut ≡ None → FirstLeak m side thousandths sz lines k None
-  no_leak k none = λ q leak. none-some leak.cut (sym none ∙ leak.cut_is)

@@ -19,11 +19,6 @@ pub record ArePlacedBefore (m : Map) (lines : List AuditLine) (places : List (Op
   pub new : (k : ℕ) → k < n → IsNewPoint m lines k
   pub count : count_by is_some places ≡ n
 
-none_noted : (n i : ℕ) → place_at (replicate n None) i ≡ None
-none_noted zero i = refl
-none_noted (suc n) zero = refl
-none_noted (suc n) (suc i) = none_noted n i
-
 -- the index of a line at which none is noted is that of no earlier line
 module _ (m : Map) (lines : List AuditLine) (places : List (Option ℕ)) (n : ℕ) (before : ArePlacedBefore m lines places n) where
   abbrev index_of : ℕ → ℕ

@@ -24,9 +24,6 @@ use Rattle.hd_audit.proofs.Firm.{AreFirm, no_point, no_pit, reached-not_below}
 use Rattle.hd_audit.proofs.ShownLines.{IsAmong, IsLineAt, among_or_not, rank_of_index, line-position, kept-line_rank, kept-among, reached-line_at}
 use Rattle.hd_audit.proofs.CutIs.{no_rank, kept-pit, kept-rank, cut-unique, listed-at}
 
-pub no_line : AuditLine
-no_line = record { index = 0; parent = None; cut = None }
-
 -- the line at a place is one of the lines
 pub line-listed : (lines : List AuditLine) (k i : ℕ) → k < length lines → (line_at lines k).index ≡ i → IsLineOf lines i (line_at lines k)
 line-listed lines k i inside e = record { listed = Contains-get_or lines k (record { index = 0; parent = None; cut = None }) inside; index = e }

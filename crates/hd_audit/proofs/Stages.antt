@@ -53,7 +53,3 @@ module _ (old : Stage) (number : ℕ) (text line rest : List ℕ) (first : lines
   -- the first line of a text is read
   pub line_read : (new : Stage) → Leads old number (words_of line ∷ []) new (number + 1) → go_on old (numbered number (words_in text ++ more)) ≡ go_on new (numbered (number + 1) (words_in rest ++ more))
   line_read new leads = ap (λ (ls : List (List ℕ)). go_on old (numbered number (map words_of ls ++ more))) first ∙ leads (words_in rest ++ more)
-
-  -- it has not its form
-  pub line_unread : (e : CertificateError) → ((more : List (List (List ℕ))) → go_on old (numbered number ((words_of line ∷ []) ++ more)) ≡ Err e) → go_on old (numbered number (words_in text ++ more)) ≡ Err e
-  line_unread e refuses = ap (λ (ls : List (List ℕ)). go_on old (numbered number (map words_of ls ++ more))) first ∙ refuses (words_in rest ++ more)

@@ -4,15 +4,15 @@ use Rattle.std.specs.List.{Contains, AllPairs}
 use Rattle.std.proofs.lemmas.Bool.{cases_lt, eq-eqb, false≢true}
 use Rattle.std.proofs.lemmas.List.{get_or_append_left, get_or_push, length_push}
 use Rattle.hd_map.specs.declared.types.Pos.{Pos}
-use Rattle.hd_map.specs.Map.{Map, InGrid, Present, cell_count, place_of}
+use Rattle.hd_map.specs.Map.{Map, Present, cell_count, place_of}
 use Rattle.hd_map.proofs.Points.{neighbour-sym}
 use Rattle.hd_check.specs.Rules.{point_of}
 use Rattle.hd_check.proofs.Searching.{place_found}
 use Rattle.hd_cert.specs.FirstNearer.{GoesNearer, IsBesideWith, IsFirst, IsNearer, LeadsDown}
 use Rattle.hd_cert.specs.declared.residue.Residue.{Residue}
 use Rattle.hd_cert.specs.Residues.{residue_after, residue_of_steps, residue_at, residue_of}
-use Rattle.hd_cert.specs.Steps.{steps_at}
-use Rattle.hd_cert.proofs.Residues.{one_more, reached_in, residue_read, same_before, same_steps}
+use Rattle.hd_reach.specs.Steps.{steps_at}
+use Rattle.hd_cert.proofs.Residues.{one_more, reached_in, same_before, same_steps}
 
 -- positions that compare as different are different
 pub positions-different : (p q : Pos) (same : Bool) → same ≡ (nat_eq p.x q.x && nat_eq p.y q.y) → same ≡ false → p ≡ q → ⊥
@@ -78,14 +78,11 @@ steps_of None n e = absurd (reached_in n (sym e))
 steps_of (Some k) n e = (k, refl, e)
 
 module _ (m : Map) (residues : List Residue) (from to : Pos) (steps : List (Option ℕ)) (count : ℕ) (leads : LeadsDown m residues from to steps count) where
-  read : (p : Pos) → InGrid m.size p → residue_at m.size residues p ≡ residue_of (steps_at m.size steps p)
-  read p inside = residue_read m.size residues steps p leads.residues_are leads.whole inside
-
   -- a neighbour has one step less where its residue is the one before
   nearer_by_residue : (here q : Pos) (n : ℕ) → steps_at m.size steps here ≡ Some (n + 1) → IsBesideWith m residues (residue_of_steps n) here q → IsNearer m steps n here q
   nearer_by_residue here q n noted beside =
       let there = beside.neighbour.to.in_grid in
-      let k = steps_of (steps_at m.size steps q) n (sym (read q there) ∙ beside.noted) in
+      let k = steps_of (steps_at m.size steps q) n (sym (leads.read q there) ∙ beside.noted) in
       let up = leads.close here q beside.neighbour (n + 1) k.0 noted k.1 in
       let down = leads.close q here (neighbour-sym m here q beside.neighbour) k.0 (n + 1) k.1 noted in
       let same : k.0 ≡ n = same_steps k.0 n (omega (arith, down)) (omega (arith, up)) k.2 in
@@ -93,7 +90,7 @@ module _ (m : Map) (residues : List Residue) (from to : Pos) (steps : List (Opti
 
   -- and the residue before where it has one step less
   beside_by_steps : (here q : Pos) (n : ℕ) → IsNearer m steps n here q → IsBesideWith m residues (residue_of_steps n) here q
-  beside_by_steps here q n nearer = record { neighbour = nearer.neighbour; noted = read q nearer.neighbour.to.in_grid ∙ ap residue_of nearer.noted }
+  beside_by_steps here q n nearer = record { neighbour = nearer.neighbour; noted = leads.read q nearer.neighbour.to.in_grid ∙ ap residue_of nearer.noted }
 
   first_by_residue : (here next : Pos) (n : ℕ) → steps_at m.size steps here ≡ Some (n + 1) → IsFirst m (IsBesideWith m residues (residue_of_steps n) here) next → IsFirst m (IsNearer m steps n here) next
   first_by_residue here next n noted first = record {
@@ -112,7 +109,7 @@ module _ (m : Map) (residues : List Residue) (from to : Pos) (steps : List (Opti
       let n : ℕ = count - (gone + 1) in
       let one : count - gone ≡ n + 1 = omega (arith, left) in
       let noted : steps_at m.size steps here ≡ Some (n + 1) = d.noted ∙ ap Some one in
-      let of_next : residue ≡ residue_of_steps n = same_before residue (residue_of_steps n) (residue_is ∙ read here present.in_grid ∙ ap residue_of noted ∙ one_more n) in
+      let of_next : residue ≡ residue_of_steps n = same_before residue (residue_of_steps n) (residue_is ∙ leads.read here present.in_grid ∙ ap residue_of noted ∙ one_more n) in
       let nearer = leads.falls here n (omega (arith, left)) present noted in
       let beside : IsBesideWith m residues residue here nearer.0 = subst (λ (r : Residue). IsBesideWith m residues r here nearer.0) (sym of_next) (beside_by_steps here nearer.0 n nearer.1) in
       let now : IsFirst m (IsNearer m steps n here) next = first_by_residue here next n noted (subst (λ (r : Residue). IsFirst m (IsBesideWith m residues r here) next) of_next (first nearer.0 beside)) in

@@ -1,6 +1,5 @@
 mod Paths
 mod Residues
-mod Flooding
 mod FirstNearer
 mod Listed
 mod Shown

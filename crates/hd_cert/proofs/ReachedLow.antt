@@ -11,19 +11,17 @@ use Rattle.hd_map.specs.Rank.{rank, below_by}
 use Rattle.hd_map.specs.Region.{AreNexts}
 use Rattle.hd_map.specs.Shown.{IsReachedBelow}
 use Rattle.hd_map.specs.SideLaws.{below_by-order}
-use Rattle.hd_map.proofs.Points.{neighbour-sym, place_inside, point_at, same_point}
+use Rattle.hd_map.proofs.Points.{place_inside, point_at, same_point}
 use Rattle.hd_check.proofs.Searching.{place_found}
 use Rattle.hd_steep.specs.Crossings.{IsNumberOf, pit_at}
 use Rattle.hd_steep.specs.Numbering.{AreNumbered, Numbering, number_of}
 use Rattle.hd_steep.specs.Reached.{AreReachedPits}
 use Rattle.hd_steep.proofs.NumberedCrossings.{number-of_point}
 use Rattle.hd_cert.specs.Listed.{AreListed}
-use Rattle.hd_cert.specs.Routes.{IsLowStep, IsReachedLow, IsRouteCut}
-use Rattle.hd_cert.specs.Within.{LiesWithin, within}
-use Rattle.hd_cert.proofs.Paths.{leads_then, leads_turn}
-use Rattle.hd_cert.proofs.RoutesAsPaths.{reached-below, reached-low}
-use Rattle.hd_cert.proofs.Shown.{leads_present}
-use Rattle.hd_cert.proofs.Sound.{low_end}
+use Rattle.hd_cert.specs.Routes.{IsRouteCut}
+use Rattle.hd_reach.specs.Reached.{IsLowStep, IsReachedLow}
+use Rattle.hd_reach.specs.Within.{LiesWithin, within}
+use Rattle.hd_reach.proofs.ReachedBelow.{low-sym, low-trans, low_end, reached-below, reached-low}
 
 module _ (m : Map) (side : SideName) where
   -- what is below a point below the saddle is below it too
@@ -32,41 +30,35 @@ module _ (m : Map) (side : SideName) where
   within_lower (Some s) a b down low = (below_by-order side).transitive b a s down low
 
   module _ (saddle : Option Rank) where
-    reached_low-sym : (a p : Pos) → IsReachedLow m side saddle a p → IsReachedLow m side saddle p a
-    reached_low-sym a p w = leads_turn (IsLowStep m side saddle) (IsLowStep m side saddle) (λ x y s. record { neighbour = neighbour-sym m x y s.neighbour; from = s.to; to = s.from }) a w.0 p w.1
-
-    reached_low-trans : (a p q : Pos) → IsReachedLow m side saddle a p → IsReachedLow m side saddle p q → IsReachedLow m side saddle a q
-    reached_low-trans a p q w v = leads_then (IsLowStep m side saddle) a w.0 p v.0 q w.1 v.1
-
     -- a point below the saddle reaches its root
-    root_reached : (p : Pos) (path : List Rank) (r : Rank) → Present m p → within side saddle true (rank m p) ≡ true → AreNexts m side (rank m p) path r → (q : Pos) × (rank m q ≡ r) × IsReachedLow m side saddle p q
-    root_reached p [] r here low nexts = (p, nexts.0, ([], refl))
-    root_reached p (y ∷ path) r here low nexts =
+    root_reached : (p : Pos) (path : List Rank) (r : Rank) → LiesWithin m side saddle true p → AreNexts m side (rank m p) path r → (q : Pos) × (rank m q ≡ r) × IsReachedLow m side saddle p q
+    root_reached p [] r low nexts = (p, nexts.0, ([], refl))
+    root_reached p (y ∷ path) r low nexts =
         let near = nexts.0.lower.near in
-        let same : near.from ≡ p = same_point m near.from p near.neighbour.from here (sym near.from_rank) in
-        let low' : within side saddle true (rank m near.to) ≡ true = subst (λ (x : Rank). within side saddle true x ≡ true) near.to_rank (within_lower saddle (rank m p) y nexts.0.lower.below low) in
-        let rest = root_reached near.to path r near.neighbour.to low' (subst (λ (x : Rank). AreNexts m side x path r) near.to_rank nexts.1) in
+        let same : near.from ≡ p = same_point m near.from p near.neighbour.from low.present (sym near.from_rank) in
+        let low' : LiesWithin m side saddle true near.to = record {
+          present = near.neighbour.to;
+          low = subst (λ (x : Rank). within side saddle true x ≡ true) near.to_rank (within_lower saddle (rank m p) y nexts.0.lower.below low.low);
+        } in
+        let rest = root_reached near.to path r low' (subst (λ (x : Rank). AreNexts m side x path r) near.to_rank nexts.1) in
         let first : IsLowStep m side saddle p near.to = record { neighbour = subst (λ (x : Pos). Neighbour m x near.to) same near.neighbour; from = low; to = low' } in
         (rest.0, rest.1, (near.to ∷ (rest.2).0, (first, (rest.2).1)))
 
     module _ (regions : Numbering) (are : AreNumbered m side regions) (a : Pos) (reached : List Bool) (known : AreReachedPits m side saddle (rank m a) regions.pits reached)
-        (here : Present m a) (low : within side saddle true (rank m a) ≡ true) (p : Pos) (k : ℕ) (place : k ≡ place_of m.size p) where
+        (low : LiesWithin m side saddle true a) (p : Pos) (k : ℕ) (place : k ≡ place_of m.size p) where
       abbrev number : Option ℕ
       number = number_of regions.pits (slice_index regions.numbers k)
 
       numbered : Present m p → IsNumberOf m side regions.pits (rank m p) (slice_index regions.numbers k) × (number ≡ Some (slice_index regions.numbers k))
       numbered there = rw place (number-of_point m side regions are (rank m p) (point_at m p there))
 
-      present : IsReachedLow m side saddle a p → Present m p
-      present w = leads_present m side saddle a w.0 p here w.1
-
       -- what is reached is below the saddle
       pub reached-lies : IsReachedLow m side saddle a p → LiesWithin m side saddle true p
-      reached-lies w = record { present = present w; low = low_end m side saddle a w.0 p low w.1 }
+      reached-lies w = low_end m side saddle a w.0 p low w.1
 
       -- where no point is present, none is reached
       pub not_reached-none : number ≡ None → IsReachedLow m side saddle a p → ⊥
-      not_reached-none none w = let some : None ≡ Some (slice_index regions.numbers k) = sym none ∙ (numbered (present w)).1 in cc
+      not_reached-none none w = let some : None ≡ Some (slice_index regions.numbers k) = sym none ∙ (numbered (reached-lies w).present).1 in cc
 
       module _ (n : ℕ) (is : number ≡ Some n) where
         numbered_by : Present m p → IsNumberOf m side regions.pits (rank m p) n
@@ -77,28 +69,28 @@ module _ (m : Map) (side : SideName) where
         -- the pit of a point that is reached is reached
         pub pit-reached : IsReachedLow m side saddle a p → slice_index_or reached n false ≡ true
         pit-reached w =
-            let there = present w in
-            let so = numbered_by there in
-            let way = root_reached p so.root.0 (pit_at regions.pits n) there (low_end m side saddle a w.0 p low w.1) so.root.1 in
-            (known.each n so.inside).1 (subst (IsReachedBelow m side saddle (rank m a)) way.1 (reached-below m side saddle a here way.0 low (reached_low-trans a p way.0 w way.2)))
+            let lies = reached-lies w in
+            let so = numbered_by lies.present in
+            let way = root_reached p so.root.0 (pit_at regions.pits n) lies so.root.1 in
+            (known.each n so.inside).1 (subst (IsReachedBelow m side saddle (rank m a)) way.1 (reached-below m side saddle a way.0 low (low-trans m side saddle a p way.0 w way.2)))
 
         -- a point below the saddle is reached where its pit is
         pub reached-by_pit : slice_index_or reached n false ≡ true → LiesWithin m side saddle true p → IsReachedLow m side saddle a p
         reached-by_pit flag lies =
             let so = numbered_by lies.present in
-            let way = root_reached p so.root.0 (pit_at regions.pits n) lies.present lies.low so.root.1 in
-            let to = reached-low m side saddle a here (pit_at regions.pits n) ((known.each n so.inside).0 flag) in
-            let same : to.0 ≡ way.0 = same_point m to.0 way.0 (leads_present m side saddle a (to.2).0 to.0 here (to.2).1) (leads_present m side saddle p (way.2).0 way.0 lies.present (way.2).1) (to.1 ∙ sym way.1) in
-            reached_low-trans a way.0 p (subst (IsReachedLow m side saddle a) same to.2) (reached_low-sym p way.0 way.2)
+            let way = root_reached p so.root.0 (pit_at regions.pits n) lies so.root.1 in
+            let to = reached-low m side saddle a (pit_at regions.pits n) low.present ((known.each n so.inside).0 flag) in
+            let same : to.0 ≡ way.0 = same_point m to.0 way.0 (low_end m side saddle a (to.2).0 to.0 low (to.2).1).present (low_end m side saddle p (way.2).0 way.0 lies (way.2).1).present (to.1 ∙ sym way.1) in
+            low-trans m side saddle a way.0 p (subst (IsReachedLow m side saddle a) same to.2) (low-sym m side saddle p way.0 way.2)
 
 -- the points that are reached, listed in position order, are the cut
-pub listed_cut : (m : Map) (side : SideName) (saddle : Option Rank) (a : Pos) (cut : List Pos) → Present m a → within side saddle true (rank m a) ≡ true
+pub listed_cut : (m : Map) (side : SideName) (saddle : Option Rank) (a : Pos) (cut : List Pos) → LiesWithin m side saddle true a
     → AreListed m.size (IsReachedLow m side saddle a) (cell_count m.size) cut → IsRouteCut m side saddle a cut
-listed_cut m side saddle a cut here low listed = record {
+listed_cut m side saddle a cut low listed = record {
   rises = listed.rises;
   low = low;
   all = λ p. (
     λ c. (let f = place_found cut p c in subst (IsReachedLow m side saddle a) f.2 (listed.chosen f.0 f.1)),
-    λ w. (let there = leads_present m side saddle a w.0 p here w.1 in listed.all p there.in_grid (place_inside m.size p there.in_grid) w),
+    λ w. (let there = (low_end m side saddle a w.0 p low w.1).present in listed.all p there.in_grid (place_inside m.size p there.in_grid) w),
   );
 }

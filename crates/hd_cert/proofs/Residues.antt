@@ -1,15 +1,10 @@
 -- Residues of numbers of steps.
-use Rattle.std.proofs.Common.{◌≡◌, ◌≤◌, ◌+◌, ℕ, zero, suc, List, ◌∷◌, length, map, replicate, Option, Some, None, inl, inr, ap, ◌∙◌, refl, sym, arith}
+use Rattle.std.proofs.Common.{◌≡◌, ◌≤◌, ◌+◌, ℕ, zero, suc, List, Option, Some, None, inl, inr, ap, ◌∙◌, refl, sym, arith}
 use Rattle.std.proofs.lemmas.Bool.{cases_lt}
-use Rattle.std.proofs.lemmas.List.{get_or-map}
-use Rattle.hd_map.specs.declared.types.Pos.{Pos}
-use Rattle.hd_map.specs.declared.types.Size.{Size}
-use Rattle.hd_map.specs.Map.{InGrid, place_of, cell_count}
-use Rattle.hd_map.proofs.Points.{place_inside}
+use Rattle.hd_reach.specs.Marks.{mark_in, marked, marking}
 use Rattle.hd_cert.specs.declared.residue.Residue.{Residue}
 use Rattle.hd_cert.specs.declared.residue.Residue.TheVariants.{Unreached, Zero, One, Two}
-use Rattle.hd_cert.specs.Residues.{residue_after, residue_of_steps, residue_of, residue_at}
-use Rattle.hd_cert.specs.Steps.{steps_at}
+use Rattle.hd_cert.specs.Residues.{residue_after, residue_of_steps, residue_of}
 
 -- three steps more leave a residue as it is
 thrice : (r : Residue) → residue_after (residue_after (residue_after r)) ≡ r
@@ -32,14 +27,15 @@ pub steps_noted : (o : Option ℕ) → (residue_of o ≡ Unreached → ⊥) → 
 steps_noted None h = absurd (h refl)
 steps_noted (Some n) h = (n, refl)
 
-pub none_noted : (o : Option ℕ) → residue_of o ≡ Unreached → o ≡ None
-none_noted None e = refl
-none_noted (Some n) e = absurd (reached_in n e)
+-- the mark of some steps is their residue
+marks-residues : (before : List Residue) (n : ℕ) → mark_in (marking Unreached residue_after Zero before) n ≡ residue_of_steps n
+marks-residues before zero = refl
+marks-residues before (suc n) = ap residue_after (marks-residues before n)
 
--- where no steps are noted nothing is reached
-pub none_reached : (n : ℕ) → map residue_of (replicate n None) ≡ replicate n Unreached
-none_reached zero = refl
-none_reached (suc n) = ap (λ (rest : List Residue). Unreached ∷ rest) (none_reached n)
+-- where nothing was reached, what is marked are the residues
+pub marked-residues : (before : List Residue) (r : Residue) (o : Option ℕ) → r ≡ Unreached → marked (marking Unreached residue_after Zero before) r o ≡ residue_of o
+marked-residues before r None e = e
+marked-residues before r (Some n) e = marks-residues before n
 
 pub one_more : (n : ℕ) → residue_of_steps (n + 1) ≡ residue_after (residue_of_steps n)
 one_more n = let e : n + 1 ≡ suc n = omega arith in ap residue_of_steps e
@@ -70,9 +66,3 @@ same_steps k n low high e = elim (cases_lt n k) [
   ]
   | inr same ↦ omega (arith, low, same)
 ]
-
--- the residue that is noted for a point is that of its steps
-pub residue_read : (s : Size) (residues : List Residue) (steps : List (Option ℕ)) (p : Pos) → residues ≡ map residue_of steps → length steps ≡ cell_count s → InGrid s p
-    → residue_at s residues p ≡ residue_of (steps_at s steps p)
-residue_read s residues steps p are whole there =
-    ap (λ (rs : List Residue). residue_at s rs p) are ∙ get_or-map residue_of steps (place_of s p) None Unreached (rw whole (place_inside s p there))

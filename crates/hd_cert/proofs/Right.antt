@@ -1,6 +1,6 @@
 -- The shown certificate is right.
 use Rattle.std.proofs.Common.{◌≡◌, ◌<◌, ◌+◌, true, List, [], ◌∷◌, length, map, Option, Some, None, ap, ◌∙◌, sym, subst, arith}
-use Rattle.std.specs.Prelude.{All, Contains, AllPairs, MatchOption}
+use Rattle.std.specs.Prelude.{Contains, AllPairs, MatchOption}
 use Rattle.std.proofs.lemmas.List.{length-map}
 use Rattle.std.proofs.lemmas.List.Elements.{All-get_or}
 use Rattle.hd_map.specs.declared.types.Adjacency.{Adjacency}
@@ -8,21 +8,21 @@ use Rattle.hd_map.specs.declared.types.Pos.{Pos}
 use Rattle.hd_map.specs.declared.types.Rank.{Rank}
 use Rattle.hd_map.specs.declared.types.SideName.{SideName}
 use Rattle.hd_map.specs.Map.{Map, Present}
-use Rattle.hd_map.specs.Path.{Leads}
 use Rattle.hd_map.specs.Rank.{rank}
-use Rattle.hd_map.specs.Shown.{IsBelowSaddle, IsReachedBelow}
 use Rattle.hd_map.proofs.Items.{Contains-map, map-Contains}
-use Rattle.hd_map.proofs.Points.{point_at, same_point}
+use Rattle.hd_map.proofs.Points.{same_point}
 use Rattle.hd_check.specs.declared.types.Certificate.{Certificate}
 use Rattle.hd_check.specs.Rules.{IsRight}
 use Rattle.hd_check.proofs.Searching.{place_found}
-use Rattle.hd_cert.specs.Within.{within}
-use Rattle.hd_cert.specs.Routes.{IsRouteOver, IsLowStep, IsRouteCut}
+use Rattle.hd_reach.specs.Reached.{IsReachedLow}
+use Rattle.hd_reach.specs.Within.{LiesWithin}
+use Rattle.hd_reach.proofs.ReachedBelow.{low_end, reached-below, reached-low}
+use Rattle.hd_cert.specs.Routes.{IsRouteOver, IsRouteCut}
 use Rattle.hd_cert.specs.Shown.{AreTwoPits, IsPathAt, IsCutAt, IsShownCertificate}
 use Rattle.hd_cert.proofs.Determined.{same_positions}
-use Rattle.hd_cert.proofs.RoutesAsPaths.{route_of, all_present, over_route, rank_place, all_below, low_route}
-use Rattle.hd_cert.proofs.Shown.{leads_present, pit_within}
-use Rattle.hd_cert.proofs.Sound.{leads_ranks, right_of, route_present}
+use Rattle.hd_cert.proofs.RoutesAsPaths.{all_present, over_route, rank_place}
+use Rattle.hd_cert.proofs.Shown.{pit_within}
+use Rattle.hd_cert.proofs.Sound.{right_of, route_present}
 
 -- the shown path is a path of positions over the saddle
 path_over : (m : Map) (side : SideName) (a b : Pos) (s : Rank) (path : List Pos) → Present m a → Present m b → IsPathAt m side a b s path → IsRouteOver m side a b s path
@@ -38,28 +38,22 @@ path_or_none : (m : Map) (side : SideName) (a b : Pos) (saddle : Option Rank) (p
 path_or_none m side a b None path here there none = none
 path_or_none m side a b (Some s) path here there at = path_over m side a b s path here there at
 
-module _ (m : Map) (side : SideName) (a b : Pos) (saddle : Option Rank) (cut : List Pos) (here : Present m a) (low : within side saddle true (rank m a) ≡ true) (at : IsCutAt m side a b saddle cut) where
+module _ (m : Map) (side : SideName) (a b : Pos) (saddle : Option Rank) (cut : List Pos) (low : LiesWithin m side saddle true a) (at : IsCutAt m side a b saddle cut) where
   listed_present : (p : Pos) → Contains cut p → Present m p
   listed_present p c = let f = place_found cut p c in subst (Present m) f.2 (All-get_or (Present m) cut f.0 (record { x = 0; y = 0 }) f.1 at.stand.0)
 
   -- what is listed is reached
-  listed_reached : (p : Pos) → Contains cut p → (xs : List Pos) × Leads (IsLowStep m side saddle) a xs p
+  listed_reached : (p : Pos) → Contains cut p → IsReachedLow m side saddle a p
   listed_reached p c =
-      let there = listed_present p c in
       let reached = (at.shown.exactly (rank m p)).0 (subst (λ (xs : List Rank). Contains xs (rank m p)) (sym at.stand.1) (map-Contains (rank m) cut p c)) in
-      let route = route_of m a reached.points p here there reached.path.leads in
-      (route.0, low_route m side saddle a route.0 p (subst (λ (xs : List Rank). All (IsBelowSaddle side saddle) (rank m a ∷ xs)) (sym route.2) reached.below) route.1)
+      let q = reached-low m side saddle a (rank m p) low.present reached in
+      subst (IsReachedLow m side saddle a) (same_point m q.0 p (low_end m side saddle a (q.2).0 q.0 low (q.2).1).present (listed_present p c) q.1) q.2
 
   -- what is reached is listed
-  reached_listed : (p : Pos) → (xs : List Pos) × Leads (IsLowStep m side saddle) a xs p → Contains cut p
+  reached_listed : (p : Pos) → IsReachedLow m side saddle a p → Contains cut p
   reached_listed p w =
-      let reached : IsReachedBelow m side saddle (rank m a) (rank m p) = record {
-        points = map (rank m) w.0;
-        path = record { point = point_at m a here; leads = leads_ranks m side saddle a w.0 p w.1 };
-        below = all_below m side saddle a w.0 p low w.1;
-      } in
-      let q = Contains-map (rank m) cut (rank m p) (subst (λ (xs : List Rank). Contains xs (rank m p)) at.stand.1 ((at.shown.exactly (rank m p)).1 reached)) in
-      subst (Contains cut) (same_point m q.0 p (listed_present q.0 q.1) (leads_present m side saddle a w.0 p here w.1) q.2) q.1
+      let q = Contains-map (rank m) cut (rank m p) (subst (λ (xs : List Rank). Contains xs (rank m p)) at.stand.1 ((at.shown.exactly (rank m p)).1 (reached-below m side saddle a p low w))) in
+      subst (Contains cut) (same_point m q.0 p (listed_present q.0 q.1) (low_end m side saddle a w.0 p low w.1).present q.2) q.1
 
   -- the shown cut is the points that are reached below the saddle, by positions
   cut_of : IsRouteCut m side saddle a cut
@@ -82,7 +76,7 @@ shown_right m side a b saddle c pits shown =
     let is = shown.cut.shown.saddle_is in
     let low = pit_within m side a b saddle pits.here pits.there pits.pit pits.apart is in
     let path = path_or_none m side a b saddle c.path pits.here pits.there shown.path in
-    let cut = cut_of m side a b saddle c.cut pits.here low shown.cut in
+    let cut = cut_of m side a b saddle c.cut low shown.cut in
     let at : IsRight m (record { side = side; adjacency = m.adjacency; from = a; to = b; saddle = c.saddle; path = c.path; cut = c.cut }) =
     right_of m side a b saddle c.saddle c.path c.cut pits.here pits.there pits.pit pits.other pits.apart is shown.saddle_is path cut in
     let with : SideName → Adjacency → Pos → Pos → Certificate = λ d y p q. record { side = d; adjacency = y; from = p; to = q; saddle = c.saddle; path = c.path; cut = c.cut } in

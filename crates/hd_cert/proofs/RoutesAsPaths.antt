@@ -1,28 +1,27 @@
 -- Routes of positions as paths of ranks.
-use Rattle.std.proofs.Common.{◌≡◌, ◌<◌, ◌≤◌, ◌+◌, ◌-◌, ℕ, zero, suc, true, List, [], ◌∷◌, length, get_or, map, Option, Some, None, inl, inr, ap, ◌∙◌, refl, sym, subst, arith}
+use Rattle.std.proofs.Common.{◌≡◌, ◌<◌, ◌≤◌, ◌+◌, ◌-◌, ℕ, zero, suc, List, [], ◌∷◌, length, get_or, map, Option, Some, None, inl, inr, ap, ◌∙◌, refl, sym, subst, arith}
 use Rattle.std.specs.Prelude.{All, Contains, MatchOption}
 use Rattle.std.proofs.lemmas.List.{length-map}
-use Rattle.std.proofs.lemmas.List.Elements.{All-nil, All-cons, All-head, All-tail, Contains-get_or}
+use Rattle.std.proofs.lemmas.List.Elements.{All-nil, All-cons, Contains-get_or}
 use Rattle.hd_map.specs.declared.types.Pos.{Pos}
 use Rattle.hd_map.specs.declared.types.Rank.{Rank}
 use Rattle.hd_map.specs.declared.types.SideName.{SideName}
 use Rattle.hd_map.specs.Map.{Map, Present, place_of}
 use Rattle.hd_map.specs.Neighbour.{Neighbour}
 use Rattle.hd_map.specs.Path.{Leads, IsTop}
-use Rattle.hd_map.specs.Rank.{rank, below_by, IsPoint, Near}
+use Rattle.hd_map.specs.Rank.{rank, below_by, Near}
 use Rattle.hd_map.specs.Saddle.{IsSaddle, SaddleIs}
-use Rattle.hd_map.specs.Shown.{IsNotAfter, IsPathOver, IsBelowSaddle, IsReachedBelow, indexes_of}
+use Rattle.hd_map.specs.Shown.{IsNotAfter, IsPathOver, IsReachedBelow, indexes_of}
 use Rattle.hd_map.proofs.Items.{Contains-map, map-Contains}
 use Rattle.hd_map.proofs.Points.{same_point, point_at}
 use Rattle.hd_check.specs.declared.types.Certificate.{Certificate}
 use Rattle.hd_check.specs.Rules.{point_of}
 use Rattle.hd_check.proofs.Paths.{path_leads}
 use Rattle.hd_check.proofs.Searching.{place_at, rises_far}
-use Rattle.hd_cert.specs.Within.{within}
-use Rattle.hd_cert.specs.Routes.{IsRouteOver, IsShownRoute, IsLowStep, IsReachedLow, IsRouteCut, IsMade}
+use Rattle.hd_reach.proofs.ReachedBelow.{low_end, reached-below, reached-low}
+use Rattle.hd_cert.specs.Routes.{IsRouteOver, IsShownRoute, IsRouteCut, IsMade}
 use Rattle.hd_cert.specs.Shown.{AreTwoPits, IsPathAt, IsCutAt, IsShownCertificate}
-use Rattle.hd_cert.proofs.Shown.{leads_present}
-use Rattle.hd_cert.proofs.Sound.{leads_ranks, route_present}
+use Rattle.hd_cert.proofs.Sound.{route_present}
 
 -- a path of ranks between two positions is one of positions
 pub route_of : (m : Map) (a : Pos) (xs : List Rank) (b : Pos) → Present m a → Present m b → Leads (Near m) (rank m a) xs (rank m b)
@@ -125,54 +124,6 @@ rank_place m [] k d inside = absurd (omega (arith, inside))
 rank_place m (p ∷ ps) zero d inside = refl
 rank_place m (p ∷ ps) (suc k) d inside = rank_place m ps k d (omega (arith, inside))
 
-below_from : (m : Map) (side : SideName) (saddle : Option Rank) (p : Pos) → within side saddle true (rank m p) ≡ true → IsBelowSaddle side saddle (rank m p)
-below_from m side None p h = tt
-below_from m side (Some s) p h = h
-
-below_to : (m : Map) (side : SideName) (saddle : Option Rank) (p : Pos) → IsBelowSaddle side saddle (rank m p) → within side saddle true (rank m p) ≡ true
-below_to m side None p h = refl
-below_to m side (Some s) p h = h
-
--- a low route as a path below the saddle
-pub all_below : (m : Map) (side : SideName) (saddle : Option Rank) (a : Pos) (ps : List Pos) (b : Pos) → within side saddle true (rank m a) ≡ true → Leads (IsLowStep m side saddle) a ps b
-    → All (IsBelowSaddle side saddle) (rank m a ∷ map (rank m) ps)
-all_below m side saddle a [] b low l = All-cons (IsBelowSaddle side saddle) (rank m a) [] (below_from m side saddle a low) (All-nil (IsBelowSaddle side saddle))
-all_below m side saddle a (p ∷ ps) b low l = All-cons (IsBelowSaddle side saddle) (rank m a) (rank m p ∷ map (rank m) ps) (below_from m side saddle a low) (all_below m side saddle p ps b l.0.to l.1)
-
--- and the other way round
-pub low_route : (m : Map) (side : SideName) (saddle : Option Rank) (a : Pos) (ps : List Pos) (b : Pos) → All (IsBelowSaddle side saddle) (rank m a ∷ map (rank m) ps) → Leads (Neighbour m) a ps b
-    → Leads (IsLowStep m side saddle) a ps b
-low_route m side saddle a [] b all l = l
-low_route m side saddle a (p ∷ ps) b all l =
-    let rest = All-tail (IsBelowSaddle side saddle) (rank m a) (rank m p ∷ map (rank m) ps) all in (
-      record {
-        neighbour = l.0;
-        from = below_to m side saddle a (All-head (IsBelowSaddle side saddle) (rank m a) (rank m p ∷ map (rank m) ps) all);
-        to = below_to m side saddle p (All-head (IsBelowSaddle side saddle) (rank m p) (map (rank m) ps) rest);
-      },
-      low_route m side saddle p ps b rest l.1,
-    )
-
--- what is reached below the saddle is so by positions as by ranks
-module _ (m : Map) (side : SideName) (saddle : Option Rank) (a : Pos) (here : Present m a) where
-  pub reached-below : (p : Pos) → within side saddle true (rank m a) ≡ true → IsReachedLow m side saddle a p → IsReachedBelow m side saddle (rank m a) (rank m p)
-  reached-below p low w = record {
-    points = map (rank m) w.0;
-    path = record { point = point_at m a here; leads = leads_ranks m side saddle a w.0 p w.1 };
-    below = all_below m side saddle a w.0 p low w.1;
-  }
-
-  end_point : (c : Rank) (xs : List Rank) (x : Rank) → IsPoint m c → Leads (Near m) c xs x → IsPoint m x
-  end_point c [] x point l = subst (IsPoint m) l point
-  end_point c (y ∷ xs) x point l = end_point y xs x (record { at = l.0.to; present = l.0.neighbour.to; rank_is = l.0.to_rank }) l.1
-
-  pub reached-low : (x : Rank) → IsReachedBelow m side saddle (rank m a) x → (p : Pos) × (rank m p ≡ x) × IsReachedLow m side saddle a p
-  reached-low x r =
-      let point = end_point (rank m a) r.points x r.path.point r.path.leads in
-      let route = route_of m a r.points point.at here point.present (subst (λ (y : Rank). Leads (Near m) (rank m a) r.points y) point.rank_is r.path.leads) in
-      let low = low_route m side saddle a route.0 point.at (subst (λ (xs : List Rank). All (IsBelowSaddle side saddle) (rank m a ∷ xs)) (sym route.2) r.below) route.1 in
-      (point.at, sym point.rank_is, (route.0, low))
-
 module _ (m : Map) (side : SideName) (a b : Pos) (saddle : Option Rank) (here : Present m a) (is : SaddleIs m side (rank m a) (rank m b) saddle) (cut : List Pos) (shown : IsRouteCut m side saddle a cut) where
   rises_more : (i j : ℕ) → i < j → j < length cut → place_at m.size cut i < place_at m.size cut j
   rises_more i j less inside =
@@ -184,11 +135,11 @@ module _ (m : Map) (side : SideName) (a b : Pos) (saddle : Option Rank) (here : 
   route-reached_of : (x : Rank) → Contains (map (rank m) cut) x → IsReachedBelow m side saddle (rank m a) x
   route-reached_of x c =
       let q = Contains-map (rank m) cut x c in
-      subst (λ (r : Rank). IsReachedBelow m side saddle (rank m a) r) q.2 (reached-below m side saddle a here q.0 shown.low ((shown.all q.0).0 q.1))
+      subst (λ (r : Rank). IsReachedBelow m side saddle (rank m a) r) q.2 (reached-below m side saddle a q.0 shown.low ((shown.all q.0).0 q.1))
 
   -- what is reached is listed
   listed_of : (x : Rank) → IsReachedBelow m side saddle (rank m a) x → Contains (map (rank m) cut) x
-  listed_of x r = let q = reached-low m side saddle a here x r in subst (Contains (map (rank m) cut)) q.1 (map-Contains (rank m) cut q.0 ((shown.all q.0).1 q.2))
+  listed_of x r = let q = reached-low m side saddle a x here r in subst (Contains (map (rank m) cut)) q.1 (map-Contains (rank m) cut q.0 ((shown.all q.0).1 q.2))
 
   -- the cut by positions is the shown cut
   pub cut_at : IsCutAt m side a b saddle cut
@@ -204,7 +155,7 @@ module _ (m : Map) (side : SideName) (a b : Pos) (saddle : Option Rank) (here : 
           let up = rises_more i j less (omega (arith, inside, l)) in
           omega (arith, first, second, up));
     };
-    stand = (all_present m cut (λ k inside. (let w = (shown.all (point_of cut k)).0 (Contains-get_or cut k (record { x = 0; y = 0 }) inside) in leads_present m side saddle a w.0 (point_of cut k) here w.1)), refl);
+    stand = (all_present m cut (λ k inside. (let w = (shown.all (point_of cut k)).0 (Contains-get_or cut k (record { x = 0; y = 0 }) inside) in (low_end m side saddle a w.0 (point_of cut k) shown.low w.1).present)), refl);
   }
 
 path_made : (m : Map) (side : SideName) (a b : Pos) (saddle : Option Rank) (path : List Pos) → Present m a → Present m b → SaddleIs m side (rank m a) (rank m b) saddle

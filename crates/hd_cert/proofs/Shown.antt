@@ -1,5 +1,5 @@
 -- The shown path and the shown cut.
-use Rattle.std.proofs.Common.{◌≡◌, ◌<◌, ◌≤◌, ◌+◌, ◌-◌, ℕ, zero, suc, Bool, true, false, List, [], ◌∷◌, length, get_or, map, Option, Some, None, ◌⊎◌, inl, inr, ap, ◌∙◌, refl, sym, subst, arith}
+use Rattle.std.proofs.Common.{◌≡◌, ◌<◌, ◌≤◌, ◌+◌, ◌-◌, ℕ, zero, suc, Bool, true, false, List, [], ◌∷◌, length, get_or, map, Option, Some, None, inl, inr, ap, ◌∙◌, refl, sym, subst, arith}
 use Rattle.std.specs.Prelude.{not, Result, Ok, Err, IfOk}
 use Rattle.std.proofs.lemmas.List.{get_or-map, length-map}
 use Rattle.std.proofs.lemmas.List.Elements.{All-head, All-tail}
@@ -23,20 +23,16 @@ use Rattle.hd_map.proofs.Saddles.{saddle-above_pit}
 use Rattle.hd_map.specs.Saddle.{IsSaddle, SaddleIs}
 use Rattle.hd_cert.specs.declared.residue.Residue.{Residue}
 use Rattle.hd_cert.specs.Residues.{residue_at, residue_of, AreResidues, IsReached}
-use Rattle.hd_cert.specs.Steps.{IsWanted, OpenStep, steps_at, AreSteps}
-use Rattle.hd_cert.specs.Within.{within, LiesWithin}
+use Rattle.hd_reach.specs.Steps.{IsWanted, OpenStep, steps_at, AreSteps}
+use Rattle.hd_reach.specs.Within.{LiesWithin}
 use Rattle.hd_cert.specs.FirstNearer.{IsNearer, IsFirst, GoesNearer, LeadsDown}
 use Rattle.hd_cert.specs.Listed.{AreListed}
-use Rattle.hd_cert.specs.Routes.{IsRouteOver, IsShownRoute, IsLowStep, IsRouteCut}
+use Rattle.hd_cert.specs.Routes.{IsRouteOver, IsShownRoute, IsRouteCut}
 use Rattle.hd_map.specs.Shown.{IsNotAfter}
-use Rattle.hd_cert.proofs.Residues.{reached_in, residue_read, steps_noted}
-use Rattle.hd_cert.proofs.Flooding.{OpenStep-turned}
-use Rattle.hd_cert.proofs.Paths.{leads_turn, leads_of}
-
--- a number is noted, or none
-noted_or_free : (o : Option ℕ) → ((n : ℕ) × (o ≡ Some n)) ⊎ (o ≡ None)
-noted_or_free (Some n) = inl (n, refl)
-noted_or_free None = inr refl
+use Rattle.hd_reach.proofs.Flooding.{noted_or_free}
+use Rattle.hd_reach.proofs.ReachedBelow.{low-steps, low_end, steps-low}
+use Rattle.hd_cert.proofs.Residues.{reached_in, steps_noted}
+use Rattle.hd_cert.proofs.Paths.{leads_of}
 
 -- a number that is noted twice is one
 pub same_some : (o : Option ℕ) (a b : ℕ) → o ≡ Some a → o ≡ Some b → a ≡ b
@@ -202,10 +198,9 @@ module _ (m : Map) (side : SideName) (s : Rank) (a b : Pos) (steps : List (Optio
       ]
 
   -- its steps lead down to the second
-  pub leads_down : (residues : List Residue) (count : ℕ) → residues ≡ map residue_of steps → steps_at m.size steps a ≡ Some count → LeadsDown m residues a b steps count
-  leads_down residues count residues_are noted = record {
-    whole = are.whole;
-    residues_are = residues_are;
+  pub leads_down : (residues : List Residue) (count : ℕ) → ((p : Pos) → InGrid m.size p → residue_at m.size residues p ≡ residue_of (steps_at m.size steps p)) → steps_at m.size steps a ≡ Some count → LeadsDown m residues a b steps count
+  leads_down residues count read noted = record {
+    read = read;
     noted = noted;
     few = are.few a here.in_grid count noted;
     begun = (let r = are.least b [] refl (λ k e. omega arith) in let none = r.1 in let zero' : r.0 ≡ 0 = omega (arith, none) in r.2 ∙ ap Some zero');
@@ -304,18 +299,14 @@ pit_below m side a b s here there pit apart saddle = saddle-above_pit m side (ra
 
 -- the first of two joined pits lies within the level of its cut
 pub pit_within : (m : Map) (side : SideName) (a b : Pos) (saddle : Option Rank) → Present m a → Present m b → IsPit m side (rank m a) → (a ≡ b → ⊥) → SaddleIs m side (rank m a) (rank m b) saddle
-    → within side saddle true (rank m a) ≡ true
-pit_within m side a b (Some s) here there pit apart is = pit_below m side a b s here there pit apart is
-pit_within m side a b None here there pit apart is = refl
-
-pub leads_present : (m : Map) (side : SideName) (saddle : Option Rank) (a : Pos) (xs : List Pos) (p : Pos) → Present m a → Leads (IsLowStep m side saddle) a xs p → Present m p
-leads_present m side saddle a [] p here l = subst (Present m) l here
-leads_present m side saddle a (x ∷ xs) p here l = leads_present m side saddle x xs p l.0.neighbour.to l.1
+    → LiesWithin m side saddle true a
+pit_within m side a b (Some s) here there pit apart is = record { present = here; low = pit_below m side a b s here there pit apart is }
+pit_within m side a b None here there pit apart is = record { present = here; low = refl }
 
 -- the points that are reached are those that are joined below the saddle
 pub cut_shown : (m : Map) (side : SideName) (saddle : Option Rank) (a : Pos) (residues : List Residue) (cut : List Pos) → AreResidues m (LiesWithin m side saddle true) a None residues
-    → AreListed m.size (IsReached m.size residues) (cell_count m.size) cut → Present m a → within side saddle true (rank m a) ≡ true → IsRouteCut m side saddle a cut
-cut_shown m side saddle a residues cut known listed here low = record {
+    → AreListed m.size (IsReached m.size residues) (cell_count m.size) cut → LiesWithin m side saddle true a → IsRouteCut m side saddle a cut
+cut_shown m side saddle a residues cut known listed low = record {
   rises = listed.rises;
   low = low;
   all = λ p. (
@@ -323,27 +314,15 @@ cut_shown m side saddle a residues cut known listed here low = record {
         (let f = place_found cut p c in
         let inside : InGrid m.size p = subst (InGrid m.size) f.2 (listed.inside f.0 f.1) in
         let reached : IsReached m.size residues p = subst (IsReached m.size residues) f.2 (listed.chosen f.0 f.1) in
-        let n = steps_noted (steps_at m.size steps p) (λ none. reached (read p inside ∙ none)) in
-        let w = known.are.reached p inside n.0 n.1 in
-        leads_turn (OpenStep m IsLow) (IsLowStep m side saddle) (λ x y s. (let t = OpenStep-turned m IsLow x y s in record { neighbour = t.neighbour; from = t.from.low; to = t.to.low })) p w.0 a w.1),
+        let n = steps_noted (steps_at m.size known.steps p) (λ none. reached (known.read p inside ∙ none)) in
+        steps-low m side saddle a known.steps known.are p inside n.0 n.1),
     λ w.
-        (let there = leads_present m side saddle a w.0 p here w.1 in
-        let back = leads_turn (IsLowStep m side saddle) (OpenStep m IsLow)
-        (λ x y s. OpenStep-turned m IsLow x y (record { neighbour = s.neighbour; from = record { present = s.neighbour.from; low = s.from }; to = record { present = s.neighbour.to; low = s.to } })) a w.0 p w.1 in
-        let r = known.are.least p back.0 back.1 tt in
-        let is : residue_at m.size residues p ≡ residue_of (Some r.0) = read p there.in_grid ∙ ap residue_of r.2 in
-        listed.all p there.in_grid (place_inside m.size p there.in_grid) (λ none. reached_in r.0 (sym is ∙ none))),
+        (let there = (low_end m side saddle a w.0 p low w.1).present in
+        let n = low-steps m side saddle a known.steps known.are p w in
+        let is : residue_at m.size residues p ≡ residue_of (Some n.0) = known.read p there.in_grid ∙ ap residue_of n.1 in
+        listed.all p there.in_grid (place_inside m.size p there.in_grid) (λ none. reached_in n.0 (sym is ∙ none))),
   );
 }
-  where
-    IsLow : Pos → Type 0
-    IsLow = LiesWithin m side saddle true
-
-    steps : List (Option ℕ)
-    steps = known.steps
-
-    read : (p : Pos) → InGrid m.size p → residue_at m.size residues p ≡ residue_of (steps_at m.size steps p)
-    read p inside = residue_read m.size residues steps p known.residues_are known.are.whole inside
 
 -- the position of the index of a point is that point
 pub written_point : (m : Map) (s : Rank) (p : Pos) → IsPoint m s → InGrid m.size p → place_of m.size p ≡ s.index → Present m p × (rank m p ≡ s)

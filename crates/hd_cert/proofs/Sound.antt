@@ -1,61 +1,39 @@
 -- A certificate with a path over the saddle and the cut below it is right.
-use Rattle.std.proofs.Common.{◌≡◌, ◌<◌, ◌+◌, ℕ, zero, suc, true, List, [], ◌∷◌, length, map, Option, Some, None, inl, inr, ap, ◌∙◌, refl, sym, subst, arith}
+use Rattle.std.proofs.Common.{◌≡◌, ◌<◌, ◌+◌, ℕ, zero, suc, true, List, [], ◌∷◌, length, map, Option, Some, None, ap, ◌∙◌, refl, sym, subst, arith}
 use Rattle.std.specs.Prelude.{ℤ, MatchOption}
 use Rattle.std.specs.List.{Contains}
 use Rattle.std.proofs.lemmas.Bool.{false≢true}
-use Rattle.std.proofs.lemmas.List.Elements.{Contains-get_or}
+use Rattle.std.proofs.lemmas.List.Elements.{All-contains, Contains-get_or}
 use Rattle.hd_map.specs.declared.types.Pos.{Pos}
 use Rattle.hd_map.specs.declared.types.Rank.{Rank}
 use Rattle.hd_map.specs.declared.types.SideName.{SideName}
 use Rattle.hd_map.specs.Map.{Map, Present}
-use Rattle.hd_map.specs.Path.{Leads}
-use Rattle.hd_map.proofs.Items.{Contains-cases, Contains-none, Contains-map}
+use Rattle.hd_map.proofs.Items.{Contains-map}
 use Rattle.hd_map.proofs.Levels.{NoneAbove, top_of}
-use Rattle.hd_map.specs.Rank.{rank, below_by, Near}
+use Rattle.hd_map.specs.Rank.{rank, below_by}
 use Rattle.hd_map.specs.Region.{IsPit}
-use Rattle.hd_map.proofs.Points.{same_point, point_at, Near-at}
+use Rattle.hd_map.proofs.Points.{same_point}
 use Rattle.hd_map.specs.SideLaws.{below_by-order}
 use Rattle.hd_check.specs.Certified.{position_only}
 use Rattle.hd_check.specs.Rules.{point_of, IsBelowLevel, IsLeak, IsRight}
 use Rattle.hd_check.proofs.Searching.{place_found}
 use Rattle.hd_map.specs.Saddle.{SaddleIs}
-use Rattle.hd_cert.specs.Within.{within}
-use Rattle.hd_cert.specs.Routes.{IsRouteOver, IsLowStep, IsRouteCut}
+use Rattle.hd_map.specs.Shown.{IsBelowSaddle}
+use Rattle.hd_reach.specs.Reached.{IsLowStep, IsReachedLow}
+use Rattle.hd_reach.specs.Within.{LiesWithin, within}
+use Rattle.hd_reach.proofs.ReachedBelow.{low-trans, low_end, reached-below}
+use Rattle.hd_cert.specs.Routes.{IsRouteOver, IsRouteCut}
 use Rattle.hd_cert.specs.Shown.{IsWritten}
-use Rattle.hd_cert.proofs.Shown.{leads_present, none_above-at}
-
--- a path of positions as one of ranks
-pub leads_ranks : (m : Map) (side : SideName) (saddle : Option Rank) (a : Pos) (xs : List Pos) (b : Pos) → Leads (IsLowStep m side saddle) a xs b → Leads (Near m) (rank m a) (map (rank m) xs) (rank m b)
-leads_ranks m side saddle a [] b l = ap (rank m) l
-leads_ranks m side saddle a (x ∷ xs) b l = (Near-at m a x l.0.neighbour, leads_ranks m side saddle x xs b l.1)
-
--- one step more
-leads_more : (R : Pos → Pos → Type 0) (a : Pos) (xs : List Pos) (b c : Pos) → Leads R a xs b → R b c → (ys : List Pos) × Leads R a ys c
-leads_more R a [] b c l r = (c ∷ [], (subst (λ (p : Pos). R p c) (sym l) r, refl))
-leads_more R a (x ∷ xs) b c l r = let rest = leads_more R x xs b c l.1 r in (x ∷ rest.0, (l.0, rest.1))
-
--- the end of a low path is low
-pub low_end : (m : Map) (side : SideName) (saddle : Option Rank) (a : Pos) (xs : List Pos) (b : Pos) → within side saddle true (rank m a) ≡ true → Leads (IsLowStep m side saddle) a xs b → within side saddle true (rank m b) ≡ true
-low_end m side saddle a [] b low l = subst (λ (p : Pos). within side saddle true (rank m p) ≡ true) l low
-low_end m side saddle a (x ∷ xs) b low l = low_end m side saddle x xs b l.0.to l.1
-
--- each point of a low path is low
-low_one : (m : Map) (side : SideName) (s : Rank) (a : Pos) (xs : List Pos) (b : Pos) (t : Rank) → below_by side (rank m a) s ≡ true → Leads (IsLowStep m side (Some s)) a xs b → Contains (rank m a ∷ map (rank m) xs) t → below_by side t s ≡ true
-low_one m side s a [] b t low l at = elim (Contains-cases (rank m a) t [] at) [ inl e ↦ subst (λ (r : Rank). below_by side r s ≡ true) (sym e) low | inr later ↦ absurd (Contains-none t later) ]
-low_one m side s a (x ∷ xs) b t low l at = elim (Contains-cases (rank m a) t (map (rank m) (x ∷ xs)) at) [
-  | inl e ↦ subst (λ (r : Rank). below_by side r s ≡ true) (sym e) low
-  | inr later ↦ low_one m side s x xs b t l.0.to l.1 later
-]
+use Rattle.hd_cert.proofs.Shown.{none_above-at}
 
 -- no low path joins two points with this saddle
-not_joined : (m : Map) (side : SideName) (a b : Pos) (saddle : Option Rank) → Present m a → SaddleIs m side (rank m a) (rank m b) saddle → within side saddle true (rank m a) ≡ true
-    → (xs : List Pos) → Leads (IsLowStep m side saddle) a xs b → ⊥
-not_joined m side a b None here is low xs l = is (map (rank m) xs) (record { point = point_at m a here; leads = leads_ranks m side None a xs b l })
-not_joined m side a b (Some s) here is low xs l =
-    let t = top_of (below_by side) (below_by-order side) (rank m a) (map (rank m) xs) in
-    let down = low_one m side s a xs b t.0 low l t.1.one_of in
-    let up = is.least (map (rank m) xs) t.0 (record { point = point_at m a here; leads = leads_ranks m side (Some s) a xs b l }) t.1 in
-    false≢true (sym up ∙ down)
+not_joined : (m : Map) (side : SideName) (a b : Pos) (saddle : Option Rank) → SaddleIs m side (rank m a) (rank m b) saddle → LiesWithin m side saddle true a → IsReachedLow m side saddle a b → ⊥
+not_joined m side a b None is low w = let r = reached-below m side None a b low w in is r.points r.path
+not_joined m side a b (Some s) is low w =
+    let r = reached-below m side (Some s) a b low w in
+    let t = top_of (below_by side) (below_by-order side) (rank m a) r.points in
+    let down : below_by side t.0 s ≡ true = All-contains (IsBelowSaddle side (Some s)) (rank m a ∷ r.points) t.0 r.below t.1.one_of in
+    false≢true (sym (is.least r.points t.0 r.path t.1) ∙ down)
 
 -- a listed rank stands at a place
 listed_rank : (m : Map) (p : Pos) (ps : List Pos) → Present m p → ((k : ℕ) → k < length ps → Present m (point_of ps k)) → Contains (map (rank m) ps) (rank m p) → Contains ps p
@@ -77,31 +55,33 @@ level_back m side (Some s) (Some x) p w h = subst (λ (t : Rank). below_by side 
 level_back m side None (Some x) p w h = absurd w
 level_back m side (Some s) None p w h = absurd w
 
-module _ (m : Map) (side : SideName) (a b : Pos) (saddle : Option Rank) (written : Option (Pos × ℤ)) (cut : List Pos) (here : Present m a) (is_written : IsWritten m saddle written) (shown : IsRouteCut m side saddle a cut) where
-  joined : (k : ℕ) → k < length cut → (xs : List Pos) × Leads (IsLowStep m side saddle) a xs (point_of cut k)
+module _ (m : Map) (side : SideName) (a b : Pos) (saddle : Option Rank) (written : Option (Pos × ℤ)) (cut : List Pos) (is_written : IsWritten m saddle written) (shown : IsRouteCut m side saddle a cut) where
+  joined : (k : ℕ) → k < length cut → IsReachedLow m side saddle a (point_of cut k)
   joined k inside = (shown.all (point_of cut k)).0 (Contains-get_or cut k (record { x = 0; y = 0 }) inside)
 
+  joined_low : (k : ℕ) → k < length cut → LiesWithin m side saddle true (point_of cut k)
+  joined_low k inside = let w = joined k inside in low_end m side saddle a w.0 (point_of cut k) shown.low w.1
+
   cut_present : (k : ℕ) → k < length cut → Present m (point_of cut k)
-  cut_present k inside = let w = joined k inside in leads_present m side saddle a w.0 (point_of cut k) here w.1
+  cut_present k inside = (joined_low k inside).present
 
   cut_low : (k : ℕ) → k < length cut → IsBelowLevel m side (position_only written) (point_of cut k)
-  cut_low k inside = let w = joined k inside in level_same m side saddle written (point_of cut k) is_written (low_end m side saddle a w.0 (point_of cut k) shown.low w.1)
+  cut_low k inside = level_same m side saddle written (point_of cut k) is_written (joined_low k inside).low
 
   cut_begins : Contains cut a
   cut_begins = (shown.all a).1 ([], refl)
 
   cut_ends : SaddleIs m side (rank m a) (rank m b) saddle → Contains cut b → ⊥
-  cut_ends is c = let w = (shown.all b).0 c in not_joined m side a b saddle here is shown.low w.0 w.1
+  cut_ends is c = not_joined m side a b saddle is shown.low ((shown.all b).0 c)
 
   cut_closed : (k : ℕ) → k < length cut → (q : Pos) → IsLeak m side (position_only written) cut (point_of cut k) q → ⊥
   cut_closed k inside q leak =
-      let w = joined k inside in
       let step : IsLowStep m side saddle (point_of cut k) q = record {
         neighbour = leak.neighbour;
-        from = low_end m side saddle a w.0 (point_of cut k) shown.low w.1;
-        to = level_back m side saddle written q is_written leak.below;
+        from = joined_low k inside;
+        to = record { present = leak.neighbour.to; low = level_back m side saddle written q is_written leak.below };
       } in
-      leak.outside ((shown.all q).1 (leads_more (IsLowStep m side saddle) a w.0 (point_of cut k) q w.1 step))
+      leak.outside ((shown.all q).1 (low-trans m side saddle a (point_of cut k) q (joined k inside) (q ∷ [], (step, refl))))
 
 -- the points of a path are present
 pub route_present : (m : Map) (side : SideName) (a b : Pos) (s : Rank) (path : List Pos) → Present m a → IsRouteOver m side a b s path → (k : ℕ) → k < length path → Present m (point_of path k)
@@ -116,7 +96,7 @@ pub right_of : (m : Map) (side : SideName) (a b : Pos) (saddle : Option Rank) (w
     → IsRight m (record { side = side; adjacency = m.adjacency; from = a; to = b; saddle = written; path = path; cut = cut })
 right_of m side a b None None path cut here there pit pit' apart is w none shown =
     let empty : length path ≡ 0 = ap length none in (
-      (here, (there, (tt, ((λ k inside. absurd (omega (arith, inside, empty))), cut_present m side a b None None cut here w shown)))),
+      (here, (there, (tt, ((λ k inside. absurd (omega (arith, inside, empty))), cut_present m side a b None None cut w shown)))),
       (
         (pit, (pit', apart)),
         (
@@ -132,8 +112,8 @@ right_of m side a b None None path cut here there pit pit' apart is w none shown
                   (
                     shown.rises,
                     (
-                      (cut_begins m side a b None None cut here w shown, cut_ends m side a b None None cut here w shown is),
-                      (cut_low m side a b None None cut here w shown, (cut_closed m side a b None None cut here w shown, tt)),
+                      (cut_begins m side a b None None cut w shown, cut_ends m side a b None None cut w shown is),
+                      (cut_low m side a b None None cut w shown, (cut_closed m side a b None None cut w shown, tt)),
                     ),
                   ),
                 ),
@@ -147,7 +127,7 @@ right_of m side a b (Some s) (Some (p, h)) path cut here there pit pit' apart is
     let present = route_present m side a b s path here over in
     let on = subst (Contains (map (rank m) path)) (sym w.1) over.top.one_of in
     let none = subst (λ (t : Rank). NoneAbove (below_by side) t (map (rank m) path)) (sym w.1) over.top.none_above in (
-      (here, (there, (w.0, (present, cut_present m side a b (Some s) (Some (p, h)) cut here w shown)))),
+      (here, (there, (w.0, (present, cut_present m side a b (Some s) (Some (p, h)) cut w shown)))),
       (
         (pit, (pit', apart)),
         (
@@ -163,8 +143,8 @@ right_of m side a b (Some s) (Some (p, h)) path cut here there pit pit' apart is
                   (
                     shown.rises,
                     (
-                      (cut_begins m side a b (Some s) (Some (p, h)) cut here w shown, cut_ends m side a b (Some s) (Some (p, h)) cut here w shown is),
-                      (cut_low m side a b (Some s) (Some (p, h)) cut here w shown, (cut_closed m side a b (Some s) (Some (p, h)) cut here w shown, tt)),
+                      (cut_begins m side a b (Some s) (Some (p, h)) cut w shown, cut_ends m side a b (Some s) (Some (p, h)) cut w shown is),
+                      (cut_low m side a b (Some s) (Some (p, h)) cut w shown, (cut_closed m side a b (Some s) (Some (p, h)) cut w shown, tt)),
                     ),
                   ),
                 ),

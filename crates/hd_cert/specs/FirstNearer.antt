@@ -1,12 +1,12 @@
 -- Neighbours that are nearer to the end of a path.
-use Rattle.std.specs.Prelude.{◌≡◌, ◌<◌, ◌≤◌, ◌+◌, ◌-◌, ℕ, List, length, map, Option, Some}
+use Rattle.std.specs.Prelude.{◌≡◌, ◌<◌, ◌≤◌, ◌+◌, ◌-◌, ℕ, List, length, Option, Some}
 use Rattle.hd_map.specs.declared.types.Pos.{Pos}
 use Rattle.hd_map.specs.Map.{Map, InGrid, Present, place_of, cell_count}
 use Rattle.hd_map.specs.Neighbour.{Neighbour}
 use Rattle.hd_check.specs.Rules.{point_of}
 use Rattle.hd_cert.specs.declared.residue.Residue.{Residue}
 use Rattle.hd_cert.specs.Residues.{residue_at, residue_of}
-use Rattle.hd_cert.specs.Steps.{steps_at}
+use Rattle.hd_reach.specs.Steps.{steps_at}
 
 -- q is a neighbour with this number of steps
 pub record IsNearer (m : Map) (steps : List (Option ℕ)) (left : ℕ) (at q : Pos) : Type 0 where
@@ -31,8 +31,7 @@ pub record GoesNearer (m : Map) (steps : List (Option ℕ)) (from : Pos) (count 
 
 -- so many steps lead down from a point to another, and these residues tell them
 pub record LeadsDown (m : Map) (residues : List Residue) (from to : Pos) (steps : List (Option ℕ)) (count : ℕ) : Type 0 where
-  pub whole : length steps ≡ cell_count m.size
-  pub residues_are : residues ≡ map residue_of steps
+  pub read : (p : Pos) → InGrid m.size p → residue_at m.size residues p ≡ residue_of (steps_at m.size steps p)
   pub noted : steps_at m.size steps from ≡ Some count
   pub few : count < cell_count m.size
   pub begun : steps_at m.size steps to ≡ Some 0

@@ -6,11 +6,12 @@ use Rattle.hd_map.specs.declared.types.Rank.{Rank}
 use Rattle.hd_map.specs.declared.types.SideName.{SideName}
 use Rattle.hd_map.specs.Map.{Map, place_of}
 use Rattle.hd_map.specs.Neighbour.{Neighbour}
-use Rattle.hd_map.specs.Path.{Leads, IsTop}
+use Rattle.hd_map.specs.Path.{IsTop}
 use Rattle.hd_map.specs.Rank.{rank, below_by}
 use Rattle.hd_check.specs.declared.types.Certificate.{Certificate}
 use Rattle.hd_map.specs.Shown.{IsNotAfter}
-use Rattle.hd_cert.specs.Within.{within}
+use Rattle.hd_reach.specs.Reached.{IsReachedLow}
+use Rattle.hd_reach.specs.Within.{LiesWithin}
 use Rattle.hd_cert.specs.Shown.{IsWritten}
 use Rattle.hd_check.specs.Rules.{point_of}
 
@@ -28,20 +29,10 @@ pub record IsShownRoute (m : Map) (side : SideName) (a b : Pos) (s : Rank) (path
   pub fewest : (other : List Pos) → IsRouteOver m side a b s other → length path ≤ length other
   pub first : (other : List Pos) → IsRouteOver m side a b s other → length other ≡ length path → IsNotAfter (map (place_of m.size) path) (map (place_of m.size) other)
 
--- two neighbours below the saddle, or any two where there is none
-pub record IsLowStep (m : Map) (side : SideName) (saddle : Option Rank) (p q : Pos) : Type 0 where
-  pub neighbour : Neighbour m p q
-  pub from : within side saddle true (rank m p) ≡ true
-  pub to : within side saddle true (rank m q) ≡ true
-
--- p is reached from a by such steps
-abbrev pub IsReachedLow : Map → SideName → Option Rank → Pos → Pos → Type 0
-IsReachedLow m side saddle a p = (xs : List Pos) × Leads (IsLowStep m side saddle) a xs p
-
 -- the points that are reached from a below the saddle, in position order
 pub record IsRouteCut (m : Map) (side : SideName) (saddle : Option Rank) (a : Pos) (cut : List Pos) : Type 0 where
   pub rises : (k : ℕ) → k < length cut - 1 → place_of m.size (point_of cut k) < place_of m.size (point_of cut (k + 1))
-  pub low : within side saddle true (rank m a) ≡ true
+  pub low : LiesWithin m side saddle true a
   pub all : (p : Pos) → Contains cut p ↔ IsReachedLow m side saddle a p
 
 -- the certificate shown for a and b, whose saddle this is

@@ -5,11 +5,10 @@
 //! it says what else holds then.
 #![tactic(auto)]
 
-mod bound;
-mod flood;
 mod laws;
 mod listed_points;
 mod making;
+mod reached;
 mod region_cut;
 mod residue;
 mod trace;

@@ -1,23 +1,23 @@
 // The certificate for two pits.
-ghost use Rattle.std.specs.Prelude.{◌≡◌, IfOk, Some, true};
+ghost use Rattle.std.specs.Prelude.{IfOk, Some, true};
 ghost use Rattle.hd_map.specs.Map.{Present};
 ghost use Rattle.hd_map.specs.Rank.{rank, IsPoint};
 ghost use Rattle.hd_check.specs.Rules.{IsRight};
-ghost use Rattle.hd_cert.specs.Within.{within};
 ghost use Rattle.hd_map.specs.Saddle.{IsSaddle, SaddleIs};
 ghost use Rattle.hd_steep.specs.Numbering.{AreNumbered};
 ghost use Rattle.hd_steep.specs.Reached.{AreReachedPits};
+ghost use Rattle.hd_reach.specs.Within.{LiesWithin};
 ghost use Rattle.hd_cert.specs.Routes.{IsShownRoute, IsRouteCut, IsMade};
 ghost use Rattle.hd_cert.specs.Shown.{IsWritten, AreTwoPits, IsShownCertificate};
 
-use crate::bound::Bound;
-use crate::flood::residues_from;
 use crate::listed_points::listed;
+use crate::reached::residues_from;
 use crate::region_cut::region_cut;
 use crate::trace::path_down;
 use hd_check::Certificate;
 use hd_list::{List, Memory};
 use hd_map::{Heights, Pos, Rank, Side, position_of};
+use hd_reach::Bound;
 use hd_steep::Regions;
 use std::alloc::Global;
 
@@ -134,8 +134,7 @@ fn shown_cut<S: Side, G: Heights>(
     from: Pos,
     saddle: Option<Rank>,
 ) -> Result<List<Pos>, Memory>
-    requires here { Present (G.map grid.now) from }
-    requires low { within S.NAME saddle true (rank (G.map grid.now) from) ≡ true }
+    requires { LiesWithin (G.map grid.now) S.NAME saddle true from }
     ensures { IfOk result (IsRouteCut (G.map grid.now) S.NAME saddle from) }
 {
     let bound = Bound {

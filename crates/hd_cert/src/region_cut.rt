@@ -1,16 +1,17 @@
 // The points that are reached below a saddle, by the regions of the points.
-ghost use Rattle.std.specs.Prelude.{◌≡◌, ◌↔◌, IfOk, IsTrue, OnOk, true};
-ghost use Rattle.hd_map.specs.Map.{InGrid, Present, place_of};
+ghost use Rattle.std.specs.Prelude.{◌↔◌, IfOk, IsTrue, OnOk, true};
+ghost use Rattle.hd_map.specs.Map.{InGrid, place_of};
 ghost use Rattle.hd_map.specs.Rank.{rank};
 ghost use Rattle.hd_steep.specs.Numbering.{AreNumbered};
 ghost use Rattle.hd_steep.specs.Reached.{AreReachedPits};
 ghost use Rattle.hd_cert.specs.Listed.{Lists};
-ghost use Rattle.hd_cert.specs.Routes.{IsReachedLow, IsRouteCut};
-ghost use Rattle.hd_cert.specs.Within.{within};
+ghost use Rattle.hd_cert.specs.Routes.{IsRouteCut};
+ghost use Rattle.hd_reach.specs.Reached.{IsReachedLow};
+ghost use Rattle.hd_reach.specs.Within.{LiesWithin};
 
-use crate::bound::{Bound, lies_within};
 use hd_list::{List, Memory};
 use hd_map::{Heights, Pos, Rank, Side, index_of, position_after};
+use hd_reach::{Bound, lies_within};
 use hd_steep::Regions;
 use std::alloc::Global;
 
@@ -25,8 +26,7 @@ pub fn region_cut<S: Side, G: Heights>(
 ) -> Result<List<Pos>, Memory>
     requires regions { AreNumbered (G.map grid.now) S.NAME regions.now }
     requires reached { AreReachedPits (G.map grid.now) S.NAME saddle (rank (G.map grid.now) from) regions.now.pits reached.now }
-    requires here { Present (G.map grid.now) from }
-    requires low { within S.NAME saddle true (rank (G.map grid.now) from) ≡ true }
+    requires low { LiesWithin (G.map grid.now) S.NAME saddle true from }
     ensures { IfOk result (IsRouteCut (G.map grid.now) S.NAME saddle from) }
 {
     let size = grid.size();
@@ -51,8 +51,7 @@ fn list_reached<S: Side, G: Heights>(
 ) -> Result<(), Memory>
     requires regions { AreNumbered (G.map grid.now) S.NAME regions.now }
     requires reached { AreReachedPits (G.map grid.now) S.NAME saddle (rank (G.map grid.now) from) regions.now.pits reached.now }
-    requires here { Present (G.map grid.now) from }
-    requires low { within S.NAME saddle true (rank (G.map grid.now) from) ≡ true }
+    requires low { LiesWithin (G.map grid.now) S.NAME saddle true from }
     requires at { InGrid (G.map grid.now).size at }
     ensures { OnOk result (Lists (G.map grid.now).size (IsReachedLow (G.map grid.now) S.NAME saddle from) (place_of (G.map grid.now).size at) cut.old.items cut.new.items) }
 {
@@ -74,8 +73,7 @@ fn is_reached<S: Side, G: Heights>(
 ) -> bool
     requires regions { AreNumbered (G.map grid.now) S.NAME regions.now }
     requires reached { AreReachedPits (G.map grid.now) S.NAME saddle (rank (G.map grid.now) from) regions.now.pits reached.now }
-    requires here { Present (G.map grid.now) from }
-    requires low { within S.NAME saddle true (rank (G.map grid.now) from) ≡ true }
+    requires low { LiesWithin (G.map grid.now) S.NAME saddle true from }
     requires at { InGrid (G.map grid.now).size at }
     ensures { IsTrue result ↔ IsReachedLow (G.map grid.now) S.NAME saddle from at }
 {

@@ -2,6 +2,8 @@
 ghost use Rattle.std.specs.Prelude.{◌≡◌};
 ghost use Rattle.hd_cert.specs.Residues.{residue_after};
 
+use hd_reach::Mark;
+
 /// In how many steps, modulo 3, a point is reached.
 #[derive(Clone, Copy, PartialEq, Eq)]
 pub enum Residue {
@@ -17,12 +19,21 @@ pub enum Residue {
 
 const _: () = prove!(size_of::<Residue>() == 1);
 
-impl Residue {
-    /// The residue of one step more.
+impl Mark for Residue {
+    ghost use Rattle.hd_cert.specs.Residues.{after-reached, residue_after};
+    ghost use Rattle.hd_cert.specs.declared.residue.Residue.TheVariants.{Unreached};
+
+    ghost blank = { Unreached };
+
+    ghost after = { residue_after };
+
     #[inline]
-    pub fn residue_after(self) -> Residue
-        ensures { result ≡ residue_after self }
-    {
+    fn is_blank(self) -> bool {
+        self == Residue::Unreached
+    }
+
+    #[inline]
+    fn after(self) -> Residue {
         match self {
             Residue::Unreached => Residue::Unreached,
             Residue::Zero => Residue::One,
@@ -31,6 +42,10 @@ impl Residue {
         }
     }
 
+    ghost marks = { after-reached };
+}
+
+impl Residue {
     /// The residue of one step less.
     #[inline]
     pub fn residue_before(self) -> Residue

@@ -52,10 +52,6 @@ pub record AreBlankBefore (bytes : List ℕ) (start place : Place) : Type 0 wher
   pub at : IsPlace bytes place
   pub whole : blank_lines_in start.number (lines_at bytes start).lines ≡ blank_lines_in place.number (lines_at bytes place).lines
 
-bad_words : (number : ℕ) (more : List (List (List ℕ))) (words : List (List ℕ)) → (words ≡ [] → ⊥) → blank_lines_in number (words ∷ more) ≡ Err (BadLine number)
-bad_words number more [] some = absurd (some refl)
-bad_words number more (w ∷ ws) some = refl
-
 module _ {A B : Type 0} (r : Read A) (next : A → Lines → Read B) where
   -- after what was read comes the next
   pub and_then-goes_on : (x : A) (rest : Lines) → r ≡ Ok (x, rest) → and_then r next ≡ next x rest

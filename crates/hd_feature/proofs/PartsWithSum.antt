@@ -1,5 +1,5 @@
 -- The parts of a word with `;Sum` after it.
-use Rattle.std.proofs.Common.{◌≡◌, ◌∙◌, ℕ, List, [], ◌∷◌, ◌++◌, ◌<◌, ◌+◌, length, cond, Bool, true, false, arith, Result, Ok, Err, Option, Some, None, codes, refl, sym, ap, is_some, true≢false}
+use Rattle.std.proofs.Common.{◌≡◌, ◌∙◌, ℕ, List, [], ◌∷◌, ◌++◌, ◌<◌, length, cond, Bool, true, false, arith, Result, Ok, Err, Option, Some, None, codes, refl, sym, ap, is_some, true≢false}
 use Rattle.std.specs.List.{onto_first}
 use Rattle.std.proofs.lemmas.List.Splits.{length-slice_split}
 use denote.Bor.{Bor}

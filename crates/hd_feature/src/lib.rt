@@ -17,7 +17,7 @@ mod statistic;
 mod value;
 
 pub use laws::{heights_alone_serve, mean_height_is_small};
-pub use names::named;
+pub use names::{named, without_height};
 pub use needs::heights_serve;
 pub use notation::{Attribute, Kind, Notation, NotationError, Parameter, Significance, Statistic};
 pub use reading::{read_notation, read_without_statistic};

@@ -5,7 +5,8 @@ ghost use Rattle.hd_feature.specs.declared.notation.Kind.TheVariants as kinds;
 ghost use Rattle.hd_feature.specs.declared.notation.Parameter.TheVariants as parameter;
 ghost use Rattle.hd_feature.specs.declared.notation.Significance.TheVariants as significance;
 ghost use Rattle.hd_feature.specs.declared.notation.Statistic.TheVariants as statistic;
-ghost use Rattle.hd_feature.specs.Parameters.{given, parameter_of, pruned, Plain, AtHeight};
+ghost use Rattle.hd_feature.specs.Names.{given, AtHeight, Plain};
+ghost use Rattle.hd_feature.specs.Parameters.{parameter_of, pruned};
 
 use crate::{Attribute, Kind, Notation, NotationError, Parameter, Significance, Statistic};
 use hd_num::Percent;
@@ -33,8 +34,8 @@ pub fn named(name: &[u8], c: Option<i64>) -> Result<Parameter, NotationError>
     }
 }
 
-// A parameter that takes no height.
-fn without_height(parameter: Parameter, c: Option<i64>) -> Result<Parameter, NotationError>
+/// A parameter that takes no height: `TakesNoHeight` exactly where there is one.
+pub fn without_height<T: Copy + Drop>(parameter: T, c: Option<i64>) -> Result<T, NotationError>
     ensures { result ≡ given (Plain parameter) c }
 {
     match c {

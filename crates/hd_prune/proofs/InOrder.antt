@@ -14,9 +14,11 @@ use Rattle.hd_map.specs.Map.{Map}
 use Rattle.hd_map.specs.Order.{IsStrictOrder}
 use Rattle.hd_map.specs.Rank.{IsPoint}
 use Rattle.hd_map.proofs.Order.{is_same, is_same-decides, is_same-flips}
+use Rattle.hd_graph.specs.declared.graph.Low.{Low}
 use Rattle.hd_prune.specs.declared.step.Owned.{Owned}
 use Rattle.hd_prune.proofs.Links.{one_point}
 use Rattle.hd_prune.specs.Pruned.{AreInOrder, index_less, owned_by}
+use Rattle.hd_prune.specs.Staying.{ranks_of}
 
 pub index-order : IsStrictWeakOrder index_less
 index-order = record {
@@ -46,10 +48,10 @@ in_order-rises m below order raw pits apart h points =
     (λ e. differ i j d lt len (one_point m (get_or pits i d) (get_or pits j d) (points (get_or pits i d) (Contains-get_or pits i d (omega arith))) (points (get_or pits j d) (Contains-get_or pits j d len)) e))
 
 -- one more owner
-pub owned-more : (owner : Rank → Rank) (pits : List Rank) (i : ℕ) (d o : Rank) (old new all : List Owned) → i < length pits → new ≡ old ++ record { pit = get_or pits i d; owner = o } ∷ [] → o ≡ owner (get_or pits i d) →
-    old ++ owned_by owner (drop i pits) ≡ all → new ++ owned_by owner (drop (i + 1) pits) ≡ all
-owned-more owner pits i d o old new all inside e is so =
-    let x : Rank = get_or pits i d in
-    let one : drop i pits ≡ x ∷ drop (suc i) pits = drop-cons pits i d inside in
-    let split : owned_by owner (drop i pits) ≡ record { pit = x; owner = owner x } ∷ owned_by owner (drop (suc i) pits) = ap (owned_by owner) one in
+pub owned-more : (owner : Rank → Rank) (lows : List Low) (i : ℕ) (d : Low) (o : Rank) (old new all : List Owned) → i < length lows → new ≡ old ++ record { pit = (get_or lows i d).rank; owner = o } ∷ [] → o ≡ owner (get_or lows i d).rank →
+    old ++ owned_by owner (ranks_of (drop i lows)) ≡ all → new ++ owned_by owner (ranks_of (drop (i + 1) lows)) ≡ all
+owned-more owner lows i d o old new all inside e is so =
+    let x : Low = get_or lows i d in
+    let one : drop i lows ≡ x ∷ drop (suc i) lows = drop-cons lows i d inside in
+    let split : owned_by owner (ranks_of (drop i lows)) ≡ record { pit = x.rank; owner = owner x.rank } ∷ owned_by owner (ranks_of (drop (suc i) lows)) = ap (λ (ls : List Low). owned_by owner (ranks_of ls)) one in
     rw (add-one, e, is, append_assoc, ← split) so

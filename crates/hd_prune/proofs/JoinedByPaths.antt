@@ -1,6 +1,6 @@
 -- Points of a map that are joined by paths: the levels are the tops of paths, and nearest saddles by
 -- levels are nearest saddles by paths.
-use Rattle.std.proofs.Common.{◌≡◌, ◌≢◌, ℕ, ◌<◌, ◌⊎◌, Bool, List, Option, Some, None, refl, sym, subst}
+use Rattle.std.proofs.Common.{◌≡◌, ◌≢◌, ℕ, ◌<◌, ◌⊎◌, Bool, List, refl, sym, subst}
 use Rattle.std.specs.Prelude.{Contains}
 use Rattle.hd_map.specs.declared.types.Rank.{Rank}
 use Rattle.hd_map.specs.declared.types.SideName.{SideName}
@@ -9,13 +9,12 @@ use Rattle.hd_map.specs.NearestSaddle.{local_height, IsNearestSaddle as IsNeares
 use Rattle.hd_map.specs.Order.{IsNotAbove}
 use Rattle.hd_map.specs.Pruning.{IsSmallest as IsSmallestOfPaths}
 use Rattle.hd_map.specs.Rank.{below_by, IsPoint, Near}
-use Rattle.hd_map.specs.Saddle.{SaddleIs, IsSaddle as IsTopOfPaths}
+use Rattle.hd_map.specs.Saddle.{IsSaddle as IsTopOfPaths}
 use Rattle.hd_map.specs.SideLaws.{below_by-order}
-use Rattle.hd_map.proofs.Levels.{Reach, PointStep, here, step, reach-trans, reach-sym, reach-higher, points-both, path-from_reach}
+use Rattle.hd_map.proofs.Levels.{Reach, PointStep, here, step, reach-trans, reach-sym, reach-higher, points-both}
 use Rattle.hd_map.proofs.Saddles.{near-sym, level-from_saddle, saddle-from_level}
 use Rattle.hd_prune.proofs.Levels.{IsSaddle, IsNearestSaddle}
 use Rattle.hd_prune.proofs.Prunable.{IsSmallest}
-use Rattle.hd_prune.proofs.Levels.{SaddleIs as LevelIs}
 
 module _ (m : Map) (side : SideName) where
   -- a path of points, none above t
@@ -42,10 +41,6 @@ module _ (m : Map) (side : SideName) where
     joined = h.joined;
     least = λ t n j. h.least t j;
   })
-
-  pub levels_are : (p q : Rank) (o : Option Rank) → IsPoint m p → q ≢ p → SaddleIs m side p q o → LevelIs (below_by side) JoinedBy p q o
-  levels_are p q (Some s) point ne h = by_levels p q s ne h
-  levels_are p q None point ne h = λ t j. (let r = path-from_reach (Near m) (below_by side) (below_by-order side) t (not_above_level t p q ne j) j in h r.0 (record { point = point; leads = r.1 }))
 
   pub joined_both : (t a b : Rank) → JoinedBy t a b → JoinedBy t b a
   joined_both t a b j = reach-sym (PointStep (Near m) (below_by side) t) (points-both (Near m) (below_by side) (below_by-order side) (near-sym m) t) j

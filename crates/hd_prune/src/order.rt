@@ -1,4 +1,4 @@
-// The pits of lows, and their owners.
+// The owners of lows that are pits.
 ghost use Rattle.std.specs.Prelude.{◌≡◌, IfOk, Contains};
 ghost use Rattle.hd_map.specs.declared.types.Rank.{Rank};
 ghost use Rattle.hd_map.specs.Region.{IsPit};
@@ -15,32 +15,24 @@ use hd_map::{Rank, Side};
 use std::alloc::Global;
 use std::collections::HashMap;
 
-/// The ranks of lows.
-pub fn low_ranks(alloc: Global, lows: &[Low]) -> Result<Vec<Rank>, Memory>
-    ensures { IfOk result (λ ranks. ranks.items ≡ ranks_of lows.now) }
-{
-    let mut ranks = Vec::with_capacity(alloc, lows.len())?;
-    for low in lows {
-        ranks.push(low.rank)?;
-    }
-    Ok(ranks)
-}
-
 /// The pits with their owners by the links.
 pub fn owners<S: Side, A: Around>(
     alloc: Global,
     around: &A,
     links: &mut HashMap<u32, Rank>,
-    pits: &[Rank],
+    lows: &[Low],
 ) -> Result<List<Owned>, Memory>
-    requires pits { (p : Rank) → Contains pits.now p → IsPit (A.map around.now) S.NAME p }
+    requires pits { (p : Rank) → Contains (ranks_of lows.now) p → IsPit (A.map around.now) S.NAME p }
     requires linked { (owner : Rank → Rank) × IsLinked (A.map around.now) S.NAME owner links.old }
-    ensures { IfOk result (λ owners. (owner : Rank → Rank) → IsLinked (A.map around.now) S.NAME owner links.old → owners ≡ owned_by owner pits.now) }
+    ensures { IfOk result (λ owners. (owner : Rank → Rank) → IsLinked (A.map around.now) S.NAME owner links.old → owners ≡ owned_by owner (ranks_of lows.now)) }
 {
-    let mut owners = List::with_capacity(alloc, pits.len())?;
-    for pit in pits {
-        let owner = owner_of::<S, A>(around, links, *pit)?;
-        owners.push(Owned { pit: *pit, owner })?;
+    let mut owners = List::with_capacity(alloc, lows.len())?;
+    for low in lows {
+        let owner = owner_of::<S, A>(around, links, low.rank)?;
+        owners.push(Owned {
+            pit: low.rank,
+            owner,
+        })?;
     }
     Ok(owners)
 }

@@ -12,7 +12,7 @@ ghost use Rattle.hd_prune.specs.Staying.{ranks_of};
 use crate::around::Around;
 use crate::keeping::keep;
 use crate::leaving::{Limit, steps};
-use crate::order::{low_ranks, owners};
+use crate::order::owners;
 use crate::step::{Kept, Owned, Step};
 use crate::taking::take_over;
 use hd_graph::{FloodLine, Low, Merge, MergedPits, merges_of_pits};
@@ -80,8 +80,7 @@ pub fn prune_by_merges<S: Side, A: Around>(
     let leavers = steps::<S>(alloc, lows, merges, &Limit { percent, sz })?;
     let mut taken = take_over::<S, A>(alloc, around, &leavers)?;
     let kept = keep::<S>(alloc, lows, merges, percent, sz)?;
-    let pits = low_ranks(alloc, lows)?;
-    let owners = owners::<S, A>(alloc, around, &mut taken.links, &pits)?;
+    let owners = owners::<S, A>(alloc, around, &mut taken.links, lows)?;
     Ok(Pruned {
         steps: taken.steps,
         kept,

@@ -1,2 +1,3 @@
-pub mod Reached
 pub mod Flooding
+pub mod Paths
+pub mod ReachedBelow

@@ -1,2 +1,5 @@
+pub mod Within
+pub mod Steps
 pub mod Reached
+pub mod Marks
 pub mod Flood

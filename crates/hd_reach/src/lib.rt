@@ -1,11 +1,13 @@
-//! What several starts of a grid reach, each within bounds of its own, by one flood for all of them.
+//! What a start reaches within a level, by one flood that marks each point that it reaches.
 //!
 //! `Memory` comes from every call that was refused memory it asked for; the doc of a call says so only where
 //! it says what else holds then.
 #![tactic(auto)]
 
-mod bounds;
-mod flood;
+mod bound;
+mod breadth;
+mod mark;
 
-pub use bounds::Bounds;
-pub use flood::reached_from;
+pub use bound::{Bound, lies_within};
+pub use breadth::flood;
+pub use mark::Mark;

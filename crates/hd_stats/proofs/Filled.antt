@@ -3,10 +3,9 @@ use Rattle.std.proofs.Common.{◌≡◌, ◌<◌, ◌∙◌, ℕ, pos, Bool, tru
 use Rattle.std.specs.Prelude.{Contains, nat_eq}
 use Rattle.std.specs.List.{range_with_len, sum_by}
 use Rattle.std.proofs.lemmas.Bool.Decides.{nat_tests}
-use Rattle.std.proofs.lemmas.List.{length-map}
 use Rattle.std.proofs.lemmas.List.Kept.{AllPairs-filter}
 use Rattle.std.proofs.lemmas.List.Sums.{sum_by-cons}
-use Rattle.std.proofs.lemmas.Option.{get_or_from_slice_get, slice_get-get_or, slice_get_within}
+use Rattle.std.proofs.lemmas.Option.{slice_get_within}
 use Rattle.hd_num.specs.Frac.{IsFraction}
 use Rattle.hd_num.specs.declared.frac.Frac.{Frac}
 use Rattle.hd_map.specs.declared.types.Cell.{Cell}
@@ -18,17 +17,14 @@ use Rattle.hd_map.specs.Map.{IsMap, IsMeasured, Map, Present, cell_at, height_at
 use Rattle.hd_map.specs.NearestSaddle.{NearestSaddleIs, local_height}
 use Rattle.hd_map.specs.Rank.{rank}
 use Rattle.hd_map.specs.Shown.{IsReachedBelow}
-use Rattle.hd_map.proofs.Points.{position_at-place, rank_position}
+use Rattle.hd_map.proofs.Points.{point_inside, position_at-place, rank_position}
 use Rattle.hd_prune.specs.declared.step.Kept.{Kept}
 use Rattle.hd_prune.specs.Kept.{pits_kept}
 use Rattle.hd_prune.proofs.Lists.{AllPairs-map, Contains-filter, Contains-map, filter-Contains, map-Contains}
 use Rattle.hd_prune.proofs.Ranges.{range-Contains, range-rises}
-use Rattle.hd_reach.specs.Reached.{AreReached, IsReachedBy}
-use Rattle.hd_reach.proofs.Flooding.{noted-inside}
-use Rattle.hd_reach.proofs.Reached.{by-point}
 use Rattle.hd_stats.specs.Fill.{AreFilled, AreFills, IsFill}
-use Rattle.hd_stats.specs.Volumes.{AreValues, AreVolumes, IsValueOf, added, difference, is_below_nearest, is_number, nearest_of}
-use Rattle.hd_stats.proofs.ReachedBelow.{AreNearest, below-reached, kept-listed, nearest-at, reached-below}
+use Rattle.hd_stats.specs.Volumes.{AreReached, AreValues, AreVolumes, IsReachedBy, IsValueOf, added, difference, is_number, nearest_of}
+use Rattle.hd_stats.proofs.ReachedBelow.{AreNearest, kept-listed, nearest-at, reached-below, reached-point}
 
 -- the height of a present point
 shown : (c : Cell) (masked : Bool) → IsMeasured c → masked ≡ false → shown_height c masked ≡ Some (height_or_zero c)
@@ -59,7 +55,7 @@ sum-filtered p r f g passes fails (k ∷ ks) =
       | false ↦ λ e. (let here = fails k e in omega (arith, rest, more, here))
     ] refl
 
-module _ (m : Map) (side : SideName) (whole : IsMap m) (kept : List Kept) (w : AreNearest m side kept) (reached : List (Option ℕ)) (are : AreReached m (pits_kept kept) (is_below_nearest side kept) reached) where
+module _ (m : Map) (side : SideName) (whole : IsMap m) (kept : List Kept) (w : AreNearest m side kept) (reached : List (Option ℕ)) (are : AreReached m side kept (length kept) reached) where
   abbrev rank_of : ℕ → Rank
   rank_of k = rank m (position_at m.size k)
 
@@ -72,26 +68,21 @@ module _ (m : Map) (side : SideName) (whole : IsMap m) (kept : List Kept) (w : A
 
   pub record IsHere (i k : ℕ) : Type 0 where
     pub present : Present m (position_at m.size k)
-    pub by : IsReachedBy m (pits_kept kept) (is_below_nearest side kept) i (rank_of k)
+    pub by : IsReachedBy m side kept i (rank_of k)
 
   -- where a number is noted, a point is present, which that pit reaches
   is-here : (i k : ℕ) → reaches i k ≡ true → IsHere i k
   is-here i k h =
-      let noted : get_or reached k None ≡ Some i = number-is i (get_or reached k None) h in
-      let inside : k < length reached = noted-inside reached k i noted in
-      let x = (are.exactly k i).0 (slice_get-get_or reached k None inside ∙ ap Some noted) in
-      let point = by-point m (pits_kept kept) (is_below_nearest side kept) i x.0 x.2 in
-      let at : position_at m.size k ≡ point.at = ap (position_at m.size) (sym x.1) ∙ rank_position m x.0 point.at point.present point.rank_is in
+      let x = (are.exactly k i).0 (number-is i (get_or reached k None) h) in
+      let by = x.3 in
+      let point = reached-point m side by.saddle by.one.pit x.0 by.below in
+      let at : position_at m.size k ≡ point.at = ap (position_at m.size) (sym x.2) ∙ rank_position m x.0 point.at point.present point.rank_is in
       let is : x.0 ≡ rank_of k = point.rank_is ∙ ap (rank m) (sym at) in
-      record { present = subst (Present m) (sym at) point.present; by = subst (λ z. IsReachedBy m (pits_kept kept) (is_below_nearest side kept) i z) is x.2 }
+      record { present = subst (Present m) (sym at) point.present; by = subst (λ z. IsReachedBy m side kept i z) is by }
 
   -- each number is one of a kept pit
   pub numbers-few : (k n : ℕ) → get_or reached k None ≡ Some n → n < length kept
-  numbers-few k n e =
-      let x = (are.exactly k n).0 (slice_get-get_or reached k None (noted-inside reached k n e) ∙ ap Some e) in
-      let inside = slice_get_within (pits_kept kept) n x.2.start x.2.is_start in
-      let long = length-map kept (λ (k : Kept). k.pit) in
-      omega (arith, inside, long)
+  numbers-few k n e = ((are.exactly k n).0 e).1
 
   index-of : (k : ℕ) → (rank_of k).index ≡ k
   index-of k = position_at-place m.size k whole.size.some_points
@@ -105,11 +96,10 @@ module _ (m : Map) (side : SideName) (whole : IsMap m) (kept : List Kept) (w : A
             let b = Contains-filter (reaches i) (range_with_len 0 (length reached)) a.0 a.1 in
             subst (λ z. IsReachedBelow m side (Some s) k.pit z) a.2 (reached-below m side kept w i k s is e (rank_of a.0) (is-here i a.0 b.1).by)),
         λ r.
-            (let by = below-reached m side kept w i k s is e x r in
-            let noted = (are.exactly x.index i).1 (x, refl, by) in
-            let at = filter-Contains (reaches i) (range_with_len 0 (length reached)) x.index (range-Contains (length reached) x.index (slice_get_within reached x.index (Some i) noted))
-            (is-number i (get_or reached x.index None) (get_or_from_slice_get reached x.index (Some i) None noted)) in
-            let point = by-point m (pits_kept kept) (is_below_nearest side kept) i x by in
+            (let point = reached-point m side s k.pit x r in
+            let inside : x.index < length reached = rw are.whole (point_inside m x point) in
+            let noted = (are.exactly x.index i).1 (x, slice_get_within kept i k is, refl, record { one = k; is_one = is; saddle = s; nearest = e; below = r }) in
+            let at = filter-Contains (reaches i) (range_with_len 0 (length reached)) x.index (range-Contains (length reached) x.index inside) (is-number i (get_or reached x.index None) noted) in
             let same : rank_of x.index ≡ x = ap (rank m) (rank_position m x point.at point.present point.rank_is) ∙ sym point.rank_is in
             subst (λ z. Contains (filled i) z) same (map-Contains rank_of (filter (reaches i) (range_with_len 0 (length reached))) x.index at)),
       );

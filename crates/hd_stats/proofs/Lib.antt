@@ -1,6 +1,7 @@
 pub mod Gathering
 pub mod Bins
 pub mod ReachedBelow
+pub mod Noted
 pub mod AddedVolumes
 pub mod Filled
 pub mod Totals

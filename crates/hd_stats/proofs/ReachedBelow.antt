@@ -1,22 +1,24 @@
 -- What kept pits reach below their nearest saddles: no point is reached from two of them, and each is owned by the pit that reaches it.
-use Rattle.std.proofs.Common.{◌≡◌, ◌≢◌, ◌<◌, ◌⊎◌, ◌∙◌, ℕ, true, false, inl, inr, List, [], ◌∷◌, Option, Some, None, get_or, slice_get, option_map, refl, sym, ap, subst, arith}
-use Rattle.std.specs.Prelude.{All, AllPairs, Contains}
+use Rattle.std.proofs.Common.{◌≡◌, ◌≢◌, ◌<◌, ◌∙◌, ℕ, true, false, inl, inr, List, ◌∷◌, Some, length, get_or, slice_get, option_map, refl, sym, ap, subst, arith}
+use Rattle.std.specs.Prelude.{◌≤◌, AllPairs, Contains}
 use Rattle.std.proofs.lemmas.Bool.{cases_lt, false≢true}
-use Rattle.std.proofs.lemmas.List.Elements.{All-cons, All-contains, All-head, All-tail, Contains-get_or}
+use Rattle.std.proofs.lemmas.List.{length-map}
+use Rattle.std.proofs.lemmas.List.Elements.{All-contains, Contains-get_or}
 use Rattle.std.proofs.lemmas.Option.{get_or_from_slice_get, same_Some, slice_get-map, slice_get_within}
 use Rattle.hd_map.specs.declared.types.Rank.{Rank}
 use Rattle.hd_map.specs.declared.types.SideName.{SideName}
-use Rattle.hd_map.specs.Map.{Map}
+use Rattle.hd_map.specs.Map.{IsMap, Map, cell_count}
 use Rattle.hd_map.specs.NearestSaddle.{IsNearestSaddle, NearestSaddleIs}
 use Rattle.hd_map.specs.Order.{IsNotAbove}
-use Rattle.hd_map.specs.Path.{Leads}
 use Rattle.hd_map.specs.Rank.{IsPoint, Near, below_by}
 use Rattle.hd_map.specs.Region.{IsPit, IsRoot}
 use Rattle.hd_map.specs.Shown.{IsReachedBelow}
 use Rattle.hd_map.specs.SideLaws.{below_by-order}
+use Rattle.hd_map.proofs.Apart.{length-le_from_apart}
+use Rattle.hd_map.proofs.Points.{point_inside}
 use Rattle.hd_map.proofs.Levels.{here, reach-from_path, same_or_not, top_of}
 use Rattle.hd_map.proofs.Nexts.{root-is_pit, root-of_pit}
-use Rattle.hd_map.proofs.Saddles.{reach-point, saddle-above_pit}
+use Rattle.hd_map.proofs.Saddles.{reach-point}
 use Rattle.hd_map.proofs.Order.{below-not_above, not_above-trans}
 use Rattle.hd_prune.specs.declared.step.Kept.{Kept}
 use Rattle.hd_prune.specs.Kept.{pits_kept}
@@ -24,8 +26,7 @@ use Rattle.hd_prune.specs.Staying.{AreKeptAlone}
 use Rattle.hd_prune.proofs.MapOwners.{root-reached}
 use Rattle.hd_prune.proofs.JoinedByPaths.{JoinedBy, joined_along, joined_both, joined_higher, not_above_level}
 use Rattle.hd_lines.proofs.Owners.{AreOwners, owners-pruned, saddle-within}
-use Rattle.hd_reach.specs.Reached.{IsReachedBy, IsReachedWithin, ReachApart}
-use Rattle.hd_stats.specs.Volumes.{is_below_nearest, is_under, nearest_of}
+use Rattle.hd_stats.specs.Volumes.{IsReachedBy}
 
 module _ (m : Map) (side : SideName) where
   -- what is reached below a saddle is joined below it
@@ -108,14 +109,6 @@ module _ (m : Map) (side : SideName) (kept : List Kept) (w : AreNearest m side k
   abbrev pits : List Rank
   pits = pits_kept kept
 
-  of_map : (o : Option Kept) (p : Rank) → option_map (λ (k : Kept). k.pit) o ≡ Some p → (k : Kept) × (o ≡ Some k) × (k.pit ≡ p)
-  of_map None p e = absurd cc
-  of_map (Some k) p e = (k, refl, same_Some k.pit p e)
-
-  -- the kept pit of a number
-  pub kept-at : (n : ℕ) (p : Rank) → slice_get pits n ≡ Some p → (k : Kept) × (slice_get kept n ≡ Some k) × (k.pit ≡ p)
-  kept-at n p is = of_map (slice_get kept n) p (sym (slice_get-map (λ (k : Kept). k.pit) kept n) ∙ is)
-
   pub pit-listed : (n : ℕ) (p : Rank) → slice_get pits n ≡ Some p → Contains pits p
   pit-listed n p is = subst (λ z. Contains pits z) (get_or_from_slice_get pits n p p is) (Contains-get_or pits n p (slice_get_within pits n p is))
 
@@ -142,82 +135,32 @@ module _ (m : Map) (side : SideName) (kept : List Kept) (w : AreNearest m side k
         ]
       ]
 
-  -- what a pit reaches within the bounds of its nearest saddle it reaches below it
-  within-saddle : (p s x : Rank) → IsPit m side p → IsNearestSaddle m side pits p s → IsReachedWithin m (is_under side (Some s)) p x → IsReachedBelow m side (Some s) p x
-  within-saddle p s x at is r = record {
-    points = r.points;
-    path = r.path;
-    below = All-cons (λ y. below_by side y s ≡ true) p r.points (saddle-above_pit m side p is.reached.0 s at (λ e. is.reached.2 (sym e)) is.reached.3) r.allowed;
-  }
+  -- no point is reached from two of them
+  pub kept-apart : (i j : ℕ) (x : Rank) → IsReachedBy m side kept i x → IsReachedBy m side kept j x → i ≡ j
+  kept-apart i j x a b =
+      let p : Rank = a.one.pit in
+      let q : Rank = b.one.pit in
+      let is : slice_get pits i ≡ Some p = pit-read i a.one a.is_one in
+      let is' : slice_get pits j ≡ Some q = pit-read j b.one b.is_one in
+      let at_p = pit-listed i p is in
+      let at_q = pit-listed j q is' in
+      elim (same_or_not (below_by side) (below_by-order side) p q) [
+        | inl same ↦ pit-once i j q (is ∙ ap Some same) is'
+        | inr ne ↦ absurd (reached-apart m side pits p q a.saddle b.saddle x (w.pits p at_p).point (w.pits q at_q).point at_p at_q ne
+            (nearest-at i a.one a.is_one a.saddle a.nearest) (nearest-at j b.one b.is_one b.saddle b.nearest) a.below b.below)
+      ]
 
-  -- what a start reaches within the bounds of a nearest saddle: itself alone where there is none, and what it reaches below it
-  within-cases : (nearest : Option Rank) (p x : Rank) → IsPit m side p → NearestSaddleIs m side pits p nearest → IsReachedWithin m (is_under side nearest) p x
-      → (x ≡ p) ⊎ ((s : Rank) × (nearest ≡ Some s) × IsReachedBelow m side (Some s) p x)
-  within-cases None p x at is r = inl (alone r.points r.path.leads r.allowed)
-    where
-      alone : (ys : List Rank) → Leads (Near m) p ys x → All (λ y. false ≡ true) ys → x ≡ p
-      alone [] l all = sym l
-      alone (y ∷ ys) l all = absurd (false≢true (All-head (λ y. false ≡ true) y ys all))
-  within-cases (Some s) p x at is r = inr (s, refl, within-saddle p s x at is r)
-
-  -- the other way round
-  pub below-within : (s p x : Rank) → IsReachedBelow m side (Some s) p x → IsReachedWithin m (is_under side (Some s)) p x
-  below-within s p x r = record { points = r.points; path = r.path; allowed = All-tail (λ y. below_by side y s ≡ true) p r.points r.below }
-
-  pub reached-cases : (n : ℕ) (x : Rank) → IsReachedBy m pits (is_below_nearest side kept) n x
-      → (k : Kept) × (slice_get kept n ≡ Some k) × ((x ≡ k.pit) ⊎ ((s : Rank) × (k.nearest ≡ Some s) × IsReachedBelow m side (Some s) k.pit x))
-  reached-cases n x r =
-      let k = kept-at n r.start r.is_start in
-      let pit = w.pits r.start (pit-listed n r.start r.is_start) in (
-        k.0,
-        k.1,
-        within-cases (k.0).nearest (k.0).pit x (subst (IsPit m side) (sym k.2) pit) (w.nearest k.0 (kept-listed n k.0 k.1))
-            (subst (λ o. IsReachedWithin m (is_under side (nearest_of o)) (k.0).pit x) k.1 (subst (λ p. IsReachedWithin m (is_below_nearest side kept n) p x) (sym k.2) r.within)),
-      )
-
-  -- the starts and bounds of a flood from these pits
-  pub kept-apart : ReachApart m pits (is_below_nearest side kept)
-  kept-apart = record {
-    points = λ k d inside. (w.pits _ (Contains-get_or pits k d inside)).point;
-    apart = λ i j x ri rj.
-        (let a = reached-cases i x ri in
-        let b = reached-cases j x rj in
-        let p : Rank = (a.0).pit in
-        let q : Rank = (b.0).pit in
-        let is : slice_get pits i ≡ Some p = pit-read i a.0 a.1 in
-        let is' : slice_get pits j ≡ Some q = pit-read j b.0 b.1 in
-        let at_p = pit-listed i p is in
-        let at_q = pit-listed j q is' in
-        elim (same_or_not (below_by side) (below_by-order side) p q) [
-          | inl same ↦ pit-once i j q (is ∙ ap Some same) is'
-          | inr ne ↦ absurd (elim a.2 [
-            | inl here_p ↦ elim b.2 [
-              | inl here_q ↦ ne (sym here_p ∙ here_q)
-              | inr r ↦
-                  let t = reached-joined m side r.0 q x r.2 in
-                  none-below m side pits q r.0 (w.pits q at_q).point (nearest-at j b.0 b.1 r.0 r.1) t.0 p at_p ne t.1 (subst (λ z. JoinedBy m side t.0 q z) here_p t.2)
-            ]
-            | inr r ↦ elim b.2 [
-              | inl here_q ↦
-                  let t = reached-joined m side r.0 p x r.2 in
-                  none-below m side pits p r.0 (w.pits p at_p).point (nearest-at i a.0 a.1 r.0 r.1) t.0 q at_q (λ e. ne (sym e)) t.1 (subst (λ z. JoinedBy m side t.0 p z) here_q t.2)
-              | inr r' ↦ reached-apart m side pits p q r.0 r'.0 x (w.pits p at_p).point (w.pits q at_q).point at_p at_q ne (nearest-at i a.0 a.1 r.0 r.1) (nearest-at j b.0 b.1 r'.0 r'.1) r.2 r'.2
-            ]
-          ])
-        ]);
-  }
-
-  -- what a kept pit with a nearest saddle reaches within its bounds is what it reaches below that saddle
-  pub reached-below : (n : ℕ) (k : Kept) (s : Rank) → slice_get kept n ≡ Some k → k.nearest ≡ Some s → (x : Rank) → IsReachedBy m pits (is_below_nearest side kept) n x → IsReachedBelow m side (Some s) k.pit x
+  -- what one with this nearest saddle reaches
+  pub reached-below : (n : ℕ) (k : Kept) (s : Rank) → slice_get kept n ≡ Some k → k.nearest ≡ Some s → (x : Rank) → IsReachedBy m side kept n x → IsReachedBelow m side (Some s) k.pit x
   reached-below n k s is e x r =
-      let start : r.start ≡ k.pit = same_Some r.start k.pit (sym r.is_start ∙ pit-read n k is) in
-      let within = subst (λ o. IsReachedWithin m (is_under side o) k.pit x) e
-      (subst (λ o. IsReachedWithin m (is_under side (nearest_of o)) k.pit x) is (subst (λ p. IsReachedWithin m (is_below_nearest side kept n) p x) start r.within)) in
-      within-saddle k.pit s x (w.pits k.pit (pit-listed n k.pit (pit-read n k is))) (nearest-at n k is s e) within
+      let same : r.one ≡ k = same_Some r.one k (sym r.is_one ∙ is) in
+      let level : r.saddle ≡ s = same_Some r.saddle s (sym r.nearest ∙ ap (λ (z : Kept). z.nearest) same ∙ e) in
+      subst (λ (z : Kept). IsReachedBelow m side (Some s) z.pit x) same (subst (λ (u : Rank). IsReachedBelow m side (Some u) r.one.pit x) level r.below)
 
-  pub below-reached : (n : ℕ) (k : Kept) (s : Rank) → slice_get kept n ≡ Some k → k.nearest ≡ Some s → (x : Rank) → IsReachedBelow m side (Some s) k.pit x → IsReachedBy m pits (is_below_nearest side kept) n x
-  below-reached n k s is e x r = record {
-    start = k.pit;
-    is_start = pit-read n k is;
-    within = subst (λ o. IsReachedWithin m (is_under side (nearest_of o)) k.pit x) (sym is) (subst (λ o. IsReachedWithin m (is_under side o) k.pit x) (sym e) (below-within s k.pit x r));
-  }
+  -- there are few of them
+  pub kept-few : IsMap m → length kept ≤ 4194304
+  kept-few whole =
+      let most = length-le_from_apart (λ (r : Rank). r.index) (cell_count m.size) pits (λ i j d less inside e. (let lt = w.in_order i j d less inside in omega (arith, lt, e))) (λ p at. point_inside m p (w.pits p at).point) in
+      let long = length-map kept (λ (k : Kept). k.pit) in
+      let cells = whole.size.cells in
+      omega (arith, most, long, cells)

@@ -1,12 +1,12 @@
 -- What kept pits reach below their nearest saddles, added up point by point.
-use Rattle.std.specs.Prelude.{◌≡◌, ◌<◌, ◌≤◌, ◌+◌, ◌-ℤ◌, ◌*◌, ◌^◌, ℕ, ℤ, pos, Bool, false, nat_eq, unsigned_abs, if◌then◌else◌, List, length, sum_by, slice_get, slice_index_or, Option, Some, None, MatchOption}
+use Rattle.std.specs.Prelude.{◌≡◌, ◌<◌, ◌≤◌, ◌↔◌, ◌+◌, ◌-ℤ◌, ◌*◌, ◌^◌, ℕ, ℤ, pos, Bool, false, nat_eq, unsigned_abs, if◌then◌else◌, List, length, sum_by, slice_get, slice_index_or, Option, Some, None, MatchOption}
 use Rattle.std.specs.List.{range_with_len}
 use Rattle.hd_num.specs.declared.frac.Frac.{Frac}
 use Rattle.hd_num.specs.Frac.{IsFraction}
 use Rattle.hd_map.specs.declared.types.Rank.{Rank}
 use Rattle.hd_map.specs.declared.types.SideName.{SideName}
-use Rattle.hd_map.specs.Map.{Map, height_at, position_at}
-use Rattle.hd_map.specs.Rank.{below_by}
+use Rattle.hd_map.specs.Map.{Map, cell_count, height_at, position_at}
+use Rattle.hd_map.specs.Shown.{IsReachedBelow}
 use Rattle.hd_prune.specs.declared.step.Kept.{Kept}
 
 -- the nearest saddle of a kept pit, if there is one
@@ -14,14 +14,18 @@ abbrev pub nearest_of : Option Kept → Option Rank
 nearest_of None = None
 nearest_of (Some k) = k.nearest
 
--- whether a point is below a saddle, if there is one
-abbrev pub is_under : SideName → Option Rank → Rank → Bool
-is_under side None x = false
-is_under side (Some s) x = below_by side x s
+-- the kept pit of this number reaches the point x below its nearest saddle
+pub record IsReachedBy (m : Map) (side : SideName) (kept : List Kept) (n : ℕ) (x : Rank) : Type 0 where
+  pub one : Kept
+  pub is_one : slice_get kept n ≡ Some one
+  pub saddle : Rank
+  pub nearest : one.nearest ≡ Some saddle
+  pub below : IsReachedBelow m side (Some saddle) one.pit x
 
--- whether a point is below the nearest saddle of the kept pit of this number
-abbrev pub is_below_nearest : SideName → List Kept → ℕ → Rank → Bool
-is_below_nearest side kept n x = is_under side (nearest_of (slice_get kept n)) x
+-- by index the number of that of the first kept pits which so reaches the point, and none where none does or no point is present
+pub record AreReached (m : Map) (side : SideName) (kept : List Kept) (count : ℕ) (reached : List (Option ℕ)) : Type 0 where
+  pub whole : length reached ≡ cell_count m.size
+  pub exactly : (k n : ℕ) → slice_index_or reached k None ≡ Some n ↔ ((x : Rank) × (n < count) × (x.index ≡ k) × IsReachedBy m side kept n x)
 
 -- whether this is the number of the pit that reaches a point
 abbrev pub is_number : ℕ → Option ℕ → Bool

@@ -5,7 +5,6 @@
 //! it says what else holds then.
 #![tactic(auto)]
 
-mod below;
 mod distribution;
 mod gather;
 mod heights;

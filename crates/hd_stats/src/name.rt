@@ -1,8 +1,8 @@
 // The names of height parameters.
 ghost use Rattle.std.specs.Prelude.{◌≡◌};
-ghost use Rattle.hd_stats.specs.Names.{Plain, given, height_name_of};
+ghost use Rattle.hd_stats.specs.Names.{height_name_of};
 
-use hd_feature::NotationError;
+use hd_feature::{NotationError, without_height};
 
 /// A height parameter of a surface. Heights are in steps, and no form is taken away first.
 #[derive(Clone, Copy, Debug, PartialEq, Eq)]
@@ -34,15 +34,5 @@ pub fn height_name(name: &[u8], c: Option<i64>) -> Result<HeightName, NotationEr
             None => Err(NotationError::NeedsHeight),
         },
         _ => Err(NotationError::UnknownName),
-    }
-}
-
-// A parameter that takes no height.
-fn without_height(name: HeightName, c: Option<i64>) -> Result<HeightName, NotationError>
-    ensures { result ≡ given (Plain name) c }
-{
-    match c {
-        None => Ok(name),
-        Some(_) => Err(NotationError::TakesNoHeight),
     }
 }

@@ -1,20 +1,18 @@
 // The fill of the kept pits of a pruning.
-ghost use Rattle.std.specs.Prelude.{◌≡◌, ◌<◌, ◌≤◌, ◌+◌, ◌*◌, ◌^◌, IfOk, Some, None, ℕ, length, slice_index_or};
+ghost use Rattle.std.specs.Prelude.{◌≡◌, ◌<◌, ◌≤◌, ◌+◌, ◌*◌, ◌^◌, IfOk, OnOk, Some, None, ℕ, length, slice_index_or};
 ghost use Rattle.std.specs.Option.{ForSome};
 ghost use Rattle.hd_map.specs.Map.{InGrid, cell_count, height_at};
-ghost use Rattle.hd_prune.specs.Kept.{pits_kept};
 ghost use Rattle.hd_prune.specs.Staying.{AreKeptAlone};
-ghost use Rattle.hd_reach.specs.Reached.{AreReached};
 ghost use Rattle.hd_stats.specs.Fill.{AreFills};
-ghost use Rattle.hd_stats.specs.Volumes.{AddsPoint, AreValues, AreVolumes, IsValueOf, difference, is_below_nearest};
+ghost use Rattle.hd_stats.specs.Volumes.{AddsPoint, AreReached, AreValues, AreVolumes, IsValueOf, difference};
 
-use crate::below::BelowNearest;
 use hd_list::{List, Memory};
-use hd_map::{Heights, Pos, Rank, Side, index_of};
+use hd_map::{Heights, Pos, Rank, Side, index_of, position_of};
 use hd_num::Frac;
 use hd_prune::Kept;
-use hd_reach::reached_from;
+use hd_reach::{Bound, flood};
 use std::alloc::Global;
+use std::collections::VecDeque;
 
 /// The fill of each kept pit of a pruning of the grid on the side, in their order: the sum, over all
 /// points that are reached from the pit by paths wholly below its nearest saddle, of the height
@@ -44,26 +42,42 @@ fn reached_below<S: Side, G: Heights>(
     kept: &[Kept],
 ) -> Result<Vec<Option<u32>>, Memory>
     requires { (thousandths : ℕ) × AreKeptAlone (G.map grid.now) S.NAME thousandths kept.now }
-    ensures { IfOk result (λ reached. AreReached (G.map grid.now) (pits_kept kept.now) (is_below_nearest S.NAME kept.now) reached.items) }
+    ensures { IfOk result (λ reached. AreReached (G.map grid.now) S.NAME kept.now (length kept.now) reached.items) }
 {
-    let starts = pits_of(alloc, kept)?;
-    let bounds = BelowNearest {
-        side: S::NAME,
-        kept,
-    };
-    let reached = reached_from(alloc, grid, &starts, &bounds)?;
+    let size = grid.size();
+    let mut reached = vec![in alloc; None; (size.profiles * size.points) as usize]?;
+    let mut queue = VecDeque::new(alloc);
+    'kept: for number in 0..kept.len() {
+        reach_below::<S, G>(grid, kept, number, &mut reached, &mut queue)?;
+    }
     Ok(reached)
 }
 
-// The pits of these.
-fn pits_of(alloc: Global, kept: &[Kept]) -> Result<Vec<Rank>, Memory>
-    ensures { IfOk result (λ pits. pits.items ≡ pits_kept kept.now) }
+// Notes the number of a kept pit at the points that it reaches below its nearest saddle, if it has one.
+fn reach_below<S: Side, G: Heights>(
+    grid: &G,
+    kept: &[Kept],
+    number: usize,
+    reached: &mut Vec<Option<u32>>,
+    queue: &mut VecDeque<u32>,
+) -> Result<(), Memory>
+    requires kept { (thousandths : ℕ) × AreKeptAlone (G.map grid.now) S.NAME thousandths kept.now }
+    requires number { number < length kept.now }
+    requires reached { AreReached (G.map grid.now) S.NAME kept.now number reached.old.items }
+    ensures { OnOk result (AreReached (G.map grid.now) S.NAME kept.now (number + 1) reached.new.items) }
 {
-    let mut pits = Vec::with_capacity(alloc, kept.len())?;
-    'kept: for one in kept {
-        pits.push(one.pit)?;
-    }
-    Ok(pits)
+    let one = kept[number];
+    let Some(saddle) = one.nearest else {
+        return Ok(());
+    };
+    let bound = Bound {
+        level: Some(saddle),
+        strict: true,
+    };
+    let from = position_of(grid.size(), one.pit.index);
+    let first = Some(number as u32);
+    flood::<S, Option<u32>, G>(grid, bound, from, None, first, reached, queue)?;
+    Ok(())
 }
 
 // By kept pit the sum, over the points that it reaches, of the height differences to its nearest saddle.

@@ -6,8 +6,8 @@ use Rattle.hd_cert.proofs.Right.{shown_right}
 use Rattle.hd_cert.proofs.Shown.{if_ok_more, pit_within}
 use Rattle.hd_cert.proofs.making.certify.Goals as goal
 
-pub shown_cut-requires-clause-low : goal.shown_cut-requires-clause-low
-shown_cut-requires-clause-low g c =
+pub shown_cut-requires : goal.shown_cut-requires
+shown_cut-requires g c =
     let r = c.requires in
     pit_within (g.G.Heights.map c.args.grid.now) g.S.Side.NAME c.args.from c.args.to c.args.saddle r.pits.here r.pits.there r.pits.pit r.pits.apart r.saddle
 

@@ -11,8 +11,7 @@ use Rattle.hd_cert.proofs.making.shown_cut.Goals as goal
 pub returns : goal.returns
 returns g c =
     let m = g.G.Heights.map c.args.grid.now in
-    let r = c.requires in
     if_ok_more (AreListed c.size.result (IsReached c.size.result c.as_slice.result.now) (cell_count c.size.result)) (IsRouteCut m g.S.Side.NAME c.args.saddle c.args.from) c.listed.result
     (λ cut listed. cut_shown m g.S.Side.NAME c.args.saddle c.args.from c.in_ok-residues.residues.items cut c.in_ok-residues.ensures
     (subst (λ (residues : List Residue). AreListed m.size (IsReached m.size residues) (cell_count m.size) cut) c.as_slice.ensures.value
-    (subst (λ (s : Size). AreListed s (IsReached s c.as_slice.result.now) (cell_count s) cut) c.size.ensures listed)) r.here r.low) c.listed.ensures
+    (subst (λ (s : Size). AreListed s (IsReached s c.as_slice.result.now) (cell_count s) cut) c.size.ensures listed)) c.requires) c.listed.ensures

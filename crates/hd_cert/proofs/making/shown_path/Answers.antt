@@ -1,5 +1,10 @@
-use Rattle.std.proofs.Common.{◌∙◌, List, Option, ℕ}
+use Rattle.std.proofs.Common.{◌≡◌, List, Option, ℕ, subst, sym}
+use Rattle.hd_map.specs.declared.types.Pos.{Pos}
+use Rattle.hd_map.specs.Map.{InGrid}
+use Rattle.hd_reach.specs.Steps.{steps_at}
+use Rattle.hd_cert.specs.declared.residue.Residue.{Residue}
 use Rattle.hd_cert.specs.FirstNearer.{GoesNearer, LeadsDown}
+use Rattle.hd_cert.specs.Residues.{residue_at, residue_of}
 use Rattle.hd_cert.specs.Routes.{IsShownRoute}
 use Rattle.hd_cert.proofs.Shown.{open_path, begin_noted, leads_down, path_shown, if_ok_more}
 use Rattle.hd_cert.proofs.making.shown_path.Goals as goal
@@ -22,6 +27,6 @@ returns g c =
     let known = c.in_ok-residues.ensures in
     let steps = known.steps in
     let begin = begin_noted m side saddle from to steps known.are r.here r.there r.saddle in
-    let leads : LeadsDown m c.as_slice.result.now from to steps begin.0 = leads_down m side saddle from to steps known.are r.here r.there r.saddle c.as_slice.result.now begin.0 (c.as_slice.ensures.value ∙ known.residues_are) begin.1 in
+    let leads : LeadsDown m c.as_slice.result.now from to steps begin.0 = leads_down m side saddle from to steps known.are r.here r.there r.saddle c.as_slice.result.now begin.0 (subst (λ (rs : List Residue). (p : Pos) → InGrid m.size p → residue_at m.size rs p ≡ residue_of (steps_at m.size steps p)) (sym c.as_slice.ensures.value) known.read) begin.1 in
     if_ok_more (λ path. (steps : List (Option ℕ)) (count : ℕ) → LeadsDown m c.as_slice.result.now from to steps count → GoesNearer m steps from count path count) (IsShownRoute m side from to saddle) c.path_down.result
     (λ path goes. path_shown m side saddle from to steps known.are r.here r.there r.saddle path begin.0 begin.1 (goes steps begin.0 leads)) c.path_down.ensures

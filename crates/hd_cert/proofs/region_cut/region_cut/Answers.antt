@@ -3,7 +3,7 @@ use Rattle.hd_map.specs.declared.types.Pos.{Pos}
 use Rattle.hd_map.specs.Map.{cell_count}
 use Rattle.hd_map.proofs.PositionOrder.{at-first, at-inside, at-next}
 use Rattle.hd_cert.specs.Listed.{AreListed, Lists}
-use Rattle.hd_cert.specs.Routes.{IsReachedLow}
+use Rattle.hd_reach.specs.Reached.{IsReachedLow}
 use Rattle.hd_cert.proofs.Listed.{listed_more, listed_none}
 use Rattle.hd_cert.proofs.ReachedLow.{listed_cut}
 use Rattle.hd_cert.proofs.region_cut.region_cut.Goals as goal
@@ -46,5 +46,5 @@ returns g c =
     let side = g.S.Side.NAME in
     let e : c.loop-index.index ≡ cell_count c.size-size.result = omega (arith, c.loop-index-test.false, c.loop-index.auto.index-end) in
     let all : c.loop-index.index ≡ cell_count m.size = e ∙ ap cell_count c.size-size.ensures in
-    rw c.from_vec.ensures (listed_cut m side c.args.saddle c.args.from c.loop-index.cut.items c.requires.here c.requires.low
+    rw c.from_vec.ensures (listed_cut m side c.args.saddle c.args.from c.loop-index.cut.items c.requires.low
     (subst (λ (n : ℕ). AreListed m.size (IsReachedLow m side c.args.saddle c.args.from) n c.loop-index.cut.items) all c.loop-index.invariant.1))

@@ -1,6 +1,6 @@
 use Rattle.hd_map.proofs.PositionOrder.{IsAt}
 use Rattle.hd_cert.specs.Listed.{AreListed}
-use Rattle.hd_cert.specs.Routes.{IsReachedLow}
+use Rattle.hd_reach.specs.Reached.{IsReachedLow}
 use Rattle.hd_cert.proofs.region_cut.region_cut.Given as goal
 
 abbrev pub invariant-loop-index : goal.invariant-loop-index

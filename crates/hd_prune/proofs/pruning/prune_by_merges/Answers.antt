@@ -1,5 +1,4 @@
-use Rattle.std.proofs.Common.{◌≡◌, ◌∙◌, ℤ, List, sym, subst, w64}
-use Rattle.std.specs.Prelude.{Contains}
+use Rattle.std.proofs.Common.{◌≡◌, ℤ, List, sym, subst, w64}
 use Rattle.std.proofs.lemmas.Int.{to_z-of_z}
 use Rattle.hd_map.specs.declared.types.Rank.{Rank}
 use Rattle.hd_map.specs.Map.{Map}
@@ -13,8 +12,6 @@ use Rattle.hd_prune.specs.declared.leaving.Limit.{Limit}
 use Rattle.hd_prune.specs.Answer.{IsPruned}
 use Rattle.hd_prune.specs.Heights.{local_on}
 use Rattle.hd_prune.specs.Leaving.{IsLeavingIn, AreLeaving, goes_at}
-use Rattle.hd_prune.specs.Pruned.{owned_by}
-use Rattle.hd_prune.specs.Staying.{ranks_of}
 use Rattle.hd_prune.specs.Taken.{owner_after}
 use Rattle.hd_prune.proofs.Answer.{leaving-in, pruned-in}
 use Rattle.hd_prune.proofs.MergesLeaving.{merged-once}
@@ -42,9 +39,7 @@ take_over-requires-clause-leaving g c =
     )
 
 pub owners-requires-clause-pits : goal.owners-requires-clause-pits
-owners-requires-clause-pits g c =
-    let is : c.deref-2.result.now ≡ ranks_of c.args.lows.now = c.deref-2.ensures.value ∙ c.in_ok-pits.ensures in
-    λ p h. (c.requires.pits.exactly p).0 (subst (λ (ps : List Rank). Contains ps p) is h)
+owners-requires-clause-pits g c p h = (c.requires.pits.exactly p).0 h
 
 pub owners-requires-clause-linked : goal.owners-requires-clause-linked
 owners-requires-clause-linked g c = (owner_after g.S.Side.NAME (λ p. p) c.in_ok-taken.taken.steps, c.in_ok-taken.ensures.linked)
@@ -54,11 +49,10 @@ is_pruned g c =
     let m : Map = g.A.Around.map c.args.around.now in
     let whole = g.met.A.Around.whole c.args.around.now in
     let owner : Rank → Rank = owner_after g.S.Side.NAME (λ p. p) c.in_ok-taken.taken.steps in
-    let is : c.deref-2.result.now ≡ ranks_of c.args.lows.now = c.deref-2.ensures.value ∙ c.in_ok-pits.ensures in
     let leaving = found g c.args.lows.now c.args.merges.now c.args.percent _ c.args.sz _ c.deref.result.now (to_z-of_z w64 c.args.sz c.ranges.sz) c.deref.ensures.value c.in_ok-leavers.ensures in
     pruned-in m whole g.S.Side.NAME c.args.lows.now c.args.merges.now c.requires.pits c.requires.merges (record { percent = c.args.percent; sz = c.args.sz }) c.deref.result.now leaving c.requires.sz
     c.in_ok-taken.taken.steps c.in_ok-taken.ensures.taken c.in_ok-kept.kept (c.in_ok-kept.ensures m whole c.requires.pits (subst (SzIs m) (sym (to_z-of_z w64 c.args.sz c.ranges.sz)) c.requires.sz) c.requires.merges)
-    c.in_ok-owners.owners (subst (λ (ps : List Rank). c.in_ok-owners.owners ≡ owned_by owner ps) is (c.in_ok-owners.ensures owner c.in_ok-taken.ensures.linked))
+    c.in_ok-owners.owners (c.in_ok-owners.ensures owner c.in_ok-taken.ensures.linked)
 
 pub returns-clause-pruned : goal.returns-clause-pruned
 returns-clause-pruned g c = is_pruned g c

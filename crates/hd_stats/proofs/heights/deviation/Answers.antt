@@ -1,4 +1,3 @@
-use Rattle.std.proofs.Common.{to_z, of_z}
 use Rattle.std.specs.Int.{w128}
 use Rattle.std.proofs.lemmas.Int.{to_z-of_z}
 use Rattle.hd_stats.specs.Gathering.{deviation_by}
