@@ -4,21 +4,18 @@ ghost use Rattle.std.specs.Prelude.{◌≡◌};
 use hd_engine::Session;
 use hd_list::List;
 use hd_num::{next_line, push_text};
-use hd_pool::Choice;
 use hd_sdf_read::SdfFile;
 use std::process::Abort;
 
-// The answers of a session on a file to the lines of a script, and the file that it leaves, with tiles of this side and
-// reports made by what is chosen.
+// The answers of a session on a file to the lines of a script, and the file that it leaves, with tiles of this side.
 pub(crate) fn answered(
     rt: &(impl Abort + AllocGlobal),
     file: SdfFile,
     script: &[u8],
     side: u32,
-    choice: Choice,
 ) -> (List<u8>, SdfFile) {
     assert!(rt; 8 <= side && side <= 256);
-    let mut session = Session::with_choice(rt.alloc(), file, side, choice).expect(rt, "memory");
+    let mut session = Session::new(rt.alloc(), file, side).expect(rt, "memory");
     let text = answers_of(rt, &mut session, script);
     let file = session.file().expect(rt, "memory");
     drop(session);

@@ -1,54 +1,17 @@
-// What a session answers and saves, by whatever its reports are made.
+// What a session answers and saves, by the whole map or by the pools of its sides.
 use crate::engine::answered;
 use crate::shared::file_of;
 use hd_list::List;
 use hd_num::push_text;
-use hd_pool::Choice;
 use hd_sdf_write::write_sdf;
 use std::process::Abort;
 
-// What a session on a file answers to a script, and then the text of the file that it leaves, where reports are made by
-// what is chosen.
-fn told(
-    rt: &(impl Abort + AllocGlobal),
-    file: &[u8],
-    script: &[u8],
-    side: u32,
-    choice: Choice,
-) -> List<u8> {
-    let (mut told, file) = answered(rt, file_of(rt, file), script, side, choice);
+// What a session on a file answers to a script, and then the text of the file that it leaves.
+fn told(rt: &(impl Abort + AllocGlobal), file: &[u8], script: &[u8], side: u32) -> List<u8> {
+    let (mut told, file) = answered(rt, file_of(rt, file), script, side);
     let saved = write_sdf(rt.alloc(), &file).expect(rt, "memory");
     push_text(&mut told, saved.as_slice()).expect(rt, "memory");
     told
-}
-
-// Compares what a session tells with what another one told.
-fn expect_told(
-    rt: &(impl Abort + AllocGlobal),
-    file: &[u8],
-    script: &[u8],
-    side: u32,
-    choice: Choice,
-    wanted: &[u8],
-) {
-    let found = told(rt, file, script, side, choice);
-    assert!(rt; found.as_slice() == wanted, "in tiles of {side}");
-}
-
-// What a session tells by the whole map, which is what it tells by each choice in tiles of each of these sides.
-fn told_by_all(
-    rt: &(impl Abort + AllocGlobal),
-    file: &[u8],
-    script: &[u8],
-    sides: &[u32],
-) -> List<u8> {
-    let wanted = told(rt, file, script, 64, Choice::Map);
-    for side in sides {
-        expect_told(rt, file, script, *side, Choice::Map, wanted.as_slice());
-        expect_told(rt, file, script, *side, Choice::Pool, wanted.as_slice());
-        expect_told(rt, file, script, *side, Choice::Free, wanted.as_slice());
-    }
-    wanted
 }
 
 // These edits, each with these lines after it, and then the last lines.
@@ -80,7 +43,8 @@ fn blank_lines(rt: &(impl Abort + AllocGlobal), text: &[u8]) -> List<u8> {
     blank
 }
 
-// What is told of the reports after the last of these edits, where no other report is asked, and of the file.
+// What is told of the reports after the last of these edits, where no other report is asked, and of the file. All of this
+// goes by the whole map.
 fn told_once(
     rt: &(impl Abort + AllocGlobal),
     file: &[u8],
@@ -89,20 +53,30 @@ fn told_once(
 ) -> List<u8> {
     let blanks = blank_lines(rt, reports);
     let before = script_of(rt, edits, blanks.as_slice(), b"");
-    let (before, _) = answered(rt, file_of(rt, file), before.as_slice(), 64, Choice::Free);
+    let (before, _) = answered(rt, file_of(rt, file), before.as_slice(), 64);
     let all = script_of(rt, edits, blanks.as_slice(), reports);
-    let all = told(rt, file, all.as_slice(), 64, Choice::Map);
+    let all = told(rt, file, all.as_slice(), 64);
     let last = all.as_slice().get(before.as_slice().len()..);
     List::from_slice(rt.alloc(), last.expect(rt, "the reports")).expect(rt, "memory")
 }
 
-// The reports after the last of these edits are the same where they were asked after each edit, and by each choice in
-// tiles of each side.
-fn expect_same_reports(rt: &(impl Abort + AllocGlobal), file: &[u8], edits: &[u8], reports: &[u8]) {
+// The reports after the last of these edits are the same where they were asked after each edit, so that pools answer them,
+// and all of these are the same in tiles of each of these sides.
+fn expect_same_reports(
+    rt: &(impl Abort + AllocGlobal),
+    file: &[u8],
+    edits: &[u8],
+    reports: &[u8],
+    sides: &[u32],
+) {
     let wanted = told_once(rt, file, edits, reports);
     let often = script_of(rt, edits, reports, reports);
-    let found = told_by_all(rt, file, often.as_slice(), &[8, 9, 64, 256]);
-    assert!(rt; found.as_slice().ends_with(wanted.as_slice()));
+    let first = told(rt, file, often.as_slice(), 64);
+    assert!(rt; first.as_slice().ends_with(wanted.as_slice()));
+    for side in sides {
+        let found = told(rt, file, often.as_slice(), *side);
+        assert!(rt; found.as_slice() == first.as_slice(), "in tiles of {side}");
+    }
 }
 
 // Reports that name no point.
@@ -337,6 +311,7 @@ fn reports_are_those_of_the_present_map_whatever_was_asked_before(rt: HostRuntim
             file.as_bytes(),
             noise.edits.as_bytes(),
             reports.expect(&rt, "memory").as_bytes(),
+            &[8, 9, 256],
         );
     }
 }
@@ -353,34 +328,30 @@ fn drawn_heights(rt: &(impl Abort + AllocGlobal)) -> String {
 }
 
 #[test]
-fn surfaces_of_the_greatest_length_are_told_alike_however_reports_are_made(rt: HostRuntime) {
+fn surfaces_of_the_greatest_length_are_told_alike_whatever_was_asked_before(rt: HostRuntime) {
     let data = drawn_heights(&rt);
     let rows = [
         (
             1,
             65_535,
-            "set 0 61405 9\nmask 0 26348 0 26350\nset 0 54251 13\nundo 1\n",
-            "dales\nlabel D 0 4826\ntree D\n",
+            "set 0 61405 9\nset 0 7 9\nmask 0 26348 0 26350\nset 0 54251 13\nundo 1\n",
+            "dales\nlabel D 0 4826\ntree D\nparam Sda 9\nparam Sda 90\nparam Sda 900\nparam Sda 0\n",
         ),
         (
             65_535,
             1,
-            "set 14441 0 9\nmask 28723 0 28725 0\nset 24771 0 13\nundo 1\n",
-            "dales\nlabel D 50966 0\ntree D\n",
+            "set 14441 0 9\nset 7 0 9\nmask 28723 0 28725 0\nset 24771 0 13\nundo 1\n",
+            "dales\nlabel D 50966 0\ntree D\nparam Sda 9\nparam Sda 90\nparam Sda 900\nparam Sda 0\n",
         ),
     ];
     for (points, profiles, edits, reports) in rows {
         let file = file_text(&rt, points, profiles, 1, &data);
-        let script = script_of(&rt, edits.as_bytes(), reports.as_bytes(), b"");
-        let script = script.as_slice();
-        let wanted = told(&rt, file.as_bytes(), script, 64, Choice::Map);
-        expect_told(
+        expect_same_reports(
             &rt,
             file.as_bytes(),
-            script,
-            64,
-            Choice::Pool,
-            wanted.as_slice(),
+            edits.as_bytes(),
+            reports.as_bytes(),
+            &[],
         );
     }
 }
