@@ -8,9 +8,9 @@ use hd_tiles::{Looked, Tiles};
 /// How many times ways lead over all points of a grid in the time in which its pool is made: measured.
 const WORTH: u64 = 16;
 
-/// What answers about a side of a grid went over on the whole map after changes. Once that took as long as it takes to make
-/// the pool of the side, the pool is worth it: no script pays more than twice for what it is told. The first answer, and all
-/// others before a change, count nothing.
+/// What answers about a side of a grid went over on the whole map after changes. Once ways could have led over as much in the
+/// time in which the pool of the side is made, the pool is worth it. The first answer, and all others before a change, count
+/// nothing.
 #[derive(Clone, Copy, Debug, PartialEq, Eq)]
 pub(crate) struct Outlay {
     /// How many changes there were at the first question.

@@ -15,9 +15,9 @@ use std::alloc::Global;
 use std::marker::{Brand, Model};
 use std::sync::ledger::{Blank, Ledger};
 
-/// How many times ways lead over all points of a grid in the time in which a report on a side finds what it tells by the
-/// whole map: measured.
-const REPORT: u64 = 4;
+/// As how many ways over all points of a grid a report counts that finds what it tells by the whole map: measured, it takes
+/// from a fifth of their time to all of it.
+const REPORT: u64 = 1;
 
 /// The pool of a side of a grid in tiles. It is made once answers that went over the whole map after changes took as long as
 /// that takes, and from then on it answers each question. Where changes since the last question touched more than half of
@@ -87,7 +87,7 @@ impl<S: Side> SidePool<S> {
 
     /// Counts what a report goes over, where the pool did not serve.
     pub fn count_report<G: Grid>(&mut self, tiles: &Tiles<G>)
-        ensures { self.new ≡ record self.old { outlay = counted (4 * cell_count tiles.now.tiling.size) self.old.outlay } }
+        ensures { self.new ≡ record self.old { outlay = counted (1 * cell_count tiles.now.tiling.size) self.old.outlay } }
     {
         self.outlay = self.outlay.counted(REPORT * points_of(tiles));
     }

@@ -335,13 +335,13 @@ fn surfaces_of_the_greatest_length_are_told_alike_whatever_was_asked_before(rt: 
             1,
             65_535,
             "set 0 61405 9\nset 0 7 9\nmask 0 26348 0 26350\nset 0 54251 13\nundo 1\n",
-            "dales\nlabel D 0 4826\ntree D\n",
+            "dales\nlabel D 0 4826\ntree D\nparam Sda 9\nparam Sda 90\nparam Sda 900\nparam Sda 0\n",
         ),
         (
             65_535,
             1,
             "set 14441 0 9\nset 7 0 9\nmask 28723 0 28725 0\nset 24771 0 13\nundo 1\n",
-            "dales\nlabel D 50966 0\ntree D\n",
+            "dales\nlabel D 50966 0\ntree D\nparam Sda 9\nparam Sda 90\nparam Sda 900\nparam Sda 0\n",
         ),
     ];
     for (points, profiles, edits, reports) in rows {
