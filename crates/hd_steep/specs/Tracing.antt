@@ -19,24 +19,7 @@ pub record Traced : Type 0 where
   pub numbers : List ℕ
   pub crossings : List Link
 
--- the number is written at an index, and what was known stays
-pub record IsWrittenAt (k n : ℕ) (old new : List ℕ) : Type 0 where
-  pub here : slice_index new k ≡ n
-  pub kept : (j : ℕ) → slice_index old j ≢ no_link → slice_index new j ≡ slice_index old j
-
 module _ (m : Map) (side : SideName) where
-  -- at each index stands the number of the pit, or none where the way from it was not traced; at that of a pit it stands
-  pub record AreTracedNumbers (pits : List Rank) (numbers : List ℕ) : Type 0 where
-    pub whole : length numbers ≡ cell_count m.size
-    pub each : (k : ℕ) → k < length numbers → (slice_index numbers k ≡ no_link) ⊎ IsLabelOf m side k (root_of pits (slice_index numbers k))
-    pub own : (k : ℕ) → IsRootAt m side k k → slice_index numbers k ≢ no_link
-
-  -- what was traced is that of the map
-  pub record IsTraced (t : Traced) : Type 0 where
-    pub pits : ArePits m side t.pits
-    pub numbers : AreTracedNumbers t.pits t.numbers
-    pub crossings : All (HasPits t.pits) t.crossings
-
   -- the passes of what was traced
   abbrev pub traced_passes : Traced → List Pass
   traced_passes t = passes_of side t.pits t.crossings

@@ -18,8 +18,6 @@ mod check;
 #[cfg(test)]
 mod decimals;
 #[cfg(test)]
-mod descents;
-#[cfg(test)]
 mod dot;
 #[cfg(test)]
 mod engine;
