@@ -2,7 +2,7 @@
 use Rattle.std.proofs.Common.{◌≡◌, ◌<◌, ◌+◌, ◌++◌, ℕ, zero, suc, Bool, true, List, [], ◌∷◌, slice_index, ◌⊎◌, inl, inr, ap, ◌∙◌, sym, subst, refl, arith}
 use Rattle.std.specs.Prelude.{Contains}
 use Rattle.std.proofs.lemmas.Bool.{cases_eq, cond_both}
-use Rattle.std.proofs.lemmas.List.Elements.{Contains-push, Contains-push_cases, Contains-append_cases, Contains-append_left, Contains-append_right}
+use Rattle.std.proofs.lemmas.List.Elements.{Contains-push, Contains-push_cases, Contains-append_left}
 use Rattle.hd_map.specs.declared.types.Pos.{Pos}
 use Rattle.hd_map.specs.declared.types.Rank.{Rank}
 use Rattle.hd_map.specs.declared.types.SideName.{SideName}
@@ -15,7 +15,7 @@ use Rattle.hd_map.proofs.Points.{Near-to}
 use Rattle.hd_steep.specs.declared.descent.Descent.{Descent}
 use Rattle.hd_steep.specs.declared.rolling.Rows.{Rows}
 use Rattle.hd_steep.specs.Descended.{Descends, descent_to, indexes_round, with_descents}
-use Rattle.hd_steep.specs.Descents.{AreDescentsFrom, IsDescentFrom, IsReached}
+use Rattle.hd_steep.specs.Descents.{IsDescentFrom, IsReached}
 use Rattle.hd_steep.specs.KeyRows.{AreRowsRound, ranks_of}
 use Rattle.hd_steep.specs.Ring.{ring_of, are_lower, are_lower_heights, is_marked, marks_of, IsOneAtMost}
 use Rattle.hd_steep.specs.Rows.{rank_in}

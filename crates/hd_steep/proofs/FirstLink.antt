@@ -1,19 +1,11 @@
 -- First links lead onward.
-use Rattle.std.proofs.Common.{◌≡◌, ℕ, ℤ, List, inl, inr, sym, ◌∙◌, ap, subst, arith}
-use Rattle.hd_map.specs.declared.types.Adjacency.{Adjacency}
-use Rattle.hd_map.specs.declared.types.Pos.{Pos}
+use Rattle.std.proofs.Common.{ℕ, List, inl, inr, sym, subst}
 use Rattle.hd_map.specs.declared.types.Rank.{Rank}
-use Rattle.hd_map.specs.declared.types.Size.{Size}
 use Rattle.hd_map.specs.declared.types.SideName.{SideName}
-use Rattle.hd_map.specs.Map.{Map, InGrid, IsMeasured, Present, cell_at, height_or_zero, place_of}
-use Rattle.hd_map.specs.Neighbour.{IsNear, AreBesideUnder}
-use Rattle.hd_map.specs.Rank.{rank, Near}
-use Rattle.hd_map.specs.Region.{LowerNeighbour, IsNext}
+use Rattle.hd_map.specs.Map.{Map}
 use Rattle.hd_map.proofs.Nexts.{root-pit}
-use Rattle.hd_map.proofs.Points.{same_place, same_point}
-use Rattle.hd_steep.specs.Crossed.{AreBeside}
 use Rattle.hd_steep.specs.Links.{IsOnward, AreLinks}
-use Rattle.hd_steep.specs.FirstLinks.{IsFirst, IsFirstLink, AreFirstLinks, AgreeRound}
+use Rattle.hd_steep.specs.FirstLinks.{IsFirst, AreFirstLinks}
 use Rattle.hd_steep.proofs.Ways.{onward-next, onward-root}
 
 module _ (m : Map) (side : SideName) where

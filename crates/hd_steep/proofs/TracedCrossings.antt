@@ -9,7 +9,6 @@ use Rattle.hd_map.specs.declared.types.Pass.{Pass}
 use Rattle.hd_map.specs.declared.types.Pos.{Pos}
 use Rattle.hd_map.specs.declared.types.Rank.{Rank}
 use Rattle.hd_map.specs.declared.types.SideName.{SideName}
-use Rattle.hd_map.specs.Crossings.{AreCrossingsUnder}
 use Rattle.hd_map.specs.Map.{Map, IsMap, Present, position_at}
 use Rattle.hd_map.specs.Path.{Leads}
 use Rattle.hd_map.specs.Pruning.{ArePits}
@@ -17,14 +16,14 @@ use Rattle.hd_map.specs.Rank.{rank, IsPoint}
 use Rattle.hd_map.specs.Region.{LowerNeighbour, AreRegions}
 use Rattle.hd_map.proofs.Items.{Contains-cases, Contains-none}
 use Rattle.hd_map.proofs.Nexts.{root-next}
-use Rattle.hd_map.proofs.Points.{Near-from, Near-to, rank_position}
+use Rattle.hd_map.proofs.Points.{Near-from, Near-to, rank_position, same_index}
 use Rattle.hd_steep.specs.declared.descent.Descent.{Descent}
 use Rattle.hd_steep.specs.Crossed.{AreBeside, Extends, Gathers, IsCrossed, IsPassTo, IsServed}
 use Rattle.hd_steep.specs.Crossings.{HasPits, IsCrossingAlong, IsNumberAt, IsNumberOf, pass_of, passes_of}
 use Rattle.hd_steep.specs.Descended.{Descends}
 use Rattle.hd_steep.specs.Descents.{IsDescent, IsReached, LeadsDown}
 use Rattle.hd_steep.specs.Tracing.{IsTracedAcross, Traced, TracesAcross, traced_passes}
-use Rattle.hd_steep.proofs.Crossed.{crossed_in_one, crossed_kept, crossed_push, crossings_all, extends_none, extends_on, extends_push}
+use Rattle.hd_steep.proofs.Crossed.{crossed_in_one, crossed_kept, crossed_push, extends_none, extends_on, extends_push}
 use Rattle.hd_steep.proofs.NumberedCrossings.{in_one-numbers, pass-to}
 
 -- crossings that were found without a trace
@@ -80,10 +79,10 @@ module _ (m : Map) (side : SideName) where
   -- a descent whose ends have these numbers
   module _ (t : Traced) (d : Descent) (a b : ℕ) (from : IsNumberAt m side t.pits d.from a) (to : IsNumberAt m side t.pits d.to b) where
     from_number : (x y : Rank) → LeadsDown m side d x y → IsNumberOf m side t.pits x a
-    from_number x y leads = number_of_rank m side t.pits x d.from a (Near-from m x y leads.lower.near) leads.from_is from
+    from_number x y leads = number_of_rank t.pits x d.from a (Near-from m x y leads.lower.near) leads.from_is from
 
     to_number : (x y : Rank) → LeadsDown m side d x y → IsNumberOf m side t.pits y b
-    to_number x y leads = number_of_rank m side t.pits y d.to b (Near-to m x y leads.lower.near) leads.to_is to
+    to_number x y leads = number_of_rank t.pits y d.to b (Near-to m x y leads.lower.near) leads.to_is to
 
     -- is traced across where they are the same
     traces_same : (numbers : List ℕ) → a ≡ b → TracesAcross m side (d ∷ []) t (record { pits = t.pits; numbers = numbers; crossings = t.crossings })

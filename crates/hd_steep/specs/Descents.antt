@@ -1,5 +1,5 @@
 -- Descents: the ways down from points whose lower neighbours fall into several groups.
-use Rattle.std.specs.Prelude.{◌≡◌, ◌⊎◌, ◌<◌, ◌≤◌, ℕ, List, Contains}
+use Rattle.std.specs.Prelude.{◌≡◌, ◌⊎◌, List, Contains}
 use Rattle.hd_map.specs.declared.types.Pos.{Pos}
 use Rattle.hd_map.specs.declared.types.Rank.{Rank}
 use Rattle.hd_map.specs.declared.types.SideName.{SideName}

@@ -1,17 +1,14 @@
 -- The pits of a map and the crossings between their regions, as they are found along its first links.
-use Rattle.std.specs.Prelude.{◌≡◌, ◌≢◌, ◌⊎◌, ◌<◌, ℕ, List, length, All, Contains, slice_index}
+use Rattle.std.specs.Prelude.{◌≡◌, ℕ, List, Contains}
 use Rattle.hd_map.specs.declared.types.Link.{Link}
 use Rattle.hd_map.specs.declared.types.Pass.{Pass}
 use Rattle.hd_map.specs.declared.types.Rank.{Rank}
 use Rattle.hd_map.specs.declared.types.SideName.{SideName}
-use Rattle.hd_map.specs.Map.{Map, cell_count}
-use Rattle.hd_map.specs.Pruning.{ArePits}
+use Rattle.hd_map.specs.Map.{Map}
 use Rattle.hd_steep.specs.declared.descent.Descent.{Descent}
 use Rattle.hd_steep.specs.Crossed.{Extends, IsCrossed}
-use Rattle.hd_steep.specs.Crossings.{HasPits, passes_of}
+use Rattle.hd_steep.specs.Crossings.{passes_of}
 use Rattle.hd_steep.specs.Descents.{LeadsDown}
-use Rattle.hd_steep.specs.Links.{no_link, IsRootAt}
-use Rattle.hd_steep.specs.Numbering.{IsLabelOf, root_of}
 
 -- the pits in position order, by index the number of the pit in whose region the point lies, where it was traced, and the crossings
 pub record Traced : Type 0 where
