@@ -23,7 +23,7 @@ use Rattle.hd_prune.specs.Answer.{IsPruned}
 use Rattle.hd_prune.specs.Pruned.{leavings_of}
 use Rattle.hd_prune.specs.Staying.{AreKeptAlone}
 use Rattle.hd_regions.specs.declared.tally.Tally.{Tally}
-use Rattle.hd_survey.specs.Features.{AreFeatures, AreFeaturesWith, AreHeightsAlone, AreHeightsWith, feature_of, feature_with}
+use Rattle.hd_survey.specs.Features.{AreFeaturesWith, AreHeightsAlone, AreHeightsWith, feature_of, feature_with}
 use Rattle.hd_survey.specs.Findings.{AreKeptFeatures}
 use Rattle.hd_survey.specs.Heights.{HasHeights, farthest_apart}
 use Rattle.hd_survey.specs.Owned.{AreOwnedTallies, owned_points}
