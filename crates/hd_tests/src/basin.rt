@@ -72,11 +72,7 @@ fn surface_named(rt: &(impl Abort + AllocGlobal), name: &str) -> Surface {
 }
 
 // What a pool tells, which is what another pool tells that has seen all at once.
-fn compared<S: Side>(
-    rt: &(impl Abort + AllocGlobal),
-    watched: &Watched,
-    pool: &Basins<S>,
-) -> String
+fn compared<S: Side>(rt: &(impl Abort + AllocGlobal), watched: &Watched, pool: &Basins<S>) -> String
     requires following { IsFollowing (map_of watched.now.tiles.grid) S.NAME watched.now.tiles.tiling.side watched.now.tiles.stamps.items pool.now }
     requires pool { HasMap S.NAME pool.now }
 {
@@ -89,11 +85,7 @@ fn compared<S: Side>(
 }
 
 // Brings a pool up to its surface, and adds the sum of what it tells.
-fn push_sum<S: Side>(
-    rt: &(impl Abort + AllocGlobal),
-    followed: &mut Followed<S>,
-    sums: &mut String,
-)
+fn push_sum<S: Side>(rt: &(impl Abort + AllocGlobal), followed: &mut Followed<S>, sums: &mut String)
     requires { IsFollowing (map_of followed.old.watched.tiles.grid) S.NAME followed.old.watched.tiles.tiling.side followed.old.watched.tiles.stamps.items followed.old.pool }
     ensures { IsFollowing (map_of followed.new.watched.tiles.grid) S.NAME followed.new.watched.tiles.tiling.side followed.new.watched.tiles.stamps.items followed.new.pool }
 {
@@ -165,7 +157,8 @@ impl Outcome for Sums {
 }
 
 // As `gate/basins.py` prints them.
-const SUMS: &str = "D 8 noise 8 8 0 =>  4134908236 1118434154 213815009 1121493992 2754872742 3767446053 210811285 2754872742 3976990951 317369461 2001777424 3976990951
+const SUMS: &str =
+    "D 8 noise 8 8 0 =>  4134908236 1118434154 213815009 1121493992 2754872742 3767446053 210811285 2754872742 3976990951 317369461 2001777424 3976990951
 D 256 noise 8 8 0 =>  4134908236 1118434154 213815009 1121493992 2754872742 3767446053 210811285 2754872742 3976990951 317369461 2001777424 3976990951
 H 8 noise 8 8 0 =>  2522795315 2282076026 420176418 3948532386 1030914829 2066204961 3097267122 1030914829 2793153197 3424363153 944171658 2793153197
 H 256 noise 8 8 0 =>  2522795315 2282076026 420176418 3948532386 1030914829 2066204961 3097267122 1030914829 2793153197 3424363153 944171658 2793153197
@@ -261,7 +254,8 @@ impl Outcome for Looks {
 
 // A set at the corner of four tiles is seen there: each of the eight tiles of a row is seen with the columns beside it, 9 + 6 *
 // 10 + 9. After a set of the first point, all others have another root.
-const LOOKS: &str = "8 7 7 -5 slope 64 64 0 =>  6084 0:0:4096 361 0:0:3812 455:-5:284 0 0:0:3812 455:-5:284
+const LOOKS: &str =
+    "8 7 7 -5 slope 64 64 0 =>  6084 0:0:4096 361 0:0:3812 455:-5:284 0 0:0:3812 455:-5:284
 256 7 7 -5 slope 64 64 0 =>  4096 0:0:4096 4096 0:0:3812 455:-5:284 0 0:0:3812 455:-5:284
 8 0 0 100 slope 48 1 1 =>  58 0:1:48 9 1:2:48 0 1:2:48";
 
@@ -279,7 +273,8 @@ fn a_slope_has_a_basin_in_each_tile(rt: HostRuntime) {
     assert!(&rt; text.as_str().find(TWO_PASSES).is_some());
 }
 
-const SECOND_NODE: &str = "\nSome(Node { low: Rank { height: 17, index: 16 }, flows: Some(Pos { x: 15, y: 0 }), tile: 1, points: 16, high: 32, least: 17, edge_low: Some(17), edge_high: Some(32) }) Some(Pos { x: 0, y: 0 })\n";
+const SECOND_NODE: &str =
+    "\nSome(Node { low: Rank { height: 17, index: 16 }, flows: Some(Pos { x: 15, y: 0 }), tile: 1, points: 16, high: 32, least: 17, edge_low: Some(17), edge_high: Some(32) }) Some(Pos { x: 0, y: 0 })\n";
 
 const TWO_PASSES: &str =
     "\n0 16 Rank { height: 17, index: 16 }\n16 32 Rank { height: 33, index: 32 }\nList {";

@@ -25,11 +25,7 @@ fn one_point(rt: &(impl Abort + AllocGlobal)) -> Tiles<Surface> {
 }
 
 // Makes an edit.
-fn apply(
-    rt: &impl Abort,
-    board: &mut Board<Tiles<Surface>>,
-    edit: &Edit,
-) -> Result<(), EditError> {
+fn apply(rt: &impl Abort, board: &mut Board<Tiles<Surface>>, edit: &Edit) -> Result<(), EditError> {
     assert!(rt; board.grid().changes() < 1_000);
     board.apply(edit)
 }
