@@ -10,21 +10,13 @@ mod base;
 #[cfg(test)]
 mod basin;
 #[cfg(test)]
+mod board;
+#[cfg(test)]
 mod by_key;
 #[cfg(test)]
 mod by_line;
 #[cfg(test)]
 mod check;
-#[cfg(test)]
-mod decimals;
-#[cfg(test)]
-mod dot;
-#[cfg(test)]
-mod engine;
-#[cfg(test)]
-mod feature;
-#[cfg(test)]
-mod file_calls;
 #[cfg(test)]
 mod followed;
 #[cfg(test)]
@@ -34,19 +26,13 @@ mod layouts;
 #[cfg(test)]
 mod map;
 #[cfg(test)]
-mod noted;
-#[cfg(test)]
 mod num;
 #[cfg(test)]
 mod pools;
 #[cfg(test)]
 mod prune;
 #[cfg(test)]
-mod script;
-#[cfg(test)]
 mod sdf;
-#[cfg(test)]
-mod sessions;
 #[cfg(test)]
 mod shared;
 #[cfg(test)]

@@ -7,6 +7,11 @@ use std::process::Abort;
 
 const SMALL: &str = "1 2 3\n4 BAD 6";
 
+// The position of a column and a profile.
+fn at(x: u32, y: u32) -> Pos {
+    Pos { x, y }
+}
+
 // Compares the neighbours of a point.
 fn expect_neighbours(rt: &(impl Abort + AllocGlobal), surface: &Surface, at: Pos, wanted: &[Pos]) {
     assert!(rt; contains(surface.size(), at));
@@ -15,7 +20,7 @@ fn expect_neighbours(rt: &(impl Abort + AllocGlobal), surface: &Surface, at: Pos
 }
 
 #[test]
-fn neighbours_are_the_present_points_round_a_point_under_each_setting(rt: HostRuntime) {
+fn neighbours_are_the_present_points_round_a_point(rt: HostRuntime) {
     let mut small = surface(&rt, DataType::U8, SMALL);
     let corner = Pos { x: 0, y: 0 };
     let other = Pos { x: 1, y: 0 };
@@ -34,11 +39,15 @@ fn neighbours_are_the_present_points_round_a_point_under_each_setting(rt: HostRu
     let copy = small.without_masks(rt.alloc()).expect(&rt, "memory");
     expect_heights(&rt, &small, "BAD 2 3 4 BAD BAD");
     expect_heights(&rt, &copy, "1 2 3 4 BAD 6");
-    // They are those of the setting of the surface, or of the one given.
+}
+
+// They are those of the setting of the surface, or of the one given.
+#[test]
+fn neighbours_are_those_of_a_setting(rt: HostRuntime) {
     let mut square = surface(&rt, DataType::U8, "1 2 3\n4 5 6\n7 8 9");
     let middle = Pos { x: 1, y: 1 };
-    let four = [(1, 0), (0, 1), (2, 1), (1, 2)].map(|(x, y)| Pos { x, y });
-    let six = [(0, 0), (1, 0), (0, 1), (2, 1), (1, 2), (2, 2)].map(|(x, y)| Pos { x, y });
+    let four = [at(1, 0), at(0, 1), at(2, 1), at(1, 2)];
+    let six = [at(0, 0), at(1, 0), at(0, 1), at(2, 1), at(1, 2), at(2, 2)];
     square.set_adjacency(Adjacency::Four);
     assert_eq!(&rt; square.adjacency(), Adjacency::Four);
     expect_neighbours(&rt, &square, middle, &four);

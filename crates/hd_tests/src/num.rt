@@ -1,166 +1,28 @@
 // What no clause says: the outcomes that the rules give for words and texts from outside.
 ghost use Rattle.std.specs.Prelude.{◌<◌, ◌≤◌};
 
-use crate::shared::{Outcome, expect_bytes, expect_rows, lines_of, shown, text_of};
+use crate::shared::{Outcome, expect_bytes, expect_rows, shown, text_of};
 use hd_list::List;
 use hd_num::{
-    Frac, Percent, Whole, first_word, leading_digits, next_line, percent_less, push_frac,
-    push_steps, push_text, push_unsigned, push_whole, read_count, read_decimal, read_percent,
-    read_whole, reduced_fraction_is_no_greater, split_words, trim,
+    Frac, Percent, leading_digits, percent_less, push_frac, push_steps, push_text, push_unsigned,
+    push_whole, read_count, read_decimal, read_percent, read_whole, reduced_fraction_is_no_greater,
+    trim,
 };
 use std::process::Abort;
 
-// The whole number of a word.
-struct WholeNumber;
+// What is no word of a line: neither a whole number nor a count.
+struct NoWord;
 
-impl Outcome for WholeNumber {
+impl Outcome for NoWord {
     fn of<R: Abort + AllocGlobal>(rt: &R, input: &str) -> String {
-        shown(rt, &read_whole(input.as_bytes()))
+        let text = input.as_bytes();
+        shown(rt, &(read_whole(text), read_count(text)))
     }
 }
 
-const WHOLE_NUMBERS: &str = "0 => Is(0)
-+5 => Is(5)
--5 => Is(-5)
--0 => Is(0)
-+0 => Is(0)
-007 => Is(7)
--007 => Is(-7)
--32768 => Is(-32768)
-9223372036854775807 => Is(9223372036854775807)
--9223372036854775807 => Is(-9223372036854775807)
--9223372036854775808 => Is(-9223372036854775808)
-00000000000000000000000000000000000000007 => Is(7)
--0000000000000000000000000000005 => Is(-5)
-9223372036854775808 => Outside
-+9223372036854775808 => Outside
--9223372036854775809 => Outside
-18446744073709551615 => Outside
-18446744073709551616 => Outside
-18446744073709551621 => Outside
--18446744073709551617 => Outside
-123456789012345678901234567890 => Outside
--123456789012345678901234567890 => Outside
- => Not
-+ => Not
-- => Not
---1 => Not
-+-5 => Not
--+5 => Not
-1  => Not
- 1 => Not
-1- => Not
-1.0 => Not
-0x1 => Not
-1e3 => Not
-1\x00 => Not
-99999999999999999999999999a => Not
-\u{B2}\u{B3} => Not";
-
-// The count of a word.
-struct Count;
-
-impl Outcome for Count {
-    fn of<R: Abort + AllocGlobal>(rt: &R, input: &str) -> String {
-        shown(rt, &read_count(input.as_bytes()))
-    }
-}
-
-const COUNTS: &str = "0 => Some(0)
-007 => Some(7)
-4294967295 => Some(4294967295)
-4294967296 => None
-18446744073709551617 => None
- => None
-+1 => None
--0 => None
-1,0 => None";
-
-// Adds a piece, and `|` after it.
-fn push_barred(rt: &impl Abort, out: &mut List<u8>, piece: &[u8]) {
-    push_text(out, piece).expect(rt, "memory");
-    push_text(out, b"|").expect(rt, "memory");
-}
-
-// The lines of a text, each with `|` after it.
-fn barred_lines(rt: &(impl Abort + AllocGlobal), text: &[u8]) -> List<u8> {
-    let mut out = List::new(rt.alloc());
-    let mut from = 0;
-    'lines: while let Some((span, next)) = next_line(text, from) {
-        push_barred(rt, &mut out, &text[span.start..span.end]);
-        from = next;
-    }
-    out
-}
-
-// The lines of a text, each with `|` after it.
-struct BarredLines;
-
-impl Outcome for BarredLines {
-    fn of<R: Abort + AllocGlobal>(rt: &R, input: &str) -> String {
-        let text = lines_of(rt, input);
-        text_of(rt, barred_lines(rt, text.as_bytes()))
-    }
-}
-
-const LINES: &str = " =>\x20
-/ => |
-// => ||
-a => a|
-a/ => a|
-a/bc => a|bc|
-/a//b/ => |a||b|
-a\r/b\r => a\r|b\r|";
-
-// The words of a line, each with `|` after it.
-fn barred_words(rt: &(impl Abort + AllocGlobal), line: &[u8]) -> List<u8> {
-    let mut out = List::new(rt.alloc());
-    for span in split_words(rt.alloc(), line)
-        .expect(rt, "memory")
-        .as_slice()
-    {
-        let word = line
-            .get(span.start..span.end)
-            .expect(rt, "a word of the line");
-        push_barred(rt, &mut out, word);
-    }
-    out
-}
-
-// The words of a line, each taken from what the one before it leaves, with `|` after it.
-fn barred_first_words(rt: &(impl Abort + AllocGlobal), line: &[u8]) -> List<u8> {
-    let mut out = List::new(rt.alloc());
-    let mut rest = line;
-    for _ in 0..=line.len() {
-        let Some((word, left)) = first_word(rest) else {
-            break;
-        };
-        push_barred(rt, &mut out, word);
-        rest = left;
-    }
-    out
-}
-
-// The words of a line, found in both ways.
-struct BarredWords;
-
-impl Outcome for BarredWords {
-    fn of<R: Abort + AllocGlobal>(rt: &R, input: &str) -> String {
-        let words = barred_words(rt, input.as_bytes());
-        let first_words = barred_first_words(rt, input.as_bytes());
-        expect_bytes(rt, first_words.as_slice(), words.as_slice());
-        text_of(rt, words)
-    }
-}
-
-const WORDS: &str = " =>\x20
- \t\r =>\x20
-a => a|
-set 1 2 => set|1|2|
-  a\t\tbc \r => a|bc|
-a\rb => a|b|
-a\x0Bb\x00c d => a\x0Bb\x00c|d|
-\u{A0} \u{FF} => \u{A0}|\u{FF}|";
+const NO_WORDS: &str = " => (Not, None)
+1  => (Not, None)
+ 1 => (Not, None)";
 
 #[test]
 fn numbers_are_printed(rt: HostRuntime) {
@@ -311,10 +173,7 @@ fn fractions_are_added(rt: HostRuntime) {
 
 #[test]
 fn words_and_texts_are_read(rt: HostRuntime) {
-    expect_rows::<WholeNumber>(&rt, WHOLE_NUMBERS);
-    expect_rows::<Count>(&rt, COUNTS);
-    expect_rows::<BarredLines>(&rt, LINES);
-    expect_rows::<BarredWords>(&rt, WORDS);
+    expect_rows::<NoWord>(&rt, NO_WORDS);
     expect_rows::<DecimalNumber>(&rt, DECIMALS);
     expect_rows::<Trimmed>(&rt, TEXTS);
     expect_rows::<LeadingDigits>(&rt, DIGITS);
@@ -337,16 +196,4 @@ fn a_local_height_is_below_a_percent_strictly(rt: HostRuntime) {
             "{local} of {sz}"
         );
     }
-}
-
-#[test]
-fn long_words_are_read_whole(rt: HostRuntime) {
-    let mut word = vec![in rt.alloc(); b'9'; 4000].expect(&rt, "memory");
-    assert!(rt; read_whole(&word) == Whole::Outside);
-    word.push(b'x').expect(&rt, "memory");
-    assert!(rt; read_whole(&word) == Whole::Not);
-    let mut zeros = vec![in rt.alloc(); b'0'; 4000].expect(&rt, "memory");
-    zeros.push(b'5').expect(&rt, "memory");
-    assert!(rt; read_whole(&zeros) == Whole::Is(5));
-    assert!(rt; read_count(&zeros) == Some(5));
 }

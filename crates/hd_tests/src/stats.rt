@@ -1,41 +1,14 @@
-// Names of height parameters, and regions whose further values are known.
+// What is no word of a line and no notation, and regions whose further values are known.
 ghost use Rattle.std.specs.Prelude.{◌≤◌, All};
 ghost use Rattle.hd_feature.specs.declared.region.Region.{Region};
 
 use crate::shared::{Outcome, expect_rows, shown, text_of};
-use hd_feature::{Region, read_without_statistic};
+use hd_feature::{Region, read_notation, read_without_statistic};
 use hd_list::List;
 use hd_map::Rank;
 use hd_num::{Frac, Whole, push_frac, push_text, push_unsigned, read_whole};
-use hd_stats::{height_name, hist, perc};
+use hd_stats::{hist, perc};
 use std::process::Abort;
-
-// What a name and a height, of which the latter may be missing, stand for.
-struct Named;
-
-impl Outcome for Named {
-    fn of<R: Abort + AllocGlobal>(rt: &R, input: &str) -> String {
-        let (name, c) = input.split_once(",").expect(rt, "a name and a height");
-        let c = match read_whole(c.as_bytes()) {
-            Whole::Is(height) => Some(height),
-            _ => None,
-        };
-        shown(rt, &height_name(name.as_bytes(), c))
-    }
-}
-
-const NAMES: &str = "Sp, => Ok(Sp)
-Sv, => Ok(Sv)
-Sa, => Ok(Sa)
-Smr,-7 => Ok(Smr(-7))
-Smr, => Err(NeedsHeight)
-Sp,0 => Err(TakesNoHeight)
-Sv,1 => Err(TakesNoHeight)
-Sa,-1 => Err(TakesNoHeight)
-sp, => Err(UnknownName)
-,3 => Err(UnknownName)
-Spd,3 => Err(UnknownName)
-Smr2, => Err(UnknownName)";
 
 // Adds a blank and a value.
 fn push_value(rt: &impl Abort, text: &mut List<u8>, value: Option<Frac>) {
@@ -131,9 +104,21 @@ const SHARES: &str = "4,5 4 =>  1/2
 9223372036854775807,9223372036854775807 =>  0/1
 1,1 2 3 4 =>  3/4";
 
+// Why a text is no notation.
+struct Refusal;
+
+impl Outcome for Refusal {
+    fn of<R: Abort + AllocGlobal>(rt: &R, input: &str) -> String {
+        shown(rt, &read_notation(input.as_bytes()).err())
+    }
+}
+
+const REFUSALS: &str = " => Some(BadPart(1))
+FC; D;Wolfprune:5%;Bot:5;lpvh;Mean => Some(BadPart(2))";
+
 #[test]
-fn names_are_known_and_values_are_counted(rt: HostRuntime) {
-    expect_rows::<Named>(&rt, NAMES);
+fn texts_are_no_notations_and_values_are_counted(rt: HostRuntime) {
+    expect_rows::<Refusal>(&rt, REFUSALS);
     expect_rows::<Counts>(&rt, COUNTS);
     expect_rows::<Share>(&rt, SHARES);
 }
