@@ -8,4 +8,7 @@ mod BetweenRoots
 mod Rooted
 mod PitsOf
 mod Touched
+pub mod TileLinks
+pub mod TileBands
+pub mod TileDescents
 pub mod Following

@@ -2,5 +2,8 @@
 pub mod Told
 pub mod BetweenRoots
 pub mod PitsOf
-pub mod Outlay
+pub mod Choice
+pub mod TileLinks
+pub mod TileBands
+pub mod TileDescents
 pub mod Following

@@ -5,12 +5,16 @@
 //! it says what else holds then.
 #![tactic(auto)]
 
+mod bands;
 mod between;
-mod outlay;
+mod choice;
 mod pits;
 mod pool_view;
+mod side_descents;
+mod side_links;
 mod side_pool;
 mod told;
 
+pub use choice::{Choice, Question};
 pub use pool_view::PoolView;
 pub use side_pool::SidePool;

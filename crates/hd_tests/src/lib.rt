@@ -18,6 +18,8 @@ mod by_line;
 #[cfg(test)]
 mod check;
 #[cfg(test)]
+mod descents;
+#[cfg(test)]
 mod followed;
 #[cfg(test)]
 mod graph;
