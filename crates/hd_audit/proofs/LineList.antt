@@ -30,7 +30,6 @@ module _ (numbers : List Numbers) (named : List Named) (paired : length numbers 
       get_or-zip2 line_kept numbers named k n which _ inside (let e = paired in omega (arith, inside, e)) ∙ sym (rw (← n_is, ← which_is) refl)
 
   module _ (n : Numbers) (which : Named) where
-
     -- is one more line
     pub lines_push : lines_kept (numbers ++ n ∷ []) (named ++ which ∷ []) ≡ lines_kept numbers named ++ line_kept n which ∷ []
     lines_push = zip2-push line_kept numbers named n which paired
