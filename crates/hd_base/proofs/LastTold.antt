@@ -11,28 +11,28 @@ use Rattle.hd_base.specs.Told.{Told}
 use Rattle.hd_base.specs.Adapters.{AreToldAlike, last_told}
 
 -- a file in place of another one has got nothing yet, where both are told
-pub none_since : {T : Type 0} (contents : T → Told) (old : Option T) (new : T) (taken : ℕ) (bytes : List ℕ) → AreToldAlike contents
+pub last_told-none : {T : Type 0} (contents : T → Told) (old : Option T) (new : T) (taken : ℕ) (bytes : List ℕ) → AreToldAlike contents
     → last_told taken (option_and_then contents old) ≡ Some bytes → last_told 0 (contents new) ≡ Some []
-none_since contents None new taken bytes alike told = cc
-none_since contents (Some file) new taken bytes alike told = none_of (contents file) (contents new) (alike file new) told where
+last_told-none contents None new taken bytes alike told = cc
+last_told-none contents (Some file) new taken bytes alike told = none_of (contents file) (contents new) (alike file new) told where
   none_of : (a b : Told) → is_some a ≡ is_some b → last_told taken a ≡ Some bytes → last_told 0 b ≡ Some []
   none_of None b same told = cc
   none_of (Some xs) None same told = absurd (true≢false same)
   none_of (Some xs) (Some ys) same told = simp unary_clauses (ap Some (drop-length ys))
 
 -- what keeps all bytes keeps the last ones
-pub kept_since : (old new : Told) (taken now : ℕ) → now ≡ taken → Keeps old new → Keeps (last_told taken old) (last_told now new)
-kept_since None new taken now same kept = tt
-kept_since (Some xs) None taken now same kept = absurd kept
-kept_since (Some xs) (Some ys) taken now same kept = cc
+pub last_told-kept : (old new : Told) (taken now : ℕ) → now ≡ taken → Keeps old new → Keeps (last_told taken old) (last_told now new)
+last_told-kept None new taken now same kept = tt
+last_told-kept (Some xs) None taken now same kept = absurd kept
+last_told-kept (Some xs) (Some ys) taken now same kept = cc
 
 -- a write adds to the last bytes what it adds to all of them
-pub written_since : {E : Type 0} (old new : Told) (taken now : ℕ) (result : Result ℕ E) (piece : List ℕ) → WritesAtMost result piece
+pub last_told-written : {E : Type 0} (old new : Told) (taken now : ℕ) (result : Result ℕ E) (piece : List ℕ) → WritesAtMost result piece
     → MatchResult result (λ n. now ≡ taken + n) (λ _. now ≡ taken) → WriteAppends old new result piece → WriteAppends (last_told taken old) (last_told now new) result piece
-written_since None new taken now (Ok n) piece fits count more = tt
-written_since (Some xs) None taken now (Ok n) piece fits count more = absurd more
-written_since (Some xs) (Some ys) taken now (Ok n) piece fits count more =
+last_told-written None new taken now (Ok n) piece fits count more = tt
+last_told-written (Some xs) None taken now (Ok n) piece fits count more = absurd more
+last_told-written (Some xs) (Some ys) taken now (Ok n) piece fits count more =
     let len : length ys ≡ length xs + length (take n piece) = ap length more ∙ length-append xs (take n piece) in
     let at : length ys - now ≡ length xs - taken = omega (arith, length-take-le n piece fits) in
     ap (λ k. drop k ys) at ∙ ap (drop (length xs - taken)) more ∙ drop-append-le (length xs - taken) xs (take n piece) (omega arith)
-written_since old new taken now (Err e) piece fits count kept = kept_since old new taken now count kept
+last_told-written old new taken now (Err e) piece fits count kept = last_told-kept old new taken now count kept

@@ -13,9 +13,9 @@ pub record AreWritten (old new : Option (List ℕ)) (bytes rest : List ℕ) : Ty
   pub rest_is : rest ≡ drop count bytes
   pub taken : Appends old new (take count bytes)
 
-pub written_more : (old mid new : Option (List ℕ)) (bytes rest : List ℕ) (n : ℕ) → n ≤ length rest → Appends mid new (take n rest) → AreWritten old mid bytes rest
+pub AreWritten-more : (old mid new : Option (List ℕ)) (bytes rest : List ℕ) (n : ℕ) → n ≤ length rest → Appends mid new (take n rest) → AreWritten old mid bytes rest
     → AreWritten old new bytes (drop n rest)
-written_more old mid new bytes rest n fits p w =
+AreWritten-more old mid new bytes rest n fits p w =
     let len : length rest ≡ length (drop w.count bytes) = ap length w.rest_is in
     let within = w.within in
     record {
@@ -27,10 +27,10 @@ written_more old mid new bytes rest n fits p w =
     }
 
 -- a read gives the first of the bytes that are left, and none only at their end
-pub read_takes : (left file into copied rest : List ℕ) (at count piece : ℕ) → left ≡ drop at file → rest ≡ drop at file → copied ≡ take count rest
+pub piece-taken : (left file into copied rest : List ℕ) (at count piece : ℕ) → left ≡ drop at file → rest ≡ drop at file → copied ≡ take count rest
     → count ≡ min (min (length rest) (length into)) piece → 0 < piece
     → (left ≡ take count (copied ++ drop count into) ++ drop (at + count) file) × (count ≡ 0 → 0 < length (copied ++ drop count into) → drop (at + count) file ≡ [])
-read_takes left file into copied rest at count piece is_left is_rest is_copied is_count some =
+piece-taken left file into copied rest at count piece is_left is_rest is_copied is_count some =
     let few : count ≤ length rest = omega arith in
     let len : length copied ≡ count = ap length is_copied ∙ length-take-le count rest few in (
       is_left ∙ sym is_rest ∙ sym (take-append-drop count rest) ∙ ap (λ (xs : List ℕ). xs ++ drop count rest) (sym is_copied ∙ sym (take_at copied (drop count into) count len))
@@ -51,9 +51,9 @@ left_after bytes got None h = absurd h
 left_after bytes got (Some rest) h = ap Some (sym (rw h (drop-append_seam got rest)))
 
 -- one more piece is taken of a file, within the limit and one byte
-pub few_taken : (bytes got piece : List ℕ) (limit count : ℕ) (file mid left : Option (List ℕ)) → file ≡ Some bytes → Consumes file mid got → Consumes mid left (take count piece)
+pub TakesFew-more : (bytes got piece : List ℕ) (limit count : ℕ) (file mid left : Option (List ℕ)) → file ≡ Some bytes → Consumes file mid got → Consumes mid left (take count piece)
     → length got + length piece ≤ limit + 1 → TakesFew bytes limit left
-few_taken bytes got piece limit count file mid left told before more fits =
+TakesFew-more bytes got piece limit count file mid left told before more fits =
     let taken : Consumes (Some bytes) left (got ++ take count piece) = subst (λ (f : Option (List ℕ)). Consumes f left (got ++ take count piece)) told (Consumes-trans file mid left got (take count piece) before more) in (
       length (got ++ take count piece),
       omega (arith, length-append got (take count piece), length-take count piece),
@@ -61,9 +61,9 @@ few_taken bytes got piece limit count file mid left told before more fits =
     )
 
 -- a file is read to its end
-pub whole_read : (bytes got piece : List ℕ) (count : ℕ) (file mid left : Option (List ℕ)) → file ≡ Some bytes → Consumes file mid got → Consumes mid left (take count piece)
+pub pieces-whole : (bytes got piece : List ℕ) (count : ℕ) (file mid left : Option (List ℕ)) → file ≡ Some bytes → Consumes file mid got → Consumes mid left (take count piece)
     → count ≡ 0 → IsAtEnd left → (got ≡ bytes) × (left ≡ Some [])
-whole_read bytes got piece count file mid left told before more none end =
+pieces-whole bytes got piece count file mid left told before more none end =
     let last : Consumes mid left [] = subst (λ n. Consumes mid left (take n piece)) none more in
     ended left (subst (λ (f : Option (List ℕ)). Consumes f left (got ++ [])) told (Consumes-trans file mid left got [] before last)) end where
       ended : (rest : Option (List ℕ)) → Consumes (Some bytes) rest (got ++ []) → IsAtEnd rest → (got ≡ bytes) × (rest ≡ Some [])
@@ -71,14 +71,14 @@ whole_read bytes got piece count file mid left told before more none end =
       ended (Some rest) taken gone = (sym (taken ∙ ap (λ (xs : List ℕ). (got ++ []) ++ xs) gone ∙ append-nil (got ++ []) ∙ append-nil got), ap Some gone)
 
 -- nothing more is taken of a file
-pub few_kept : (bytes got : List ℕ) (limit : ℕ) (file mid left : Option (List ℕ)) → file ≡ Some bytes → Consumes file mid got → Keeps mid left → length got ≤ limit → TakesFew bytes limit left
-few_kept bytes got limit file mid left told before kept fits =
+pub TakesFew-kept : (bytes got : List ℕ) (limit : ℕ) (file mid left : Option (List ℕ)) → file ≡ Some bytes → Consumes file mid got → Keeps mid left → length got ≤ limit → TakesFew bytes limit left
+TakesFew-kept bytes got limit file mid left told before kept fits =
     (length got, omega arith, left_after bytes got left (subst (λ (f : Option (List ℕ)). Consumes f left got) told (Consumes-kept file mid left got before kept)))
 
 -- a file has more bytes than the limit, and one more than the limit is taken of it
-pub past_limit : (bytes got piece all : List ℕ) (limit count : ℕ) (file mid left : Option (List ℕ)) → file ≡ Some bytes → Consumes file mid got → Consumes mid left (take count piece)
+pub pieces-past_limit : (bytes got piece all : List ℕ) (limit count : ℕ) (file mid left : Option (List ℕ)) → file ≡ Some bytes → Consumes file mid got → Consumes mid left (take count piece)
     → length got + length piece ≤ limit + 1 → all ≡ got ++ take count piece → limit < length all → (left ≡ Some (drop (limit + 1) bytes)) × (limit < length bytes)
-past_limit bytes got piece all limit count file mid left told before more fits is past =
+pieces-past_limit bytes got piece all limit count file mid left told before more fits is past =
     let taken : Consumes (Some bytes) left all = rw is (subst (λ (f : Option (List ℕ)). Consumes f left (got ++ take count piece)) told (Consumes-trans file mid left got (take count piece) before more)) in
     let size : length all ≡ limit + 1 = omega (arith, ap length is, length-append got (take count piece), length-take count piece) in
     (subst (λ n. left ≡ Some (drop n bytes)) size (left_after bytes all left taken), omega (arith, starts left taken)) where

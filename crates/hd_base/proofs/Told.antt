@@ -7,13 +7,13 @@ use Rattle.std.proofs.Math.Seq.{take-append_seam}
 use Rattle.hd_base.specs.Told.{AppendsPart, AppendsStart}
 
 -- a text begins with its first part
-pub start_of : (part rest : List ℕ) → StartsWith (part ++ rest) part
-start_of part rest = take-append_seam part rest
+pub StartsWith-front : (part rest : List ℕ) → StartsWith (part ++ rest) part
+StartsWith-front part rest = take-append_seam part rest
 
 start_after : (front text part : List ℕ) → StartsWith text part → StartsWith (front ++ text) (front ++ part)
 start_after front text part begins =
     subst (λ (whole : List ℕ). StartsWith whole (front ++ part)) (append_assoc front part (drop (length part) text) ∙ ap (λ xs. front ++ xs) (sym (starts_with_rest text part begins)))
-    (start_of (front ++ part) (drop (length part) text))
+    (StartsWith-front (front ++ part) (drop (length part) text))
 
 module _ (old mid new : Option (List ℕ)) (front text : List ℕ) (written : Appends old mid front) where
   -- and then not all of it

@@ -5,7 +5,7 @@ use Rattle.std.specs.Io.KnownBytes.{Appends}
 use Rattle.std.proofs.KnownBytes.{Appends-trans, Appends-kept}
 use Rattle.std.proofs.Math.Seq.{take-add}
 use Rattle.std.proofs.lemmas.List.{drop-drop}
-use Rattle.hd_base.proofs.Told.{AppendsPart-after, start_of}
+use Rattle.hd_base.proofs.Told.{AppendsPart-after, StartsWith-front}
 use Rattle.hd_session.specs.State.{State, IsState}
 use Rattle.hd_session.specs.Answers.{IsAnswer, AreAnswers}
 use Rattle.hd_session.specs.Reply.{Reply}
@@ -74,7 +74,7 @@ every_start law s lines text reply last whole first all =
     let some = first_answers s 1 lines first.count reply last all in
     let few : Reply = some.0 in
     let same = law s 1 (take first.count lines) (reply_of first.accepted text) few first.after some.1 whole first.answers some.3 in
-    subst (λ (t : List ℕ). StartsWith t text) (ap (λ (r : Reply). r.text ++ some.2) same.0 ∙ sym some.4) (start_of text some.2)
+    subst (λ (t : List ℕ). StartsWith t text) (ap (λ (r : Reply). r.text ++ some.2) same.0 ∙ sym some.4) (StartsWith-front text some.2)
 
 -- the answers to the first no lines
 pub no_answers : (s : State) (lines : List (List ℕ)) → AnswersFirst s lines []

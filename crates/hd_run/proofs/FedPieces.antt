@@ -5,7 +5,7 @@ use Rattle.std.specs.Result.{is_err}
 use Rattle.std.specs.Io.KnownBytes.{Consumes}
 use Rattle.std.proofs.KnownBytes.{Consumes-trans}
 use Rattle.hd_base.specs.Told.{TakesFew}
-use Rattle.hd_base.proofs.Pieces.{few_taken}
+use Rattle.hd_base.proofs.Pieces.{TakesFew-more}
 
 module _ {R : Type 0} (StandsFor : R → List ℕ → Type 0) where
   -- so many bytes of what was left are fed
@@ -29,7 +29,7 @@ module _ {R : Type 0} (StandsFor : R → List ℕ → Type 0) where
   pub TakesFew-fed : (bytes : List ℕ) (before mid left : Option (List ℕ)) (reader : R) (limit count n : ℕ) (piece : List ℕ) → before ≡ Some bytes → HasFed before mid reader count → Consumes mid left (take n piece)
       → count + length piece ≤ limit + 1 → TakesFew bytes limit left
   TakesFew-fed bytes before mid left reader limit count n piece told fed more fits =
-      few_taken bytes fed.got piece limit n before mid left told fed.taken more (omega (arith, fits, fed.size))
+      TakesFew-more bytes fed.got piece limit n before mid left told fed.taken more (omega (arith, fits, fed.size))
 
 -- a call that is no error was accepted
 pub on_ok : {T E P : Type 0} (result : Result T E) → is_err result ≡ false → OnOk result P → P

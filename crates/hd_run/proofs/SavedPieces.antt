@@ -4,7 +4,7 @@ use Rattle.std.specs.Io.KnownBytes.{Appends}
 use Rattle.std.proofs.Math.Seq.{drop-append_seam, take-append_seam}
 use Rattle.std.proofs.lemmas.List.{take-append-drop, take-append-le}
 use Rattle.hd_base.specs.Told.{AppendsPart, Told}
-use Rattle.hd_base.proofs.Pieces.{AreWritten, written_more}
+use Rattle.hd_base.proofs.Pieces.{AreWritten, AreWritten-more}
 use Rattle.hd_base.proofs.Told.{AppendsPart-after}
 
 -- a piece of what was left is written
@@ -13,7 +13,7 @@ piece_written old mid new text left piece rest joined more written =
     let first : take (length piece) left ≡ piece = ap (take (length piece)) joined ∙ take-append_seam piece rest in
     let behind : drop (length piece) left ≡ rest = ap (drop (length piece)) joined ∙ drop-append_seam piece rest in
     let fits : length piece ≤ length left = omega (arith, ap length joined, length-append piece rest) in
-    subst (AreWritten old new text) behind (written_more old mid new text left (length piece) fits (subst (Appends mid new) (sym first) more) written)
+    subst (AreWritten old new text) behind (AreWritten-more old mid new text left (length piece) fits (subst (Appends mid new) (sym first) more) written)
 
 -- nothing is left
 pub all_written : (old new : Told) (text left : List ℕ) → left ≡ [] → AreWritten old new text left → Appends old new text

@@ -5,7 +5,7 @@ use Rattle.std.specs.Io.KnownBytes.{Appends, Keeps}
 use Rattle.std.proofs.KnownBytes.{Appends-nil, Appends-trans, Appends-kept}
 use Rattle.hd_base.specs.Causes.{Rose}
 use Rattle.hd_base.specs.Told.{AppendsPart, AppendsStart, Told, OnTold}
-use Rattle.hd_base.proofs.Told.{start_of}
+use Rattle.hd_base.proofs.Told.{StartsWith-front}
 use Rattle.hd_session.specs.State.{State, saved_file}
 use Rattle.hd_sdf_write.specs.Canonical.{canonical}
 use Rattle.hd_run.specs.declared.stop.Stop.{Stop}
@@ -36,7 +36,7 @@ all_after_open old mid new last text opened written kept = Appends-kept (emptied
 
 -- all of a text begins it
 pub start-whole : (old new : Told) (text : List ℕ) → Appends old new text → AppendsStart old new text
-start-whole old new text written = (text, subst (λ (whole : List ℕ). StartsWith whole text) (append-nil text) (start_of text []), written)
+start-whole old new text written = (text, subst (λ (whole : List ℕ). StartsWith whole text) (append-nil text) (StartsWith-front text []), written)
 
 -- a count that rose later
 pub rose_later : (before mid now : ℕ) → mid ≡ before → Rose mid now → Rose before now

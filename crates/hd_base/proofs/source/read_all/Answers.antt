@@ -5,7 +5,7 @@ use Rattle.hd_base.specs.declared.source.ReadError.{ReadError}
 use Rattle.hd_base.specs.declared.source.ReadError.TheVariants.{Memory, ReadFault, TooLong}
 use Rattle.hd_base.specs.Causes.{Rose}
 use Rattle.hd_base.specs.Told.{HasReadCause}
-use Rattle.hd_base.proofs.Pieces.{few_kept, few_taken, past_limit, whole_read}
+use Rattle.hd_base.proofs.Pieces.{TakesFew-kept, TakesFew-more, pieces-past_limit, pieces-whole}
 use Rattle.hd_base.proofs.source.read_all.Given.{Over}
 use Rattle.hd_base.proofs.source.read_all.Goals as goal
 use Rattle.hd_base.proofs.source.read_all.Goals.{Then-len-limit}
@@ -52,7 +52,7 @@ pub returns-in_default-clause-left : goal.returns-in_default-clause-left
 returns-in_default-clause-left g c = λ bytes told. record {
   whole = tt;
   too_long = λ n e. absurd (fault≢long n e);
-  few = inl (few_kept bytes c.pieces.bytes.items c.args.limit _ _ _ told c.pieces.invariant.read c.in_default.ensures.bytes c.pieces.invariant.within);
+  few = inl (TakesFew-kept bytes c.pieces.bytes.items c.args.limit _ _ _ told c.pieces.invariant.read c.in_default.ensures.bytes c.pieces.invariant.within);
 }
 
 pub returns-in_default-clause-cause : goal.returns-in_default-clause-cause
@@ -71,7 +71,7 @@ pub returns-then-is_err-2-clause-left : goal.returns-then-is_err-2-clause-left
 returns-then-is_err-2-clause-left g c = λ bytes told. record {
   whole = tt;
   too_long = λ n e. absurd (memory≢long n e);
-  few = inl (few_taken bytes c.pieces.bytes.items c.read.new.into c.args.limit c.in-Ok.count _ _ _ told c.pieces.invariant.read c.in-Ok.ensures.bytes.0 (omega (arith, c.read.auto.into, length-take c.min-room.result c.pieces.piece)));
+  few = inl (TakesFew-more bytes c.pieces.bytes.items c.read.new.into c.args.limit c.in-Ok.count _ _ _ told c.pieces.invariant.read c.in-Ok.ensures.bytes.0 (omega (arith, c.read.auto.into, length-take c.min-room.result c.pieces.piece)));
 }
 
 pub returns-then-is_err-2-clause-open : goal.returns-then-is_err-2-clause-open
@@ -82,7 +82,7 @@ returns-then-is_err-2-clause-cause g c = no_fault _ _ _ _ c.pieces.invariant.fau
 
 pub returns-then-count-eq0-clause-file : goal.returns-then-count-eq0-clause-file
 returns-then-count-eq0-clause-file g c = record {
-  whole = λ bytes told. c.from_vec.ensures ∙ (whole_read bytes c.pieces.bytes.items c.read.new.into c.in-Ok.count _ _ _ told c.pieces.invariant.read c.in-Ok.ensures.bytes.0 c.if-count-eq0.true
+  whole = λ bytes told. c.from_vec.ensures ∙ (pieces-whole bytes c.pieces.bytes.items c.read.new.into c.in-Ok.count _ _ _ told c.pieces.invariant.read c.in-Ok.ensures.bytes.0 c.if-count-eq0.true
       (c.in-Ok.ensures.bytes.1 c.if-count-eq0.true (omega (arith, c.read.auto.into, length-take c.min-room.result c.pieces.piece)))).0;
   within = subst (λ (xs : List ℕ). length xs ≤ c.args.limit) (sym c.from_vec.ensures) c.pieces.invariant.within;
   too_long = λ bytes told n e. absurd (bytes≢long _ n e);
@@ -91,10 +91,10 @@ returns-then-count-eq0-clause-file g c = record {
 
 pub returns-then-count-eq0-clause-left : goal.returns-then-count-eq0-clause-left
 returns-then-count-eq0-clause-left g c = λ bytes told. record {
-  whole = (whole_read bytes c.pieces.bytes.items c.read.new.into c.in-Ok.count _ _ _ told c.pieces.invariant.read c.in-Ok.ensures.bytes.0 c.if-count-eq0.true
+  whole = (pieces-whole bytes c.pieces.bytes.items c.read.new.into c.in-Ok.count _ _ _ told c.pieces.invariant.read c.in-Ok.ensures.bytes.0 c.if-count-eq0.true
       (c.in-Ok.ensures.bytes.1 c.if-count-eq0.true (omega (arith, c.read.auto.into, length-take c.min-room.result c.pieces.piece)))).1;
   too_long = λ n e. absurd (bytes≢long _ n e);
-  few = inl (few_taken bytes c.pieces.bytes.items c.read.new.into c.args.limit c.in-Ok.count _ _ _ told c.pieces.invariant.read c.in-Ok.ensures.bytes.0 (omega (arith, c.read.auto.into, length-take c.min-room.result c.pieces.piece)));
+  few = inl (TakesFew-more bytes c.pieces.bytes.items c.read.new.into c.args.limit c.in-Ok.count _ _ _ told c.pieces.invariant.read c.in-Ok.ensures.bytes.0 (omega (arith, c.read.auto.into, length-take c.min-room.result c.pieces.piece)));
 }
 
 pub returns-then-count-eq0-clause-cause : goal.returns-then-count-eq0-clause-cause
@@ -114,7 +114,7 @@ past : (g : Over) (c : Then-len-limit g) (bytes : List ℕ) → g.S.Source.files
     → (g.S.Source.left c.read.new.self ≡ Some (drop (c.args.limit + 1) bytes)) × (c.args.limit < length bytes)
 past g c bytes told =
     let all : c.extend_from_slice.new.self.items ≡ c.pieces.bytes.items ++ take c.in-Ok.count c.read.new.into = grind (arith, common_steps) in
-    past_limit bytes c.pieces.bytes.items c.read.new.into c.extend_from_slice.new.self.items c.args.limit c.in-Ok.count _ _ _ told c.pieces.invariant.read c.in-Ok.ensures.bytes.0
+    pieces-past_limit bytes c.pieces.bytes.items c.read.new.into c.extend_from_slice.new.self.items c.args.limit c.in-Ok.count _ _ _ told c.pieces.invariant.read c.in-Ok.ensures.bytes.0
     (omega (arith, c.read.auto.into, length-take c.min-room.result c.pieces.piece)) all (omega arith)
 
 pub returns-then-len-limit-clause-left : goal.returns-then-len-limit-clause-left

@@ -28,8 +28,8 @@ module _ (owner group other : ℕ) where
   abbrev without_group : Access
   without_group = record { owner = owner; group = 0; other = bit_and other group }
 
-  pub group_new : GivesNoMore true false before without_group
-  group_new old new stands = cases new.owns new.is_member old.owns old.is_member (stands.same_owner refl) where
+  pub GivesNoMore-without_group : GivesNoMore true false before without_group
+  GivesNoMore-without_group old new stands = cases new.owns new.is_member old.owns old.is_member (stands.same_owner refl) where
     cases : (no nm oo om : Bool) → no ≡ oo → IsWithin (may_by without_group no nm) (may_by before oo om)
     cases true nm true om owns = and_self owner
     cases true nm false om owns = cc
@@ -42,8 +42,8 @@ module _ (owner group other : ℕ) where
   abbrev without_owner : Access
   without_owner = record { owner = group; group = bit_and group owner; other = bit_and other owner }
 
-  pub owner_new : GivesNoMore false true before without_owner
-  owner_new old new stands = cases new.owns new.is_member old.owns old.is_member (stands.same_group refl) (stands.new_owner refl) where
+  pub GivesNoMore-without_owner : GivesNoMore false true before without_owner
+  GivesNoMore-without_owner old new stands = cases new.owns new.is_member old.owns old.is_member (stands.same_group refl) (stands.new_owner refl) where
     cases : (no nm oo om : Bool) → nm ≡ om → (no ≡ true → (oo ≡ false) × (om ≡ true)) → IsWithin (may_by without_owner no nm) (may_by before oo om)
     cases true nm true om is own = let stood = own refl in cc
     cases true nm false false is own = let stood = own refl in cc
@@ -59,8 +59,8 @@ module _ (owner group other : ℕ) where
   abbrev without_both : Access
   without_both = record { owner = other; group = 0; other = bit_and (bit_and other group) owner }
 
-  pub both_new : GivesNoMore false false before without_both
-  both_new old new stands = cases new.owns new.is_member old.owns old.is_member (stands.new_owner refl) where
+  pub GivesNoMore-without_both : GivesNoMore false false before without_both
+  GivesNoMore-without_both old new stands = cases new.owns new.is_member old.owns old.is_member (stands.new_owner refl) where
     cases : (no nm oo om : Bool) → (no ≡ true → (oo ≡ false) × (om ≡ false)) → IsWithin (may_by without_both no nm) (may_by before oo om)
     cases true nm true om own = let stood = own refl in cc
     cases true nm false true own = let stood = own refl in cc
