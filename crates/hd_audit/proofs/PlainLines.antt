@@ -10,7 +10,7 @@ use Rattle.std.proofs.lemmas.List.{length-append, length-take, take-append-drop}
 use Rattle.std.proofs.lemmas.Slice.Eq.{bytes_eq-Decides}
 use Rattle.hd_num.specs.Lines.{lines_of, words_of}
 use Rattle.hd_num.specs.Whole.{count_of, is_numeral}
-use Rattle.hd_num.proofs.Decimals.{count_parts}
+use Rattle.hd_num.proofs.Decimals.{count_of-parts}
 use Rattle.hd_check.specs.Text.{line_text}
 use Rattle.hd_check.proofs.ReadsBack.{IsWord, clear_digits, word-filled, first_line}
 use Rattle.hd_audit.specs.Plain.{BeginsWith, BeginsWithLine}
@@ -18,7 +18,7 @@ use Rattle.hd_audit.specs.Reading.{count_or_none, given, line_of_parts}
 
 -- what is read as a count is a word
 count_is_word : (w : List ℕ) (n : ℕ) → count_of w ≡ Some n → IsWord w
-count_is_word w n read = let parts = and_parts _ _ (count_parts w n (sym read)).numeral in record { some = parts.0; clear = clear_digits w parts.1 }
+count_is_word w n read = let parts = and_parts _ _ (count_of-parts w n (sym read)).numeral in record { some = parts.0; clear = clear_digits w parts.1 }
 
 -- so is what is read as a count or none
 count_or_none_is_word : (w : List ℕ) (o : Option ℕ) → count_or_none w ≡ Some o → IsWord w

@@ -13,8 +13,8 @@ use Rattle.std.proofs.lemmas.Bool.Decides.{nat_tests}
 use Rattle.std.proofs.lemmas.Fmt.{decimal_nonempty}
 use Rattle.std.proofs.lemmas.List.Folds.{list_all-append}
 use Rattle.hd_num.specs.Percent.{digits_left, fraction_text, percent_text, three_digits}
-use Rattle.hd_num.proofs.PercentReads.{percent_back}
-use Rattle.hd_num.proofs.ReadsBack.{count_of-decimal, first-decimal}
+use Rattle.hd_num.proofs.PercentReadsBack.{percent_of-percent_text}
+use Rattle.hd_num.proofs.WholeReadsBack.{count_of-decimal, decimal-first}
 use Rattle.hd_check.specs.Reading.{Read, adjacency_of, and_then, line_as, line_gives, side_of, value_of}
 use Rattle.hd_check.specs.Text.{adjacency_word, side_word}
 use Rattle.hd_check.proofs.ReadsBack.{AreLines, IsWord, adjacency_clear, counted_back, decimal_word, word-filled, from_line, is_clear, items_clear, lines_back, number_clear, side_clear, word_end}
@@ -42,7 +42,7 @@ count_clear None small = word_none
 
 count_back : (o : Option ℕ) → IfSome o (λ n. n < 2 ^ 32) → count_or_none (count_word o) ≡ Some o
 count_back (Some n) small =
-    ap₂ (λ (b : Bool) (o : Option ℕ). if b then Some None else given o) (no_dash (decimal n) (first-decimal n 45 (omega (arith, small)) (omega arith))) (count_of-decimal n small)
+    ap₂ (λ (b : Bool) (o : Option ℕ). if b then Some None else given o) (no_dash (decimal n) (decimal-first n 45 (omega (arith, small)) (omega arith))) (count_of-decimal n small)
   where
     no_dash : (w : List ℕ) → get_or w 0 0 ≢ 45 → bytes_eq w (codes "-") ≡ false
     no_dash [] ne = refl
@@ -95,7 +95,7 @@ parts_of side p adjacency = head_of_parts (side_of (side_word side)) p (adjacenc
 -- the first line reads back
 head_back : (side : SideName) (t : ℕ) (adjacency : Adjacency) → t ≤ 100000 → head_form (codes "pruning" ∷ side_word side ∷ percent_text t ∷ adjacency_word adjacency ∷ [])
     ≡ Some (record { side = side; percent = record { thousandths = t }; adjacency = adjacency })
-head_back side t adjacency most = ap (λ (p : Option Percent). parts_of side p adjacency) (percent_back t most) ∙ back side adjacency
+head_back side t adjacency most = ap (λ (p : Option Percent). parts_of side p adjacency) (percent_of-percent_text t most) ∙ back side adjacency
   where
     back : (side : SideName) (adjacency : Adjacency) → parts_of side (Some (record { thousandths = t })) adjacency ≡ Some (record { side = side; percent = record { thousandths = t }; adjacency = adjacency })
     back Dales Four = refl

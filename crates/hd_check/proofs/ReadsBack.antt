@@ -19,7 +19,7 @@ use Rattle.hd_map.specs.declared.types.SideName.{SideName}
 use Rattle.hd_map.specs.declared.types.SideName.TheVariants.{Dales, Hills}
 use Rattle.hd_num.specs.Lines.{is_blank, is_filled, is_line_feed, lines_of, without_empty_last, words_of}
 use Rattle.hd_num.specs.Whole.{i64_of}
-use Rattle.hd_num.proofs.ReadsBack.{count_of-decimal, digits, whole_of-signed_decimal}
+use Rattle.hd_num.proofs.WholeReadsBack.{count_of-decimal, IsNumeralModel-digits, whole_of-signed_decimal}
 use Rattle.hd_check.specs.declared.types.Certificate.{Certificate}
 use Rattle.hd_check.specs.declared.words.Head.{Head}
 use Rattle.hd_check.specs.Reading.{Lines, Read, after_cut, after_from, after_path, after_head, after_saddle, after_to, and_then, certificate_of, count_form, head_form, items_in, line_as, line_gives, point_form, point_of_counts, saddle_form, saddle_of_parts, value_of}
@@ -149,7 +149,7 @@ pub word-filled : (w : List ℕ) → 0 < length w → is_filled w ≡ true
 word-filled w some = ap not (ne_eqb (length w) 0 (λ none. omega (arith, none, some)))
 
 pub decimal_word : (n : ℕ) → n < 2 ^ 64 → IsWord (decimal n)
-decimal_word n small = record { some = word-filled (decimal n) (decimal_nonempty n small); clear = clear_digits (decimal n) (digits_decimal digits n small) }
+decimal_word n small = record { some = word-filled (decimal n) (decimal_nonempty n small); clear = clear_digits (decimal n) (digits_decimal IsNumeralModel-digits n small) }
 
 signed_word : (z : ℤ) → FitsSigned w64 z → IsWord (signed_decimal z)
 signed_word (pos n) fits = let small : n < 2 ^ 63 = fits.sfits in decimal_word n (omega arith)

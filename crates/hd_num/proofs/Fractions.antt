@@ -71,8 +71,8 @@ cancel_signed (negsuc m) (negsuc n) k some e = ap (λ x. neg_ℤ (pos x)) (cance
     same x y h = omega (arith, ints)
 
 -- a reduced fraction of 0 has the denominator 1
-pub zero_over_one : (num : ℤ) (den : ℕ) → IsReduced num den → num ≡ pos 0 → den ≡ 1
-zero_over_one num den r e = r.coprime den (subst (λ z. den ∣ unsigned_abs z) (sym e) (dvd-zero den)) (dvd_refl den)
+pub IsReduced-zero : (num : ℤ) (den : ℕ) → IsReduced num den → num ≡ pos 0 → den ≡ 1
+IsReduced-zero num den r e = r.coprime den (subst (λ z. den ∣ unsigned_abs z) (sym e) (dvd-zero den)) (dvd_refl den)
 
 -- two reduced fractions of the same number are the same
 pub IsFraction-determined : (n : ℤ) (d : ℕ) (a : ℤ) (b : ℕ) (a' : ℤ) (b' : ℕ) → 0 < d → IsFraction n d a b → IsFraction n d a' b' → (a ≡ a') × (b ≡ b')
@@ -171,16 +171,16 @@ module _ (a : ℤ) (b : ℕ) (c : ℤ) (d : ℕ) (some : 0 < b) (some' : 0 < d) 
   other_kept = product_kept c b d some some' other dens
 
   -- the sum of the products fits
-  pub sum_fits : FitsSigned w128 (to_z w128 (of_z w128 (to_z w128 (of_z w128 a) *ℤ to_z w128 d)) +ℤ to_z w128 (of_z w128 (to_z w128 (of_z w128 c) *ℤ to_z w128 b)))
-  sum_fits = subst₂ (λ x y. FitsSigned w128 (x +ℤ y)) (sym own_kept) (sym other_kept) (sum_of_small (a *ℤ pos d) (c *ℤ pos b) (product_small a d own) (product_small c b other))
+  pub sum_over_product-fits : FitsSigned w128 (to_z w128 (of_z w128 (to_z w128 (of_z w128 a) *ℤ to_z w128 d)) +ℤ to_z w128 (of_z w128 (to_z w128 (of_z w128 c) *ℤ to_z w128 b)))
+  sum_over_product-fits = subst₂ (λ x y. FitsSigned w128 (x +ℤ y)) (sym own_kept) (sym other_kept) (sum_of_small (a *ℤ pos d) (c *ℤ pos b) (product_small a d own) (product_small c b other))
 
   -- and is the numerator of the sum
-  pub sum_kept : to_z w128 (of_z w128 (to_z w128 (of_z w128 (to_z w128 (of_z w128 a) *ℤ to_z w128 d)) +ℤ to_z w128 (of_z w128 (to_z w128 (of_z w128 c) *ℤ to_z w128 b)))) ≡ sum_over_product a b c d
-  sum_kept = to_z-of_z w128 _ sum_fits ∙ ap₂ (λ x y. x +ℤ y) own_kept other_kept
+  pub sum_over_product-kept : to_z w128 (of_z w128 (to_z w128 (of_z w128 (to_z w128 (of_z w128 a) *ℤ to_z w128 d)) +ℤ to_z w128 (of_z w128 (to_z w128 (of_z w128 c) *ℤ to_z w128 b)))) ≡ sum_over_product a b c d
+  sum_over_product-kept = to_z-of_z w128 _ sum_over_product-fits ∙ ap₂ (λ x y. x +ℤ y) own_kept other_kept
 
 -- a reduced fraction is made of no greater numbers
-pub no_greater : (n : ℤ) (d : ℕ) (a : ℤ) (b : ℕ) → 0 < d → IsFraction n d a b → (unsigned_abs a ≤ unsigned_abs n) × (b ≤ d)
-no_greater n d a b some f =
+pub IsFraction-no_greater : (n : ℤ) (d : ℕ) (a : ℤ) (b : ℕ) → 0 < d → IsFraction n d a b → (unsigned_abs a ≤ unsigned_abs n) × (b ≤ d)
+IsFraction-no_greater n d a b some f =
     let divides : b ∣ d = divides_other (unsigned_abs a) b d f.reduced.coprime some (subst (λ x. b ∣ x) (sizes ∙ mul_comm (unsigned_abs a) d) (dvd-mul_left b (unsigned_abs n))) in
     let den : b ≤ d = le_of_dvd some divides in
     let products : unsigned_abs a * b ≤ unsigned_abs n * b = subst (λ x. unsigned_abs a * b ≤ x) (sym sizes) (mul-le-mul_left (unsigned_abs a) den) in

@@ -2,10 +2,10 @@ pub mod Decimals
 pub mod Fractions
 pub mod LineSteps
 pub mod Numerals
-pub mod PercentReads
+pub mod PercentReadsBack
 pub mod Percents
 pub mod Pieces
-pub mod ReadsBack
-pub mod StepReads
-pub mod StepTexts
+pub mod WholeReadsBack
+pub mod StepsReadBack
+pub mod StepsText
 pub mod WordSteps

@@ -27,9 +27,9 @@ rest_after bytes from end next is piece =
     ]
 
 -- the piece at a place before the end is the line there
-pub line_from_piece : (bytes : List ℕ) (from end next : ℕ) → from < length bytes → next ≡ min (end + 1) (length bytes)
+pub IsLineAt-from_piece : (bytes : List ℕ) (from end next : ℕ) → from < length bytes → next ≡ min (end + 1) (length bytes)
     → IsPieceEnd is_line_feed bytes from end → IsLineAt bytes from (record { start = from; end = end }) next
-line_from_piece bytes from end next before is piece =
+IsLineAt-from_piece bytes from end next before is piece =
     let low = piece.low in
     let high = piece.high in
     let line : List ℕ = slice_range bytes from end in

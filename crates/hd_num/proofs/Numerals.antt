@@ -7,30 +7,30 @@ use Rattle.std.proofs.lemmas.Bool.Decides.{nat_tests}
 use Rattle.std.proofs.lemmas.Int.Digits.{digits_value_more}
 use Rattle.std.proofs.lemmas.List.Folds.{list_all_more}
 use Rattle.std.proofs.lemmas.Str.Parse.{digits_value_short}
-use Rattle.hd_num.proofs.ReadsBack.{digits}
+use Rattle.hd_num.proofs.WholeReadsBack.{IsNumeralModel-digits}
 
 -- the value of an ASCII digit
 digit_value-ascii : (c : ℕ) → is_ascii_digit c ≡ true → digit_value c ≡ c - 48
 digit_value-ascii c h = grind (arith, nat_tests)
 
 -- one more digit
-pub digits_more : (word : List ℕ) (i : ℕ) → i < length word → is_ascii_digit (get_or word i 0) ≡ true
+pub is_ascii_digit-more : (word : List ℕ) (i : ℕ) → i < length word → is_ascii_digit (get_or word i 0) ≡ true
     → list_all is_ascii_digit (take i word) ≡ true → list_all is_ascii_digit (take (i + 1) word) ≡ true
-digits_more word i lt here before = list_all_more is_ascii_digit word i 0 lt ∙ ap (λ b. b && is_ascii_digit (get_or word i 0)) before ∙ here
+is_ascii_digit-more word i lt here before = list_all_more is_ascii_digit word i 0 lt ∙ ap (λ b. b && is_ascii_digit (get_or word i 0)) before ∙ here
 
 -- one more digit of a value that saturates
-pub saturated_more : (word : List ℕ) (i value : ℕ) → i < length word → is_ascii_digit (get_or word i 0) ≡ true
+pub digits_value-saturated : (word : List ℕ) (i value : ℕ) → i < length word → is_ascii_digit (get_or word i 0) ≡ true
     → value ≡ min (digits_value 10 (take i word)) (2 ^ 64 - 1)
     → min (min (value * 10) (2 ^ 64 - 1) + (get_or word i 0 - 48)) (2 ^ 64 - 1) ≡ min (digits_value 10 (take (i + 1) word)) (2 ^ 64 - 1)
-saturated_more word i value lt here so_far =
+digits_value-saturated word i value lt here so_far =
     let more = digits_value_more 10 word i lt in
     let digit = digit_value-ascii (get_or word i 0) here in
     omega (arith, more, digit)
 
 -- one more digit of a value
-pub value_more : (word : List ℕ) (i : ℕ) → i < length word → is_ascii_digit (get_or word i 0) ≡ true → digits_value 10 (take (i + 1) word) ≡ digits_value 10 (take i word) * 10 + (get_or word i 0 - 48)
-value_more word i lt here = digits_value_more 10 word i lt ∙ ap (λ n. digits_value 10 (take i word) * 10 + n) (digit_value-ascii (get_or word i 0) here)
+pub digits_value-more : (word : List ℕ) (i : ℕ) → i < length word → is_ascii_digit (get_or word i 0) ≡ true → digits_value 10 (take (i + 1) word) ≡ digits_value 10 (take i word) * 10 + (get_or word i 0 - 48)
+digits_value-more word i lt here = digits_value_more 10 word i lt ∙ ap (λ n. digits_value 10 (take i word) * 10 + n) (digit_value-ascii (get_or word i 0) here)
 
 -- at most eighteen digits write a number below 10 ^ 18
-pub leading_bound : (word : List ℕ) (i n : ℕ) → i ≤ 18 → list_all is_ascii_digit (take i word) ≡ true → n ≡ digits_value 10 (take i word) → n < 1000000000000000000
-leading_bound word i n few all value = rw value (digits_value_short digits (take i word) 18 all (rw length-take (omega arith)))
+pub digits_value-bound : (word : List ℕ) (i n : ℕ) → i ≤ 18 → list_all is_ascii_digit (take i word) ≡ true → n ≡ digits_value 10 (take i word) → n < 1000000000000000000
+digits_value-bound word i n few all value = rw value (digits_value_short IsNumeralModel-digits (take i word) 18 all (rw length-take (omega arith)))

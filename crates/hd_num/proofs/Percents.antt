@@ -15,7 +15,7 @@ use Rattle.std.proofs.lemmas.Bool.Decides.{nat_tests}
 use Rattle.hd_num.specs.Percent.{are_few_digits, few_digits_of, is_percent_less}
 use Rattle.hd_num.specs.Text.{AppendsPrefix}
 use Rattle.hd_num.specs.Whole.{count_of, is_numeral}
-use Rattle.hd_num.proofs.Decimals.{small_digits}
+use Rattle.hd_num.proofs.Decimals.{digits_value-small}
 
 in_range : (n : ℕ) → n < 3 → is_in_range 1 3 (suc n) ≡ true
 in_range n h = grind (arith, nat_tests)
@@ -29,7 +29,7 @@ few_test x xs h =
     let few = in_range (length xs) (omega arith) in
     elim (cases_Bool (list_all is_ascii_digit (x ∷ xs))) [
       | inl e ↦
-          let small = small_digits (x ∷ xs) e h in
+          let small = digits_value-small (x ∷ xs) e h in
           let fits : ltb (digits_value 10 (x ∷ xs)) (2 ^ 32) ≡ true = lt-ltb _ _ (omega (arith, small)) in
           and_from (is_numeral (x ∷ xs)) (ltb (digits_value 10 (x ∷ xs)) (2 ^ 32)) (and_from (not (suc (length xs) == 0)) (list_all is_ascii_digit (x ∷ xs)) some e) fits ∙ sym (and_from _ _ few e)
       | inr e ↦ falls (not (suc (length xs) == 0)) (list_all is_ascii_digit (x ∷ xs)) (ltb (digits_value 10 (x ∷ xs)) (2 ^ 32)) e ∙ sym (fails _ _ e)
@@ -43,23 +43,23 @@ few_test x xs h =
     falls a b c e = ap (λ v. v && c) (fails a b e)
 
 -- few digits are a count
-pub few_is_count : (text : List ℕ) → length text ≤ 3 → count_of text ≡ few_digits_of text
-few_is_count [] h = refl
-few_is_count (x ∷ xs) h = ap (λ b. if b then Some (digits_value 10 (x ∷ xs)) else None) (few_test x xs h)
+pub few_digits_of-is_count : (text : List ℕ) → length text ≤ 3 → count_of text ≡ few_digits_of text
+few_digits_of-is_count [] h = refl
+few_digits_of-is_count (x ∷ xs) h = ap (λ b. if b then Some (digits_value 10 (x ∷ xs)) else None) (few_test x xs h)
 
 -- few digits write a number below 1000
 few_below : (text : List ℕ) → are_few_digits text ≡ true → length text ≤ 3 → digits_value 10 text < 1000
-few_below text e h = small_digits text (and_parts _ _ e).1 h
+few_below text e h = digits_value-small text (and_parts _ _ e).1 h
 
-pub few_small : (text : List ℕ) (o : Option ℕ) → length text ≤ 3 → o ≡ few_digits_of text → IfSome o (λ n. n < 1000)
-few_small text o h e = subst (λ p. IfSome p (λ n. n < 1000)) (sym e) (elim (are_few_digits text) as (λ v. are_few_digits text ≡ v → IfSome (if v then Some (digits_value 10 text) else None) (λ n. n < 1000)) [
+pub few_digits_of-small : (text : List ℕ) (o : Option ℕ) → length text ≤ 3 → o ≡ few_digits_of text → IfSome o (λ n. n < 1000)
+few_digits_of-small text o h e = subst (λ p. IfSome p (λ n. n < 1000)) (sym e) (elim (are_few_digits text) as (λ v. are_few_digits text ≡ v → IfSome (if v then Some (digits_value 10 text) else None) (λ n. n < 1000)) [
   | true ↦ λ f. few_below text f h
   | false ↦ λ f. tt
 ] refl)
 
 -- a prefix of the first of two texts
-pub prefix_first : (old new a b : List ℕ) → AppendsPrefix old new a → AppendsPrefix old new (a ++ b)
-prefix_first old new a b h = elim (cases_lt h.0 (length a)) [
+pub AppendsPrefix-first : (old new a b : List ℕ) → AppendsPrefix old new a → AppendsPrefix old new (a ++ b)
+AppendsPrefix-first old new a b h = elim (cases_lt h.0 (length a)) [
   | inl few ↦ (h.0, h.1 ∙ ap (λ t. old ++ t) (sym (take_append_short h.0 a b (omega arith))))
   | inr many ↦ (length a, h.1 ∙ ap (λ t. old ++ t) (take_all h.0 a (omega arith) ∙ sym (take_append_first a b)))
 ]
@@ -74,8 +74,8 @@ prefix_first old new a b h = elim (cases_lt h.0 (length a)) [
     take_append_first (x ∷ xs) ys = ap (λ t. x ∷ t) (take_append_first xs ys)
 
 -- a prefix of the second, after the first
-pub prefix_then : (old mid new a b : List ℕ) → mid ≡ old ++ a → AppendsPrefix mid new b → AppendsPrefix old new (a ++ b)
-prefix_then old mid new a b e h = (length a + h.0, h.1 ∙ ap (λ t. t ++ take h.0 b) e ∙ append_assoc old a (take h.0 b) ∙ ap (λ t. old ++ t) (sym (take_append_then a b h.0)))
+pub AppendsPrefix-then : (old mid new a b : List ℕ) → mid ≡ old ++ a → AppendsPrefix mid new b → AppendsPrefix old new (a ++ b)
+AppendsPrefix-then old mid new a b e h = (length a + h.0, h.1 ∙ ap (λ t. t ++ take h.0 b) e ∙ append_assoc old a (take h.0 b) ∙ ap (λ t. old ++ t) (sym (take_append_then a b h.0)))
   where
     take_append_then : (xs ys : List ℕ) (k : ℕ) → take (length xs + k) (xs ++ ys) ≡ xs ++ take k ys
     take_append_then [] ys k = (let e : 0 + k ≡ k = omega arith in ap (λ n. take n ys) e)
@@ -83,34 +83,34 @@ prefix_then old mid new a b e h = (length a + h.0, h.1 ∙ ap (λ t. t ++ take h
         let e : length (x ∷ xs) + k ≡ suc (length xs + k) = omega arith in
         ap (λ n. take n (x ∷ xs ++ ys)) e ∙ ap (λ t. x ∷ t) (take_append_then xs ys k)
 
-pub abs_small : (z : ℤ) → FitsSigned w64 z → unsigned_abs z ≤ 2 ^ 63
-abs_small (pos n) h = omega (arith, ints)
-abs_small (negsuc n) h = omega (arith, ints)
+pub unsigned_abs-small : (z : ℤ) → FitsSigned w64 z → unsigned_abs z ≤ 2 ^ 63
+unsigned_abs-small (pos n) h = omega (arith, ints)
+unsigned_abs-small (negsuc n) h = omega (arith, ints)
 
 wide : (z : ℤ) → FitsSigned w64 z → FitsSigned w128 z
 wide z h = omega (arith, ints)
 
 -- the comparison in 128 bits is that of whole numbers
-pub percent_kept : (l s : ℤ) (t : ℕ) (a b c : ℤ) → a ≡ l → b ≡ pos t → c ≡ s → FitsSigned w64 l → FitsSigned w64 s → t < 2 ^ 32 →
+pub is_percent_less-kept : (l s : ℤ) (t : ℕ) (a b c : ℤ) → a ≡ l → b ≡ pos t → c ≡ s → FitsSigned w64 l → FitsSigned w64 s → t < 2 ^ 32 →
     int_lt (to_z w128 (of_z w128 (to_z w128 (of_z w128 a) *ℤ pos 100000))) (to_z w128 (of_z w128 (to_z w128 (of_z w128 b) *ℤ to_z w128 (of_z w128 c)))) ≡ is_percent_less l t s
-percent_kept l s t a b c ea eb ec hl hs ht =
+is_percent_less-kept l s t a b c ea eb ec hl hs ht =
     let kl : to_z w128 (of_z w128 l) ≡ l = to_z-of_z w128 l (wide l hl) in
     let kt : to_z w128 (of_z w128 (pos t)) ≡ pos t = to_z-of_z w128 (pos t) (omega (arith, ints)) in
     let ks : to_z w128 (of_z w128 s) ≡ s = to_z-of_z w128 s (wide s hs) in
-    let left : to_z w128 (of_z w128 (l *ℤ pos 100000)) ≡ l *ℤ pos 100000 = to_z-of_z w128 (l *ℤ pos 100000) (fits_signed_mul w128 l (pos 100000) (2 ^ 63) 100000 (abs_small l hl) (omega arith) (omega arith)) in
-    let right : to_z w128 (of_z w128 (pos t *ℤ s)) ≡ pos t *ℤ s = to_z-of_z w128 (pos t *ℤ s) (fits_signed_mul w128 (pos t) s (2 ^ 32) (2 ^ 63) (omega arith) (abs_small s hs) (omega arith)) in
+    let left : to_z w128 (of_z w128 (l *ℤ pos 100000)) ≡ l *ℤ pos 100000 = to_z-of_z w128 (l *ℤ pos 100000) (fits_signed_mul w128 l (pos 100000) (2 ^ 63) 100000 (unsigned_abs-small l hl) (omega arith) (omega arith)) in
+    let right : to_z w128 (of_z w128 (pos t *ℤ s)) ≡ pos t *ℤ s = to_z-of_z w128 (pos t *ℤ s) (fits_signed_mul w128 (pos t) s (2 ^ 32) (2 ^ 63) (omega arith) (unsigned_abs-small s hs) (omega arith)) in
     rw (ea, eb, ec, kl, kt, ks, left, right) refl
 
 -- what holds after an error
-pub on_err_told : {A B : Type 0} {P : Type 0} (r : Result A B) → P → OnErr r P
-on_err_told (Ok x) p = tt
-on_err_told (Err e) p = p
+pub OnErr-told : {A B : Type 0} {P : Type 0} (r : Result A B) → P → OnErr r P
+OnErr-told (Ok x) p = tt
+OnErr-told (Err e) p = p
 
-pub on_err_map : {A B : Type 0} {P Q : Type 0} (r : Result A B) → (P → Q) → OnErr r P → OnErr r Q
-on_err_map (Ok x) f p = tt
-on_err_map (Err e) f p = f p
+pub OnErr-map : {A B : Type 0} {P Q : Type 0} (r : Result A B) → (P → Q) → OnErr r P → OnErr r Q
+OnErr-map (Ok x) f p = tt
+OnErr-map (Err e) f p = f p
 
 -- what holds after success
-pub on_ok_map : {A B : Type 0} {P Q : Type 0} (r : Result A B) → (P → Q) → OnOk r P → OnOk r Q
-on_ok_map (Ok x) f p = f p
-on_ok_map (Err e) f p = tt
+pub OnOk-map : {A B : Type 0} {P Q : Type 0} (r : Result A B) → (P → Q) → OnOk r P → OnOk r Q
+OnOk-map (Ok x) f p = f p
+OnOk-map (Err e) f p = tt

@@ -33,28 +33,28 @@ piece_test-fails : (given test : ℕ → Bool) → AgreeOn given test → (x : �
 piece_test-fails given test same x refused = sym (same x) ∙ false_from_ne_true (given x) refused
 
 -- a search finds the first place that passes
-pub place_found : (given test : ℕ → Bool) → AgreeOn given test → (text : List ℕ) (place : ℕ) → NoneBefore (Passes given text) 0 (length text) place → Passes given text place
+pub position_or_len-found : (given test : ℕ → Bool) → AgreeOn given test → (text : List ℕ) (place : ℕ) → NoneBefore (Passes given text) 0 (length text) place → Passes given text place
     → position_or_len test text ≡ place
-place_found given test same text place none here =
+position_or_len-found given test same text place none here =
     let high = none.high in
     position_or_len_is test text place 0 (omega arith) (λ k less. piece_test-fails given test same (get_or text k 0) (none.before k (omega arith) less)) (λ _. sym (same (get_or text place 0)) ∙ here)
 
 -- a search that finds nothing shows that no place passes
-pub place_nowhere : (given test : ℕ → Bool) → AgreeOn given test → (text : List ℕ) → Nowhere (Passes given text) 0 (length text) → position_or_len test text ≡ length text
-place_nowhere given test same text none =
+pub position_or_len-nowhere : (given test : ℕ → Bool) → AgreeOn given test → (text : List ℕ) → Nowhere (Passes given text) 0 (length text) → position_or_len test text ≡ length text
+position_or_len-nowhere given test same text none =
     position_or_len_is test text (length text) 0 (omega arith) (λ k less. piece_test-fails given test same (get_or text k 0) (none k (omega arith) less)) (λ less. absurd (omega arith))
 
 -- a search from a place on finds the end of the piece there
-pub piece_end_found : (given test : ℕ → Bool) → AgreeOn given test → (bytes rest : List ℕ) (from count : ℕ) → rest ≡ drop from bytes → from ≤ length bytes
+pub IsPieceEnd-found : (given test : ℕ → Bool) → AgreeOn given test → (bytes rest : List ℕ) (from count : ℕ) → rest ≡ drop from bytes → from ≤ length bytes
     → NoneBefore (Passes given rest) 0 (length rest) count → Passes given rest count → IsPieceEnd test bytes from (from + count)
-piece_end_found given test same bytes rest from count is fits none here =
+IsPieceEnd-found given test same bytes rest from count is fits none here =
     let len : length rest ≡ length bytes - from = ap length is ∙ length-drop from bytes in
     let high = none.high in
     let first : slice_split test rest ≡ take count rest ∷ slice_split test (drop (suc count) rest) =
     split_first test rest count high (sym (same (get_or rest count 0)) ∙ here) (λ k less. piece_test-fails given test same (get_or rest k 0) (none.before k (omega arith) less)) in
     let width : count ≡ from + count - from = omega arith in
     let after : from + suc count ≡ from + count + 1 = omega arith in
-    let place = place_found given test same rest count none here in
+    let place = position_or_len-found given test same rest count none here in
     record {
       place = ap (λ n. from + n) (sym place ∙ ap (position_or_len test) is);
       low = omega arith;
@@ -66,10 +66,10 @@ piece_end_found given test same bytes rest from count is fits none here =
     }
 
 -- a search that finds nothing shows that the piece ends with the text
-pub piece_end_none : (given test : ℕ → Bool) → AgreeOn given test → (bytes rest : List ℕ) (from : ℕ) → rest ≡ drop from bytes → from ≤ length bytes
+pub IsPieceEnd-none : (given test : ℕ → Bool) → AgreeOn given test → (bytes rest : List ℕ) (from : ℕ) → rest ≡ drop from bytes → from ≤ length bytes
     → Nowhere (Passes given rest) 0 (length rest) → IsPieceEnd test bytes from (length bytes)
-piece_end_none given test same bytes rest from is fits none =
-    let place = place_nowhere given test same rest none in
+IsPieceEnd-none given test same bytes rest from is fits none =
+    let place = position_or_len-nowhere given test same rest none in
     let same_place : position_or_len test (drop from bytes) ≡ length rest = ap (position_or_len test) (sym is) ∙ place in
     let len : length rest ≡ length bytes - from = ap length is ∙ length-drop from bytes in
     record {
@@ -82,9 +82,9 @@ piece_end_none given test same bytes rest from is fits none =
     }
 
 -- the set of the blanks
-pub is_in-blanks : AgreeOn (is_in (32 ∷ 9 ∷ 13 ∷ [])) is_blank
+pub is_blank-is_in : AgreeOn (is_in (32 ∷ 9 ∷ 13 ∷ [])) is_blank
 unfolding is_in
-is_in-blanks x = elim (x == 32) as (λ a. (a || (x == 9 || (x == 13 || false))) ≡ ((a || x == 9) || x == 13)) [
+is_blank-is_in x = elim (x == 32) as (λ a. (a || (x == 9 || (x == 13 || false))) ≡ ((a || x == 9) || x == 13)) [
   | true ↦ refl
   | false ↦ elim (x == 9) as (λ b. (b || (x == 13 || false)) ≡ (b || x == 13)) [
     | true ↦ refl

@@ -41,9 +41,9 @@ pub record AreWordsBefore (line : List ℕ) (words : List Span) (place : ℕ) : 
   pub before : All (λ word. word.end < place) words
 
 -- a piece with bytes is one more word
-pub words_more : (line : List ℕ) (words : List Span) (from end : ℕ) → from < end → IsPieceEnd is_blank line from end
+pub AreWordsBefore-more : (line : List ℕ) (words : List Span) (from end : ℕ) → from < end → IsPieceEnd is_blank line from end
     → AreWordsBefore line words from → AreWordsBefore line (words ++ record { start = from; end = end } ∷ []) (end + 1)
-words_more line words from end some piece before =
+AreWordsBefore-more line words from end some piece before =
     let word : Span = record { start = from; end = end } in
     let rest : List (List ℕ) = words_of (drop (end + 1) line) in
     record {
@@ -58,9 +58,9 @@ words_more line words from end some piece before =
     }
 
 -- an empty piece leaves the words as they are
-pub words_same : (line : List ℕ) (words : List Span) (from end : ℕ) → end ≤ from → from < length line → IsPieceEnd is_blank line from end
+pub AreWordsBefore-same : (line : List ℕ) (words : List Span) (from end : ℕ) → end ≤ from → from < length line → IsPieceEnd is_blank line from end
     → AreWordsBefore line words from → AreWordsBefore line words (end + 1)
-words_same line words from end none inside piece before = record {
+AreWordsBefore-same line words from end none inside piece before = record {
   whole = ap (λ (xs : List (List ℕ)). map (text_at line) words ++ xs) (sym (words_of-empty line from end none inside piece)) ∙ before.whole;
   parts = before.parts;
   apart = before.apart;

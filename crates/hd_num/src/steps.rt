@@ -15,13 +15,13 @@ use itoa::Buffer;
 /// plain digits, and it always reads back as the decimal of this value. Where memory is refused, a
 /// prefix of its text may stand there.
 #[inline(always)]
-#[tactic(auto, using(crate::proofs::StepReads::reads_back))]
+#[tactic(auto, using(crate::proofs::StepsReadBack::decimal_of_steps_text))]
 pub fn push_steps(out: &mut List<u8>, steps: i64, places: u8) -> Result<(), Memory>
     requires { places ≤ 18 }
     ensures ok { OnOk result (out.new ≡ out.old ++ steps_text steps places) }
     ensures err { OnErr result (AppendsPrefix out.old out.new (steps_text steps places)) }
     ensures whole { steps_text steps 0 ≡ signed_decimal steps }
-    ensures reads_back { decimal_of (steps_text steps places) ≡ Some (steps_decimal steps places) }
+    ensures decimal_of_steps_text { decimal_of (steps_text steps places) ≡ Some (steps_decimal steps places) }
 {
     if places == 0 {
         return push_whole(out, steps);

@@ -12,7 +12,7 @@ use Rattle.std.proofs.lemmas.Int.Digits.{digits_value_is}
 use Rattle.std.proofs.lemmas.List.{length-map, take-take}
 use Rattle.std.proofs.lemmas.Simd.{trailing_mask_l}
 use Rattle.std.specs.Int.Count.{trailing_of_zero}
-use Rattle.hd_num.proofs.Numerals.{leading_bound}
+use Rattle.hd_num.proofs.Numerals.{digits_value-bound}
 use Rattle.hd_sdf_read.specs.WholeTokens.{AreDigits}
 
 -- how far a byte is over `0`
@@ -97,4 +97,4 @@ module _ (text : List ℕ) (count : ℕ) (room : 16 ≤ length text) (fits : Eac
       let digits = rw front at block.digits in
       let value = is ∙ ap (number_from_digits 10) (same ∙ block.values) ∙ sym (digits_value_is 10 (take count (take 16 text))) in
       let value_is = rw front at value in
-      record { within = omega (arith, few, room); digits = digits; value = value_is; bound = leading_bound text count n (omega (arith, few)) digits value_is }
+      record { within = omega (arith, few, room); digits = digits; value = value_is; bound = digits_value-bound text count n (omega (arith, few)) digits value_is }

@@ -6,7 +6,7 @@ use Rattle.std.specs.Str.Parse.{starts_with_minus, without_leading_sign}
 use Rattle.std.proofs.Math.Seq.{drop-append_seam, take-append_seam}
 use Rattle.std.proofs.lemmas.Bool.{cases_Bool, ne_eqb, or_from, or_parts}
 use Rattle.std.proofs.lemmas.List.Folds.{list_any-append}
-use Rattle.hd_num.proofs.StepReads.{IsTail, decimal_word, no_tail, point_tail}
+use Rattle.hd_num.proofs.StepsReadBack.{IsTail, decimal_of-word, IsTail-none, IsTail-point}
 use Rattle.hd_num.specs.Decimal.{decimal_of}
 use Rattle.hd_num.specs.declared.decimal.Decimal.{Decimal}
 use Rattle.hd_sdf_read.specs.declared.scaled.Datum.TheVariants.{Measured}
@@ -67,8 +67,8 @@ above_is units (suc n) = omega arith
 
 -- a point and digits, or nothing
 tail_is : (point : Bool) (fraction : List ℕ) → (point ≡ false → fraction ≡ []) → list_all is_ascii_digit fraction ≡ true → IsTail (pointed point fraction) fraction
-tail_is true fraction bare all = point_tail fraction all
-tail_is false fraction bare all = subst (λ (fs : List ℕ). IsTail [] fs) (sym (bare refl)) no_tail
+tail_is true fraction bare all = IsTail-point fraction all
+tail_is false fraction bare all = subst (λ (fs : List ℕ). IsTail [] fs) (sym (bare refl)) IsTail-none
 
 tail_gapless : (point : Bool) (fraction : List ℕ) → list_all is_ascii_digit fraction ≡ true → list_any is_gap (pointed point fraction) ≡ false
 tail_gapless true fraction all = digits_gapless fraction all
@@ -98,7 +98,7 @@ decimal_taken text unsigned rest units places negative is are ends minus small =
     ap (position_or_len is_gap) front.text_is ∙ token_ends front.token rest (signed_gapless front.token (ap (list_any is_gap) front.unsigned ∙ gapless)) ends in
     let decimal : Decimal = record { negative = negative; digits = units; exponent = neg_ℤ (pos places); literal = front.token } in
     let read : Some decimal ≡ decimal_of front.token =
-    decimal_word front.token are.whole tail are.fraction negative units places front.unsigned (front.minus ∙ sym minus) (omega (arith, short, size, few, high))
+    decimal_of-word front.token are.whole tail are.fraction negative units places front.unsigned (front.minus ∙ sym minus) (omega (arith, short, size, few, high))
     are.whole_digits are.fraction_digits some (omega (arith, few)) are.places_are (tail_is are.point are.fraction are.bare are.fraction_digits) are.units_are in
     let count = are.places_are in
     record {

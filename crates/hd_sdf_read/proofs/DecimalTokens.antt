@@ -9,9 +9,9 @@ use Rattle.std.proofs.lemmas.List.{length-take-le, take-append-drop}
 use Rattle.std.proofs.lemmas.List.Folds.{list_all-append}
 use Rattle.std.proofs.lemmas.Slice.Eq.{bytes_eq-Decides}
 use Rattle.std.proofs.lemmas.Str.Parse.{digits_value_short}
-use Rattle.hd_num.proofs.Decimals.{value_append}
-use Rattle.hd_num.proofs.ReadsBack.{digits}
-use Rattle.hd_num.proofs.StepReads.{value_after}
+use Rattle.hd_num.proofs.Decimals.{digits_value_after-append}
+use Rattle.hd_num.proofs.WholeReadsBack.{IsNumeralModel-digits}
+use Rattle.hd_num.proofs.StepsReadBack.{digits_value_after-split}
 use Rattle.hd_num.specs.Decimal.{decimal_of}
 use Rattle.hd_num.specs.Lines.{without_start}
 use Rattle.hd_sdf_read.specs.Tokens.{is_gap, after_token, is_absent, is_star, token_of}
@@ -123,12 +123,12 @@ decimal_given read text front rest d is taken =
 module _ (whole fraction : List ℕ) (first part : ℕ) (all : list_all is_ascii_digit whole ≡ true) (more : list_all is_ascii_digit fraction ≡ true) (few : length whole + length fraction ≤ 18)
     (first_is : first ≡ digits_value 10 whole) (part_is : part ≡ digits_value 10 fraction) where
   pub pointed_value : first * 10 ^ length fraction + part ≡ digits_value 10 (whole ++ fraction)
-  pointed_value = sym (value_append 0 whole fraction ∙ value_after (digits_value 10 whole) fraction ∙ ap₂ (λ a b. a * 10 ^ length fraction + b) (sym first_is) (sym part_is))
+  pointed_value = sym (digits_value_after-append 0 whole fraction ∙ digits_value_after-split (digits_value 10 whole) fraction ∙ ap₂ (λ a b. a * 10 ^ length fraction + b) (sym first_is) (sym part_is))
 
   pub pointed_small : first * 10 ^ length fraction + part < 1000000000000000000
   pointed_small =
       let both : list_all is_ascii_digit (whole ++ fraction) ≡ true = list_all-append is_ascii_digit whole fraction ∙ and_from _ _ all more in
-      let bound : digits_value 10 (whole ++ fraction) < 10 ^ 18 = digits_value_short digits (whole ++ fraction) 18 both (omega (arith, length-append whole fraction, few)) in
+      let bound : digits_value 10 (whole ++ fraction) < 10 ^ 18 = digits_value_short IsNumeralModel-digits (whole ++ fraction) 18 both (omega (arith, length-append whole fraction, few)) in
       rw pointed_value bound
 
 -- digits with a point
@@ -136,7 +136,7 @@ pub units_pointed : (text after fraction rest : List ℕ) (count places first pa
     → list_all is_ascii_digit (take count text) ≡ true → list_all is_ascii_digit (take places fraction) ≡ true → first ≡ digits_value 10 (take count text) → part ≡ digits_value 10 (take places fraction)
     → after ≡ drop count text → after ≡ 46 ∷ fraction → rest ≡ drop places fraction
     → AreUnits text (first * 10 ^ places + part) places rest
-units_pointed text after fraction rest count places first part inside within some few digits more first_is part_is after_is point rest_is =
+units_pointed text after fraction rest count places first part inside within some few IsNumeralModel-digits more first_is part_is after_is point rest_is =
     let whole : List ℕ = take count text in
     let ds : List ℕ = take places fraction in
     let size = length-take-le count text inside in
@@ -148,12 +148,12 @@ units_pointed text after fraction rest count places first part inside within som
       bare = λ wrong. (let no : true ≡ false = wrong in cc);
       text_is = sym (append_assoc whole (46 ∷ ds) rest ∙ ap (λ (r : List ℕ). whole ++ (46 ∷ (ds ++ r))) rest_is ∙ ap (λ (r : List ℕ). whole ++ (46 ∷ r)) (take-append-drop places fraction)
           ∙ ap (λ (r : List ℕ). whole ++ r) (sym point ∙ after_is) ∙ take-append-drop count text);
-      whole_digits = digits;
+      whole_digits = IsNumeralModel-digits;
       fraction_digits = more;
       some = omega (arith, size, part_size, some);
       few = omega (arith, size, part_size, few);
       places_are = part_size;
-      units_are = ap (λ n. first * 10 ^ n + part) (sym part_size) ∙ pointed_value whole ds first part digits more (omega (arith, size, part_size, few)) first_is part_is;
+      units_are = ap (λ n. first * 10 ^ n + part) (sym part_size) ∙ pointed_value whole ds first part IsNumeralModel-digits more (omega (arith, size, part_size, few)) first_is part_is;
     }
 
 -- a text that begins with a byte

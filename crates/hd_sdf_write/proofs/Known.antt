@@ -9,7 +9,7 @@ use Rattle.hd_map.specs.declared.types.DataType.TheVariants.{U8, U16, U32, I8, I
 use Rattle.hd_map.specs.Map.{IsMap, cell_count, code_of}
 use Rattle.hd_num.specs.Whole.{whole_of}
 use Rattle.hd_num.specs.declared.whole.Whole.TheVariants.{Is}
-use Rattle.hd_num.proofs.ReadsBack.{whole_of-signed_decimal}
+use Rattle.hd_num.proofs.WholeReadsBack.{whole_of-signed_decimal}
 use Rattle.hd_sdf_read.specs.declared.file.Extra.{Extra}
 use Rattle.hd_sdf_read.specs.declared.keys.Verdict.TheVariants.{Right}
 use Rattle.hd_sdf_read.specs.Entries.{entry, extra_entries}

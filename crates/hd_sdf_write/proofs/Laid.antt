@@ -18,9 +18,9 @@ use Rattle.hd_map.specs.Map.{AreCellsOf, IsCellOf, IsMap, Map, greatest_height, 
 use Rattle.hd_map.proofs.DataTypes.{type_limits}
 use Rattle.hd_num.specs.Whole.{whole_of}
 use Rattle.hd_num.specs.declared.whole.Whole.TheVariants.{Is}
-use Rattle.hd_num.proofs.ReadsBack.{whole_of-signed_decimal}
-use Rattle.hd_num.proofs.StepReads.{reads_back as steps_read}
-use Rattle.hd_num.proofs.StepTexts.{whole_text}
+use Rattle.hd_num.proofs.WholeReadsBack.{whole_of-signed_decimal}
+use Rattle.hd_num.proofs.StepsReadBack.{decimal_of_steps_text as steps_read}
+use Rattle.hd_num.proofs.StepsText.{steps_text-whole}
 use Rattle.hd_num.specs.Decimal.{decimal_of}
 use Rattle.hd_num.specs.Steps.{steps_decimal}
 use Rattle.hd_num.specs.declared.decimal.Decimal.{Decimal}
@@ -48,12 +48,12 @@ height_read t h fits = whole_of-signed_decimal h (height_fits t h (fits h refl).
 
 -- a height of a type of whole numbers
 height_text : (t : DataType) (h : ℤ) → has_decimals t ≡ false → cell_text t (Height h) ≡ signed_decimal h
-height_text U8 h whole = whole_text h
-height_text U16 h whole = whole_text h
-height_text U32 h whole = whole_text h
-height_text I8 h whole = whole_text h
-height_text I16 h whole = whole_text h
-height_text I32 h whole = whole_text h
+height_text U8 h whole = steps_text-whole h
+height_text U16 h whole = steps_text-whole h
+height_text U32 h whole = steps_text-whole h
+height_text I8 h whole = steps_text-whole h
+height_text I16 h whole = steps_text-whole h
+height_text I32 h whole = steps_text-whole h
 height_text (Single places) h whole = cc
 height_text (Double places) h whole = cc
 

@@ -1,30 +1,30 @@
 use Rattle.std.proofs.Common.{◌≡◌, true, get_or, sym, arith, ◌∙◌}
 use Rattle.std.specs.Char.{is_ascii_digit}
-use Rattle.hd_num.proofs.Numerals.{digits_more, leading_bound, value_more}
+use Rattle.hd_num.proofs.Numerals.{is_ascii_digit-more, digits_value-bound, digits_value-more}
 use Rattle.hd_num.proofs.digits.leading_digits.Goals as goal
 
 pub overflow_mul-number : goal.overflow_mul-number
 overflow_mul-number c =
-    let small = leading_bound c.args.text.now c.digits.place c.digits.number c.digits.invariant.few c.digits.invariant.digits c.digits.invariant.value in
+    let small = digits_value-bound c.args.text.now c.digits.place c.digits.number c.digits.invariant.few c.digits.invariant.digits c.digits.invariant.value in
     omega arith
 
 pub overflow_add-number : goal.overflow_add-number
 overflow_add-number c =
-    let small = leading_bound c.args.text.now c.digits.place c.digits.number c.digits.invariant.few c.digits.invariant.digits c.digits.invariant.value in
+    let small = digits_value-bound c.args.text.now c.digits.place c.digits.number c.digits.invariant.few c.digits.invariant.digits c.digits.invariant.value in
     omega (arith, c.type_inv.text c.digits.place)
 
 pub digits-preserved : goal.digits-preserved
 digits-preserved c =
     let digit : is_ascii_digit (get_or c.args.text.now c.digits.place 0) ≡ true = sym c.is_ascii_digit.ensures.value ∙ c.if-not-is_ascii_digit.false in
-    let more = value_more c.args.text.now c.digits.place (omega arith) digit in
+    let more = digits_value-more c.args.text.now c.digits.place (omega arith) digit in
     record {
       few = omega arith;
-      digits = digits_more c.args.text.now c.digits.place (omega arith) digit c.digits.invariant.digits;
+      digits = is_ascii_digit-more c.args.text.now c.digits.place (omega arith) digit c.digits.invariant.digits;
       value = omega (arith, more, c.from.ensures, c.digits.invariant.value);
     }
 
 pub returns-then-place-eq18-clause-bound : goal.returns-then-place-eq18-clause-bound
-returns-then-place-eq18-clause-bound c = leading_bound c.args.text.now c.digits.place c.digits.number c.digits.invariant.few c.digits.invariant.digits c.digits.invariant.value
+returns-then-place-eq18-clause-bound c = digits_value-bound c.args.text.now c.digits.place c.digits.number c.digits.invariant.few c.digits.invariant.digits c.digits.invariant.value
 
 pub returns-clause-bound : goal.returns-clause-bound
-returns-clause-bound c = leading_bound c.args.text.now c.digits.place c.digits.number c.digits.invariant.few c.digits.invariant.digits c.digits.invariant.value
+returns-clause-bound c = digits_value-bound c.args.text.now c.digits.place c.digits.number c.digits.invariant.few c.digits.invariant.digits c.digits.invariant.value

@@ -1,11 +1,11 @@
 use Rattle.std.proofs.Common.{◌∷◌, [], decimal, rules, ◌≡◌, subst}
 use Rattle.hd_num.specs.Text.{AppendsPrefix}
-use Rattle.hd_num.proofs.Percents.{prefix_then, on_err_map}
+use Rattle.hd_num.proofs.Percents.{AppendsPrefix-then, OnErr-map}
 use Rattle.hd_num.proofs.frac.push_over.Goals as goal
 
 pub returns-clause-err : goal.returns-clause-err
 returns-clause-err c =
     let text : c.as_bytes.result.now ≡ decimal c.args.den = search rules in
-    on_err_map c.push_text-2.result
-    (λ h. prefix_then c.args.out.now c.push_text.new.out c.push_text-2.new.out (47 ∷ []) (decimal c.args.den) c.in_ok-push_text.ensures.ok (subst (AppendsPrefix c.push_text.new.out c.push_text-2.new.out) text h))
+    OnErr-map c.push_text-2.result
+    (λ h. AppendsPrefix-then c.args.out.now c.push_text.new.out c.push_text-2.new.out (47 ∷ []) (decimal c.args.den) c.in_ok-push_text.ensures.ok (subst (AppendsPrefix c.push_text.new.out c.push_text-2.new.out) text h))
     c.push_text-2.ensures.err

@@ -1,5 +1,5 @@
-use Rattle.hd_num.proofs.Fractions.{no_greater}
+use Rattle.hd_num.proofs.Fractions.{IsFraction-no_greater}
 use Rattle.hd_num.proofs.frac.reduced_fraction_is_no_greater.Goals as goal
 
 pub returns : goal.returns
-returns c = no_greater
+returns c = IsFraction-no_greater

@@ -1,14 +1,14 @@
 use Rattle.std.proofs.Common.{◌++◌, ◌∷◌, [], ◌/◌, ◌%◌, ◌∙◌, ap, take}
 use Rattle.std.specs.Prelude.{decimal}
 use Rattle.hd_num.specs.Percent.{fraction_text}
-use Rattle.hd_num.proofs.Percents.{prefix_first, prefix_then, on_err_told, on_err_map}
+use Rattle.hd_num.proofs.Percents.{AppendsPrefix-first, AppendsPrefix-then, OnErr-told, OnErr-map}
 use Rattle.hd_num.proofs.percent.push_percent.Goals as goal
 
 pub returns-in_err-push_unsigned-clause-err : goal.returns-in_err-push_unsigned-clause-err
-returns-in_err-push_unsigned-clause-err c = on_err_told c.from_residual.result
-    (prefix_first c.args.out.now c.push_unsigned.new.out (decimal (c.args.p.thousandths / 1000)) (fraction_text (c.args.p.thousandths % 1000) ++ 37 ∷ [])
+returns-in_err-push_unsigned-clause-err c = OnErr-told c.from_residual.result
+    (AppendsPrefix-first c.args.out.now c.push_unsigned.new.out (decimal (c.args.p.thousandths / 1000)) (fraction_text (c.args.p.thousandths % 1000) ++ 37 ∷ [])
     (let e = c.in_err-push_unsigned.ensures.err in (e.0, e.1 ∙ ap (λ n. c.args.out.now ++ take e.0 (decimal n)) c.from.ensures)))
 
 pub returns-clause-err : goal.returns-clause-err
-returns-clause-err c = on_err_map c.push_fraction.result
-    (prefix_then c.args.out.now c.push_unsigned.new.out c.push_fraction.new.out (decimal (c.args.p.thousandths / 1000)) (fraction_text (c.args.p.thousandths % 1000) ++ 37 ∷ []) (c.in_ok-push_unsigned.ensures.ok ∙ ap (λ n. c.args.out.now ++ decimal n) c.from.ensures)) c.push_fraction.ensures.err
+returns-clause-err c = OnErr-map c.push_fraction.result
+    (AppendsPrefix-then c.args.out.now c.push_unsigned.new.out c.push_fraction.new.out (decimal (c.args.p.thousandths / 1000)) (fraction_text (c.args.p.thousandths % 1000) ++ 37 ∷ []) (c.in_ok-push_unsigned.ensures.ok ∙ ap (λ n. c.args.out.now ++ decimal n) c.from.ensures)) c.push_fraction.ensures.err

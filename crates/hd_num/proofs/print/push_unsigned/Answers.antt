@@ -1,4 +1,4 @@
-use Rattle.hd_num.proofs.ReadsBack.{count_of-decimal, whole_value-decimal}
+use Rattle.hd_num.proofs.WholeReadsBack.{count_of-decimal, whole_value-decimal}
 use Rattle.hd_num.proofs.print.push_unsigned.Goals as goal
 
 pub returns-clause-reads_back : goal.returns-clause-reads_back

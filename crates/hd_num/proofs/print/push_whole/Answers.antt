@@ -1,4 +1,4 @@
-use Rattle.hd_num.proofs.ReadsBack.{whole_of-signed_decimal}
+use Rattle.hd_num.proofs.WholeReadsBack.{whole_of-signed_decimal}
 use Rattle.hd_num.proofs.print.push_whole.Goals as goal
 
 pub returns-clause-reads_back : goal.returns-clause-reads_back

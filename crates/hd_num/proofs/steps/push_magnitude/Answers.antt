@@ -2,32 +2,32 @@ use Rattle.std.proofs.Common.{◌^◌, ◌/◌, ◌%◌, ◌∷◌, ◌∙◌, a
 use Rattle.std.specs.Prelude.{decimal}
 use Rattle.hd_num.specs.Steps.{padded}
 use Rattle.hd_num.specs.Text.{AppendsPrefix}
-use Rattle.hd_num.proofs.Percents.{prefix_first, prefix_then, on_err_told, on_err_map}
-use Rattle.hd_num.proofs.StepTexts.{magnitude_with_places, rest_below, unit_some}
+use Rattle.hd_num.proofs.Percents.{AppendsPrefix-first, AppendsPrefix-then, OnErr-told, OnErr-map}
+use Rattle.hd_num.proofs.StepsText.{magnitude_text-with_places, ten_power-rest, ten_power-some}
 use Rattle.hd_num.proofs.steps.push_magnitude.Goals as goal
 
 pub nonzero_div-magnitude : goal.nonzero_div-magnitude
-nonzero_div-magnitude c = unit_some c.pow-unit.result c.from.result c.pow-unit.ensures
+nonzero_div-magnitude c = ten_power-some c.pow-unit.result c.from.result c.pow-unit.ensures
 
 pub nonzero_rem-magnitude : goal.nonzero_rem-magnitude
-nonzero_rem-magnitude c = unit_some c.pow-unit.result c.from.result c.pow-unit.ensures
+nonzero_rem-magnitude c = ten_power-some c.pow-unit.result c.from.result c.pow-unit.ensures
 
 pub push_places-requires-clause-fits : goal.push_places-requires-clause-fits
-push_places-requires-clause-fits c = rest_below c.args.magnitude c.pow-unit.result c.args.places (c.pow-unit.ensures ∙ ap (λ n. 10 ^ n) c.from.ensures)
+push_places-requires-clause-fits c = ten_power-rest c.args.magnitude c.pow-unit.result c.args.places (c.pow-unit.ensures ∙ ap (λ n. 10 ^ n) c.from.ensures)
 
 pub returns-in_err-push_unsigned-clause-err : goal.returns-in_err-push_unsigned-clause-err
 returns-in_err-push_unsigned-clause-err c =
     let unit = c.pow-unit.result in
-    let whole = magnitude_with_places c.args.magnitude unit c.args.places (c.pow-unit.ensures ∙ ap (λ n. 10 ^ n) c.from.ensures) c.requires.some in
-    on_err_told c.from_residual.result
+    let whole = magnitude_text-with_places c.args.magnitude unit c.args.places (c.pow-unit.ensures ∙ ap (λ n. 10 ^ n) c.from.ensures) c.requires.some in
+    OnErr-told c.from_residual.result
     (subst (AppendsPrefix c.args.out.now c.push_unsigned.new.out) whole
-    (prefix_first c.args.out.now c.push_unsigned.new.out (decimal (c.args.magnitude / unit)) (46 ∷ padded c.args.places (c.args.magnitude % unit)) c.in_err-push_unsigned.ensures.err))
+    (AppendsPrefix-first c.args.out.now c.push_unsigned.new.out (decimal (c.args.magnitude / unit)) (46 ∷ padded c.args.places (c.args.magnitude % unit)) c.in_err-push_unsigned.ensures.err))
 
 pub returns-clause-err : goal.returns-clause-err
 returns-clause-err c =
     let unit = c.pow-unit.result in
-    let whole = magnitude_with_places c.args.magnitude unit c.args.places (c.pow-unit.ensures ∙ ap (λ n. 10 ^ n) c.from.ensures) c.requires.some in
-    on_err_map c.push_places.result
+    let whole = magnitude_text-with_places c.args.magnitude unit c.args.places (c.pow-unit.ensures ∙ ap (λ n. 10 ^ n) c.from.ensures) c.requires.some in
+    OnErr-map c.push_places.result
     (λ h. subst (AppendsPrefix c.args.out.now c.push_places.new.out) whole
-    (prefix_then c.args.out.now c.push_unsigned.new.out c.push_places.new.out (decimal (c.args.magnitude / unit)) (46 ∷ padded c.args.places (c.args.magnitude % unit)) c.in_ok-push_unsigned.ensures.ok h))
+    (AppendsPrefix-then c.args.out.now c.push_unsigned.new.out c.push_places.new.out (decimal (c.args.magnitude / unit)) (46 ∷ padded c.args.places (c.args.magnitude % unit)) c.in_ok-push_unsigned.ensures.ok h))
     c.push_places.ensures.err

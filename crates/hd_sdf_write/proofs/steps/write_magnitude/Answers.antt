@@ -2,7 +2,7 @@ use Rattle.std.proofs.Common.{◌≤◌, ◌<◌, ◌/◌, ◌^◌, ℕ, length,
 use Rattle.std.specs.Prelude.{decimal}
 use Rattle.std.proofs.lemmas.Fmt.{length-decimal-le}
 use Rattle.std.proofs.Math.Nat.{div-le_self}
-use Rattle.hd_num.proofs.StepTexts.{rest_below, unit_some}
+use Rattle.hd_num.proofs.StepsText.{ten_power-rest, ten_power-some}
 use Rattle.hd_sdf_write.proofs.steps.write_magnitude.Goals as goal
 
 -- the digits of a number, and of a part of it
@@ -19,13 +19,13 @@ pub returns-then-places-eq0-clause-short : goal.returns-then-places-eq0-clause-s
 returns-then-places-eq0-clause-short c = let few = digits_few c.args.magnitude c.ranges.magnitude.fits in omega (arith, few, c.write_digits.ensures.start)
 
 pub nonzero_div-magnitude : goal.nonzero_div-magnitude
-nonzero_div-magnitude c = unit_some c.pow-unit.result c.from.result c.pow-unit.ensures
+nonzero_div-magnitude c = ten_power-some c.pow-unit.result c.from.result c.pow-unit.ensures
 
 pub nonzero_rem-magnitude : goal.nonzero_rem-magnitude
-nonzero_rem-magnitude c = unit_some c.pow-unit.result c.from.result c.pow-unit.ensures
+nonzero_rem-magnitude c = ten_power-some c.pow-unit.result c.from.result c.pow-unit.ensures
 
 pub write_places-point-requires-clause-fits : goal.write_places-point-requires-clause-fits
-write_places-point-requires-clause-fits c = rest_below c.args.magnitude c.pow-unit.result c.args.places (c.pow-unit.ensures ∙ ap (λ n. 10 ^ n) c.from.ensures)
+write_places-point-requires-clause-fits c = ten_power-rest c.args.magnitude c.pow-unit.result c.args.places (c.pow-unit.ensures ∙ ap (λ n. 10 ^ n) c.from.ensures)
 
 pub write_digits-requires-2 : goal.write_digits-requires-2
 write_digits-requires-2 c =

@@ -10,8 +10,8 @@ use Rattle.std.proofs.lemmas.Bool.Decides.{nat_tests}
 use Rattle.std.proofs.lemmas.Fmt.{decimal_nonempty, digits_decimal, digits_value-decimal, length-decimal-le}
 use Rattle.hd_num.specs.Decimal.{is_point}
 use Rattle.hd_num.specs.Percent.{are_few_digits, digits_left, few_digits_of, fraction_of, fraction_text, percent_before, percent_of, percent_of_parts, percent_text, percent_within, thousandths_of, three_digits}
-use Rattle.hd_num.proofs.ReadsBack.{digits}
-use Rattle.hd_num.proofs.StepReads.{no_point, past_digits}
+use Rattle.hd_num.proofs.WholeReadsBack.{IsNumeralModel-digits}
+use Rattle.hd_num.proofs.StepsReadBack.{is_point-digit, position_or_len-past_digits}
 
 -- the digit of a number below ten
 digit_back : (a : ℕ) → a < 10 → is_ascii_digit (48 + a) ≡ true
@@ -78,9 +78,9 @@ few_back : (w : ℕ) → w < 1000 → few_digits_of (decimal w) ≡ Some w
 few_back w small =
     let some = decimal_nonempty w (omega arith) in
     let short = length-decimal-le 3 w (omega arith) (omega arith) (omega arith) in
-    let all : list_all is_ascii_digit (decimal w) ≡ true = digits_decimal digits w (omega arith) in
+    let all : list_all is_ascii_digit (decimal w) ≡ true = digits_decimal IsNumeralModel-digits w (omega arith) in
     let few : are_few_digits (decimal w) ≡ true = and_from _ _ (in_range (length (decimal w)) some short) all in
-    ap₂ (λ (b : Bool) (n : ℕ). if b then Some n else None) few (digits_value-decimal digits w (omega arith))
+    ap₂ (λ (b : Bool) (n : ℕ). if b then Some n else None) few (digits_value-decimal IsNumeralModel-digits w (omega arith))
   where
     in_range : (n : ℕ) → 0 < n → n ≤ 3 → is_in_range 1 3 n ≡ true
     in_range n some few = grind (arith, nat_tests)
@@ -88,7 +88,7 @@ few_back w small =
 -- digits are read as wholes alone
 wholes_alone : (ds : List ℕ) → list_all is_ascii_digit ds ≡ true → (before_first is_point (ds ++ []) ≡ ds) × (thousandths_of (ds ++ []) ≡ Some 0)
 wholes_alone ds all =
-    let at : position_or_len is_point (ds ++ []) ≡ length ds = past_digits is_point no_point ds [] all ∙ add_none (length ds) in
+    let at : position_or_len is_point (ds ++ []) ≡ length ds = position_or_len-past_digits is_point is_point-digit ds [] all ∙ add_none (length ds) in
     let front : before_first is_point (ds ++ []) ≡ ds = ap (λ (n : ℕ). take n (ds ++ [])) at ∙ take-append_seam ds [] in
     let short : length (ds ++ []) ≤ length ds = omega (arith, length-append {A = ℕ} ds []) in (
       front,
@@ -103,7 +103,7 @@ wholes_alone ds all =
 wholes_point : (ds fs : List ℕ) → list_all is_ascii_digit ds ≡ true → (before_first is_point (ds ++ 46 ∷ fs) ≡ ds) × (thousandths_of (ds ++ 46 ∷ fs) ≡ fraction_of fs)
 wholes_point ds fs all =
     let text : List ℕ = ds ++ 46 ∷ fs in
-    let at : position_or_len is_point text ≡ length ds = past_digits is_point no_point ds (46 ∷ fs) all ∙ add_none (length ds) in
+    let at : position_or_len is_point text ≡ length ds = position_or_len-past_digits is_point is_point-digit ds (46 ∷ fs) all ∙ add_none (length ds) in
     let front : before_first is_point text ≡ ds = ap (λ (n : ℕ). take n text) at ∙ take-append_seam ds (46 ∷ fs) in
     let back : after_first is_point text ≡ fs = ap (λ (n : ℕ). drop (n + 1) text) at ∙ drop-append-add ds (46 ∷ fs) 1 in
     let long : length ds < length text = omega (arith, length-append {A = ℕ} ds (46 ∷ fs)) in (
@@ -131,8 +131,8 @@ after_wholes ds f all small = elim (cases_Bool (f == 0)) [
 ]
 
 -- the text of a percent is read as this percent
-pub percent_back : (t : ℕ) → t ≤ 100000 → percent_of (percent_text t) ≡ Some (record { thousandths = t })
-percent_back t most =
+pub percent_of-percent_text : (t : ℕ) → t ≤ 100000 → percent_of (percent_text t) ≡ Some (record { thousandths = t })
+percent_of-percent_text t most =
     let w : ℕ = t / 1000 in
     let f : ℕ = t % 1000 in
     let less : w < 1000 = omega arith in
@@ -140,7 +140,7 @@ percent_back t most =
     let same : w * 1000 + f ≡ t = omega arith in
     let few : nat_le t 100000 ≡ true = le-leb t 100000 most in
     let text : List ℕ = decimal w ++ fraction_text f in
-    let parts = after_wholes (decimal w) f (digits_decimal digits w (omega arith)) small in
+    let parts = after_wholes (decimal w) f (digits_decimal IsNumeralModel-digits w (omega arith)) small in
     ap percent_of (sym (append_assoc (decimal w) (fraction_text f) (37 ∷ []))) ∙ mark_back text
     ∙ ap₂ (λ (xs : List ℕ) (o : Option ℕ). percent_of_parts (few_digits_of xs) o) parts.0 parts.1
     ∙ ap (λ (o : Option ℕ). percent_of_parts o (Some f)) (few_back w less)

@@ -14,38 +14,38 @@ use Rattle.hd_num.specs.Whole.{count_of, is_numeral, whole_of, whole_of_value, w
 use Rattle.hd_num.specs.declared.whole.Whole.TheVariants.{Is, Outside}
 
 -- digits and their value, as std's lemmas speak of them
-pub digits : IsNumeralModel (λ ds. list_all is_ascii_digit ds ≡ true) (digits_value 10)
-digits = numerals_by_value _ (search rules)
+pub IsNumeralModel-digits : IsNumeralModel (λ ds. list_all is_ascii_digit ds ≡ true) (digits_value 10)
+IsNumeralModel-digits = numerals_by_value _ (search rules)
 
 -- printed digits are a numeral
 is_numeral-decimal : (n : ℕ) → n < 2 ^ 64 → is_numeral (decimal n) ≡ true
 is_numeral-decimal n small =
     let some = decimal_nonempty n small in
-    ap₂ (λ a b. a && b) (ap not (ne_eqb (length (decimal n)) 0 (λ none. omega (arith, none, some)))) (digits_decimal digits n small)
+    ap₂ (λ a b. a && b) (ap not (ne_eqb (length (decimal n)) 0 (λ none. omega (arith, none, some)))) (digits_decimal IsNumeralModel-digits n small)
 
 -- a printed count reads back
 pub count_of-decimal : (n : ℕ) → n < 2 ^ 32 → count_of (decimal n) ≡ Some n
 count_of-decimal n small =
-    ap₂ (λ a m. if a && nat_lt m (2 ^ 32) then Some m else None) (is_numeral-decimal n (omega arith)) (digits_value-decimal digits n (omega arith))
+    ap₂ (λ a m. if a && nat_lt m (2 ^ 32) then Some m else None) (is_numeral-decimal n (omega arith)) (digits_value-decimal IsNumeralModel-digits n (omega arith))
     ∙ ap (λ b. if b then Some n else None) (lt-ltb n (2 ^ 32) small)
 
 -- printed digits begin with no sign
-pub first-decimal : (n sign : ℕ) → n < 2 ^ 64 → sign < 48 → get_or (decimal n) 0 0 ≢ sign
-first-decimal n sign small low = not_in_digits digits (decimal n) sign (digits_decimal digits n small) (λ within. omega arith) 0 (decimal_nonempty n small)
+pub decimal-first : (n sign : ℕ) → n < 2 ^ 64 → sign < 48 → get_or (decimal n) 0 0 ≢ sign
+decimal-first n sign small low = not_in_digits IsNumeralModel-digits (decimal n) sign (digits_decimal IsNumeralModel-digits n small) (λ within. omega arith) 0 (decimal_nonempty n small)
 
 -- printed digits have no sign to take away
 without_leading_sign-decimal : (n : ℕ) → n < 2 ^ 64 → without_leading_sign (decimal n) ≡ decimal n
 without_leading_sign-decimal n small =
-    ap (λ b. if b then drop 1 (decimal n) else without_leading_plus (decimal n)) (ne_eqb (get_or (decimal n) 0 0) 45 (first-decimal n 45 small (omega arith)))
-    ∙ without_leading_plus_none (decimal n) (first-decimal n 43 small (omega arith))
+    ap (λ b. if b then drop 1 (decimal n) else without_leading_plus (decimal n)) (ne_eqb (get_or (decimal n) 0 0) 45 (decimal-first n 45 small (omega arith)))
+    ∙ without_leading_plus_none (decimal n) (decimal-first n 43 small (omega arith))
 
 -- the value of printed digits
 pub whole_value-decimal : (n : ℕ) → n < 2 ^ 64 → whole_value (decimal n) ≡ Some (pos n)
 whole_value-decimal n small =
-    let minus : starts_with_minus (decimal n) ≡ false = ne_eqb (get_or (decimal n) 0 0) 45 (first-decimal n 45 small (omega arith)) in
+    let minus : starts_with_minus (decimal n) ≡ false = ne_eqb (get_or (decimal n) 0 0) 45 (decimal-first n 45 small (omega arith)) in
     let rest = without_leading_sign-decimal n small in
     let value : signed_digits_value 10 (decimal n) ≡ pos n =
-    ap₂ (λ b ds. if b then neg_ℤ (pos (digits_value 10 ds)) else pos (digits_value 10 ds)) minus rest ∙ ap pos (digits_value-decimal digits n small) in
+    ap₂ (λ b ds. if b then neg_ℤ (pos (digits_value 10 ds)) else pos (digits_value 10 ds)) minus rest ∙ ap pos (digits_value-decimal IsNumeralModel-digits n small) in
     ap₂ (λ b z. if b then Some z else None) (ap is_numeral rest ∙ is_numeral-decimal n small) value
 
 -- a printed whole number reads back
@@ -55,5 +55,5 @@ whole_of-signed_decimal (pos n) fits =
     ap whole_of_value (whole_value-decimal n (omega arith)) ∙ ap (λ b. if b then Is (pos n) else Outside) (lt-ltb n (2 ^ 63) small)
 whole_of-signed_decimal (negsuc n) fits =
     let small : n < 2 ^ 63 = fits.sfits in
-    ap₂ (λ b m. whole_of_value (if b then Some (neg_ℤ (pos m)) else None)) (is_numeral-decimal (suc n) (omega arith)) (digits_value-decimal digits (suc n) (omega arith))
+    ap₂ (λ b m. whole_of_value (if b then Some (neg_ℤ (pos m)) else None)) (is_numeral-decimal (suc n) (omega arith)) (digits_value-decimal IsNumeralModel-digits (suc n) (omega arith))
     ∙ ap (λ b. if b then Is (negsuc n) else Outside) (lt-ltb n (2 ^ 63) small)
