@@ -29,22 +29,22 @@ digit_is byte small few =
     let value : digit_value byte ≡ byte - 48 = grind (arith, nat_tests) in
     omega (arith, value, within)
 
-pub bytes_of : (xs : List ℕ) → Each1 (Fits w8) xs → AllBelowBase 256 xs
-bytes_of [] fits = tt
-bytes_of (x ∷ xs) fits = (fits.0.fits, bytes_of xs fits.1)
+pub AllBelowBase-bytes : (xs : List ℕ) → Each1 (Fits w8) xs → AllBelowBase 256 xs
+AllBelowBase-bytes [] fits = tt
+AllBelowBase-bytes (x ∷ xs) fits = (fits.0.fits, AllBelowBase-bytes xs fits.1)
 
-pub lanes_below : (xs : List ℕ) → AllBelowBase 256 (map over_zero xs)
-lanes_below [] = tt
-lanes_below (x ∷ xs) = (omega arith, lanes_below xs)
+pub AllBelowBase-over_zero : (xs : List ℕ) → AllBelowBase 256 (map over_zero xs)
+AllBelowBase-over_zero [] = tt
+AllBelowBase-over_zero (x ∷ xs) = (omega arith, AllBelowBase-over_zero xs)
 
-pub each_below : (xs : List ℕ) → AllBelowBase 256 xs → Each1 (λ x. x < 256) xs
-each_below [] below = tt
-each_below (x ∷ xs) below = (below.0, each_below xs below.1)
+pub AllBelowBase-each : (xs : List ℕ) → AllBelowBase 256 xs → Each1 (λ x. x < 256) xs
+AllBelowBase-each [] below = tt
+AllBelowBase-each (x ∷ xs) below = (below.0, AllBelowBase-each xs below.1)
 
-pub first_below : (n : ℕ) (xs : List ℕ) → AllBelowBase 256 xs → AllBelowBase 256 (take n xs)
-first_below zero xs below = tt
-first_below (suc n) [] below = tt
-first_below (suc n) (x ∷ xs) below = (below.0, first_below n xs below.1)
+pub AllBelowBase-first : (n : ℕ) (xs : List ℕ) → AllBelowBase 256 xs → AllBelowBase 256 (take n xs)
+AllBelowBase-first zero xs below = tt
+AllBelowBase-first (suc n) [] below = tt
+AllBelowBase-first (suc n) (x ∷ xs) below = (below.0, AllBelowBase-first n xs below.1)
 
 -- the lanes of the digits at the front
 record Leads (xs : List ℕ) (n : ℕ) : Type 0 where
@@ -68,31 +68,31 @@ leads (x ∷ xs) (suc n) bytes front = elim (cases_Bool (leb 10 (over_zero x))) 
 ]
 
 -- a bit is set where so few are below the lowest
-pub some_set : (mask : ℕ) → count_trailing_zeros 64 mask ≤ 8 → 0 < mask
-some_set zero few = absurd (omega (arith, trailing_of_zero 64, few))
-some_set (suc mask) few = omega arith
+pub count_trailing_zeros-some : (mask : ℕ) → count_trailing_zeros 64 mask ≤ 8 → 0 < mask
+count_trailing_zeros-some zero few = absurd (omega (arith, trailing_of_zero 64, few))
+count_trailing_zeros-some (suc mask) few = omega arith
 
 -- the lowest bit is that of the first byte that is no digit
-pub counted : (block : List ℕ) (mask : ℕ) → length block ≡ 16 → mask ≡ mask_l (map (leb 10) (map over_zero block)) → count_trailing_zeros 64 mask ≤ 8
+pub count_trailing_zeros-digits : (block : List ℕ) (mask : ℕ) → length block ≡ 16 → mask ≡ mask_l (map (leb 10) (map over_zero block)) → count_trailing_zeros 64 mask ≤ 8
     → count_trailing_zeros 64 mask ≡ prefix_len (λ x. not (leb 10 x)) (map over_zero block)
-counted block mask long is few =
+count_trailing_zeros-digits block mask long is few =
     ap (count_trailing_zeros 64) is
-    ∙ trailing_mask_l (leb 10) 64 (map over_zero block) (omega (arith, long, length-map block over_zero)) (some_set (mask_l (map (leb 10) (map over_zero block))) (rw is at few))
+    ∙ trailing_mask_l (leb 10) 64 (map over_zero block) (omega (arith, long, length-map block over_zero)) (count_trailing_zeros-some (mask_l (map (leb 10) (map over_zero block))) (rw is at few))
 
 module _ (text : List ℕ) (count : ℕ) (room : 16 ≤ length text) (fits : Each1 (Fits w8) (take 16 text)) (few : count ≤ 8)
-    (counted : count ≡ prefix_len (λ x. not (leb 10 x)) (map over_zero (take 16 text))) where
+    (count_trailing_zeros-digits : count ≡ prefix_len (λ x. not (leb 10 x)) (map over_zero (take 16 text))) where
   block : Leads (take 16 text) count
-  block = leads (take 16 text) count (bytes_of (take 16 text) fits) (omega (arith, counted))
+  block = leads (take 16 text) count (AllBelowBase-bytes (take 16 text) fits) (omega (arith, count_trailing_zeros-digits))
 
   same : take count (take 8 (map over_zero (take 16 text))) ≡ take count (map over_zero (take 16 text))
   same = take-take count 8 (map over_zero (take 16 text)) few
 
-  pub first_digits : AllBelowBase 10 (take count (take 8 (map over_zero (take 16 text))))
-  first_digits = rw same block.below
+  pub AllBelowBase-first_digits : AllBelowBase 10 (take count (take 8 (map over_zero (take 16 text))))
+  AllBelowBase-first_digits = rw same block.below
 
   -- they are the digits at the front of the text
-  pub block_read : (n : ℕ) → n ≡ number_from_digits 10 (take count (take 8 (map over_zero (take 16 text)))) → AreDigits text count n
-  block_read n is =
+  pub AreDigits-block : (n : ℕ) → n ≡ number_from_digits 10 (take count (take 8 (map over_zero (take 16 text)))) → AreDigits text count n
+  AreDigits-block n is =
       let front : take count (take 16 text) ≡ take count text = take-take count 16 text (omega (arith, few)) in
       let digits = rw front at block.digits in
       let value = is ∙ ap (number_from_digits 10) (same ∙ block.values) ∙ sym (digits_value_is 10 (take count (take 16 text))) in

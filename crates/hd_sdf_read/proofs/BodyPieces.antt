@@ -31,6 +31,6 @@ module _ (version : Version) (entries : List Extra) (keys : RequiredKeys) where
   by_map (Err e) = refl
 
   -- the text behind the header
-  pub body_begins : (text : List ℕ) → required_keys_of entries ≡ Ok keys → body_in version entries text ≡ (surveyed keys.size keys.data_type text >>= filed_with)
+  pub body_in-begins : (text : List ℕ) → required_keys_of entries ≡ Ok keys → body_in version entries text ≡ (surveyed keys.size keys.data_type text >>= filed_with)
   unfolding body_in surveyed
-  body_begins text found = rw found (by_map (mapped keys.size keys.data_type text))
+  body_in-begins text found = rw found (by_map (mapped keys.size keys.data_type text))

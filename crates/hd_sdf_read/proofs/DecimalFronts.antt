@@ -13,15 +13,15 @@ use Rattle.hd_sdf_read.specs.declared.scaled.Datum.TheVariants.{Measured}
 use Rattle.hd_sdf_read.specs.Decimals.{most_steps, places_below, power_above}
 use Rattle.hd_sdf_read.specs.Tokens.{is_gap}
 use Rattle.hd_sdf_read.specs.DecimalTokens.{AreUnits, TakesDecimal, pointed}
-use Rattle.hd_sdf_read.proofs.Gapless.{digits_gapless, signed_gapless}
+use Rattle.hd_sdf_read.proofs.Gapless.{is_gap-digits, is_gap-signed}
 
 -- a text without gaps ends at a gap or with the text
-pub token_ends : (word rest : List ℕ) → list_any is_gap word ≡ false → (0 < length rest → is_gap (get_or rest 0 0) ≡ true) → position_or_len is_gap (word ++ rest) ≡ length word
-token_ends [] [] none ends = refl
-token_ends [] (r ∷ rs) none ends = rw (ends (omega arith)) refl
-token_ends (w ∷ ws) rest none ends =
+pub position_or_len-token : (word rest : List ℕ) → list_any is_gap word ≡ false → (0 < length rest → is_gap (get_or rest 0 0) ≡ true) → position_or_len is_gap (word ++ rest) ≡ length word
+position_or_len-token [] [] none ends = refl
+position_or_len-token [] (r ∷ rs) none ends = rw (ends (omega arith)) refl
+position_or_len-token (w ∷ ws) rest none ends =
     let parts = or_parts (is_gap w) (list_any is_gap ws) none in
-    let more = token_ends ws rest parts.1 ends in
+    let more = position_or_len-token ws rest parts.1 ends in
     rw (parts.0, more) (omega arith)
 
 -- a word behind a sign or none, at the front of a text
@@ -57,13 +57,13 @@ front_of (x ∷ xs) word rest some is = elim (cases_Bool (eqb x 45)) [
 ]
 
 -- the exponent of digits after a point
-pub below_is : (places : ℕ) → places_below (neg_ℤ (pos places)) ≡ places
-below_is zero = refl
-below_is (suc n) = refl
+pub places_below-is : (places : ℕ) → places_below (neg_ℤ (pos places)) ≡ places
+places_below-is zero = refl
+places_below-is (suc n) = refl
 
-pub above_is : (units places : ℕ) → units * 10 ^ power_above (neg_ℤ (pos places)) ≡ units
-above_is units zero = omega arith
-above_is units (suc n) = omega arith
+pub power_above-is : (units places : ℕ) → units * 10 ^ power_above (neg_ℤ (pos places)) ≡ units
+power_above-is units zero = omega arith
+power_above-is units (suc n) = omega arith
 
 -- a point and digits, or nothing
 tail_is : (point : Bool) (fraction : List ℕ) → (point ≡ false → fraction ≡ []) → list_all is_ascii_digit fraction ≡ true → IsTail (pointed point fraction) fraction
@@ -71,7 +71,7 @@ tail_is true fraction bare all = IsTail-point fraction all
 tail_is false fraction bare all = subst (λ (fs : List ℕ). IsTail [] fs) (sym (bare refl)) IsTail-none
 
 tail_gapless : (point : Bool) (fraction : List ℕ) → list_all is_ascii_digit fraction ≡ true → list_any is_gap (pointed point fraction) ≡ false
-tail_gapless true fraction all = digits_gapless fraction all
+tail_gapless true fraction all = is_gap-digits fraction all
 tail_gapless false fraction all = refl
 
 tail_size : (point : Bool) (fraction : List ℕ) → (point ≡ false → fraction ≡ []) → (length fraction ≤ length (pointed point fraction)) × (length (pointed point fraction) ≤ length fraction + 1)
@@ -79,9 +79,9 @@ tail_size true fraction bare = (omega arith, omega arith)
 tail_size false fraction bare = let none : length fraction ≡ 0 = ap length (bare refl) in (omega (arith, none), omega arith)
 
 -- digits with a sign or none and a point or none, up to a gap or the end
-pub decimal_taken : (text unsigned rest : List ℕ) (units places : ℕ) (negative : Bool) → unsigned ≡ without_leading_sign text → AreUnits unsigned units places rest → (0 < length rest → is_gap (get_or rest 0 0) ≡ true)
+pub TakesDecimal-taken : (text unsigned rest : List ℕ) (units places : ℕ) (negative : Bool) → unsigned ≡ without_leading_sign text → AreUnits unsigned units places rest → (0 < length rest → is_gap (get_or rest 0 0) ≡ true)
     → negative ≡ starts_with_minus text → units ≤ most_steps → TakesDecimal text rest (Measured negative units places)
-decimal_taken text unsigned rest units places negative is are ends minus small =
+TakesDecimal-taken text unsigned rest units places negative is are ends minus small =
     let tail : List ℕ = pointed are.point are.fraction in
     let word : List ℕ = are.whole ++ tail in
     let sizes = tail_size are.point are.fraction are.bare in
@@ -93,9 +93,9 @@ decimal_taken text unsigned rest units places negative is are ends minus small =
     let front = front_of text word rest (omega (arith, size, some, low)) (sym is ∙ are.text_is) in
     let short = front.short in
     let gapless : list_any is_gap word ≡ false =
-    list_any-append is_gap are.whole tail ∙ or_from _ _ (digits_gapless are.whole are.whole_digits) (tail_gapless are.point are.fraction are.fraction_digits) in
+    list_any-append is_gap are.whole tail ∙ or_from _ _ (is_gap-digits are.whole are.whole_digits) (tail_gapless are.point are.fraction are.fraction_digits) in
     let end : position_or_len is_gap text ≡ length front.token =
-    ap (position_or_len is_gap) front.text_is ∙ token_ends front.token rest (signed_gapless front.token (ap (list_any is_gap) front.unsigned ∙ gapless)) ends in
+    ap (position_or_len is_gap) front.text_is ∙ position_or_len-token front.token rest (is_gap-signed front.token (ap (list_any is_gap) front.unsigned ∙ gapless)) ends in
     let decimal : Decimal = record { negative = negative; digits = units; exponent = neg_ℤ (pos places); literal = front.token } in
     let read : Some decimal ≡ decimal_of front.token =
     decimal_of-word front.token are.whole tail are.fraction negative units places front.unsigned (front.minus ∙ sym minus) (omega (arith, short, size, few, high))
@@ -108,6 +108,6 @@ decimal_taken text unsigned rest units places negative is are ends minus small =
       filled = (let filled = front.some in ne_eqb (length front.token) 0 (λ none. omega (arith, none, filled)));
       decimal = decimal;
       is_decimal = sym read;
-      is_measured = ap₂ (Measured negative) (above_is units places) (below_is places);
+      is_measured = ap₂ (Measured negative) (power_above-is units places) (places_below-is places);
       small = (omega (arith, few, count), small);
     }

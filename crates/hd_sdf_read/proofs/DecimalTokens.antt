@@ -25,118 +25,118 @@ use Rattle.hd_sdf_read.specs.Decimals.{IsSmall, data_with, datum_of, decimals_fr
 use Rattle.hd_sdf_read.specs.Reads.{◌>>=◌}
 use Rattle.hd_sdf_read.specs.Scaling.{Pushes, IsScaled}
 use Rattle.hd_sdf_read.specs.DecimalTokens.{AreUnits, IsNextDatum, TakesDecimal}
-use Rattle.hd_sdf_read.proofs.WholeFronts.{rest_at, token_at}
-use Rattle.hd_sdf_read.proofs.Scaling.{not_small}
+use Rattle.hd_sdf_read.proofs.WholeFronts.{after_token-front, token_of-front}
+use Rattle.hd_sdf_read.proofs.Scaling.{ranged-not_small}
 
 -- a decimal that alone is out of range, behind others
-pub decimal_out : (number : ℕ) (token : List ℕ) (d : Decimal) (before : List Datum) → bytes_eq token (codes "BAD") ≡ false → Some d ≡ decimal_of token → (IsSmall (measured d) → ⊥) → number ≡ length before + 1
+pub datum_of-out : (number : ℕ) (token : List ℕ) (d : Decimal) (before : List Datum) → bytes_eq token (codes "BAD") ≡ false → Some d ≡ decimal_of token → (IsSmall (measured d) → ⊥) → number ≡ length before + 1
     → (datum_of number token >>= (λ datum. ranged (before ++ datum ∷ []))) ≡ Err (DatumRange number)
-decimal_out number token d before other is great number_is = rw (other, ← is) (not_small before (measured d) number great number_is)
+datum_of-out number token d before other is great number_is = rw (other, ← is) (ranged-not_small before (measured d) number great number_is)
 
 -- a token that is there, behind others
-pub with_token : (before : List Datum) (token : List ℕ) → is_absent token ≡ false → is_star token ≡ false
+pub data_with-token : (before : List Datum) (token : List ℕ) → is_absent token ≡ false → is_star token ≡ false
     → data_with before token ≡ (datum_of (length before + 1) token >>= (λ datum. ranged (before ++ datum ∷ [])))
 unfolding data_with
-with_token before token some other = rw (some, other) refl
+data_with-token before token some other = rw (some, other) refl
 
 -- the next datum is read
 module _ (before : List Datum) (read count : ℕ) (text rest : List ℕ) (read_is : length before ≡ read) (more : read < count) where
-  pub decimals_more : (d : Datum) → IsNextDatum read text d → rest ≡ after_token text → ranged (before ++ d ∷ []) ≡ Ok (before ++ d ∷ [])
+  pub decimals_from-more : (d : Datum) → IsNextDatum read text d → rest ≡ after_token text → ranged (before ++ d ∷ []) ≡ Ok (before ++ d ∷ [])
       → decimals_from before (count - read) text ≡ decimals_from (before ++ d ∷ []) (count - (read + 1)) rest
   unfolding decimals_from
-  decimals_more d next is fits =
+  decimals_from-more d next is fits =
       let step : count - read ≡ suc (count - (read + 1)) = omega arith in
       let datum : datum_of (length before + 1) (token_of text) ≡ Ok d = ap (λ n. datum_of (n + 1) (token_of text)) read_is ∙ next.datum in
-      let with : data_with before (token_of text) ≡ Ok (before ++ d ∷ []) = with_token before (token_of text) next.some next.other ∙ rw datum fits in
+      let with : data_with before (token_of text) ≡ Ok (before ++ d ∷ []) = data_with-token before (token_of text) next.some next.other ∙ rw datum fits in
       rw (step, with, is) refl
 
   -- it is out of range
-  pub decimals_out : (d : Datum) (e : SdfError) → IsNextDatum read text d → ranged (before ++ d ∷ []) ≡ Err e → decimals_from before (count - read) text ≡ Err e
+  pub decimals_from-out : (d : Datum) (e : SdfError) → IsNextDatum read text d → ranged (before ++ d ∷ []) ≡ Err e → decimals_from before (count - read) text ≡ Err e
   unfolding decimals_from
-  decimals_out d e next wrong =
+  decimals_from-out d e next wrong =
       let step : count - read ≡ suc (count - (read + 1)) = omega arith in
       let datum : datum_of (length before + 1) (token_of text) ≡ Ok d = ap (λ n. datum_of (n + 1) (token_of text)) read_is ∙ next.datum in
-      let with : data_with before (token_of text) ≡ Err e = with_token before (token_of text) next.some next.other ∙ rw datum wrong in
+      let with : data_with before (token_of text) ≡ Err e = data_with-token before (token_of text) next.some next.other ∙ rw datum wrong in
       rw (step, with) refl
 
   -- there is none
-  pub decimals_stop : (e : SdfError) → data_with before (token_of text) ≡ Err e → decimals_from before (count - read) text ≡ Err e
+  pub decimals_from-stop : (e : SdfError) → data_with before (token_of text) ≡ Err e → decimals_from before (count - read) text ≡ Err e
   unfolding decimals_from
-  decimals_stop e wrong =
+  decimals_from-stop e wrong =
       let step : count - read ≡ suc (count - (read + 1)) = omega arith in
       rw (step, wrong) refl
 
 -- all data are read
-pub decimals_done : (before : List Datum) (read count : ℕ) (text : List ℕ) → count ≤ read → decimals_from before (count - read) text ≡ Ok (record { items = before; rest = text })
+pub decimals_from-done : (before : List Datum) (read count : ℕ) (text : List ℕ) → count ≤ read → decimals_from before (count - read) text ≡ Ok (record { items = before; rest = text })
 unfolding decimals_from
-decimals_done before read count text all =
+decimals_from-done before read count text all =
     let none : count - read ≡ 0 = omega arith in
     rw none refl
 
 -- no token is left
-pub absent_stops : (before : List Datum) (read : ℕ) (text token : List ℕ) → token ≡ token_of text → is_absent token ≡ true → length before ≡ read → data_with before (token_of text) ≡ Err (TooFewData read)
+pub data_with-absent : (before : List Datum) (read : ℕ) (text token : List ℕ) → token ≡ token_of text → is_absent token ≡ true → length before ≡ read → data_with before (token_of text) ≡ Err (TooFewData read)
 unfolding data_with
-absent_stops before read text token is none read_is = rw (← is, none, read_is) refl
+data_with-absent before read text token is none read_is = rw (← is, none, read_is) refl
 
 -- a token ends the data
-pub star_stops : (before : List Datum) (read : ℕ) (text token : List ℕ) → token ≡ token_of text → is_absent token ≡ false → is_star token ≡ true → length before ≡ read
+pub data_with-star : (before : List Datum) (read : ℕ) (text token : List ℕ) → token ≡ token_of text → is_absent token ≡ false → is_star token ≡ true → length before ≡ read
     → data_with before (token_of text) ≡ Err (TooFewData read)
 unfolding data_with
-star_stops before read text token is some star read_is = rw (← is, some, star, read_is) refl
+data_with-star before read text token is some star read_is = rw (← is, some, star, read_is) refl
 
 -- a token that is no datum, or one out of range
-pub token_stops : (before : List Datum) (read : ℕ) (text token : List ℕ) (e : SdfError) → token ≡ token_of text → is_absent token ≡ false → is_star token ≡ false → length before ≡ read
+pub data_with-stop : (before : List Datum) (read : ℕ) (text token : List ℕ) (e : SdfError) → token ≡ token_of text → is_absent token ≡ false → is_star token ≡ false → length before ≡ read
     → ((before : List Datum) → read + 1 ≡ length before + 1 → (datum_of (read + 1) token >>= (λ datum. ranged (before ++ datum ∷ []))) ≡ Err e) → data_with before (token_of text) ≡ Err e
-token_stops before read text token e is some other read_is wrong =
-    ap (data_with before) (sym is) ∙ with_token before token some other ∙ ap (λ n. datum_of (n + 1) token >>= (λ datum. ranged (before ++ datum ∷ []))) read_is ∙ wrong before (ap (λ n. n + 1) (sym read_is))
+data_with-stop before read text token e is some other read_is wrong =
+    ap (data_with before) (sym is) ∙ data_with-token before token some other ∙ ap (λ n. datum_of (n + 1) token >>= (λ datum. ranged (before ++ datum ∷ []))) read_is ∙ wrong before (ap (λ n. n + 1) (sym read_is))
 
 -- a decimal is no other word
-pub no_decimal_word : (word token : List ℕ) (d : Decimal) → decimal_of word ≡ None → decimal_of token ≡ Some d → bytes_eq token word ≡ false
-no_decimal_word word token d none some = elim (cases_Bool (bytes_eq token word)) [
+pub decimal_of-apart : (word token : List ℕ) (d : Decimal) → decimal_of word ≡ None → decimal_of token ≡ Some d → bytes_eq token word ≡ false
+decimal_of-apart word token d none some = elim (cases_Bool (bytes_eq token word)) [
   | inl same ↦ let wrong : Some d ≡ None = sym some ∙ ap decimal_of ((bytes_eq-Decides token word).0 same) ∙ none in cc
   | inr other ↦ other
 ]
 
-pub star_none : decimal_of (codes "*") ≡ None
+pub decimal_of-star : decimal_of (codes "*") ≡ None
 unfolding decimal_of
-star_none = refl
+decimal_of-star = refl
 
-pub bad_none : decimal_of (codes "BAD") ≡ None
+pub decimal_of-bad : decimal_of (codes "BAD") ≡ None
 unfolding decimal_of
-bad_none = refl
+decimal_of-bad = refl
 
 -- the token at the front of a text is a decimal
-pub decimal_given : (read : ℕ) (text front rest : List ℕ) (d : Datum) → front ≡ without_start is_gap text → TakesDecimal front rest d → IsNextDatum read text d × (rest ≡ after_token text)
-decimal_given read text front rest d is taken =
-    let token = token_at text front taken.token is taken.place in
-    let bad : bytes_eq taken.token (codes "BAD") ≡ false = no_decimal_word (codes "BAD") taken.token taken.decimal bad_none taken.is_decimal in (
+pub IsNextDatum-given : (read : ℕ) (text front rest : List ℕ) (d : Datum) → front ≡ without_start is_gap text → TakesDecimal front rest d → IsNextDatum read text d × (rest ≡ after_token text)
+IsNextDatum-given read text front rest d is taken =
+    let token = token_of-front text front taken.token is taken.place in
+    let bad : bytes_eq taken.token (codes "BAD") ≡ false = decimal_of-apart (codes "BAD") taken.token taken.decimal decimal_of-bad taken.is_decimal in (
       record {
         some = rw token taken.filled;
-        other = rw token (no_decimal_word (codes "*") taken.token taken.decimal star_none taken.is_decimal);
+        other = rw token (decimal_of-apart (codes "*") taken.token taken.decimal decimal_of-star taken.is_decimal);
         datum = rw (token, bad, taken.is_decimal) (ap Ok taken.is_measured);
         small = taken.small;
       },
-      rest_at text front rest is taken.after,
+      after_token-front text front rest is taken.after,
     )
 
 -- the number of digits before and after a point
 module _ (whole fraction : List ℕ) (first part : ℕ) (all : list_all is_ascii_digit whole ≡ true) (more : list_all is_ascii_digit fraction ≡ true) (few : length whole + length fraction ≤ 18)
     (first_is : first ≡ digits_value 10 whole) (part_is : part ≡ digits_value 10 fraction) where
-  pub pointed_value : first * 10 ^ length fraction + part ≡ digits_value 10 (whole ++ fraction)
-  pointed_value = sym (digits_value_after-append 0 whole fraction ∙ digits_value_after-split (digits_value 10 whole) fraction ∙ ap₂ (λ a b. a * 10 ^ length fraction + b) (sym first_is) (sym part_is))
+  pub digits_value-pointed : first * 10 ^ length fraction + part ≡ digits_value 10 (whole ++ fraction)
+  digits_value-pointed = sym (digits_value_after-append 0 whole fraction ∙ digits_value_after-split (digits_value 10 whole) fraction ∙ ap₂ (λ a b. a * 10 ^ length fraction + b) (sym first_is) (sym part_is))
 
-  pub pointed_small : first * 10 ^ length fraction + part < 1000000000000000000
-  pointed_small =
+  pub digits_value-pointed_small : first * 10 ^ length fraction + part < 1000000000000000000
+  digits_value-pointed_small =
       let both : list_all is_ascii_digit (whole ++ fraction) ≡ true = list_all-append is_ascii_digit whole fraction ∙ and_from _ _ all more in
       let bound : digits_value 10 (whole ++ fraction) < 10 ^ 18 = digits_value_short IsNumeralModel-digits (whole ++ fraction) 18 both (omega (arith, length-append whole fraction, few)) in
-      rw pointed_value bound
+      rw digits_value-pointed bound
 
 -- digits with a point
-pub units_pointed : (text after fraction rest : List ℕ) (count places first part : ℕ) → count ≤ length text → places ≤ length fraction → 1 ≤ count + places → count + places ≤ 18
+pub AreUnits-pointed : (text after fraction rest : List ℕ) (count places first part : ℕ) → count ≤ length text → places ≤ length fraction → 1 ≤ count + places → count + places ≤ 18
     → list_all is_ascii_digit (take count text) ≡ true → list_all is_ascii_digit (take places fraction) ≡ true → first ≡ digits_value 10 (take count text) → part ≡ digits_value 10 (take places fraction)
     → after ≡ drop count text → after ≡ 46 ∷ fraction → rest ≡ drop places fraction
     → AreUnits text (first * 10 ^ places + part) places rest
-units_pointed text after fraction rest count places first part inside within some few IsNumeralModel-digits more first_is part_is after_is point rest_is =
+AreUnits-pointed text after fraction rest count places first part inside within some few IsNumeralModel-digits more first_is part_is after_is point rest_is =
     let whole : List ℕ = take count text in
     let ds : List ℕ = take places fraction in
     let size = length-take-le count text inside in
@@ -153,13 +153,13 @@ units_pointed text after fraction rest count places first part inside within som
       some = omega (arith, size, part_size, some);
       few = omega (arith, size, part_size, few);
       places_are = part_size;
-      units_are = ap (λ n. first * 10 ^ n + part) (sym part_size) ∙ pointed_value whole ds first part IsNumeralModel-digits more (omega (arith, size, part_size, few)) first_is part_is;
+      units_are = ap (λ n. first * 10 ^ n + part) (sym part_size) ∙ digits_value-pointed whole ds first part IsNumeralModel-digits more (omega (arith, size, part_size, few)) first_is part_is;
     }
 
 -- a text that begins with a byte
-pub first_byte : (text : List ℕ) (byte other : ℕ) → eqb (length text) 0 ≡ false → get_or text 0 other ≡ byte → text ≡ byte ∷ drop 1 text
-first_byte [] byte other some is = let wrong : true ≡ false = some in cc
-first_byte (x ∷ xs) byte other some is = ap (λ b. b ∷ xs) is
+pub text-first_byte : (text : List ℕ) (byte other : ℕ) → eqb (length text) 0 ≡ false → get_or text 0 other ≡ byte → text ≡ byte ∷ drop 1 text
+text-first_byte [] byte other some is = let wrong : true ≡ false = some in cc
+text-first_byte (x ∷ xs) byte other some is = ap (λ b. b ∷ xs) is
 
 -- so many data are read, and what is left of the text gives the others
 pub record HasRead (s : Scaled) (t : DataType) (read count : ℕ) (rest text : List ℕ) : Type 0 where
@@ -169,14 +169,14 @@ pub record HasRead (s : Scaled) (t : DataType) (read count : ℕ) (rest text : L
   pub left : decimals_from items (count - read) rest ≡ decimals_from [] count text
 
 -- one more is read
-pub has_more : (old new : Scaled) (t : DataType) (read count : ℕ) (rest after text : List ℕ) (d : Datum) → HasRead old t read count rest text → read < count → IsNextDatum read rest d → after ≡ after_token rest
+pub HasRead-more : (old new : Scaled) (t : DataType) (read count : ℕ) (rest after text : List ℕ) (d : Datum) → HasRead old t read count rest text → read < count → IsNextDatum read rest d → after ≡ after_token rest
     → Pushes old new (read + 1) d (Ok tt) → HasRead new t (read + 1) count after text
-has_more old new t read count rest after text d has more next is pushes =
+HasRead-more old new t read count rest after text d has more next is pushes =
     let both = pushes t has.items has.kept in
     let size = has.size in
     record {
       items = has.items ++ d ∷ [];
       kept = both.1;
       size = length-append has.items (d ∷ []) ∙ ap (λ n. n + 1) size;
-      left = sym (decimals_more has.items read count rest after size more d next is both.0) ∙ has.left;
+      left = sym (decimals_from-more has.items read count rest after size more d next is both.0) ∙ has.left;
     }

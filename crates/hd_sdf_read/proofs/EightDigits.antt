@@ -121,17 +121,17 @@ module _ (xs : List ℕ) (n : ℕ) (eight : length xs ≡ 8) (bytes : AllBelowBa
   abbrev pub raised_digits : List ℕ
   raised_digits = replicate (8 - n) 0 ++ take n xs
 
-  pub raised_long : length raised_digits ≡ 8
-  raised_long = omega (arith, few, length-append (replicate (8 - n) 0) (take n xs), length-replicate {A = ℕ} (8 - n) 0, length-take-le n xs (omega (arith, few, eight)))
+  pub raised_digits-length : length raised_digits ≡ 8
+  raised_digits-length = omega (arith, few, length-append (replicate (8 - n) 0) (take n xs), length-replicate {A = ℕ} (8 - n) 0, length-take-le n xs (omega (arith, few, eight)))
 
-  pub raised_below : AllBelowBase 10 raised_digits
-  raised_below = (padded (8 - n) (take n xs) digits).0
+  pub raised_digits-below : AllBelowBase 10 raised_digits
+  raised_digits-below = (padded (8 - n) (take n xs) digits).0
 
-  pub raised_word : (word : ℕ) → word ≡ number_l 256 xs → 1 ≤ n → word * 2 ^ (64 - 8 * n) % 2 ^ 64 ≡ number_l 256 raised_digits
-  raised_word word is some =
+  pub raised_digits-word : (word : ℕ) → word ≡ number_l 256 xs → 1 ≤ n → word * 2 ^ (64 - 8 * n) % 2 ^ 64 ≡ number_l 256 raised_digits
+  raised_digits-word word is some =
       let all : 256 ^ n * 256 ^ (8 - n) ≡ 2 ^ 64 = sym (pow-add 256 n (8 - n)) ∙ ap (λ k. 256 ^ k) {y = 8} (omega (arith, few)) in
       ap (λ w. w * 2 ^ (64 - 8 * n) % 2 ^ 64) is
       ∙ rw (shift_is n some few, ← all, scaled (number_l 256 xs) (256 ^ n) (256 ^ (8 - n)) (power_some n) (power_some (8 - n)), front xs n bytes) (sym (raised (8 - n) (take n xs)))
 
-  pub raised_number : number_from_digits 10 raised_digits ≡ number_from_digits 10 (take n xs)
-  raised_number = (padded (8 - n) (take n xs) digits).1
+  pub raised_digits-number : number_from_digits 10 raised_digits ≡ number_from_digits 10 (take n xs)
+  raised_digits-number = (padded (8 - n) (take n xs) digits).1

@@ -7,7 +7,7 @@ use Rattle.std.proofs.lemmas.List.{drop_more, take-append-drop}
 use Rattle.std.proofs.lemmas.List.Sums.{position_or_len_is}
 use Rattle.hd_num.specs.Lines.{is_line_feed}
 use Rattle.hd_sdf_read.specs.FirstLine.{IsFirstLine}
-use Rattle.hd_sdf_read.proofs.Trims.{none_before}
+use Rattle.hd_sdf_read.proofs.Trims.{before_first-none}
 
 -- it is found at its place
 pub record IsFirstAt (test : ℕ → Bool) (text : List ℕ) (place : ℕ) : Type 0 where
@@ -15,9 +15,9 @@ pub record IsFirstAt (test : ℕ → Bool) (text : List ℕ) (place : ℕ) : Typ
   pub before : take place text ≡ before_first test text
   pub after : drop (place + 1) text ≡ after_first test text
 
-pub first_at : (test : ℕ → Bool) (text : List ℕ) (place : ℕ) → place < length text → ((k : ℕ) → k < place → test (get_or text k 0) ≡ false) → test (get_or text place 0) ≡ true
+pub IsFirstAt-found : (test : ℕ → Bool) (text : List ℕ) (place : ℕ) → place < length text → ((k : ℕ) → k < place → test (get_or text k 0) ≡ false) → test (get_or text place 0) ≡ true
     → IsFirstAt test text place
-first_at test text place inside before here =
+IsFirstAt-found test text place inside before here =
     let at : position_or_len test text ≡ place = position_or_len_is test text place 0 (omega arith) before (λ _. here) in
     record {
       some = list_any_at test text place 0 inside here;
@@ -26,15 +26,15 @@ first_at test text place inside before here =
     }
 
 -- none is found
-pub none_at : (test : ℕ → Bool) (text : List ℕ) → ((k : ℕ) → k < length text → test (get_or text k 0) ≡ false) → list_any test text ≡ false
-none_at test text none = list_any_none test text (All-from_get_or (λ x. test x ≡ false) text 0 none)
+pub list_any-none : (test : ℕ → Bool) (text : List ℕ) → ((k : ℕ) → k < length text → test (get_or text k 0) ≡ false) → list_any test text ≡ false
+list_any-none test text none = list_any_none test text (All-from_get_or (λ x. test x ≡ false) text 0 none)
 
 -- the bytes before the first LF are the first line
-pub first_line : (text : List ℕ) (place : ℕ) → place < length text → ((k : ℕ) → k < place → is_line_feed (get_or text k 0) ≡ false) → get_or text place 0 ≡ 10
+pub IsFirstLine-found : (text : List ℕ) (place : ℕ) → place < length text → ((k : ℕ) → k < place → is_line_feed (get_or text k 0) ≡ false) → get_or text place 0 ≡ 10
     → IsFirstLine text (take place text) (drop (place + 1) text)
-first_line text place inside before here =
-    let first = first_at is_line_feed text place inside before (ap is_line_feed here) in
+IsFirstLine-found text place inside before here =
+    let first = IsFirstAt-found is_line_feed text place inside before (ap is_line_feed here) in
     record {
       text_is = sym (take-append-drop place text) ∙ ap (λ xs. take place text ++ xs) (drop_more text place 0 inside ∙ ap (λ x. x ∷ drop (place + 1) text) here);
-      one = ap (list_any is_line_feed) first.before ∙ none_before is_line_feed text;
+      one = ap (list_any is_line_feed) first.before ∙ before_first-none is_line_feed text;
     }

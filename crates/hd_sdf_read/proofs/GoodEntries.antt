@@ -17,14 +17,14 @@ use Rattle.hd_sdf_read.specs.declared.file.Extra.{Extra}
 use Rattle.hd_sdf_read.specs.Entries.{Ends, Keyed, Skipped, Unread, entry_of, extra_entries, has_key, is_comment, is_equals, is_key, is_value, keyed, kind_of, kind_of_text, offence, text_of, value_offence, value_of}
 use Rattle.hd_sdf_read.specs.File.{AreGood, are_apart, is_entry, is_extra, is_header_key, is_header_value, is_trimmed_line}
 use Rattle.hd_sdf_read.specs.Keys.{form_of, same_key}
-use Rattle.hd_sdf_read.proofs.HeaderFrom.{length-trimmed}
-use Rattle.hd_sdf_read.proofs.Trims.{IsTrimmed, any_drop, any_take, any_trimmed, none_before, trimmed_first, trimmed_is, trimmed_same}
+use Rattle.hd_sdf_read.proofs.HeaderFrom.{trimmed-length}
+use Rattle.hd_sdf_read.proofs.Trims.{IsTrimmed, list_any-drop, list_any-take, trimmed_by-any, before_first-none, trimmed_by-first, IsTrimmed-trimmed_by, IsTrimmed-same}
 
 -- a trimmed text of one line
 trimmed_line : (text : List ℕ) → list_any is_line_feed text ≡ false → is_trimmed_line (trimmed text) ≡ true
 trimmed_line text one =
-    and_from _ _ ((bytes_eq-Decides (trimmed (trimmed text)) (trimmed text)).1 (trimmed_same is_blank (trimmed text) (trimmed_is is_blank text)))
-    (ap not (any_trimmed is_blank is_line_feed text one))
+    and_from _ _ ((bytes_eq-Decides (trimmed (trimmed text)) (trimmed text)).1 (IsTrimmed-same is_blank (trimmed text) (IsTrimmed-trimmed_by is_blank text)))
+    (ap not (trimmed_by-any is_blank is_line_feed text one))
 
 -- the first byte of a key is that of the line
 no_comment : (text : List ℕ) → IsTrimmed is_blank text → is_comment text ≡ false → is_comment (trimmed (before_first is_equals text)) ≡ false
@@ -35,10 +35,10 @@ no_comment text is plain =
     let size = length-take place text in
     elim (cases_lt 0 (length key)) [
       | inl some ↦
-          let filled : 0 < length before = omega (arith, some, length-trimmed before) in
+          let filled : 0 < length before = omega (arith, some, trimmed-length before) in
           let first : get_or before 0 0 ≡ get_or text 0 0 = get_or-take place text 0 0 (omega arith) in
           let whole : 0 < length text = omega arith in
-          let same : get_or key 0 0 ≡ get_or text 0 0 = trimmed_first is_blank before (λ _. ap is_blank first ∙ is.first whole) some ∙ first in
+          let same : get_or key 0 0 ≡ get_or text 0 0 = trimmed_by-first is_blank before (λ _. ap is_blank first ∙ is.first whole) some ∙ first in
           let other : eqb (get_or text 0 0) 59 ≡ false = sym (ap (λ b. b && eqb (get_or text 0 0) 59) (lt-ltb 0 (length text) whole)) ∙ plain in
           and_right (ltb 0 (length key)) (eqb (get_or key 0 0) 59) (ap (λ c. eqb c 59) same ∙ other)
       | inr none ↦ and_left (ltb 0 (length key)) (eqb (get_or key 0 0) 59) (le-ltb 0 (length key) none)
@@ -56,9 +56,9 @@ entry_good text e is one plain found =
           let entry : entry_of text ≡ e = cc in
           let parts = and_parts (is_key (trimmed before)) (is_value (trimmed after)) right in
           let key : is_header_key (trimmed before) ≡ true =
-          and_from _ _ (and_from _ _ (and_from _ _ parts.0 (trimmed_line before (any_take is_line_feed (position_or_len is_equals text) text one)))
-          (ap not (any_trimmed is_blank is_equals before (none_before is_equals text)))) (ap not (no_comment text is plain)) in
-          let value : is_header_value (trimmed after) ≡ true = and_from _ _ parts.1 (trimmed_line after (any_drop is_line_feed (position_or_len is_equals text + 1) text one)) in
+          and_from _ _ (and_from _ _ (and_from _ _ parts.0 (trimmed_line before (list_any-take is_line_feed (position_or_len is_equals text) text one)))
+          (ap not (trimmed_by-any is_blank is_equals before (before_first-none is_equals text)))) (ap not (no_comment text is plain)) in
+          let value : is_header_value (trimmed after) ≡ true = and_from _ _ parts.1 (trimmed_line after (list_any-drop is_line_feed (position_or_len is_equals text + 1) text one)) in
           subst (λ (x : Extra). is_entry x ≡ true) entry (and_from _ _ key value)
     ]
 
@@ -76,16 +76,16 @@ keyed_good text e is one kind = elim (cases_Bool (eqb (length text) 0 || is_comm
   ]
 ]
 
-pub kind_good : (line : List ℕ) (e : Extra) → list_any is_line_feed line ≡ false → Keyed e ≡ kind_of line → is_entry e ≡ true
+pub is_entry-kind : (line : List ℕ) (e : Extra) → list_any is_line_feed line ≡ false → Keyed e ≡ kind_of line → is_entry e ≡ true
 unfolding kind_of
-kind_good line e one kind = elim (cases_Bool (ltb 1024 (length line))) [
+is_entry-kind line e one kind = elim (cases_Bool (ltb 1024 (length line))) [
   | inl long ↦ let wrong : Keyed e ≡ Unread = kind ∙ rw long refl in cc
-  | inr short ↦ keyed_good (trimmed line) e (trimmed_is is_blank line) (any_trimmed is_blank is_line_feed line one) (sym (kind ∙ rw short refl))
+  | inr short ↦ keyed_good (trimmed line) e (IsTrimmed-trimmed_by is_blank line) (trimmed_by-any is_blank is_line_feed line one) (sym (kind ∙ rw short refl))
 ]
 
 -- keys are the same both ways
-pub same_turned : (a b : List ℕ) (c : Bool) → same_key a b ≡ c → same_key b a ≡ c
-same_turned a b c same =
+pub same_key-turned : (a b : List ℕ) (c : Bool) → same_key a b ≡ c → same_key b a ≡ c
+same_key-turned a b c same =
     let low : List ℕ = map to_ascii_lowercase a in
     let high : List ℕ = map to_ascii_lowercase b in
     let turned : bytes_eq high low ≡ bytes_eq low high =
@@ -93,9 +93,9 @@ same_turned a b c same =
     turned ∙ same
 
 -- what is not so is not
-pub not_true : (b : Bool) → not b ≡ true → b ≡ false
-not_true true h = sym h
-not_true false h = refl
+pub not-true : (b : Bool) → not b ≡ true → b ≡ false
+not-true true h = sym h
+not-true false h = refl
 
 -- one more key that is not there yet
 apart_push : (before : List Extra) (e : Extra) → are_apart before ≡ true → has_key e.key before ≡ false → are_apart (before ++ e ∷ []) ≡ true
@@ -105,7 +105,7 @@ apart_push (first ∷ before) e apart new =
     let others = or_parts (same_key first.key e.key) (has_key e.key before) new in
     let none : has_key first.key (before ++ e ∷ []) ≡ false =
     list_any-append (λ x. same_key x.key first.key) before (e ∷ [])
-    ∙ ap (λ b. b || (same_key e.key first.key || false)) (not_true (has_key first.key before) parts.0) ∙ ap (λ b. b || false) (same_turned first.key e.key false others.0) in
+    ∙ ap (λ b. b || (same_key e.key first.key || false)) (not-true (has_key first.key before) parts.0) ∙ ap (λ b. b || false) (same_key-turned first.key e.key false others.0) in
     and_from _ _ (ap not none) (apart_push before e parts.1 others.1)
 
 -- how many keys are not known, with one more
@@ -124,9 +124,9 @@ few_push line before e None is few none = elim (cases_Bool (leb 240 (length (ext
 ]
 
 -- one more entry without an offence
-pub good_push : (line : ℕ) (before : List Extra) (e : Extra) → AreGood before → is_entry e ≡ true → None ≡ offence line before e → AreGood (before ++ e ∷ [])
+pub AreGood-push : (line : ℕ) (before : List Extra) (e : Extra) → AreGood before → is_entry e ≡ true → None ≡ offence line before e → AreGood (before ++ e ∷ [])
 unfolding offence
-good_push line before e good right none = elim (cases_Bool (has_key e.key before)) [
+AreGood-push line before e good right none = elim (cases_Bool (has_key e.key before)) [
   | inl twice ↦ let wrong : None ≡ Some (KeyTwice line) = none ∙ ap (λ b. cond b (Some (KeyTwice line)) (value_offence line before (form_of e.key) e.value)) twice in cc
   | inr new ↦ record {
     forms = list_all-append is_entry before (e ∷ []) ∙ and_from _ _ good.forms (and_from _ _ right refl);
@@ -136,9 +136,9 @@ good_push line before e good right none = elim (cases_Bool (has_key e.key before
 ]
 
 -- the texts of known keys
-pub text_good : (key : List ℕ) (entries : List Extra) → list_all is_entry entries ≡ true → is_header_value (text_of key entries) ≡ true
-text_good key [] good = refl
-text_good key (e ∷ entries) good =
+pub text_of-good : (key : List ℕ) (entries : List Extra) → list_all is_entry entries ≡ true → is_header_value (text_of key entries) ≡ true
+text_of-good key [] good = refl
+text_of-good key (e ∷ entries) good =
     let parts = and_parts (is_entry e) (list_all is_entry entries) good in
     elim (cases_Bool (same_key e.key key)) [
       | inl same ↦
@@ -146,17 +146,17 @@ text_good key (e ∷ entries) good =
           ap is_header_value text ∙ (and_parts (is_header_key e.key) (is_header_value e.value) parts.0).1
       | inr other ↦
           let text : text_of key (e ∷ entries) ≡ text_of key entries = ap (λ b. unwrap_or (cond b (Some e.value) (value_of key entries)) []) other in
-          ap is_header_value text ∙ text_good key entries parts.1
+          ap is_header_value text ∙ text_of-good key entries parts.1
     ]
 
 -- the extra keys
-pub extra_good : (entries : List Extra) → list_all is_entry entries ≡ true → list_all is_extra (extra_entries entries) ≡ true
-extra_good [] good = refl
-extra_good (e ∷ entries) good =
+pub is_extra-good : (entries : List Extra) → list_all is_entry entries ≡ true → list_all is_extra (extra_entries entries) ≡ true
+is_extra-good [] good = refl
+is_extra-good (e ∷ entries) good =
     let parts = and_parts (is_entry e) (list_all is_entry entries) good in
     elim (cases_Bool (is_none (form_of e.key))) [
-      | inl unknown ↦ ap (λ b. list_all is_extra (cond b (e ∷ extra_entries entries) (extra_entries entries))) unknown ∙ and_from _ _ (and_from _ _ parts.0 unknown) (extra_good entries parts.1)
-      | inr known ↦ ap (λ b. list_all is_extra (cond b (e ∷ extra_entries entries) (extra_entries entries))) known ∙ extra_good entries parts.1
+      | inl unknown ↦ ap (λ b. list_all is_extra (cond b (e ∷ extra_entries entries) (extra_entries entries))) unknown ∙ and_from _ _ (and_from _ _ parts.0 unknown) (is_extra-good entries parts.1)
+      | inr known ↦ ap (λ b. list_all is_extra (cond b (e ∷ extra_entries entries) (extra_entries entries))) known ∙ is_extra-good entries parts.1
     ]
 
 -- a key that is not there is none of the extra keys
@@ -169,12 +169,12 @@ extra_new key (e ∷ entries) new =
       | inr known ↦ ap (λ b. has_key key (cond b (e ∷ extra_entries entries) (extra_entries entries))) known ∙ extra_new key entries parts.1
     ]
 
-pub extra_apart : (entries : List Extra) → are_apart entries ≡ true → are_apart (extra_entries entries) ≡ true
-extra_apart [] apart = refl
-extra_apart (e ∷ entries) apart =
+pub are_apart-extra_entries : (entries : List Extra) → are_apart entries ≡ true → are_apart (extra_entries entries) ≡ true
+are_apart-extra_entries [] apart = refl
+are_apart-extra_entries (e ∷ entries) apart =
     let parts = and_parts (not (has_key e.key entries)) (are_apart entries) apart in
     elim (cases_Bool (is_none (form_of e.key))) [
       | inl unknown ↦ ap (λ b. are_apart (cond b (e ∷ extra_entries entries) (extra_entries entries))) unknown
-          ∙ and_from _ _ (ap not (extra_new e.key entries (not_true (has_key e.key entries) parts.0))) (extra_apart entries parts.1)
-      | inr known ↦ ap (λ b. are_apart (cond b (e ∷ extra_entries entries) (extra_entries entries))) known ∙ extra_apart entries parts.1
+          ∙ and_from _ _ (ap not (extra_new e.key entries (not-true (has_key e.key entries) parts.0))) (are_apart-extra_entries entries parts.1)
+      | inr known ↦ ap (λ b. are_apart (cond b (e ∷ extra_entries entries) (extra_entries entries))) known ∙ are_apart-extra_entries entries parts.1
     ]

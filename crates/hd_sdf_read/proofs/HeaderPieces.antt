@@ -17,8 +17,8 @@ use Rattle.hd_sdf_read.specs.FirstLine.{IsFirstLine}
 use Rattle.hd_sdf_read.specs.Grammar.{after_lines, body_in, file_in, version_of_line, version_of_text}
 use Rattle.hd_sdf_read.specs.HeaderPieces.{header_in}
 use Rattle.hd_sdf_read.specs.Reads.{◌>>=◌}
-use Rattle.hd_sdf_read.proofs.Fronts.{after_line_front, lines_front}
-use Rattle.hd_sdf_read.proofs.HeaderFrom.{header_kind}
+use Rattle.hd_sdf_read.proofs.TextFronts.{after_line-front, lines_of-front}
+use Rattle.hd_sdf_read.proofs.HeaderFrom.{header_from-kind}
 
 -- an entry without an offence is read on
 unless_ok : (o : Option SdfError) (r : Result Header SdfError) (h : Header) → unless o r ≡ Ok h → r ≡ Ok h
@@ -52,14 +52,14 @@ after_first_line (suc n) text = ap after_line (after_first_line n text)
 module _ (version : Version) (n : ℕ) (before : List Extra) (line rest : List ℕ) (one : list_any is_line_feed line ≡ false) where
   -- the header from a line on, by its kind
   by_kind : (kind : Kind) → kind ≡ kind_of line → header_from n before (lines_of (line ++ 10 ∷ rest)) ≡ header_by n before kind (λ entries. header_from (n + 1) entries (lines_of rest))
-  by_kind kind is = ap (header_from n before) (lines_front line rest one) ∙ header_kind n before line (lines_of rest) kind is
+  by_kind kind is = ap (header_from n before) (lines_of-front line rest one) ∙ header_from-kind n before line (lines_of rest) kind is
 
   -- the text after the header, where the header ends later
   after_more : (h : Header) → n + 1 ≤ h.last → after_lines (h.last + 1 - n) (line ++ 10 ∷ rest) ≡ after_lines (h.last + 1 - (n + 1)) rest
   after_more h later =
       let step : h.last + 1 - n ≡ suc (h.last + 1 - (n + 1)) = omega arith in
       ap (λ k. after_lines k (line ++ 10 ∷ rest)) step ∙ after_first_line (h.last + 1 - (n + 1)) (line ++ 10 ∷ rest)
-      ∙ ap (after_lines (h.last + 1 - (n + 1))) (after_line_front line rest one)
+      ∙ ap (after_lines (h.last + 1 - (n + 1))) (after_line-front line rest one)
 
   -- the header goes on after the line with these entries
   goes_on : (entries : List Extra) → header_from n before (lines_of (line ++ 10 ∷ rest)) ≡ header_from (n + 1) entries (lines_of rest)
@@ -72,46 +72,46 @@ module _ (version : Version) (n : ℕ) (before : List Extra) (line rest : List �
       (λ h. body_in version h.entries (after_lines (h.last + 1 - (n + 1)) rest))
       (λ h found. ap (body_in version h.entries) (after_more h (header_last (lines_of rest) (n + 1) entries h found)))
 
-  pub line_skipped : Skipped ≡ kind_of line → header_in version n before (line ++ 10 ∷ rest) ≡ header_in version (n + 1) before rest
-  line_skipped is = goes_on before (by_kind Skipped is)
+  pub header_in-skipped : Skipped ≡ kind_of line → header_in version n before (line ++ 10 ∷ rest) ≡ header_in version (n + 1) before rest
+  header_in-skipped is = goes_on before (by_kind Skipped is)
 
-  pub line_keyed : (e : Extra) → Keyed e ≡ kind_of line → None ≡ offence n before e → header_in version n before (line ++ 10 ∷ rest) ≡ header_in version (n + 1) (before ++ e ∷ []) rest
-  line_keyed e is good = goes_on (before ++ e ∷ []) (by_kind (Keyed e) is ∙ ap (λ o. unless o (header_from (n + 1) (before ++ e ∷ []) (lines_of rest))) (sym good))
+  pub header_in-keyed : (e : Extra) → Keyed e ≡ kind_of line → None ≡ offence n before e → header_in version n before (line ++ 10 ∷ rest) ≡ header_in version (n + 1) (before ++ e ∷ []) rest
+  header_in-keyed e is good = goes_on (before ++ e ∷ []) (by_kind (Keyed e) is ∙ ap (λ o. unless o (header_from (n + 1) (before ++ e ∷ []) (lines_of rest))) (sym good))
 
-  pub line_ends : Ends ≡ kind_of line → header_in version n before (line ++ 10 ∷ rest) ≡ body_in version before rest
+  pub header_in-ends : Ends ≡ kind_of line → header_in version n before (line ++ 10 ∷ rest) ≡ body_in version before rest
   unfolding header_in
-  line_ends is =
+  header_in-ends is =
       let once : n + 1 - n ≡ 1 = omega arith in
       ap (λ (r : Result Header SdfError). r >>= (λ h. body_in version h.entries (after_lines (h.last + 1 - n) (line ++ 10 ∷ rest)))) (by_kind Ends is)
-      ∙ ap (λ k. body_in version before (after_lines k (line ++ 10 ∷ rest))) once ∙ ap (body_in version before) (after_line_front line rest one)
+      ∙ ap (λ k. body_in version before (after_lines k (line ++ 10 ∷ rest))) once ∙ ap (body_in version before) (after_line-front line rest one)
 
-  pub line_refused : (e : Extra) (refusal : SdfError) → Keyed e ≡ kind_of line → Some refusal ≡ offence n before e → header_in version n before (line ++ 10 ∷ rest) ≡ Err refusal
+  pub header_in-refused : (e : Extra) (refusal : SdfError) → Keyed e ≡ kind_of line → Some refusal ≡ offence n before e → header_in version n before (line ++ 10 ∷ rest) ≡ Err refusal
   unfolding header_in
-  line_refused e refusal is wrong =
+  header_in-refused e refusal is wrong =
       ap (λ (r : Result Header SdfError). r >>= (λ h. body_in version h.entries (after_lines (h.last + 1 - n) (line ++ 10 ∷ rest))))
       (by_kind (Keyed e) is ∙ ap (λ o. unless o (header_from (n + 1) (before ++ e ∷ []) (lines_of rest))) (sym wrong))
 
-  pub line_unread : Unread ≡ kind_of line → header_in version n before (line ++ 10 ∷ rest) ≡ Err (BadHeaderLine n)
+  pub header_in-unread : Unread ≡ kind_of line → header_in version n before (line ++ 10 ∷ rest) ≡ Err (BadHeaderLine n)
   unfolding header_in
-  line_unread is = ap (λ (r : Result Header SdfError). r >>= (λ h. body_in version h.entries (after_lines (h.last + 1 - n) (line ++ 10 ∷ rest)))) (by_kind Unread is)
+  header_in-unread is = ap (λ (r : Result Header SdfError). r >>= (λ h. body_in version h.entries (after_lines (h.last + 1 - n) (line ++ 10 ∷ rest)))) (by_kind Unread is)
 
   -- line 1 names the version
-  pub version_named : version_of_line line ≡ Some version → file_in (line ++ 10 ∷ rest) ≡ header_in version 2 [] rest
+  pub file_in-version : version_of_line line ≡ Some version → file_in (line ++ 10 ∷ rest) ≡ header_in version 2 [] rest
   unfolding file_in header_in
-  version_named named =
-      let lines = lines_front line rest one in
+  file_in-version named =
+      let lines = lines_of-front line rest one in
       rw (lines, named) (alike (header_from 2 [] (lines_of rest))
       (λ h. body_in version h.entries (after_lines h.last (line ++ 10 ∷ rest)))
       (λ h. body_in version h.entries (after_lines (h.last + 1 - 2) rest))
       (λ h found.
       let later = header_last (lines_of rest) 2 [] h found in
       let step : h.last ≡ suc (h.last + 1 - 2) = omega arith in
-      ap (body_in version h.entries) (ap (λ k. after_lines k (line ++ 10 ∷ rest)) step ∙ after_first_line (h.last + 1 - 2) (line ++ 10 ∷ rest) ∙ ap (after_lines (h.last + 1 - 2)) (after_line_front line rest one))))
+      ap (body_in version h.entries) (ap (λ k. after_lines k (line ++ 10 ∷ rest)) step ∙ after_first_line (h.last + 1 - 2) (line ++ 10 ∷ rest) ∙ ap (after_lines (h.last + 1 - 2)) (after_line-front line rest one))))
 
   -- it names none
-  pub version_missing : version_of_line line ≡ None → file_in (line ++ 10 ∷ rest) ≡ Err BadVersion
+  pub file_in-no_version : version_of_line line ≡ None → file_in (line ++ 10 ∷ rest) ≡ Err BadVersion
   unfolding file_in
-  version_missing none = rw (lines_front line rest one, none) refl
+  file_in-no_version none = rw (lines_of-front line rest one, none) refl
 
 -- a text is one line, or has a first one
 line_cases : (text : List ℕ) → (list_any is_line_feed text ≡ false) ⊎ ((line : List ℕ) × (rest : List ℕ) × IsFirstLine text line rest)
@@ -151,49 +151,49 @@ after_one n text one =
     after_first_line n text ∙ ap (after_lines n) (ap (λ k. drop (k + 1) text) end ∙ drop_all (length text + 1) text (omega arith))
 
 -- the last line of a header needs no LF
-pub last_line : (version : Version) (n : ℕ) (before : List Extra) (line : List ℕ) → list_any is_line_feed line ≡ false → 0 < length line
+pub header_in-last_line : (version : Version) (n : ℕ) (before : List Extra) (line : List ℕ) → list_any is_line_feed line ≡ false → 0 < length line
     → header_in version n before line ≡ header_in version n before (line ++ 10 ∷ [])
 unfolding header_in
-last_line version n before line one some =
-    let same : lines_of line ≡ lines_of (line ++ 10 ∷ []) = lines_one line one some ∙ sym (lines_front line [] one) in
+header_in-last_line version n before line one some =
+    let same : lines_of line ≡ lines_of (line ++ 10 ∷ []) = lines_one line one some ∙ sym (lines_of-front line [] one) in
     alike (header_from n before (lines_of line)) (λ h. body_in version h.entries (after_lines (h.last + 1 - n) line)) (λ h. body_in version h.entries (after_lines (h.last + 1 - n) (line ++ 10 ∷ [])))
     (λ h found.
     let later = header_last (lines_of line) n before h found in
     let step : h.last + 1 - n ≡ suc (h.last - n) = omega arith in
     ap (body_in version h.entries) (ap (λ k. after_lines k line) step ∙ after_one (h.last - n) line one
-    ∙ sym (ap (λ k. after_lines k (line ++ 10 ∷ [])) step ∙ after_first_line (h.last - n) (line ++ 10 ∷ []) ∙ ap (after_lines (h.last - n)) (after_line_front line [] one))))
+    ∙ sym (ap (λ k. after_lines k (line ++ 10 ∷ [])) step ∙ after_first_line (h.last - n) (line ++ 10 ∷ []) ∙ ap (after_lines (h.last - n)) (after_line-front line [] one))))
     ∙ ap (λ (ls : List (List ℕ)). header_from n before ls >>= (λ h. body_in version h.entries (after_lines (h.last + 1 - n) (line ++ 10 ∷ [])))) same
 
 -- no line is left
-pub no_line : (version : Version) (n : ℕ) (before : List Extra) → header_in version n before [] ≡ Err HeaderEnds
+pub header_in-no_line : (version : Version) (n : ℕ) (before : List Extra) → header_in version n before [] ≡ Err HeaderEnds
 unfolding header_in header_from
-no_line version n before = refl
+header_in-no_line version n before = refl
 
 -- a long line is not read
-pub kind_long : (line : List ℕ) → 1024 < length line → kind_of line ≡ Unread
+pub kind_of-long : (line : List ℕ) → 1024 < length line → kind_of line ≡ Unread
 unfolding kind_of
-kind_long line long = ap (λ b. cond b Unread (kind_of_text (trimmed line))) (lt-ltb 1024 (length line) long)
+kind_of-long line long = ap (λ b. cond b Unread (kind_of_text (trimmed line))) (lt-ltb 1024 (length line) long)
 
-pub version_long : (line : List ℕ) → 1024 < length line → version_of_line line ≡ None
+pub version_of_line-long : (line : List ℕ) → 1024 < length line → version_of_line line ≡ None
 unfolding version_of_line
-version_long line long = ap (λ b. cond b None (version_of_text (trimmed line))) (lt-ltb 1024 (length line) long)
+version_of_line-long line long = ap (λ b. cond b None (version_of_text (trimmed line))) (lt-ltb 1024 (length line) long)
 
 -- two texts without an LF have none together
-pub none_joined : (a b : List ℕ) → list_any is_line_feed a ≡ false → list_any is_line_feed b ≡ false → list_any is_line_feed (a ++ b) ≡ false
-none_joined a b left right = list_any-append is_line_feed a b ∙ or_from _ _ left right
+pub is_line_feed-none_joined : (a b : List ℕ) → list_any is_line_feed a ≡ false → list_any is_line_feed b ≡ false → list_any is_line_feed (a ++ b) ≡ false
+is_line_feed-none_joined a b left right = list_any-append is_line_feed a b ∙ or_from _ _ left right
 
 -- however a line goes on that is too long
-pub long_line : (version : Version) (n : ℕ) (before : List Extra) (front more : List ℕ) → list_any is_line_feed front ≡ false → 1024 < length front
+pub header_in-long_line : (version : Version) (n : ℕ) (before : List Extra) (front more : List ℕ) → list_any is_line_feed front ≡ false → 1024 < length front
     → header_in version n before (front ++ more) ≡ Err (BadHeaderLine n)
-long_line version n before front more one long = elim (line_cases more) [
+header_in-long_line version n before front more one long = elim (line_cases more) [
   | inl last ↦
       let size = length-append front more in
-      let none = none_joined front more one last in
-      last_line version n before (front ++ more) none (omega arith) ∙ line_unread version n before (front ++ more) [] none (sym (kind_long (front ++ more) (omega arith)))
+      let none = is_line_feed-none_joined front more one last in
+      header_in-last_line version n before (front ++ more) none (omega arith) ∙ header_in-unread version n before (front ++ more) [] none (sym (kind_of-long (front ++ more) (omega arith)))
   | inr (line, rest, is) ↦
       let size = length-append front line in
       let whole : front ++ more ≡ (front ++ line) ++ 10 ∷ rest = ap (λ xs. front ++ xs) is.text_is ∙ sym (append_assoc front line (10 ∷ rest)) in
-      ap (header_in version n before) whole ∙ line_unread version n before (front ++ line) rest (none_joined front line one is.one) (sym (kind_long (front ++ line) (omega arith)))
+      ap (header_in version n before) whole ∙ header_in-unread version n before (front ++ line) rest (is_line_feed-none_joined front line one is.one) (sym (kind_of-long (front ++ line) (omega arith)))
 ]
 
 -- line 1 needs no LF
@@ -201,26 +201,26 @@ file_one : (line : List ℕ) → list_any is_line_feed line ≡ false → 0 < le
 unfolding file_in
 file_one line one some none = rw (lines_one line one some, none) refl
 
-pub version_alone : (line : List ℕ) (version : Version) → list_any is_line_feed line ≡ false → version_of_line line ≡ Some version → file_in line ≡ Err HeaderEnds
+pub file_in-version_alone : (line : List ℕ) (version : Version) → list_any is_line_feed line ≡ false → version_of_line line ≡ Some version → file_in line ≡ Err HeaderEnds
 unfolding file_in version_of_line header_from
-version_alone [] version one named = cc
-version_alone (x ∷ xs) version one named =
+file_in-version_alone [] version one named = cc
+file_in-version_alone (x ∷ xs) version one named =
     let named' : version_of_line (x ∷ xs) ≡ Some version = named in
     rw (lines_one (x ∷ xs) one (omega arith), named') refl
 
-pub no_version_alone : (line : List ℕ) → list_any is_line_feed line ≡ false → version_of_line line ≡ None → file_in line ≡ Err BadVersion
+pub file_in-no_version_alone : (line : List ℕ) → list_any is_line_feed line ≡ false → version_of_line line ≡ None → file_in line ≡ Err BadVersion
 unfolding file_in
-no_version_alone [] one none = refl
-no_version_alone (x ∷ xs) one none = file_one (x ∷ xs) one (omega arith) none
+file_in-no_version_alone [] one none = refl
+file_in-no_version_alone (x ∷ xs) one none = file_one (x ∷ xs) one (omega arith) none
 
 -- however line 1 goes on that is too long
-pub long_version : (front more : List ℕ) → list_any is_line_feed front ≡ false → 1024 < length front → file_in (front ++ more) ≡ Err BadVersion
-long_version front more one long = elim (line_cases more) [
+pub file_in-long_version : (front more : List ℕ) → list_any is_line_feed front ≡ false → 1024 < length front → file_in (front ++ more) ≡ Err BadVersion
+file_in-long_version front more one long = elim (line_cases more) [
   | inl last ↦
       let size = length-append front more in
-      file_one (front ++ more) (none_joined front more one last) (omega arith) (version_long (front ++ more) (omega arith))
+      file_one (front ++ more) (is_line_feed-none_joined front more one last) (omega arith) (version_of_line-long (front ++ more) (omega arith))
   | inr (line, rest, is) ↦
       let size = length-append front line in
       let whole : front ++ more ≡ (front ++ line) ++ 10 ∷ rest = ap (λ xs. front ++ xs) is.text_is ∙ sym (append_assoc front line (10 ∷ rest)) in
-      ap file_in whole ∙ version_missing Bcr 2 [] (front ++ line) rest (none_joined front line one is.one) (version_long (front ++ line) (omega arith))
+      ap file_in whole ∙ file_in-no_version Bcr 2 [] (front ++ line) rest (is_line_feed-none_joined front line one is.one) (version_of_line-long (front ++ line) (omega arith))
 ]

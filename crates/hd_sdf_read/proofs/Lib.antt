@@ -1,4 +1,4 @@
-mod Alike
+mod AreAlike
 mod BlockDigits
 mod Bodies
 mod BodyPieces
@@ -13,9 +13,9 @@ mod EightDigits
 mod EntryLists
 mod States
 mod FirstBytes
-pub mod Follow
-mod Forms
-pub mod Fronts
+pub mod AllFollow
+mod HasForms
+pub mod TextFronts
 pub mod Gapless
 pub mod GoodEntries
 pub mod WholeFronts

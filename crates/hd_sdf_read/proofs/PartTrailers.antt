@@ -13,8 +13,8 @@ use Rattle.hd_sdf_read.specs.File.{is_trailer}
 use Rattle.hd_sdf_read.specs.Tokens.{is_gap}
 use Rattle.hd_sdf_read.specs.Grammar.{trailer_text}
 use Rattle.hd_sdf_read.specs.PartTrailers.{FeedsTrailer, IsExtended, trailer_in}
-use Rattle.hd_sdf_read.proofs.Forms.{trailer_good}
-use Rattle.hd_sdf_read.proofs.Fronts.{end_front, start_stays}
+use Rattle.hd_sdf_read.proofs.HasForms.{is_trailer-trimmed}
+use Rattle.hd_sdf_read.proofs.TextFronts.{without_end-front, without_start-stays}
 
 -- a text without the bytes at its end that are gaps: something that ends with no gap, and gaps behind it
 record HasEnd (text : List ℕ) : Type 0 where
@@ -65,25 +65,25 @@ pub trailer_in-skipped : (text more : List ℕ) → trailer_in (text ++ more) �
 trailer_in-skipped text more = ap (λ (t : List ℕ). trailer_text (without_end is_gap t)) (start_once text more)
 
 -- what is left begins with no gap
-pub start_begins : (text : List ℕ) → 0 < length (without_start is_gap text) → is_gap (get_or (without_start is_gap text) 0 0) ≡ false
-start_begins [] some = absurd (omega arith)
-start_begins (x ∷ xs) some = elim (cases_Bool (is_gap x)) [
-  | inl gap ↦ ap (λ (t : List ℕ). is_gap (get_or t 0 0)) (start_gap x xs gap) ∙ start_begins xs (subst (λ (t : List ℕ). 0 < length t) (start_gap x xs gap) some)
+pub without_start-begins : (text : List ℕ) → 0 < length (without_start is_gap text) → is_gap (get_or (without_start is_gap text) 0 0) ≡ false
+without_start-begins [] some = absurd (omega arith)
+without_start-begins (x ∷ xs) some = elim (cases_Bool (is_gap x)) [
+  | inl gap ↦ ap (λ (t : List ℕ). is_gap (get_or t 0 0)) (start_gap x xs gap) ∙ without_start-begins xs (subst (λ (t : List ℕ). 0 < length t) (start_gap x xs gap) some)
   | inr other ↦ ap (λ (t : List ℕ). is_gap (get_or t 0 0)) (start_other x xs other) ∙ other
 ]
 
 -- nothing is left of gaps alone, and something where there is more
-pub gaps_none : (text : List ℕ) → length (without_start is_gap text) ≡ 0 → list_all is_gap text ≡ true
-gaps_none [] none = refl
-gaps_none (x ∷ xs) none = elim (cases_Bool (is_gap x)) [
-  | inl gap ↦ and_from _ _ gap (gaps_none xs (sym (ap length (start_gap x xs gap)) ∙ none))
+pub is_gap-all : (text : List ℕ) → length (without_start is_gap text) ≡ 0 → list_all is_gap text ≡ true
+is_gap-all [] none = refl
+is_gap-all (x ∷ xs) none = elim (cases_Bool (is_gap x)) [
+  | inl gap ↦ and_from _ _ gap (is_gap-all xs (sym (ap length (start_gap x xs gap)) ∙ none))
   | inr other ↦ let some : length (x ∷ xs) ≡ 0 = sym (ap length (start_other x xs other)) ∙ none in absurd (omega (arith, some))
 ]
 
-pub gaps_some : (text : List ℕ) → 0 < length (without_start is_gap text) → list_all is_gap text ≡ false
-gaps_some [] some = absurd (omega arith)
-gaps_some (x ∷ xs) some = elim (cases_Bool (is_gap x)) [
-  | inl gap ↦ ap (λ b. b && list_all is_gap xs) gap ∙ gaps_some xs (subst (λ (t : List ℕ). 0 < length t) (start_gap x xs gap) some)
+pub is_gap-some : (text : List ℕ) → 0 < length (without_start is_gap text) → list_all is_gap text ≡ false
+is_gap-some [] some = absurd (omega arith)
+is_gap-some (x ∷ xs) some = elim (cases_Bool (is_gap x)) [
+  | inl gap ↦ ap (λ b. b && list_all is_gap xs) gap ∙ is_gap-some xs (subst (λ (t : List ℕ). 0 < length t) (start_gap x xs gap) some)
   | inr other ↦ ap (λ b. b && list_all is_gap xs) other
 ]
 
@@ -101,18 +101,18 @@ last_joined full front some last =
 
 module _ (full : List ℕ) (begins : 0 < length full → is_gap (get_or full 0 0) ≡ false) (whole : 65536 ≤ length full) where
   stays : (tail : List ℕ) → without_start is_gap (full ++ tail) ≡ full ++ tail
-  stays tail = start_stays is_gap full tail (omega arith) (begins (omega arith))
+  stays tail = without_start-stays is_gap full tail (omega arith) (begins (omega arith))
 
   -- a text that goes on with more than gaps is too long
-  pub too_long : (tail : List ℕ) → list_all is_gap tail ≡ false → trailer_in (full ++ tail) ≡ Err TrailerTooLong
-  too_long tail other = elim (ends tail) [
+  pub trailer_in-too_long : (tail : List ℕ) → list_all is_gap tail ≡ false → trailer_in (full ++ tail) ≡ Err TrailerTooLong
+  trailer_in-too_long tail other = elim (ends tail) [
     | inl all ↦ absurd (true≢false (sym all ∙ other))
     | inr e ↦
         let size = length-append full e.front in
         let some : 0 < length e.front = e.some in
         let end : without_end is_gap (full ++ tail) ≡ full ++ e.front =
         ap (without_end is_gap) (ap (λ ys. full ++ ys) e.text_is ∙ sym (append_assoc full e.front e.back))
-        ∙ end_front is_gap (full ++ e.front) e.back (omega arith) (last_joined full e.front some e.last) e.gaps in
+        ∙ without_end-front is_gap (full ++ e.front) e.back (omega arith) (last_joined full e.front some e.last) e.gaps in
         ap (λ (t : List ℕ). trailer_text (without_end is_gap t)) (stays tail) ∙ ap trailer_text end
         ∙ ap (λ b. cond b (Err TrailerTooLong) (Ok (full ++ e.front))) (lt-ltb 65536 (length (full ++ e.front)) (omega arith))
   ]
@@ -123,14 +123,14 @@ module _ (full : List ℕ) (begins : 0 < length full → is_gap (get_or full 0 0
       let back : list_all is_gap (e.back ++ gaps) ≡ true = list_all-append is_gap e.back gaps ∙ and_from _ _ e.gaps all in
       ap (λ (t : List ℕ). trailer_text (without_end is_gap t)) (stays gaps)
       ∙ ap (λ (t : List ℕ). trailer_text (without_end is_gap t)) (ap (λ xs. xs ++ gaps) e.text_is ∙ append_assoc e.front e.back gaps)
-      ∙ ap trailer_text (end_front is_gap e.front (e.back ++ gaps) e.some e.last back)
+      ∙ ap trailer_text (without_end-front is_gap e.front (e.back ++ gaps) e.some e.last back)
 
   -- gaps behind it may be left out
-  pub gaps_dropped : (gaps more : List ℕ) → list_all is_gap gaps ≡ true → trailer_in (full ++ (gaps ++ more)) ≡ trailer_in (full ++ more)
-  gaps_dropped gaps more all = elim (cases_Bool (list_all is_gap more)) [
+  pub trailer_in-gaps_dropped : (gaps more : List ℕ) → list_all is_gap gaps ≡ true → trailer_in (full ++ (gaps ++ more)) ≡ trailer_in (full ++ more)
+  trailer_in-gaps_dropped gaps more all = elim (cases_Bool (list_all is_gap more)) [
     | inr other ↦
         let some : list_all is_gap (gaps ++ more) ≡ false = list_all-append is_gap gaps more ∙ ap (λ b. b && list_all is_gap more) all ∙ other in
-        too_long (gaps ++ more) some ∙ sym (too_long more other)
+        trailer_in-too_long (gaps ++ more) some ∙ sym (trailer_in-too_long more other)
     | inl none ↦ elim (ends full) [
       | inl wrong ↦ absurd (true≢false (sym (first_gap full (omega arith) wrong) ∙ begins (omega arith)))
       | inr e ↦ ended_by e (gaps ++ more) (list_all-append is_gap gaps more ∙ and_from _ _ all none) ∙ sym (ended_by e more none)
@@ -138,16 +138,16 @@ module _ (full : List ℕ) (begins : 0 < length full → is_gap (get_or full 0 0
   ]
 
 -- it has the form of a trailer
-pub ended_good : (text : List ℕ) → (0 < length text → is_gap (get_or text 0 0) ≡ false) → length text ≤ 65536 → is_trailer (without_end is_gap text) ≡ true
-ended_good text begins few =
+pub is_trailer-ended : (text : List ℕ) → (0 < length text → is_gap (get_or text 0 0) ≡ false) → length text ≤ 65536 → is_trailer (without_end is_gap text) ≡ true
+is_trailer-ended text begins few =
     let start : prefix_len is_gap text ≡ 0 = prefix_len_is is_gap text 0 0 (omega arith) (λ k less. absurd (omega arith)) begins in
     let whole : trimmed_by is_gap text ≡ without_end is_gap text = ap (λ n. without_end is_gap (drop n text)) start in
     let size = length-take (length text - suffix_len is_gap text) text in
-    subst (λ (t : List ℕ). is_trailer t ≡ true) whole (trailer_good text (subst (λ (t : List ℕ). length t ≤ 65536) (sym whole) (omega arith)))
+    subst (λ (t : List ℕ). is_trailer t ≡ true) whole (is_trailer-trimmed text (subst (λ (t : List ℕ). length t ≤ 65536) (sym whole) (omega arith)))
 
 -- it is what is left of the text
-pub take_end : (text : List ℕ) → take (length (without_end is_gap text)) text ≡ without_end is_gap text
-take_end text = ap (λ n. take n text) (length-take-le (length text - suffix_len is_gap text) text (omega arith))
+pub without_end-take : (text : List ℕ) → take (length (without_end is_gap text)) text ≡ without_end is_gap text
+without_end-take text = ap (λ n. take n text) (length-take-le (length text - suffix_len is_gap text) text (omega arith))
 
 -- what came, and the next piece in two parts
 module _ (text first kept over : List ℕ) (parts : first ≡ kept ++ over) (begins : 0 < length (text ++ first) → is_gap (get_or (text ++ first) 0 0) ≡ false) (full : 65536 ≤ length (text ++ kept)) where
@@ -161,16 +161,16 @@ module _ (text first kept over : List ℕ) (parts : first ≡ kept ++ over) (beg
   cut : (more : List ℕ) → text ++ (first ++ more) ≡ (text ++ kept) ++ (over ++ more)
   cut more = ap (λ xs. text ++ (xs ++ more)) parts ∙ ap (λ xs. text ++ xs) (append_assoc kept over more) ∙ sym (append_assoc text kept (over ++ more))
 
-  pub over_long : (more : List ℕ) → list_all is_gap over ≡ false → trailer_in (text ++ (first ++ more)) ≡ Err TrailerTooLong
-  over_long more other =
+  pub trailer_in-over_long : (more : List ℕ) → list_all is_gap over ≡ false → trailer_in (text ++ (first ++ more)) ≡ Err TrailerTooLong
+  trailer_in-over_long more other =
       let some : list_all is_gap (over ++ more) ≡ false = list_all-append is_gap over more ∙ ap (λ b. b && list_all is_gap more) other in
-      ap trailer_in (cut more) ∙ too_long (text ++ kept) kept_begins full (over ++ more) some
+      ap trailer_in (cut more) ∙ trailer_in-too_long (text ++ kept) kept_begins full (over ++ more) some
 
-  pub over_gaps : (more : List ℕ) → list_all is_gap over ≡ true → trailer_in (text ++ (first ++ more)) ≡ trailer_in ((text ++ kept) ++ more)
-  over_gaps more all = ap trailer_in (cut more) ∙ gaps_dropped (text ++ kept) kept_begins full over more all
+  pub trailer_in-over_gaps : (more : List ℕ) → list_all is_gap over ≡ true → trailer_in (text ++ (first ++ more)) ≡ trailer_in ((text ++ kept) ++ more)
+  trailer_in-over_gaps more all = ap trailer_in (cut more) ∙ trailer_in-gaps_dropped (text ++ kept) kept_begins full over more all
 
 -- the text with more bytes is read on
-pub extended_feeds : (old : PartTrailer) (piece kept : List ℕ) (result : Result PartTrailer SdfError) → IsExtended old kept result
+pub FeedsTrailer-extended : (old : PartTrailer) (piece kept : List ℕ) (result : Result PartTrailer SdfError) → IsExtended old kept result
     → ((more : List ℕ) → trailer_in (old.text ++ (piece ++ more)) ≡ trailer_in ((old.text ++ kept) ++ more)) → FeedsTrailer old piece result
-extended_feeds old piece kept (Ok new) is same = λ more. same more ∙ ap (λ (t : List ℕ). trailer_in (t ++ more)) (sym is)
-extended_feeds old piece kept (Err e) is same = λ refused more. absurd (refused is)
+FeedsTrailer-extended old piece kept (Ok new) is same = λ more. same more ∙ ap (λ (t : List ℕ). trailer_in (t ++ more)) (sym is)
+FeedsTrailer-extended old piece kept (Err e) is same = λ refused more. absurd (refused is)

@@ -22,12 +22,12 @@ use Rattle.hd_sdf_read.specs.Tokens.{is_gap, after_token, token_of}
 use Rattle.hd_sdf_read.specs.Grammar.{cell_of, datum_at}
 use Rattle.hd_sdf_read.specs.WholeTokens.{TakesCell, TakesHeight}
 use Rattle.hd_sdf_read.specs.ShortWords.{AreData, IsDatum, ReadsShort, TakesBatch}
-use Rattle.hd_sdf_read.proofs.Bodies.{after_same, datum_same, whole_step}
+use Rattle.hd_sdf_read.proofs.Bodies.{after_token-same, datum_at-same, whole_in-step}
 use Rattle.hd_sdf_read.proofs.DatumAt.{datum_at-by_token, datum_at-fits}
-use Rattle.hd_sdf_read.proofs.Fronts.{after_token_front, start_front, token_front}
-use Rattle.hd_sdf_read.proofs.TokenCuts.{skip_same}
-use Rattle.hd_sdf_read.proofs.WholeCuts.{HasOn, after_more, datum_stays}
-use Rattle.hd_sdf_read.proofs.WholeFronts.{cell_given}
+use Rattle.hd_sdf_read.proofs.TextFronts.{after_token-front, without_start-front, token_of-front}
+use Rattle.hd_sdf_read.proofs.TokenCuts.{without_start-twice}
+use Rattle.hd_sdf_read.proofs.WholeCuts.{HasOn, after_token-more, datum_at-stays}
+use Rattle.hd_sdf_read.proofs.WholeFronts.{TakesCell-given}
 
 -- a number begins with no gap
 no_gap : (byte : ℕ) (bytes rest : List ℕ) (height : ℤ) → TakesHeight (byte ∷ bytes) rest height → is_gap byte ≡ false
@@ -59,22 +59,22 @@ ends_at_gap word rest height takes left =
 
 module _ (least greatest : ℤ) where
   -- a height in the range is a datum
-  pub height_datum : (word rest : List ℕ) (cell : Cell) → TakesCell least greatest word rest cell → 0 < length rest → IsDatum least greatest word rest cell
-  height_datum word rest cell takes left = record {
+  pub IsDatum-height : (word rest : List ℕ) (cell : Cell) → TakesCell least greatest word rest cell → 0 < length rest → IsDatum least greatest word rest cell
+  IsDatum-height word rest cell takes left = record {
     given = λ read more. (
-        let given = cell_given least greatest read word word rest cell (number_front word rest takes.height takes.takes) takes in
-        (datum_stays least greatest read word rest given.1 left more ∙ given.0, after_more least greatest read word rest given.1 left more));
+        let given = TakesCell-given least greatest read word word rest cell (number_front word rest takes.height takes.takes) takes in
+        (datum_at-stays least greatest read word rest given.1 left more ∙ given.0, after_token-more least greatest read word rest given.1 left more));
     left = left;
     begins = ends_at_gap word rest takes.height takes.takes left;
   }
 
   -- so is `BAD`
-  pub bad_datum : (word rest : List ℕ) → word ≡ codes "BAD" ++ rest → 0 < length rest → is_gap (get_or rest 0 0) ≡ true → IsDatum least greatest word rest Bad
-  bad_datum word [] is left begins = absurd (omega arith)
-  bad_datum word (gap ∷ rest) is left begins = record {
+  pub IsDatum-bad : (word rest : List ℕ) → word ≡ codes "BAD" ++ rest → 0 < length rest → is_gap (get_or rest 0 0) ≡ true → IsDatum least greatest word rest Bad
+  IsDatum-bad word [] is left begins = absurd (omega arith)
+  IsDatum-bad word (gap ∷ rest) is left begins = record {
     given = λ read more. (
-        let token : token_of (codes "BAD" ++ gap ∷ (rest ++ more)) ≡ codes "BAD" = token_front [] (codes "BAD") gap (rest ++ more) refl (omega arith) refl begins in
-        let after : after_token (codes "BAD" ++ gap ∷ (rest ++ more)) ≡ gap ∷ (rest ++ more) = after_token_front [] (codes "BAD") gap (rest ++ more) refl (omega arith) refl begins in
+        let token : token_of (codes "BAD" ++ gap ∷ (rest ++ more)) ≡ codes "BAD" = token_of-front [] (codes "BAD") gap (rest ++ more) refl (omega arith) refl begins in
+        let after : after_token (codes "BAD" ++ gap ∷ (rest ++ more)) ≡ gap ∷ (rest ++ more) = after_token-front [] (codes "BAD") gap (rest ++ more) refl (omega arith) refl begins in
         let bad : cell_of least greatest (read + 1) (codes "BAD") ≡ Ok Bad = refl in
         rw is (datum_at-by_token least greatest read (codes "BAD" ++ gap ∷ (rest ++ more)) (codes "BAD") (sym token) refl refl ∙ bad, sym after));
     left = left;
@@ -82,90 +82,90 @@ module _ (least greatest : ℤ) where
   }
 
   -- the gaps before a datum say nothing
-  pub datum_behind : (text word rest : List ℕ) (cell : Cell) → ((more : List ℕ) → without_start is_gap (text ++ more) ≡ without_start is_gap (word ++ more)) → IsDatum least greatest word rest cell → IsDatum least greatest text rest cell
-  datum_behind text word rest cell same datum = record {
+  pub IsDatum-behind : (text word rest : List ℕ) (cell : Cell) → ((more : List ℕ) → without_start is_gap (text ++ more) ≡ without_start is_gap (word ++ more)) → IsDatum least greatest word rest cell → IsDatum least greatest text rest cell
+  IsDatum-behind text word rest cell same datum = record {
     given = λ read more. (
         let given = datum.given read more in
-        (datum_same least greatest read (text ++ more) (word ++ more) (same more) ∙ given.0, given.1 ∙ sym (after_same (text ++ more) (word ++ more) (same more))));
+        (datum_at-same least greatest read (text ++ more) (word ++ more) (same more) ∙ given.0, given.1 ∙ sym (after_token-same (text ++ more) (word ++ more) (same more))));
     left = datum.left;
     begins = datum.begins;
   }
 
   -- one more
-  pub data_more : (text middle rest : List ℕ) (cells : List Cell) (cell : Cell) → AreData least greatest text middle cells → IsDatum least greatest middle rest cell → AreData least greatest text rest (cells ++ cell ∷ [])
-  data_more text middle rest [] cell same datum = (rest, subst (λ (t : List ℕ). IsDatum least greatest t rest cell) same datum, refl)
-  data_more text middle rest (c ∷ cs) cell read_on datum = (read_on.0, read_on.1, data_more read_on.0 middle rest cs cell read_on.2 datum)
+  pub AreData-more : (text middle rest : List ℕ) (cells : List Cell) (cell : Cell) → AreData least greatest text middle cells → IsDatum least greatest middle rest cell → AreData least greatest text rest (cells ++ cell ∷ [])
+  AreData-more text middle rest [] cell same datum = (rest, subst (λ (t : List ℕ). IsDatum least greatest t rest cell) same datum, refl)
+  AreData-more text middle rest (c ∷ cs) cell read_on datum = (read_on.0, read_on.1, AreData-more read_on.0 middle rest cs cell read_on.2 datum)
 
   -- it is put into lists
-  pub data_filled : (height : ℕ → ℤ) (text middle rest : List ℕ) (overs : List ℕ) (marks : List Mark) (place over : ℕ) (mark : Mark) → place < length overs → place < length marks
+  pub AreData-filled : (height : ℕ → ℤ) (text middle rest : List ℕ) (overs : List ℕ) (marks : List Mark) (place over : ℕ) (mark : Mark) → place < length overs → place < length marks
       → AreData least greatest text middle (kept_cells height (take place overs) (take place marks)) → IsDatum least greatest middle rest (cell_from height over mark)
       → AreData least greatest text rest (kept_cells height (take (place + 1) (set overs place over)) (take (place + 1) (set marks place mark)))
-  data_filled height text middle rest overs marks place over mark inside within read_on datum =
+  AreData-filled height text middle rest overs marks place over mark inside within read_on datum =
       let paired : length (take place overs) ≡ length (take place marks) = length-take-le place overs (omega (arith, inside)) ∙ sym (length-take-le place marks (omega (arith, within))) in
       rw (take_more_set overs place over inside, take_more_set marks place mark within, cells_push height (take place overs) (take place marks) paired over mark)
-      (data_more text middle rest (kept_cells height (take place overs) (take place marks)) (cell_from height over mark) read_on datum)
+      (AreData-more text middle rest (kept_cells height (take place overs) (take place marks)) (cell_from height over mark) read_on datum)
 
   -- a gap begins what follows them
-  pub data_begin : (text rest : List ℕ) (cells : List Cell) → AreData least greatest text rest cells → 0 < length text → is_gap (get_or text 0 0) ≡ true → (0 < length rest) × (is_gap (get_or rest 0 0) ≡ true)
-  data_begin text rest [] same some begins = rw same (some, begins)
-  data_begin text rest (c ∷ cs) read_on some begins = data_begin read_on.0 rest cs read_on.2 read_on.1.left read_on.1.begins
+  pub AreData-begin : (text rest : List ℕ) (cells : List Cell) → AreData least greatest text rest cells → 0 < length text → is_gap (get_or text 0 0) ≡ true → (0 < length rest) × (is_gap (get_or rest 0 0) ≡ true)
+  AreData-begin text rest [] same some begins = rw same (some, begins)
+  AreData-begin text rest (c ∷ cs) read_on some begins = AreData-begin read_on.0 rest cs read_on.2 read_on.1.left read_on.1.begins
 
   module _ (t : DataType) (low : least ≡ least_height t) (high : greatest ≡ greatest_height t) where
     -- their cells are of the data type
-    pub data_fit : (text rest : List ℕ) (cells : List Cell) → AreData least greatest text rest cells → AreCellsOf t cells
-    data_fit text rest [] read_on k inside = absurd (omega arith)
-    data_fit text rest (c ∷ cs) read_on zero inside = datum_at-fits t least greatest 0 (text ++ []) c low high (read_on.1.given 0 []).0
-    data_fit text rest (c ∷ cs) read_on (suc k) inside = data_fit read_on.0 rest cs read_on.2 k (omega arith)
+    pub AreData-fit : (text rest : List ℕ) (cells : List Cell) → AreData least greatest text rest cells → AreCellsOf t cells
+    AreData-fit text rest [] read_on k inside = absurd (omega arith)
+    AreData-fit text rest (c ∷ cs) read_on zero inside = datum_at-fits t least greatest 0 (text ++ []) c low high (read_on.1.given 0 []).0
+    AreData-fit text rest (c ∷ cs) read_on (suc k) inside = AreData-fit read_on.0 rest cs read_on.2 k (omega arith)
 
     -- they are read on
-    pub data_on : (size : Size) (front : List Cell) (text rest : List ℕ) (cells : List Cell) → AreData least greatest text rest cells → length front + length cells ≤ cell_count size
+    pub whole_in-data : (size : Size) (front : List Cell) (text rest : List ℕ) (cells : List Cell) → AreData least greatest text rest cells → length front + length cells ≤ cell_count size
         → (more : List ℕ) → whole_in size t front (text ++ more) ≡ whole_in size t (front ++ cells) (rest ++ more)
-    data_on size front text rest [] same few more = ap₂ (λ (cs : List Cell) (xs : List ℕ). whole_in size t cs (xs ++ more)) (sym (append-nil front)) (sym same)
-    data_on size front text rest (c ∷ cs) read_on few more =
+    whole_in-data size front text rest [] same few more = ap₂ (λ (cs : List Cell) (xs : List ℕ). whole_in size t cs (xs ++ more)) (sym (append-nil front)) (sym same)
+    whole_in-data size front text rest (c ∷ cs) read_on few more =
         let given = read_on.1.given (length front) more in
         let here : datum_at (least_height t) (greatest_height t) (length front) (text ++ more) ≡ Ok c = rw (low, high) at given.0 in
-        whole_step size t front (text ++ more) (read_on.0 ++ more) c (omega (arith, few)) here given.1
-        ∙ data_on size (front ++ c ∷ []) read_on.0 rest cs read_on.2 (omega (arith, few, length-append front (c ∷ []))) more
+        whole_in-step size t front (text ++ more) (read_on.0 ++ more) c (omega (arith, few)) here given.1
+        ∙ whole_in-data size (front ++ c ∷ []) read_on.0 rest cs read_on.2 (omega (arith, few, length-append front (c ∷ []))) more
         ∙ ap (λ (all : List Cell). whole_in size t all (rest ++ more)) (append_assoc front (c ∷ []) cs)
 
 -- a mark without a mask is put into a list
-pub unmasked_filled : (marks : List Mark) (place : ℕ) (mark : Mark) → place < length marks → map masks (take place marks) ≡ replicate place false → masks mark ≡ false
+pub masks-filled : (marks : List Mark) (place : ℕ) (mark : Mark) → place < length marks → map masks (take place marks) ≡ replicate place false → masks mark ≡ false
     → map masks (take (place + 1) (set marks place mark)) ≡ replicate (place + 1) false
-unmasked_filled marks place mark inside before clear =
+masks-filled marks place mark inside before clear =
     ap (map masks) (take_more_set marks place mark inside) ∙ map-append masks (take place marks) (mark ∷ [])
     ∙ ap₂ (λ (ms : List Bool) (m : Bool). ms ++ m ∷ []) before clear ∙ replicate_more place false
 
 -- so many numbers and marks are so many cells
-pub filled_count : (height : ℕ → ℤ) (overs : List ℕ) (marks : List Mark) (count : ℕ) → count ≤ length overs → count ≤ length marks → length (kept_cells height (take count overs) (take count marks)) ≡ count
-filled_count height overs marks count inside within =
+pub kept_cells-count : (height : ℕ → ℤ) (overs : List ℕ) (marks : List Mark) (count : ℕ) → count ≤ length overs → count ≤ length marks → length (kept_cells height (take count overs) (take count marks)) ≡ count
+kept_cells-count height overs marks count inside within =
     let size = length-take-le count overs inside in
     length-zip2 (cell_from height) (take count overs) (take count marks) (size ∙ sym (length-take-le count marks within)) ∙ size
 
 -- the gap at the front of a text
-pub behind_gap : (text : List ℕ) → 0 < length text → is_gap (get_or text 0 0) ≡ true → (more : List ℕ) → without_start is_gap (text ++ more) ≡ without_start is_gap (drop 1 text ++ more)
-behind_gap [] some begins more = absurd (omega arith)
-behind_gap (gap ∷ word) some begins more = let all : list_all is_gap (gap ∷ []) ≡ true = rw begins refl in start_front is_gap (gap ∷ []) (word ++ more) all
+pub without_start-behind_gap : (text : List ℕ) → 0 < length text → is_gap (get_or text 0 0) ≡ true → (more : List ℕ) → without_start is_gap (text ++ more) ≡ without_start is_gap (drop 1 text ++ more)
+without_start-behind_gap [] some begins more = absurd (omega arith)
+without_start-behind_gap (gap ∷ word) some begins more = let all : list_all is_gap (gap ∷ []) ≡ true = rw begins refl in without_start-front is_gap (gap ∷ []) (word ++ more) all
 
 -- and those behind it
-pub behind_gaps : (text word : List ℕ) → 0 < length text → is_gap (get_or text 0 0) ≡ true → word ≡ without_start is_gap (drop 1 text) → (more : List ℕ) → without_start is_gap (text ++ more) ≡ without_start is_gap (word ++ more)
-behind_gaps text word some begins is more = behind_gap text some begins more ∙ skip_same (drop 1 text) more ∙ ap (λ (t : List ℕ). without_start is_gap (t ++ more)) (sym is)
+pub without_start-behind_gaps : (text word : List ℕ) → 0 < length text → is_gap (get_or text 0 0) ≡ true → word ≡ without_start is_gap (drop 1 text) → (more : List ℕ) → without_start is_gap (text ++ more) ≡ without_start is_gap (word ++ more)
+without_start-behind_gaps text word some begins is more = without_start-behind_gap text some begins more ∙ without_start-twice (drop 1 text) more ∙ ap (λ (t : List ℕ). without_start is_gap (t ++ more)) (sym is)
 
 -- nothing is read yet
-pub reads_none : (size : Size) (old : packed.Cells) (text : List ℕ) → length (cells_in old) ≤ cell_count size → ReadsShort size old text old text
-reads_none size old text few = record { same = λ more. refl; data_type = refl; onward = omega arith; few = few }
+pub ReadsShort-none : (size : Size) (old : packed.Cells) (text : List ℕ) → length (cells_in old) ≤ cell_count size → ReadsShort size old text old text
+ReadsShort-none size old text few = record { same = λ more. refl; data_type = refl; onward = omega arith; few = few }
 
 -- a batch is read on
-pub reads_batch : (size : Size) (old : packed.Cells) (text : List ℕ) (mid : packed.Cells) (middle : List ℕ) (new : packed.Cells) (rest : List ℕ) (least greatest : ℤ) (room count : ℕ)
+pub ReadsShort-batch : (size : Size) (old : packed.Cells) (text : List ℕ) (mid : packed.Cells) (middle : List ℕ) (new : packed.Cells) (rest : List ℕ) (least greatest : ℤ) (room count : ℕ)
     → ReadsShort size old text mid middle → least ≡ least_height mid.data_type → greatest ≡ greatest_height mid.data_type → TakesBatch least greatest room mid middle new rest count
     → room + length (cells_in mid) ≤ cell_count size → ReadsShort size old text new rest × (length (cells_in new) ≡ length (cells_in mid) + count)
-reads_batch size old text mid middle new rest least greatest room count reads low high batch fits =
+ReadsShort-batch size old text mid middle new rest least greatest room count reads low high batch fits =
     let onward = reads.onward in
     let few = batch.few in
     let more_is = batch.count_is in
     let size_is : length (cells_in new) ≡ length (cells_in mid) + count = ap length batch.cells ∙ length-append (cells_in mid) batch.more ∙ ap (λ n. length (cells_in mid) + n) more_is in (
       record {
         same = λ more.
-            reads.same more ∙ data_on least greatest mid.data_type low high size (cells_in mid) middle rest batch.more batch.reads (omega (arith, fits, few, more_is)) more
+            reads.same more ∙ whole_in-data least greatest mid.data_type low high size (cells_in mid) middle rest batch.more batch.reads (omega (arith, fits, few, more_is)) more
             ∙ ap₂ (λ (t : DataType) (cs : List Cell). whole_in size t cs (rest ++ more)) (sym batch.data_type) (sym batch.cells);
         data_type = batch.data_type ∙ reads.data_type;
         onward = omega (arith, onward, size_is);
@@ -175,9 +175,9 @@ reads_batch size old text mid middle new rest least greatest room count reads lo
     )
 
 -- some more
-pub has_more : (size : Size) (old : packed.Cells) (text : List ℕ) (mid : packed.Cells) (middle : List ℕ) (read : ℕ) (new : packed.Cells) (rest : List ℕ) (count : ℕ) → HasOn size old text mid middle read → ReadsShort size mid middle new rest
+pub HasOn-short : (size : Size) (old : packed.Cells) (text : List ℕ) (mid : packed.Cells) (middle : List ℕ) (read : ℕ) (new : packed.Cells) (rest : List ℕ) (count : ℕ) → HasOn size old text mid middle read → ReadsShort size mid middle new rest
     → count ≡ length (cells_in new) → HasOn size old text new rest count
-has_more size old text mid middle read new rest count has reads is = record {
+HasOn-short size old text mid middle read new rest count has reads is = record {
   same = λ more.
       has.same more ∙ ap (λ (t : DataType). whole_in size t (cells_in mid) (middle ++ more)) (sym has.data_type) ∙ reads.same more
       ∙ ap (λ (t : DataType). whole_in size t (cells_in new) (rest ++ more)) (reads.data_type ∙ has.data_type);
@@ -185,7 +185,7 @@ has_more size old text mid middle read new rest count has reads is = record {
   count = sym is;
 }
 
-pub has_again : (size : Size) (old : packed.Cells) (text : List ℕ) (new : packed.Cells) (rest : List ℕ) (read : ℕ) → HasOn size old text new rest read → read ≤ cell_count size → HasOn size old text new rest (length (cells_in new)) × (length (cells_in new) ≤ cell_count size)
-has_again size old text new rest read has few =
+pub HasOn-again : (size : Size) (old : packed.Cells) (text : List ℕ) (new : packed.Cells) (rest : List ℕ) (read : ℕ) → HasOn size old text new rest read → read ≤ cell_count size → HasOn size old text new rest (length (cells_in new)) × (length (cells_in new) ≤ cell_count size)
+HasOn-again size old text new rest read has few =
     let count = has.count in
     (record { same = has.same; data_type = has.data_type; count = refl }, omega (arith, count, few))

@@ -8,9 +8,9 @@ use Rattle.std.proofs.lemmas.List.Folds.{list_any-append}
 use Rattle.hd_num.specs.Lines.{without_start}
 use Rattle.hd_sdf_read.specs.TokenPieces.{IsCut, IsWord}
 use Rattle.hd_sdf_read.specs.Tokens.{is_gap, after_token, token_of}
-use Rattle.hd_sdf_read.proofs.DecimalFronts.{token_ends}
-use Rattle.hd_sdf_read.proofs.Fronts.{first_fails, start_front, start_stays}
-use Rattle.hd_sdf_read.proofs.Trims.{none_before}
+use Rattle.hd_sdf_read.proofs.DecimalFronts.{position_or_len-token}
+use Rattle.hd_sdf_read.proofs.TextFronts.{list_any-first, without_start-front, without_start-stays}
+use Rattle.hd_sdf_read.proofs.Trims.{before_first-none}
 
 -- the first gap of a text with more behind it
 module _ (test : ℕ → Bool) where
@@ -87,30 +87,30 @@ nothing_left [] none = refl
 nothing_left (x ∷ xs) none = absurd (omega arith)
 
 -- a text is cut at its first gap
-pub cut_at : (text token rest : List ℕ) (end : ℕ) → end ≡ position_or_len is_gap text → end < length text → token ≡ take end text → rest ≡ drop end text → IsCut text token rest
-cut_at text token rest end is inside token_is rest_is = record {
+pub IsCut-at : (text token rest : List ℕ) (end : ℕ) → end ≡ position_or_len is_gap text → end < length text → token ≡ take end text → rest ≡ drop end text → IsCut text token rest
+IsCut-at text token rest end is inside token_is rest_is = record {
   text_is = sym (take-append-drop end text) ∙ ap₂ (λ (a b : List ℕ). a ++ b) (sym token_is) (sym rest_is);
-  gapless = ap (list_any is_gap) (token_is ∙ ap (λ n. take n text) is) ∙ none_before is_gap text;
+  gapless = ap (list_any is_gap) (token_is ∙ ap (λ n. take n text) is) ∙ before_first-none is_gap text;
   some = (let size = length-drop end text in omega (arith, ap length rest_is, size, inside));
   gap = ap (λ (t : List ℕ). is_gap (get_or t 0 0)) (rest_is ∙ ap (λ n. drop n text) is) ∙ passes_there is_gap text (omega (arith, is, inside));
 }
 
 -- or has none
-pub token-uncut : (text : List ℕ) (end : ℕ) → end ≡ position_or_len is_gap text → length text ≤ end → list_any is_gap text ≡ false
-token-uncut text end is all = none_to_end is_gap text (omega (arith, is, all))
+pub is_gap-uncut : (text : List ℕ) (end : ℕ) → end ≡ position_or_len is_gap text → length text ≤ end → list_any is_gap text ≡ false
+is_gap-uncut text end is all = none_to_end is_gap text (omega (arith, is, all))
 
 -- a token, before a gap or the end
 module _ (token rest : List ℕ) (some : 0 < length token) (gapless : list_any is_gap token ≡ false) (ends : 0 < length rest → is_gap (get_or rest 0 0) ≡ true) where
   stays_here : without_start is_gap (token ++ rest) ≡ token ++ rest
-  stays_here = start_stays is_gap token rest some (first_fails is_gap token some gapless)
+  stays_here = without_start-stays is_gap token rest some (list_any-first is_gap token some gapless)
 
-  pub token_here : token_of (token ++ rest) ≡ token
+  pub token_of-here : token_of (token ++ rest) ≡ token
   unfolding token_of
-  token_here = ap (before_first is_gap) stays_here ∙ ap (λ n. take n (token ++ rest)) (token_ends token rest gapless ends) ∙ take-append_seam token rest
+  token_of-here = ap (before_first is_gap) stays_here ∙ ap (λ n. take n (token ++ rest)) (position_or_len-token token rest gapless ends) ∙ take-append_seam token rest
 
-  pub after_here : after_token (token ++ rest) ≡ rest
+  pub after_token-here : after_token (token ++ rest) ≡ rest
   unfolding after_token
-  after_here = ap₂ (λ (n : ℕ) (t : List ℕ). drop n t) (ap length token_here) stays_here ∙ drop-append_seam token rest
+  after_token-here = ap₂ (λ (n : ℕ) (t : List ℕ). drop n t) (ap length token_of-here) stays_here ∙ drop-append_seam token rest
 
 -- a token before a gap, with more behind it
 module _ (text more : List ℕ) (cut : 0 < length (after_token text)) where
@@ -128,20 +128,20 @@ module _ (text more : List ℕ) (cut : 0 < length (after_token text)) where
   unfolding front
   begins = start_append is_gap text more (omega (arith, inside))
 
-  pub token_stays : token_of (text ++ more) ≡ token_of text
+  pub token_of-stays : token_of (text ++ more) ≡ token_of text
   unfolding token_of front
-  token_stays = ap (before_first is_gap) begins ∙ ap (λ n. take n (front ++ more)) (place_stays is_gap front more inside) ∙ take-append-le (position_or_len is_gap front) front more (omega (arith, inside))
+  token_of-stays = ap (before_first is_gap) begins ∙ ap (λ n. take n (front ++ more)) (place_stays is_gap front more inside) ∙ take-append-le (position_or_len is_gap front) front more (omega (arith, inside))
 
-  pub after_stays : after_token (text ++ more) ≡ after_token text ++ more
+  pub after_token-stays : after_token (text ++ more) ≡ after_token text ++ more
   unfolding after_token front
-  after_stays =
+  after_token-stays =
       let size : length (token_of text) ≤ length front = omega (arith, cut, length-drop (length (token_of text)) front) in
-      ap₂ (λ (n : ℕ) (t : List ℕ). drop n t) (ap length token_stays) begins ∙ drop-append-le (length (token_of text)) front more size
+      ap₂ (λ (n : ℕ) (t : List ℕ). drop n t) (ap length token_of-stays) begins ∙ drop-append-le (length (token_of text)) front more size
 
   -- the token is there
-  pub token_some : 0 < length (token_of text)
+  pub token_of-some : 0 < length (token_of text)
   unfolding token_of front
-  token_some =
+  token_of-some =
       let first : is_gap (get_or front 0 0) ≡ false = start_first is_gap text (omega (arith, inside)) in
       let place = place_some is_gap front (omega (arith, inside)) first in
       omega (arith, inside, place, length-take (position_or_len is_gap front) front)
@@ -158,36 +158,36 @@ module _ (text more : List ℕ) (unended : after_token text ≡ []) where
       omega (arith, none, length-drop (length (token_of text)) open_front, length-take (position_or_len is_gap open_front) open_front)
 
   -- it is the text without the gaps at its front
-  pub open_token : token_of text ≡ without_start is_gap text
+  pub token_of-open : token_of text ≡ without_start is_gap text
   unfolding token_of open_front
-  open_token = take_all (position_or_len is_gap open_front) open_front open_all
+  token_of-open = take_all (position_or_len is_gap open_front) open_front open_all
 
   -- the gaps at its front say nothing
-  pub open_same : without_start is_gap (text ++ more) ≡ without_start is_gap (token_of text ++ more)
-  open_same = elim (cases_lt 0 (length (without_start is_gap text))) [
+  pub without_start-open : without_start is_gap (text ++ more) ≡ without_start is_gap (token_of text ++ more)
+  without_start-open = elim (cases_lt 0 (length (without_start is_gap text))) [
     | inl some ↦
         start_append is_gap text more some
-        ∙ sym (ap (λ (t : List ℕ). without_start is_gap (t ++ more)) open_token ∙ start_stays is_gap (without_start is_gap text) more some (start_first is_gap text some))
+        ∙ sym (ap (λ (t : List ℕ). without_start is_gap (t ++ more)) token_of-open ∙ without_start-stays is_gap (without_start is_gap text) more some (start_first is_gap text some))
     | inr none ↦
         let gaps : list_all is_gap text ≡ true = all_start is_gap text none in
-        start_front is_gap text more gaps ∙ sym (ap (λ (t : List ℕ). without_start is_gap (t ++ more)) (open_token ∙ nothing_left (without_start is_gap text) none))
+        without_start-front is_gap text more gaps ∙ sym (ap (λ (t : List ℕ). without_start is_gap (t ++ more)) (token_of-open ∙ nothing_left (without_start is_gap text) none))
   ]
 
 -- gaps at the front of a piece say nothing
-pub skip_same : (text more : List ℕ) → without_start is_gap (text ++ more) ≡ without_start is_gap (without_start is_gap text ++ more)
-skip_same text more = elim (cases_lt 0 (length (without_start is_gap text))) [
-  | inl some ↦ start_append is_gap text more some ∙ sym (start_stays is_gap (without_start is_gap text) more some (start_first is_gap text some))
-  | inr none ↦ start_front is_gap text more (all_start is_gap text none) ∙ sym (ap (λ (t : List ℕ). without_start is_gap (t ++ more)) (nothing_left (without_start is_gap text) none))
+pub without_start-twice : (text more : List ℕ) → without_start is_gap (text ++ more) ≡ without_start is_gap (without_start is_gap text ++ more)
+without_start-twice text more = elim (cases_lt 0 (length (without_start is_gap text))) [
+  | inl some ↦ start_append is_gap text more some ∙ sym (without_start-stays is_gap (without_start is_gap text) more some (start_first is_gap text some))
+  | inr none ↦ without_start-front is_gap text more (all_start is_gap text none) ∙ sym (ap (λ (t : List ℕ). without_start is_gap (t ++ more)) (nothing_left (without_start is_gap text) none))
 ]
 
-pub skip_first : (text : List ℕ) → 0 < length (without_start is_gap text) → is_gap (get_or (without_start is_gap text) 0 0) ≡ false
-skip_first text some = start_first is_gap text some
+pub without_start-first : (text : List ℕ) → 0 < length (without_start is_gap text) → is_gap (get_or (without_start is_gap text) 0 0) ≡ false
+without_start-first text some = start_first is_gap text some
 
 -- a part of a token and a piece that ends it
-pub word_joined : (before text shown end rest word : List ℕ) → list_any is_gap before ≡ false
+pub IsWord-joined : (before text shown end rest word : List ℕ) → list_any is_gap before ≡ false
     → ((more : List ℕ) → without_start is_gap (before ++ (text ++ more)) ≡ without_start is_gap (before ++ (shown ++ more))) → (length before ≡ 0 → 0 < length shown → is_gap (get_or shown 0 0) ≡ false)
     → IsCut shown end rest → word ≡ before ++ end → IsWord before text word rest
-word_joined before text shown end rest word gapless same begins cut is =
+IsWord-joined before text shown end rest word gapless same begins cut is =
     let left = cut.some in
     let sizes = length-append end rest in
     record {
@@ -210,6 +210,6 @@ word_joined before text shown end rest word gapless same begins cut is =
     }
 
 -- a piece without a gap goes on with the token
-pub part_joined : (before text shown token : List ℕ) → ((more : List ℕ) → without_start is_gap (before ++ (text ++ more)) ≡ without_start is_gap (before ++ (shown ++ more))) → token ≡ before ++ shown
+pub without_start-joined : (before text shown token : List ℕ) → ((more : List ℕ) → without_start is_gap (before ++ (text ++ more)) ≡ without_start is_gap (before ++ (shown ++ more))) → token ≡ before ++ shown
     → (more : List ℕ) → without_start is_gap (before ++ (text ++ more)) ≡ without_start is_gap (token ++ more)
-part_joined before text shown token same is more = same more ∙ ap (λ (t : List ℕ). without_start is_gap t) (sym (append_assoc before shown more) ∙ ap (λ (t : List ℕ). t ++ more) (sym is))
+without_start-joined before text shown token same is more = same more ∙ ap (λ (t : List ℕ). without_start is_gap t) (sym (append_assoc before shown more) ∙ ap (λ (t : List ℕ). t ++ more) (sym is))

@@ -12,8 +12,8 @@ pub record IsTrimmed (test : ℕ → Bool) (text : List ℕ) : Type 0 where
   pub last : 0 < length text → test (get_or text (length text - 1) 0) ≡ false
 
 -- such a text stays as it is
-pub trimmed_same : (test : ℕ → Bool) (text : List ℕ) → IsTrimmed test text → trimmed_by test text ≡ text
-trimmed_same test text is =
+pub IsTrimmed-same : (test : ℕ → Bool) (text : List ℕ) → IsTrimmed test text → trimmed_by test text ≡ text
+IsTrimmed-same test text is =
     let start : prefix_len test text ≡ 0 = prefix_len_is test text 0 0 (omega arith) (λ k less. absurd (omega arith)) is.first in
     let front : without_start test text ≡ text = ap (λ n. drop n text) start in
     let end : suffix_len test text ≡ length text - length text = suffix_len_is test text (length text) 0 (omega arith) (λ k low high. absurd (omega arith)) is.last in
@@ -29,8 +29,8 @@ before_end test text some =
     ap test (sym (get_or-reverse text (suffix_len test text) 0 some ∙ ap (λ k. get_or text k 0) place)) ∙ stops
 
 -- a text without its ends begins and ends so
-pub trimmed_is : (test : ℕ → Bool) (text : List ℕ) → IsTrimmed test (trimmed_by test text)
-trimmed_is test text =
+pub IsTrimmed-trimmed_by : (test : ℕ → Bool) (text : List ℕ) → IsTrimmed test (trimmed_by test text)
+IsTrimmed-trimmed_by test text =
     let start : ℕ = prefix_len test text in
     let rest : List ℕ = without_start test text in
     let size : ℕ = length rest - suffix_len test rest in
@@ -48,43 +48,43 @@ trimmed_is test text =
     }
 
 -- a text that begins with no such byte keeps its first byte
-pub trimmed_first : (test : ℕ → Bool) (text : List ℕ) → (0 < length text → test (get_or text 0 0) ≡ false) → 0 < length (trimmed_by test text) → get_or (trimmed_by test text) 0 0 ≡ get_or text 0 0
-trimmed_first test text keeps some =
+pub trimmed_by-first : (test : ℕ → Bool) (text : List ℕ) → (0 < length text → test (get_or text 0 0) ≡ false) → 0 < length (trimmed_by test text) → get_or (trimmed_by test text) 0 0 ≡ get_or text 0 0
+trimmed_by-first test text keeps some =
     let start : prefix_len test text ≡ 0 = prefix_len_is test text 0 0 (omega arith) (λ k less. absurd (omega arith)) keeps in
     let rest : List ℕ = without_start test text in
     let size : ℕ = length rest - suffix_len test rest in
     get_or-take size rest 0 0 (omega (arith, length-take size rest)) ∙ ap (λ n. get_or (drop n text) 0 0) start
 
 -- a part of a text has no byte that the text has not
-pub any_take : (test : ℕ → Bool) (n : ℕ) (text : List ℕ) → list_any test text ≡ false → list_any test (take n text) ≡ false
-any_take test zero text none = refl
-any_take test (suc n) [] none = refl
-any_take test (suc n) (x ∷ xs) none = elim (cases_Bool (test x)) [
+pub list_any-take : (test : ℕ → Bool) (n : ℕ) (text : List ℕ) → list_any test text ≡ false → list_any test (take n text) ≡ false
+list_any-take test zero text none = refl
+list_any-take test (suc n) [] none = refl
+list_any-take test (suc n) (x ∷ xs) none = elim (cases_Bool (test x)) [
   | inl passes ↦ let wrong : true ≡ false = rw passes at none in cc
-  | inr fails ↦ rw fails (any_take test n xs (rw fails at none))
+  | inr fails ↦ rw fails (list_any-take test n xs (rw fails at none))
 ]
 
-pub any_drop : (test : ℕ → Bool) (n : ℕ) (text : List ℕ) → list_any test text ≡ false → list_any test (drop n text) ≡ false
-any_drop test zero text none = none
-any_drop test (suc n) [] none = refl
-any_drop test (suc n) (x ∷ xs) none = elim (cases_Bool (test x)) [
+pub list_any-drop : (test : ℕ → Bool) (n : ℕ) (text : List ℕ) → list_any test text ≡ false → list_any test (drop n text) ≡ false
+list_any-drop test zero text none = none
+list_any-drop test (suc n) [] none = refl
+list_any-drop test (suc n) (x ∷ xs) none = elim (cases_Bool (test x)) [
   | inl passes ↦ let wrong : true ≡ false = rw passes at none in cc
-  | inr fails ↦ any_drop test n xs (rw fails at none)
+  | inr fails ↦ list_any-drop test n xs (rw fails at none)
 ]
 
-pub any_trimmed : (trims test : ℕ → Bool) (text : List ℕ) → list_any test text ≡ false → list_any test (trimmed_by trims text) ≡ false
-any_trimmed trims test text none =
+pub trimmed_by-any : (trims test : ℕ → Bool) (text : List ℕ) → list_any test text ≡ false → list_any test (trimmed_by trims text) ≡ false
+trimmed_by-any trims test text none =
     let rest : List ℕ = without_start trims text in
-    any_take test (length rest - suffix_len trims rest) rest (any_drop test (prefix_len trims text) text none)
+    list_any-take test (length rest - suffix_len trims rest) rest (list_any-drop test (prefix_len trims text) text none)
 
 -- no byte before the first that passes does
-pub none_before : (test : ℕ → Bool) (text : List ℕ) → list_any test (before_first test text) ≡ false
-none_before test [] = refl
-none_before test (x ∷ xs) = elim (cases_Bool (test x)) [
+pub before_first-none : (test : ℕ → Bool) (text : List ℕ) → list_any test (before_first test text) ≡ false
+before_first-none test [] = refl
+before_first-none test (x ∷ xs) = elim (cases_Bool (test x)) [
   | inl passes ↦
       let none : before_first test (x ∷ xs) ≡ [] = take_while-cons (λ y. not (test y)) x xs ∙ rw passes refl in
       ap (list_any test) none
   | inr fails ↦
       let more : before_first test (x ∷ xs) ≡ x ∷ before_first test xs = take_while-cons (λ y. not (test y)) x xs ∙ rw fails refl in
-      ap (list_any test) more ∙ ap (λ b. b || list_any test (before_first test xs)) fails ∙ none_before test xs
+      ap (list_any test) more ∙ ap (λ b. b || list_any test (before_first test xs)) fails ∙ before_first-none test xs
 ]

@@ -22,8 +22,8 @@ use Rattle.hd_sdf_read.proofs.DatumAt.{datum_at-by_token}
 use Rattle.hd_sdf_read.specs.WholeTokens.{AreDigits, TakesCell, TakesHeight, TakesNumber}
 
 -- a digit is no gap
-pub digit_no_gap : (byte : ℕ) → is_ascii_digit byte ≡ true → is_gap byte ≡ false
-digit_no_gap byte digit = grind (arith, nat_tests)
+pub is_gap-digit : (byte : ℕ) → is_ascii_digit byte ≡ true → is_gap byte ≡ false
+is_gap-digit byte digit = grind (arith, nat_tests)
 
 -- what a small number is
 is_small : (negative : Bool) (n : ℕ) → n < 1000000000000000000 → whole_of_value (Some (signed_number negative n)) ≡ Is (signed_number negative n)
@@ -42,7 +42,7 @@ digit_at text count k inside digits less =
 digits_end : (text : List ℕ) (count : ℕ) → count ≤ length text → list_all is_ascii_digit (take count text) ≡ true → (count < length text → is_gap (get_or text count 0) ≡ true)
     → position_or_len is_gap text ≡ count
 digits_end text count inside digits after =
-    position_or_len_is is_gap text count 0 inside (λ k less. digit_no_gap (get_or text k 0) (digit_at text count k inside digits less)) after
+    position_or_len_is is_gap text count 0 inside (λ k less. is_gap-digit (get_or text k 0) (digit_at text count k inside digits less)) after
 
 -- a token of digits with a sign or none
 token_number : (token ds : List ℕ) (negative : Bool) (n : ℕ) → without_leading_sign token ≡ ds → starts_with_minus token ≡ negative → 0 < length ds → list_all is_ascii_digit ds ≡ true → n ≡ digits_value 10 ds
@@ -53,8 +53,8 @@ token_number token ds negative n is minus some digits value small =
     ap (λ b. whole_of_value (if b then Some (signed_digits_value 10 token) else None)) numeral ∙ ap (λ z. whole_of_value (Some z)) number ∙ is_small negative n small
 
 -- a number is no other word
-pub no_word : (word token : List ℕ) (h : ℤ) → whole_of word ≡ Not → whole_of token ≡ Is h → bytes_eq token word ≡ false
-no_word word token h none number = elim (cases_Bool (bytes_eq token word)) [
+pub whole_of-apart : (word token : List ℕ) (h : ℤ) → whole_of word ≡ Not → whole_of token ≡ Is h → bytes_eq token word ≡ false
+whole_of-apart word token h none number = elim (cases_Bool (bytes_eq token word)) [
   | inl same ↦ let wrong : Is h ≡ Not = sym number ∙ ap whole_of ((bytes_eq-Decides token word).0 same) ∙ none in cc
   | inr other ↦ other
 ]
@@ -123,8 +123,8 @@ int_le-holds a b within = grind (arith, ints, within)
 
 module _ (below greatest : ℕ) (text rest : List ℕ) (n : ℕ) where
   -- a number without a sign in the range, by how far it is over the least height
-  pub plain_over : TakesNumber text rest n → n ≤ greatest → TakesCell (signed_number true below) (pos greatest) text rest (Height (signed_number true below +ℤ pos (below + n)))
-  plain_over takes within = record {
+  pub TakesCell-plain : TakesNumber text rest n → n ≤ greatest → TakesCell (signed_number true below) (pos greatest) text rest (Height (signed_number true below +ℤ pos (below + n)))
+  TakesCell-plain takes within = record {
     height = signed_number false n;
     takes = rw takes.after (plain_at text takes.count n takes.some takes.digits (gap_behind text rest takes.count takes.after takes.begins));
     low = int_le-holds (signed_number true below) (signed_number false n) (omega (arith, ints));
@@ -133,8 +133,8 @@ module _ (below greatest : ℕ) (text rest : List ℕ) (n : ℕ) where
   }
 
   -- or with a minus
-  pub minus_over : 0 < length text → get_or text 0 0 ≡ 45 → TakesNumber (drop 1 text) rest n → n ≤ below → TakesCell (signed_number true below) (pos greatest) text rest (Height (signed_number true below +ℤ pos (below - n)))
-  minus_over filled minus takes within = record {
+  pub TakesCell-minus : 0 < length text → get_or text 0 0 ≡ 45 → TakesNumber (drop 1 text) rest n → n ≤ below → TakesCell (signed_number true below) (pos greatest) text rest (Height (signed_number true below +ℤ pos (below - n)))
+  TakesCell-minus filled minus takes within = record {
     height = signed_number true n;
     takes = rw takes.after (minus_at text takes.count n filled minus takes.some takes.digits (gap_behind (drop 1 text) rest takes.count takes.after takes.begins));
     low = int_le-holds (signed_number true below) (signed_number true n) (omega (arith, ints, within));
@@ -143,32 +143,32 @@ module _ (below greatest : ℕ) (text rest : List ℕ) (n : ℕ) where
   }
 
 -- a text that a gap begins is not empty
-pub begins_some : (rest : List ℕ) → is_gap (get_or rest 0 0) ≡ true → 0 < length rest
-begins_some [] gap = let wrong : false ≡ true = gap in cc
-begins_some (byte ∷ rest) gap = omega arith
+pub is_gap-begins : (rest : List ℕ) → is_gap (get_or rest 0 0) ≡ true → 0 < length rest
+is_gap-begins [] gap = let wrong : false ≡ true = gap in cc
+is_gap-begins (byte ∷ rest) gap = omega arith
 
 -- the first token, after the gaps
-pub token_at : (text front token : List ℕ) → front ≡ without_start is_gap text → take (position_or_len is_gap front) front ≡ token → token_of text ≡ token
+pub token_of-front : (text front token : List ℕ) → front ≡ without_start is_gap text → take (position_or_len is_gap front) front ≡ token → token_of text ≡ token
 unfolding token_of
-token_at text front token is place = ap (before_first is_gap) (sym is) ∙ place
+token_of-front text front token is place = ap (before_first is_gap) (sym is) ∙ place
 
 -- and the text after it
-pub rest_at : (text front rest : List ℕ) → front ≡ without_start is_gap text → drop (position_or_len is_gap front) front ≡ rest → rest ≡ after_token text
+pub after_token-front : (text front rest : List ℕ) → front ≡ without_start is_gap text → drop (position_or_len is_gap front) front ≡ rest → rest ≡ after_token text
 unfolding after_token
-rest_at text front rest is after =
-    let token = token_at text front (take (position_or_len is_gap front) front) is refl in
+after_token-front text front rest is after =
+    let token = token_of-front text front (take (position_or_len is_gap front) front) is refl in
     let size : length (token_of text) ≡ position_or_len is_gap front =
     ap length token ∙ length-take-le (position_or_len is_gap front) front (prefix_len-le-length (λ byte. not (is_gap byte)) front) in
     sym (ap₂ (λ (n : ℕ) (xs : List ℕ). drop n xs) size (sym is) ∙ after)
 
 -- the token at the front of a text is a height in the range
-pub cell_given : (least greatest : ℤ) (read : ℕ) (text front rest : List ℕ) (cell : Cell) → front ≡ without_start is_gap text → TakesCell least greatest front rest cell
+pub TakesCell-given : (least greatest : ℤ) (read : ℕ) (text front rest : List ℕ) (cell : Cell) → front ≡ without_start is_gap text → TakesCell least greatest front rest cell
     → (datum_at least greatest read text ≡ Ok cell) × (rest ≡ after_token text)
-cell_given least greatest read text front rest cell is taken =
+TakesCell-given least greatest read text front rest cell is taken =
     let takes = taken.takes in
-    let token = token_at text front takes.token is takes.place in
-    let no_star : is_star takes.token ≡ false = no_word (codes "*") takes.token taken.height refl takes.number in
-    let no_bad : bytes_eq takes.token (codes "BAD") ≡ false = no_word (codes "BAD") takes.token taken.height refl takes.number in
+    let token = token_of-front text front takes.token is takes.place in
+    let no_star : is_star takes.token ≡ false = whole_of-apart (codes "*") takes.token taken.height refl takes.number in
+    let no_bad : bytes_eq takes.token (codes "BAD") ≡ false = whole_of-apart (codes "BAD") takes.token taken.height refl takes.number in
     let within : (int_le least taken.height && int_le taken.height greatest) ≡ true = and_from _ _ taken.low taken.high in
     let right : cell_of least greatest (read + 1) takes.token ≡ Ok cell = rw (no_bad, takes.number, within, taken.cell_is) refl in
-    (datum_at-by_token least greatest read text takes.token (sym token) takes.filled no_star ∙ right, rest_at text front rest is takes.after)
+    (datum_at-by_token least greatest read text takes.token (sym token) takes.filled no_star ∙ right, after_token-front text front rest is takes.after)

@@ -9,10 +9,10 @@ use Rattle.std.proofs.lemmas.Slice.Eq.{bytes_eq-Decides}
 use Rattle.hd_num.specs.Lines.{is_blank, is_line_feed, trimmed}
 use Rattle.hd_sdf_read.specs.Entries.{Ends, Keyed, Skipped, Unread, entry, entry_of, is_comment, is_equals, is_key, is_value, keyed, kind_of, kind_of_text}
 use Rattle.hd_sdf_read.specs.File.{is_header_key, is_header_value, is_trimmed_line}
-use Rattle.hd_sdf_read.proofs.GoodEntries.{not_true}
-use Rattle.hd_sdf_read.proofs.Trims.{IsTrimmed, trimmed_is, trimmed_same}
+use Rattle.hd_sdf_read.proofs.GoodEntries.{not-true}
+use Rattle.hd_sdf_read.proofs.Trims.{IsTrimmed, IsTrimmed-trimmed_by, IsTrimmed-same}
 use Rattle.hd_sdf_write.specs.Canonical.{entry_text}
-use Rattle.hd_sdf_read.proofs.Fronts.{after_front, before_front, trim_around}
+use Rattle.hd_sdf_read.proofs.TextFronts.{after_first-front, before_first-front, trimmed_by-around}
 
 -- a text of one line without blanks at its ends
 pub record IsLine (text : List ℕ) : Type 0 where
@@ -23,8 +23,8 @@ pub line_good : (text : List ℕ) → is_trimmed_line text ≡ true → IsLine t
 line_good text good =
     let parts = and_parts (bytes_eq (trimmed text) text) (not (list_any is_line_feed text)) good in
     record {
-      trims = subst (IsTrimmed is_blank) ((bytes_eq-Decides (trimmed text) text).0 parts.0) (trimmed_is is_blank text);
-      one = not_true (list_any is_line_feed text) parts.1;
+      trims = subst (IsTrimmed is_blank) ((bytes_eq-Decides (trimmed text) text).0 parts.0) (IsTrimmed-trimmed_by is_blank text);
+      one = not-true (list_any is_line_feed text) parts.1;
     }
 
 -- what the form of a key says
@@ -49,8 +49,8 @@ key_good key good =
       some = omega (arith, low);
       short = leb-true (length key) 64 bounds.1;
       line = line_good key first.1;
-      bare = not_true (list_any is_equals key) more.1;
-      plain = not_true (is_comment key) front.1;
+      bare = not-true (list_any is_equals key) more.1;
+      plain = not-true (is_comment key) front.1;
     }
 
 -- the first byte of a filled text in front of others decides whether it is a comment
@@ -96,8 +96,8 @@ module _ (key tail value : List ℕ) (is : IsKeyText key) (good : is_value value
 
   entry_is : entry_of (key ++ 32 ∷ 61 ∷ tail) ≡ entry key value
   entry_is = ap entry_of split ∙ ap₂ (λ (k v : List ℕ). entry (trimmed k) (trimmed v))
-      (before_front is_equals (key ++ 32 ∷ []) 61 tail no_equals refl) (after_front is_equals (key ++ 32 ∷ []) 61 tail no_equals refl)
-      ∙ ap₂ (λ (k v : List ℕ). entry k v) (trim_around is_blank [] key (32 ∷ []) refl refl is.line.trims) reads
+      (before_first-front is_equals (key ++ 32 ∷ []) 61 tail no_equals refl) (after_first-front is_equals (key ++ 32 ∷ []) 61 tail no_equals refl)
+      ∙ ap₂ (λ (k v : List ℕ). entry k v) (trimmed_by-around is_blank [] key (32 ∷ []) refl refl is.line.trims) reads
 
   equals : list_any is_equals (key ++ 32 ∷ 61 ∷ tail) ≡ true
   equals = list_any-append is_equals key (32 ∷ 61 ∷ tail) ∙ ap (λ b. b || true) is.bare
@@ -121,7 +121,7 @@ module _ (key tail value : List ℕ) (is : IsKeyText key) (good : is_value value
       let size = length-append key (32 ∷ 61 ∷ tail) in
       let low = is.short in
       let fits : ltb 1024 (length (key ++ 32 ∷ 61 ∷ tail)) ≡ false = le-ltb 1024 (length (key ++ 32 ∷ 61 ∷ tail)) (omega arith) in
-      ap (λ b. cond b Unread (kind_of_text (trimmed (key ++ 32 ∷ 61 ∷ tail)))) fits ∙ ap kind_of_text (trimmed_same is_blank (key ++ 32 ∷ 61 ∷ tail) trims)
+      ap (λ b. cond b Unread (kind_of_text (trimmed (key ++ 32 ∷ 61 ∷ tail)))) fits ∙ ap kind_of_text (IsTrimmed-same is_blank (key ++ 32 ∷ 61 ∷ tail) trims)
       ∙ ap (λ b. cond b Skipped (cond (bytes_eq (key ++ 32 ∷ 61 ∷ tail) (codes "*")) Ends (cond (list_any is_equals (key ++ 32 ∷ 61 ∷ tail)) (keyed (entry_of (key ++ 32 ∷ 61 ∷ tail))) Unread))) kept
       ∙ ap (λ b. cond b Ends (cond (list_any is_equals (key ++ 32 ∷ 61 ∷ tail)) (keyed (entry_of (key ++ 32 ∷ 61 ∷ tail))) Unread)) no_star
       ∙ ap (λ b. cond b (keyed (entry_of (key ++ 32 ∷ 61 ∷ tail))) Unread) equals ∙ keyed_is
@@ -138,7 +138,7 @@ kind_entry key (x ∷ xs) right good =
     let line = line_good (x ∷ xs) parts.1 in
     let few = leb-true (length (x ∷ xs)) 896 parts.0 in
     ap kind_of (entry_filled key x xs) ∙ kind_is key (32 ∷ x ∷ xs) (x ∷ xs) (key_good key right) parts.0
-    (ap trimmed (ap (λ (t : List ℕ). 32 ∷ t) (sym (append-nil (x ∷ xs)))) ∙ trim_around is_blank (32 ∷ []) (x ∷ xs) [] refl refl line.trims) (omega arith)
+    (ap trimmed (ap (λ (t : List ℕ). 32 ∷ t) (sym (append-nil (x ∷ xs)))) ∙ trimmed_by-around is_blank (32 ∷ []) (x ∷ xs) [] refl refl line.trims) (omega arith)
     (λ _. (let place : length (32 ∷ x ∷ xs) - 1 ≡ suc (length (x ∷ xs) - 1) = omega arith in ap (λ k. is_blank (get_or (32 ∷ x ∷ xs) k 0)) place) ∙ line.trims.last (omega arith))
 
 -- it is one line

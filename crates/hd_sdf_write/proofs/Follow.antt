@@ -16,21 +16,21 @@ use Rattle.hd_sdf_read.specs.declared.keys.Verdict.TheVariants.{Right, Wrong}
 use Rattle.hd_sdf_read.specs.Entries.{offence, verdict_offence}
 use Rattle.hd_sdf_read.specs.File.{File, HasForms, is_entry, is_extra, is_header_value}
 use Rattle.hd_sdf_read.specs.Keys.{form_of, judge, judge_type, known_keys}
-use Rattle.hd_sdf_read.proofs.Gapless.{decimal_form, decimal_value, gapless_value, number_gapless}
-use Rattle.hd_sdf_read.proofs.Follow.{AllFollow, are_new, follow_append, follow_extra, unknown_new}
+use Rattle.hd_sdf_read.proofs.Gapless.{is_decimal-form, is_header_value-decimal, is_header_value-gapless, is_gap-number}
+use Rattle.hd_sdf_read.proofs.AllFollow.{AllFollow, AllFollow-new, AllFollow-append, AllFollow-extra, same_key-unknown}
 use Rattle.hd_sdf_write.proofs.Known.{code_few, code_known, entries_of, extent_is, firsts, known, last_entry, no_extra, type_entry, whole_of-decimal}
 
 -- the known values have their forms
 extent_value : (n : ℕ) → n ≤ 65535 → is_header_value (decimal n) ≡ true
 extent_value n few =
     let short : length (decimal n) ≤ 5 = length-decimal-le 5 n (omega arith) (omega arith) (omega arith) in
-    gapless_value (decimal n) (omega arith) (number_gapless (decimal n) (pos n) (whole_of-decimal n few))
+    is_header_value-gapless (decimal n) (omega arith) (is_gap-number (decimal n) (pos n) (whole_of-decimal n few))
 
 extent_right : (n : ℕ) → 1 ≤ n → n ≤ 65535 → judge Extent (decimal n) ≡ Right
 extent_right n some few = ap (λ (o : Option ℕ). cond (is_some o) Right Wrong) (extent_is n some few)
 
 number_right : (d : Decimal) → decimal_of d.literal ≡ Some d → judge Number d.literal ≡ Right
-number_right d is = ap (λ b. cond b Right Wrong) (decimal_form d.literal d is)
+number_right d is = ap (λ b. cond b Right Wrong) (is_decimal-form d.literal d is)
 
 type_right : (t : DataType) → judge TypeCode (decimal (code_of t)) ≡ Right
 type_right t = ap judge_type (whole_of-decimal (code_of t) (code_few t)) ∙ (code_known t).0
@@ -60,16 +60,16 @@ firsts_follow f whole forms =
               extent_value f.map.size.profiles size.profiles,
               λ n. ap (verdict_offence n) (extent_right f.map.size.profiles size.some_profiles size.profiles),
               (
-                decimal_value f.x_scale.literal f.x_scale forms.x_scale,
+                is_header_value-decimal f.x_scale.literal f.x_scale forms.x_scale,
                 λ n. ap (verdict_offence n) (number_right f.x_scale forms.x_scale),
                 (
-                  decimal_value f.y_scale.literal f.y_scale forms.y_scale,
+                  is_header_value-decimal f.y_scale.literal f.y_scale forms.y_scale,
                   λ n. ap (verdict_offence n) (number_right f.y_scale forms.y_scale),
                   (
-                    decimal_value f.z_scale.literal f.z_scale forms.z_scale,
+                    is_header_value-decimal f.z_scale.literal f.z_scale forms.z_scale,
                     λ n. ap (verdict_offence n) (number_right f.z_scale forms.z_scale),
                     (
-                      decimal_value f.z_resolution.literal f.z_resolution forms.z_resolution,
+                      is_header_value-decimal f.z_resolution.literal f.z_resolution forms.z_resolution,
                       λ n. ap (verdict_offence n) (number_right f.z_resolution forms.z_resolution),
                       (refl, λ n. refl, tt),
                     ),
@@ -94,21 +94,21 @@ last_follows f n = refl
 
 -- nor have all known entries
 known_follow : (f : File) → IsMap f.map → HasForms f → AllFollow [] (known f)
-known_follow f whole forms = follow_append [] (firsts f) (type_entry f ∷ last_entry ∷ []) (firsts_follow f whole forms)
+known_follow f whole forms = AllFollow-append [] (firsts f) (type_entry f ∷ last_entry ∷ []) (firsts_follow f whole forms)
     (type_value f.map.data_type, λ n. type_judged f n Right (type_right f.map.data_type), (refl, last_follows f, tt))
 
 -- no known key is among the extra ones
-known_new : (f : File) (es : List Extra) → list_all is_extra es ≡ true → are_new (known f) es ≡ true
+known_new : (f : File) (es : List Extra) → list_all is_extra es ≡ true → AllFollow-new (known f) es ≡ true
 unfolding form_of
 known_new f [] good = refl
 known_new f (e ∷ es) good =
     let goods = and_parts (is_extra e) (list_all is_extra es) good in
     let form = and_parts (is_entry e) (is_none (form_of e.key)) goods.0 in
-    and_from _ _ (ap not (unknown_new known_keys e.key form.1)) (known_new f es goods.1)
+    and_from _ _ (ap not (same_key-unknown known_keys e.key form.1)) (known_new f es goods.1)
 
 -- nor have all entries of a file
 pub entries_follow : (f : File) → IsMap f.map → HasForms f → AllFollow [] (entries_of f)
 entries_follow f whole forms =
     let few = forms.few in
-    follow_append [] (known f) f.extra (known_follow f whole forms)
-    (follow_extra f.extra (known f) (omega (arith, few, ap length (no_extra f []))) forms.extra forms.apart (known_new f f.extra forms.extra))
+    AllFollow-append [] (known f) f.extra (known_follow f whole forms)
+    (AllFollow-extra f.extra (known f) (omega (arith, few, ap length (no_extra f []))) forms.extra forms.apart (known_new f f.extra forms.extra))

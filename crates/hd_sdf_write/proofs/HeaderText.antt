@@ -9,9 +9,9 @@ use Rattle.hd_sdf_read.specs.declared.file.Extra.{Extra}
 use Rattle.hd_sdf_read.specs.Entries.{Keyed, Kind, header_by, header_from, kind_of, offence, unless}
 use Rattle.hd_sdf_read.specs.File.{is_header_key, is_header_value}
 use Rattle.hd_sdf_read.specs.Grammar.{after_lines}
-use Rattle.hd_sdf_read.proofs.Follow.{AllFollow}
+use Rattle.hd_sdf_read.proofs.AllFollow.{AllFollow}
 use Rattle.hd_sdf_write.specs.Canonical.{entry_line, entry_text, extra_lines, line}
-use Rattle.hd_sdf_read.proofs.Fronts.{after_line_front, lines_front}
+use Rattle.hd_sdf_read.proofs.TextFronts.{after_line-front, lines_of-front}
 use Rattle.hd_sdf_write.proofs.EntryLines.{entry_one, kind_entry, kind_star}
 
 -- the header that a text is, and the text after it
@@ -48,17 +48,17 @@ pub header_reads : (es before : List Extra) (n k : ℕ) (bytes text rest : List 
     → HeaderReads n bytes text before es rest
 header_reads [] before n k bytes text rest is whole at good = record {
   last = n;
-  header = ap (header_from n before) (ap lines_of whole ∙ lines_front (codes "*") rest refl) ∙ header_ends n before (lines_of rest)
+  header = ap (header_from n before) (ap lines_of whole ∙ lines_of-front (codes "*") rest refl) ∙ header_ends n before (lines_of rest)
       ∙ ap (λ (entries : List Extra). Ok (record { entries = entries; last = n })) (sym (append-nil before));
-  rest_is = ap (λ m. after_lines m bytes) is ∙ ap after_line (at ∙ whole) ∙ after_line_front (codes "*") rest refl;
+  rest_is = ap (λ m. after_lines m bytes) is ∙ ap after_line (at ∙ whole) ∙ after_line-front (codes "*") rest refl;
 }
 header_reads (e ∷ es) before n k bytes text rest is whole at good =
     let after : List ℕ = extra_lines es ++ (line (codes "*") ++ rest) in
     let front : text ≡ entry_text e.key e.value ++ 10 ∷ after = whole ∙ entry_front e es (line (codes "*") ++ rest) in
     let parts = and_parts (is_header_key e.key) (is_header_value e.value) good.0 in
     let one = entry_one e.key e.value parts.0 parts.1 in
-    let lines : lines_of text ≡ entry_text e.key e.value ∷ lines_of after = ap lines_of front ∙ lines_front (entry_text e.key e.value) after one in
-    let onward : after_lines n bytes ≡ after = ap (λ m. after_lines m bytes) is ∙ ap after_line (at ∙ front) ∙ after_line_front (entry_text e.key e.value) after one in
+    let lines : lines_of text ≡ entry_text e.key e.value ∷ lines_of after = ap lines_of front ∙ lines_of-front (entry_text e.key e.value) after one in
+    let onward : after_lines n bytes ≡ after = ap (λ m. after_lines m bytes) is ∙ ap after_line (at ∙ front) ∙ after_line-front (entry_text e.key e.value) after one in
     let next : n + 1 ≡ suc n = omega arith in
     let more = header_reads es (before ++ e ∷ []) (n + 1) n bytes after rest next refl onward good.2 in
     record {

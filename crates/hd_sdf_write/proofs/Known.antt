@@ -17,7 +17,7 @@ use Rattle.hd_sdf_read.specs.File.{File, HasForms}
 use Rattle.hd_sdf_read.specs.Grammar.{resolution_of}
 use Rattle.hd_sdf_read.specs.RequiredKeys.{RequiredKeys, required_keys_of}
 use Rattle.hd_sdf_read.specs.Keys.{extent_in, extent_of, form_of, judge_type, type_by_code, type_in, type_of, with_places}
-use Rattle.hd_sdf_read.proofs.Follow.{extra_kept}
+use Rattle.hd_sdf_read.proofs.AllFollow.{extra_entries-kept}
 
 -- the entries of the known keys before the type
 abbrev pub firsts : File → List Extra
@@ -87,7 +87,7 @@ abbrev pub entries_of : File → List Extra
 entries_of f = known f ++ f.extra
 
 pub extra_is : (f : File) → HasForms f → extra_entries (entries_of f) ≡ f.extra
-extra_is f forms = no_extra f f.extra ∙ extra_kept f.extra forms.extra
+extra_is f forms = no_extra f f.extra ∙ extra_entries-kept f.extra forms.extra
 
 -- what the required keys say
 abbrev pub required_keys_for : File → RequiredKeys

@@ -28,10 +28,10 @@ use Rattle.hd_sdf_read.specs.Tokens.{is_gap, after_token, token_of}
 use Rattle.hd_sdf_read.specs.Grammar.{cells_from, datum_at}
 use Rattle.hd_sdf_read.specs.Keys.{has_decimals}
 use Rattle.hd_sdf_read.proofs.DatumAt.{datum_at-by_token}
-use Rattle.hd_sdf_read.proofs.WholeFronts.{no_word}
+use Rattle.hd_sdf_read.proofs.WholeFronts.{whole_of-apart}
 use Rattle.hd_sdf_write.specs.Canonical.{cell_text, line, profile, profile_lines, spaced}
-use Rattle.hd_sdf_read.proofs.Fronts.{after_token_front, token_front}
-use Rattle.hd_sdf_read.proofs.Gapless.{decimal_form, decimal_gapless, number_some}
+use Rattle.hd_sdf_read.proofs.TextFronts.{after_token-front, token_of-front}
+use Rattle.hd_sdf_read.proofs.Gapless.{is_decimal-form, is_gap-decimal, whole_of-some}
 use Rattle.hd_sdf_write.proofs.Profiles.{length-profile}
 
 -- heights fit 64 bits
@@ -77,7 +77,7 @@ cell_token t (Height h) few fits =
     let decimal = height_decimal t h few fits in
     record {
       some = decimal_some (cell_text t (Height h)) (steps_decimal h (places_of t)) decimal;
-      none = decimal_gapless (cell_text t (Height h)) (decimal_form (cell_text t (Height h)) (steps_decimal h (places_of t)) decimal);
+      none = is_gap-decimal (cell_text t (Height h)) (is_decimal-form (cell_text t (Height h)) (steps_decimal h (places_of t)) decimal);
     }
 
 int_le-from : (a b : ℤ) → a ≤ℤ b → int_le a b ≡ true
@@ -89,11 +89,11 @@ datum_read t read text Bad whole fits is = datum_at-by_token (least_height t) (g
 datum_read t read text (Height h) whole fits is =
     let token : List ℕ = signed_decimal h in
     let number : whole_of (signed_decimal h) ≡ Is h = height_read t h fits in
-    let some = number_some (signed_decimal h) h number in
+    let some = whole_of-some (signed_decimal h) h number in
     let filled : eqb (length (signed_decimal h)) 0 ≡ false = ne_eqb (length (signed_decimal h)) 0 (λ none. omega (arith, none, some)) in
-    let no_bad : bytes_eq (signed_decimal h) (codes "BAD") ≡ false = no_word (codes "BAD") (signed_decimal h) h refl number in
+    let no_bad : bytes_eq (signed_decimal h) (codes "BAD") ≡ false = whole_of-apart (codes "BAD") (signed_decimal h) h refl number in
     let within : (int_le (least_height t) h && int_le h (greatest_height t)) ≡ true = and_from _ _ (int_le-from (least_height t) h (fits h refl).0) (int_le-from h (greatest_height t) (fits h refl).1) in
-    datum_at-by_token (least_height t) (greatest_height t) read text (signed_decimal h) (sym (is ∙ height_text t h whole)) filled (no_word (codes "*") (signed_decimal h) h refl number)
+    datum_at-by_token (least_height t) (greatest_height t) read text (signed_decimal h) (sym (is ∙ height_text t h whole)) filled (whole_of-apart (codes "*") (signed_decimal h) h refl number)
     ∙ rw (no_bad, number, within) refl
 
 -- a text begins with the datum of a cell, between gaps
@@ -133,8 +133,8 @@ cells_laid t (cell ∷ cells) read text tail whole few fits laid =
     let b = laid.0 in
     let token = cell_token t cell few fits.0 in
     let found : datum_at (least_height t) (greatest_height t) read text ≡ Ok cell =
-    datum_read t read text cell whole fits.0 (ap token_of b.whole ∙ token_front b.front (cell_text t cell) b.gap b.rest b.gaps token.some token.none b.ends) in
-    let after : after_token text ≡ b.gap ∷ b.rest = ap after_token b.whole ∙ after_token_front b.front (cell_text t cell) b.gap b.rest b.gaps token.some token.none b.ends in
+    datum_read t read text cell whole fits.0 (ap token_of b.whole ∙ token_of-front b.front (cell_text t cell) b.gap b.rest b.gaps token.some token.none b.ends) in
+    let after : after_token text ≡ b.gap ∷ b.rest = ap after_token b.whole ∙ after_token-front b.front (cell_text t cell) b.gap b.rest b.gaps token.some token.none b.ends in
     let more = cells_laid t cells (read + 1) (b.gap ∷ b.rest) tail whole few fits.1 laid.1 in
     rw (found, after, more) refl
 

@@ -17,10 +17,10 @@ use Rattle.hd_sdf_read.specs.declared.scaled.Datum.TheVariants.{Measured, Unmeas
 use Rattle.hd_sdf_read.specs.Decimals.{cells_at, data_with, datum_of, decimals_from, greatest_in, most_places, most_places_in, most_steps, ranged, size_of}
 use Rattle.hd_sdf_read.specs.Keys.{has_decimals, with_places}
 use Rattle.hd_sdf_read.specs.Tokens.{after_token, is_absent, is_star, token_of}
-use Rattle.hd_sdf_read.proofs.DecimalFronts.{above_is, below_is}
-use Rattle.hd_sdf_read.proofs.DecimalTokens.{no_decimal_word, star_none, bad_none, with_token}
-use Rattle.hd_sdf_read.proofs.Scaling.{ranged_in, with_again}
-use Rattle.hd_sdf_read.proofs.Fronts.{after_token_front, token_front}
+use Rattle.hd_sdf_read.proofs.DecimalFronts.{power_above-is, places_below-is}
+use Rattle.hd_sdf_read.proofs.DecimalTokens.{decimal_of-apart, decimal_of-star, decimal_of-bad, data_with-token}
+use Rattle.hd_sdf_read.proofs.Scaling.{ranged-in, with_places-again}
+use Rattle.hd_sdf_read.proofs.TextFronts.{after_token-front, token_of-front}
 use Rattle.hd_sdf_write.specs.Canonical.{cell_text, is_height, profile_lines, type_read}
 use Rattle.hd_sdf_write.proofs.Laid.{AllFit, Laid, all_fit, cell_token, cells_are_laid, gaps_after, height_decimal}
 
@@ -34,8 +34,8 @@ datum_read : (t : DataType) (p number : ℕ) (cell : Cell) → places_of t ≡ p
 datum_read t p number Bad is few fits = refl
 datum_read t p number (Height h) is few fits =
     let decimal = height_decimal t h (rw is few) fits in
-    let bad : bytes_eq (cell_text t (Height h)) (codes "BAD") ≡ false = no_decimal_word (codes "BAD") (cell_text t (Height h)) (steps_decimal h (places_of t)) bad_none decimal in
-    rw (bad, decimal) (ap Ok (ap₂ (Measured (int_lt h (pos 0))) (above_is (unsigned_abs h) (places_of t)) (below_is (places_of t) ∙ is)))
+    let bad : bytes_eq (cell_text t (Height h)) (codes "BAD") ≡ false = decimal_of-apart (codes "BAD") (cell_text t (Height h)) (steps_decimal h (places_of t)) decimal_of-bad decimal in
+    rw (bad, decimal) (ap Ok (ap₂ (Measured (int_lt h (pos 0))) (power_above-is (unsigned_abs h) (places_of t)) (places_below-is (places_of t) ∙ is)))
 
 -- a height by its sign and how far it is from 0
 sign_back : (h : ℤ) → signed_number (int_lt h (pos 0)) (unsigned_abs h) ≡ h
@@ -73,7 +73,7 @@ data_ranged p cells few small =
     let most = most_few p cells in
     let q : ℕ = most_places_in (data_for p cells) in
     let back : cells_at q (data_for p cells) ≡ cells = cells_back q p cells (omega arith) most in
-    ranged_in (data_for p cells) q refl (omega (arith, most, few)) (omega (arith, ap greatest_in back, small))
+    ranged-in (data_for p cells) q refl (omega (arith, most, few)) (omega (arith, ap greatest_in back, small))
 
 -- cells at the front are no farther from 0
 greatest_front : (cells more : List Cell) → greatest_in cells ≤ greatest_in (cells ++ more)
@@ -98,7 +98,7 @@ cells_small t (cell ∷ cells) decimals fits = let first = cell_small t cell dec
 -- the text of a cell is no `*` and not nothing
 no_star : (t : DataType) (cell : Cell) → places_of t ≤ most_places → IsCellOf t cell → is_star (cell_text t cell) ≡ false
 no_star t Bad few fits = refl
-no_star t (Height h) few fits = no_decimal_word (codes "*") (cell_text t (Height h)) (steps_decimal h (places_of t)) star_none (height_decimal t h few fits)
+no_star t (Height h) few fits = decimal_of-apart (codes "*") (cell_text t (Height h)) (steps_decimal h (places_of t)) decimal_of-star (height_decimal t h few fits)
 
 -- cells whose data a text holds are read from it, behind others
 decimals_laid : (t : DataType) (p : ℕ) (before cells : List Cell) (text tail : List ℕ) → places_of t ≡ p → p ≤ most_places → AllFit t cells → greatest_in (before ++ cells) ≤ most_steps → Laid t cells text tail
@@ -110,15 +110,15 @@ decimals_laid t p before (cell ∷ cells) text tail is few fits small laid =
     let places : places_of t ≤ most_places = rw is few in
     let token = cell_token t cell places fits.0 in
     let some = token.some in
-    let found : token_of text ≡ cell_text t cell = ap token_of b.whole ∙ token_front b.front (cell_text t cell) b.gap b.rest b.gaps token.some token.none b.ends in
-    let after : after_token text ≡ b.gap ∷ b.rest = ap after_token b.whole ∙ after_token_front b.front (cell_text t cell) b.gap b.rest b.gaps token.some token.none b.ends in
+    let found : token_of text ≡ cell_text t cell = ap token_of b.whole ∙ token_of-front b.front (cell_text t cell) b.gap b.rest b.gaps token.some token.none b.ends in
+    let after : after_token text ≡ b.gap ∷ b.rest = ap after_token b.whole ∙ after_token-front b.front (cell_text t cell) b.gap b.rest b.gaps token.some token.none b.ends in
     let filled : is_absent (cell_text t cell) ≡ false = ne_eqb (length (cell_text t cell)) 0 (λ none. omega (arith, none, some)) in
     let whole : (before ++ cell ∷ []) ++ cells ≡ before ++ cell ∷ cells = append_assoc before (cell ∷ []) cells in
     let with : data_for p (before ++ cell ∷ []) ≡ data_for p before ++ datum_for p cell ∷ [] = map-append (datum_for p) before (cell ∷ []) in
     let front = greatest_front (before ++ cell ∷ []) cells in
     let range = data_ranged p (before ++ cell ∷ []) few (omega (arith, front, ap greatest_in whole, small)) in
     let data_is : data_with (data_for p before) (token_of text) ≡ Ok (data_for p (before ++ cell ∷ [])) =
-    ap (data_with (data_for p before)) found ∙ with_token (data_for p before) (cell_text t cell) filled (no_star t cell places fits.0)
+    ap (data_with (data_for p before)) found ∙ data_with-token (data_for p before) (cell_text t cell) filled (no_star t cell places fits.0)
     ∙ rw (datum_read t p (length (data_for p before) + 1) cell is few fits.0) (ap ranged (sym with) ∙ range) in
     rw (data_is, after) (decimals_laid t p (before ++ cell ∷ []) cells (b.gap ∷ b.rest) tail is few fits.1 (omega (arith, ap greatest_in whole, small)) laid.1)
     ∙ ap (λ (cs : List Cell). Ok (record { items = data_for p cs; rest = tail })) whole
@@ -151,5 +151,5 @@ type_places I32 decimals = cc
 pub type_is_read : (m : Map) → has_decimals m.data_type ≡ true → with_places (with_places m.data_type 0) (most_places_in (data_for (places_of m.data_type) m.cells)) ≡ type_read m
 type_is_read m decimals = elim (cases_Bool (list_any is_height m.cells)) [
   | inl some ↦ ap (with_places (with_places m.data_type 0)) (most_is (places_of m.data_type) m.cells ∙ rw some refl) ∙ type_places m.data_type decimals ∙ rw some refl
-  | inr none ↦ ap (with_places (with_places m.data_type 0)) (most_is (places_of m.data_type) m.cells ∙ rw none refl) ∙ with_again m.data_type 0 0 ∙ rw none refl
+  | inr none ↦ ap (with_places (with_places m.data_type 0)) (most_is (places_of m.data_type) m.cells ∙ rw none refl) ∙ with_places-again m.data_type 0 0 ∙ rw none refl
 ]

@@ -24,8 +24,8 @@ use Rattle.hd_sdf_read.specs.Grammar.{after_lines, file_in, file_with, map_with,
 use Rattle.hd_sdf_read.specs.Keys.{has_decimals, with_places}
 use Rattle.hd_sdf_read.proofs.Grammar.{mapped-decimals, body_in-whole_body, file_in-whole_header, mapped-whole_numbers}
 use Rattle.hd_sdf_write.specs.Canonical.{as_read, canonical, cell_text, encoding_lines, end_lines, entry_line, extra_lines, is_height, line, name_lines, profile, profile_lines, scale_lines, spaced, type_read, typed, version_text}
-use Rattle.hd_sdf_read.proofs.Fronts.{after_line_front, lines_front, after_token_front, token_front, trim_around}
-use Rattle.hd_sdf_read.proofs.Trims.{IsTrimmed, trimmed_is}
+use Rattle.hd_sdf_read.proofs.TextFronts.{after_line-front, lines_of-front, after_token-front, token_of-front, trimmed_by-around}
+use Rattle.hd_sdf_read.proofs.Trims.{IsTrimmed, IsTrimmed-trimmed_by}
 use Rattle.hd_sdf_write.proofs.HeaderText.{header_reads}
 use Rattle.hd_sdf_write.proofs.Known.{entries_of, extra_is, required_keys_for, required_keys_are, known, resolution_is}
 use Rattle.hd_sdf_write.proofs.Follow.{entries_follow}
@@ -78,7 +78,7 @@ version_one Iso = refl
 
 -- the lines of the text, and the version that it names
 canonical_lines : (f : File) → lines_of (canonical f) ≡ version_text f.version ∷ lines_of (header_text f)
-canonical_lines f = ap lines_of (canonical_is f) ∙ lines_front (version_text f.version) (header_text f) (version_one f.version)
+canonical_lines f = ap lines_of (canonical_is f) ∙ lines_of-front (version_text f.version) (header_text f) (version_one f.version)
 
 version_found : (f : File) → version_of (lines_of (canonical f)) ≡ Ok f.version
 version_found f = ap version_of (canonical_lines f) ∙ ap (λ (o : Option Version). ok_or o BadVersion) (version_reads f.version)
@@ -87,9 +87,9 @@ version_found f = ap version_of (canonical_lines f) ∙ ap (λ (o : Option Versi
 trailer_trims : (trailer : List ℕ) → bytes_eq (trimmed_by is_gap trailer) trailer ≡ true → trimmed_by is_gap (10 ∷ cond (eqb (length trailer) 0) [] (line trailer)) ≡ trailer
 trailer_trims [] good = refl
 trailer_trims (x ∷ xs) good =
-    let trims : IsTrimmed is_gap (x ∷ xs) = subst (IsTrimmed is_gap) ((bytes_eq-Decides (trimmed_by is_gap (x ∷ xs)) (x ∷ xs)).0 good) (trimmed_is is_gap (x ∷ xs)) in
+    let trims : IsTrimmed is_gap (x ∷ xs) = subst (IsTrimmed is_gap) ((bytes_eq-Decides (trimmed_by is_gap (x ∷ xs)) (x ∷ xs)).0 good) (IsTrimmed-trimmed_by is_gap (x ∷ xs)) in
     ap (λ b. trimmed_by is_gap (10 ∷ cond b [] (line (x ∷ xs)))) (ne_eqb (length (x ∷ xs)) 0 (λ none. omega (arith, none)))
-    ∙ trim_around is_gap (10 ∷ []) (x ∷ xs) (10 ∷ []) refl refl trims
+    ∙ trimmed_by-around is_gap (10 ∷ []) (x ∷ xs) (10 ∷ []) refl refl trims
 
 -- the end of the data and the trailer are read back
 pub trailer_read : (count : ℕ) (front trailer : List ℕ) → list_all is_gap front ≡ true → is_trailer trailer ≡ true → trailer_of count (front ++ end_lines trailer) ≡ Ok trailer
@@ -98,8 +98,8 @@ trailer_read count front trailer gaps good =
     let more : List ℕ = cond (eqb (length trailer) 0) [] (line trailer) in
     let parts = and_parts _ (bytes_eq (trimmed_by is_gap trailer) trailer) good in
     let short = leb-true (length trailer) 65536 parts.0 in
-    let token : token_of (front ++ end_lines trailer) ≡ codes "*" = token_front front (codes "*") 10 more gaps (omega arith) refl refl in
-    let after : after_token (front ++ end_lines trailer) ≡ 10 ∷ more = after_token_front front (codes "*") 10 more gaps (omega arith) refl refl in
+    let token : token_of (front ++ end_lines trailer) ≡ codes "*" = token_of-front front (codes "*") 10 more gaps (omega arith) refl refl in
+    let after : after_token (front ++ end_lines trailer) ≡ 10 ∷ more = after_token-front front (codes "*") 10 more gaps (omega arith) refl refl in
     let text : trimmed_by is_gap (after_token (front ++ end_lines trailer)) ≡ trailer = ap (trimmed_by is_gap) after ∙ trailer_trims trailer parts.1 in
     let fits : ltb 65536 (length trailer) ≡ false = le-ltb 65536 (length trailer) short in
     rw (token, text, fits) refl
@@ -157,7 +157,7 @@ reads_back f whole forms =
     let one = version_one f.version in
     let lines = canonical_lines f in
     let version = version_found f in
-    let second : after_lines 1 (canonical f) ≡ header_text f = ap after_line is ∙ after_line_front (version_text f.version) (header_text f) one in
+    let second : after_lines 1 (canonical f) ≡ header_text f = ap after_line is ∙ after_line-front (version_text f.version) (header_text f) one in
     let reads = header_reads (entries_of f) [] 2 1 (canonical f) (header_text f) (data_text f) refl refl second (entries_follow f whole forms) in
     let header : header_from 2 [] (drop 1 (lines_of (canonical f))) ≡ Ok (record { entries = entries_of f; last = reads.last }) =
     ap (λ (ls : List (List ℕ)). header_from 2 [] (drop 1 ls)) lines ∙ reads.header in

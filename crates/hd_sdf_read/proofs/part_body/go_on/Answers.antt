@@ -7,13 +7,13 @@ use Rattle.hd_sdf_read.specs.declared.body.Body.TheVariants.{End}
 use Rattle.hd_sdf_read.specs.Bodies.{trailed, whole_in}
 use Rattle.hd_sdf_read.specs.Tokens.{is_gap, after_token, token_of}
 use Rattle.hd_sdf_read.specs.Grammar.{map_with}
-use Rattle.hd_sdf_read.proofs.Bodies.{goes_from, whole_done, whole_same}
-use Rattle.hd_sdf_read.proofs.Gapless.{token_gapless}
-use Rattle.hd_sdf_read.proofs.TokenCuts.{open_same}
+use Rattle.hd_sdf_read.proofs.Bodies.{GoesOn-from, whole_in-done, whole_in-same}
+use Rattle.hd_sdf_read.proofs.Gapless.{token_of-gapless}
+use Rattle.hd_sdf_read.proofs.TokenCuts.{without_start-open}
 use Rattle.hd_sdf_read.proofs.part_body.go_on.Goals as goal
 
 pub joined-requires : goal.joined-requires
-joined-requires c = ap (list_any is_gap) c.next_token.ensures.token ∙ token_gapless c.in-Ok.parts.1.now
+joined-requires c = ap (list_any is_gap) c.next_token.ensures.token ∙ token_of-gapless c.in-Ok.parts.1.now
 
 pub returns-then-len-size : goal.returns-then-len-size
 returns-then-len-size c = λ more.
@@ -26,7 +26,7 @@ returns-then-len-size c = λ more.
     let token : c.in_ok-token.token.text ≡ token_of c.in-Ok.parts.1.now =
     c.in_ok-token.ensures ∙ ap (λ (t : List ℕ). t ++ c.next_token.result.0.now) c.new.ensures ∙ c.next_token.ensures.token in
     on.same more
-    ∙ whole_same c.args.size c.in-Ok.parts.0.data_type (cells_in c.in-Ok.parts.0) (c.in-Ok.parts.1.now ++ more) (token_of c.in-Ok.parts.1.now ++ more) (open_same c.in-Ok.parts.1.now more left)
+    ∙ whole_in-same c.args.size c.in-Ok.parts.0.data_type (cells_in c.in-Ok.parts.0) (c.in-Ok.parts.1.now ++ more) (token_of c.in-Ok.parts.1.now ++ more) (without_start-open c.in-Ok.parts.1.now more left)
     ∙ ap (λ (t : List ℕ). whole_in c.args.size c.in-Ok.parts.0.data_type (cells_in c.in-Ok.parts.0) (t ++ more)) (sym token)
 
 pub returns : goal.returns
@@ -36,9 +36,9 @@ returns c =
     let few = on.few in
     let all : length (cells_in c.in-Ok.parts.0) ≡ cell_count c.args.size = omega (arith, few, size, c.if-len-size.false) in
     let made : map_of c.new-2.result ≡ map_with c.args.size c.in-Ok.parts.0.data_type (cells_in c.in-Ok.parts.0) = c.new-2.ensures in
-    goes_from c.args.size c.args.cells (End c.new-2.result c.new-3.result) c.args.text.now c.in-Ok.parts.1.now c.feed_end.result
+    GoesOn-from c.args.size c.args.cells (End c.new-2.result c.new-3.result) c.args.text.now c.in-Ok.parts.1.now c.feed_end.result
     (λ more.
-    on.same more ∙ whole_done c.args.size c.in-Ok.parts.0.data_type (cells_in c.in-Ok.parts.0) (c.in-Ok.parts.1.now ++ more) all
+    on.same more ∙ whole_in-done c.args.size c.in-Ok.parts.0.data_type (cells_in c.in-Ok.parts.0) (c.in-Ok.parts.1.now ++ more) all
     ∙ ap (λ (m : Map). trailed m.size (record { map = m; rest = c.in-Ok.parts.1.now ++ more })) (sym made)
     ∙ ap (λ (t : List ℕ). trailed (map_of c.new-2.result).size (record { map = map_of c.new-2.result; rest = t ++ (c.in-Ok.parts.1.now ++ more) })) (sym c.new-3.ensures))
     c.feed_end.ensures

@@ -5,7 +5,7 @@ use Rattle.hd_map.specs.Map.{AreCellsOf}
 use Rattle.hd_map.specs.Packing.{kept_cells}
 use Rattle.hd_num.specs.Whole.{signed_number}
 use Rattle.hd_sdf_read.specs.ShortWords.{height_over}
-use Rattle.hd_sdf_read.proofs.ShortWords.{data_fit, filled_count}
+use Rattle.hd_sdf_read.proofs.ShortWords.{AreData-fit, kept_cells-count}
 use Rattle.hd_sdf_read.proofs.short_words.read_batch.Goals as goal
 
 pub extend_packed-requires-clause-of_type : goal.extend_packed-requires-clause-of_type
@@ -14,7 +14,7 @@ extend_packed-requires-clause-of_type c =
     let overs : List ℕ = take c.fill-count.result.0 c.fill-count.new.overs in
     let marks : List Mark = take c.fill-count.result.0 c.fill-count.new.marks in
     subst (λ (z : ℤ). AreCellsOf t (kept_cells (λ (over : ℕ). z +ℤ pos over) overs marks)) c.requires.least
-    (data_fit (signed_number true c.args.below) (pos c.args.greatest) t c.requires.least c.requires.greatest c.args.text.now c.fill-count.result.1.now (kept_cells (height_over c.args.below) overs marks) c.fill-count.ensures.cells)
+    (AreData-fit (signed_number true c.args.below) (pos c.args.greatest) t c.requires.least c.requires.greatest c.args.text.now c.fill-count.result.1.now (kept_cells (height_over c.args.below) overs marks) c.fill-count.ensures.cells)
 
 pub returns : goal.returns
 returns c =
@@ -25,6 +25,6 @@ returns c =
       reads = c.fill-count.ensures.cells;
       cells = c.in_ok-extend_packed.ensures.ok ∙ ap (λ (z : ℤ). cells_in c.args.cells.now ++ kept_cells (λ (over : ℕ). z +ℤ pos over) overs marks) (sym c.requires.least);
       data_type = c.extend_packed.ensures.data_type;
-      count_is = filled_count (height_over c.args.below) c.fill-count.new.overs c.fill-count.new.marks c.fill-count.result.0 (omega arith) (omega arith);
+      count_is = kept_cells-count (height_over c.args.below) c.fill-count.new.overs c.fill-count.new.marks c.fill-count.result.0 (omega arith) (omega arith);
       few = omega (arith, c.fill-count.ensures.count, c.min.ensures);
     }

@@ -3,8 +3,8 @@ use Rattle.std.specs.List.{list_all}
 use borrow.Author.Tests.{eqb-true}
 use Rattle.std.proofs.lemmas.List.{take-append-drop}
 use Rattle.hd_sdf_read.specs.Tokens.{is_gap}
-use Rattle.hd_sdf_read.proofs.States.{some_filled}
-use Rattle.hd_sdf_read.proofs.PartTrailers.{extended_feeds, gaps_none, gaps_some, over_gaps, over_long}
+use Rattle.hd_sdf_read.proofs.States.{length-some}
+use Rattle.hd_sdf_read.proofs.PartTrailers.{FeedsTrailer-extended, is_gap-all, is_gap-some, trailer_in-over_gaps, trailer_in-over_long}
 use Rattle.hd_sdf_read.proofs.part_trailer.PartTrailer.fed.Goals as goal
 
 pub returns-then-not-is_empty : goal.returns-then-not-is_empty
@@ -17,8 +17,8 @@ returns-then-not-is_empty c = λ refused more.
     let size = length-append text kept in
     let slice = ap length c.as_slice.ensures in
     let full : 65536 ≤ length (text ++ kept) = omega (arith, size, slice, c.split_at.ensures.front_len) in
-    let some = some_filled c.skip_gaps.result.now (sym c.is_empty.ensures ∙ c.if-not-is_empty.true) in
-    c.first_of-more.ensures.same more ∙ over_long text first kept over parts c.first_of-more.ensures.begins full more (gaps_some over (rw c.skip_gaps.ensures at some))
+    let some = length-some c.skip_gaps.result.now (sym c.is_empty.ensures ∙ c.if-not-is_empty.true) in
+    c.first_of-more.ensures.same more ∙ trailer_in-over_long text first kept over parts c.first_of-more.ensures.begins full more (is_gap-some over (rw c.skip_gaps.ensures at some))
 
 pub returns : goal.returns
 returns c =
@@ -30,6 +30,6 @@ returns c =
     let size = length-append text kept in
     let slice = ap length c.as_slice.ensures in
     let full : 65536 ≤ length (text ++ kept) = omega (arith, size, slice, c.split_at.ensures.front_len) in
-    let none : list_all is_gap over ≡ true = gaps_none over (ap length (sym c.skip_gaps.ensures) ∙ eqb-true (length c.skip_gaps.result.now) 0 (sym c.is_empty.ensures ∙ c.if-not-is_empty.false)) in
-    extended_feeds c.args.self c.args.piece.now kept c.extended-2.result c.extended-2.ensures
-    (λ more. c.first_of-more.ensures.same more ∙ over_gaps text first kept over parts c.first_of-more.ensures.begins full more none)
+    let none : list_all is_gap over ≡ true = is_gap-all over (ap length (sym c.skip_gaps.ensures) ∙ eqb-true (length c.skip_gaps.result.now) 0 (sym c.is_empty.ensures ∙ c.if-not-is_empty.false)) in
+    FeedsTrailer-extended c.args.self c.args.piece.now kept c.extended-2.result c.extended-2.ensures
+    (λ more. c.first_of-more.ensures.same more ∙ trailer_in-over_gaps text first kept over parts c.first_of-more.ensures.begins full more none)

@@ -4,18 +4,18 @@ use Rattle.hd_map.specs.Cells.{wide_cells_in}
 use Rattle.hd_map.specs.Packing.{multiplied}
 use Rattle.hd_sdf_read.specs.Decimals.{most_places}
 use Rattle.hd_sdf_read.specs.Keys.{with_places}
-use Rattle.hd_sdf_read.proofs.Scaling.{decimals_of, grown_fit, grown_power, grown_size, power_small, same_places}
+use Rattle.hd_sdf_read.proofs.Scaling.{has_decimals-with_places, Grows-fit, Grows-power, Grows-size, ten_power-small, with_places-same}
 use Rattle.hd_sdf_read.proofs.scaled.Scaled.grow.Goals as goal
 
 pub overflow_cast-ten_to : goal.overflow_cast-ten_to
 overflow_cast-ten_to c =
     let few : c.args.places - c.args.self.now.places ≤ most_places = omega (arith, c.requires.few) in
-    let small = power_small (c.args.places - c.args.self.now.places) c.ten_to.result few c.ten_to.ensures in
+    let small = ten_power-small (c.args.places - c.args.self.now.places) c.ten_to.result few c.ten_to.ensures in
     omega (arith, ints, small)
 
 pub multiply-requires-clause-of_type : goal.multiply-requires-clause-of_type
 multiply-requires-clause-of_type c =
-    grown_fit c.args.self.now c.args.places c.ten_to.result c.in-Some.greatest c.data_type.result c.with_places-data_type.result c.data_type.ensures c.with_places-data_type.ensures c.requires.few c.ten_to.ensures
+    Grows-fit c.args.self.now c.args.places c.ten_to.result c.in-Some.greatest c.data_type.result c.with_places-data_type.result c.data_type.ensures c.with_places-data_type.ensures c.requires.few c.ten_to.ensures
     c.in-Some.ensures.0 c.in-Some.ensures.1
 
 pub invariant_of-self : goal.invariant_of-self
@@ -23,10 +23,10 @@ invariant_of-self c =
     let s = c.args.self.now in
     let type = c.multiply.ensures.data_type ∙ c.with_places-data_type.ensures ∙ ap (λ t. with_places t c.args.places) c.data_type.ensures in
     record {
-      decimals = decimals_of s.cells.data_type c.multiply.new.self.data_type c.args.places s.decimals type;
-      places_are = same_places s.cells.data_type c.multiply.new.self.data_type c.args.places type;
+      decimals = has_decimals-with_places s.cells.data_type c.multiply.new.self.data_type c.args.places s.decimals type;
+      places_are = with_places-same s.cells.data_type c.multiply.new.self.data_type c.args.places type;
       few = c.requires.few;
-      greatest_is = grown_size s c.args.places c.ten_to.result c.in-Some.greatest c.data_type.result c.with_places-data_type.result c.data_type.ensures c.with_places-data_type.ensures c.requires.few c.ten_to.ensures
+      greatest_is = Grows-size s c.args.places c.ten_to.result c.in-Some.greatest c.data_type.result c.with_places-data_type.result c.data_type.ensures c.with_places-data_type.ensures c.requires.few c.ten_to.ensures
           c.in-Some.ensures.0 c.in-Some.ensures.1 (wide_cells_in c.multiply.new.self) c.multiply.ensures.cells;
       small = c.in-Some.ensures.1;
     }
@@ -34,7 +34,7 @@ invariant_of-self c =
 pub returns-in-Some : goal.returns-in-Some
 returns-in-Some c =
     let s = c.args.self.now in
-    let power = grown_power s c.args.places c.ten_to.result c.in-Some.greatest c.data_type.result c.with_places-data_type.result c.data_type.ensures c.with_places-data_type.ensures c.requires.few c.ten_to.ensures
+    let power = Grows-power s c.args.places c.ten_to.result c.in-Some.greatest c.data_type.result c.with_places-data_type.result c.data_type.ensures c.with_places-data_type.ensures c.requires.few c.ten_to.ensures
     c.in-Some.ensures.0 c.in-Some.ensures.1 in (
       c.multiply.ensures.cells ∙ ap (λ k. map (multiplied k) (wide_cells_in s.cells)) power,
       refl,

@@ -4,12 +4,12 @@ use Rattle.hd_map.specs.declared.types.Cell.{Cell}
 use Rattle.hd_map.specs.declared.types.Cell.TheVariants.{Height}
 use Rattle.hd_num.specs.Whole.{signed_number}
 use Rattle.hd_sdf_read.specs.declared.scaled.Datum.TheVariants.{Measured, Unmeasured}
-use Rattle.hd_sdf_read.proofs.Scaling.{ranged-not_pushed, not_refined, IsScaled-pushed, IsRefined-same}
+use Rattle.hd_sdf_read.proofs.Scaling.{ranged-not_pushed, ranged-not_refined, IsScaled-pushed, IsRefined-same}
 use Rattle.hd_sdf_read.proofs.scaled.Scaled.push.Goals as goal
 
 pub returns-then-not-refine : goal.returns-then-not-refine
 returns-then-not-refine c = rw c.in-Measured.is (λ t before kept number _.
-    not_refined before (Measured c.in-Measured.negative c.in-Measured.units c.in-Measured.places) c.args.number (c.if-not-refine.ensures.heights t before kept) number)
+    ranged-not_refined before (Measured c.in-Measured.negative c.in-Measured.units c.in-Measured.places) c.args.number (c.if-not-refine.ensures.heights t before kept) number)
 
 pub returns-in_ok-push_cell-in-Unmeasured : goal.returns-in_ok-push_cell-in-Unmeasured
 returns-in_ok-push_cell-in-Unmeasured c = rw c.in-Unmeasured.is (λ t before kept.

@@ -21,26 +21,26 @@ module _ (test : ℕ → Bool) where
       let more = place_front ys x rest parts.1 here in
       rw (parts.0, more) (omega arith)
 
-  pub before_front : (text : List ℕ) (x : ℕ) (rest : List ℕ) → list_any test text ≡ false → test x ≡ true → before_first test (text ++ x ∷ rest) ≡ text
-  before_front text x rest none here = ap (λ n. take n (text ++ x ∷ rest)) (place_front text x rest none here) ∙ take-append_seam text (x ∷ rest)
+  pub before_first-front : (text : List ℕ) (x : ℕ) (rest : List ℕ) → list_any test text ≡ false → test x ≡ true → before_first test (text ++ x ∷ rest) ≡ text
+  before_first-front text x rest none here = ap (λ n. take n (text ++ x ∷ rest)) (place_front text x rest none here) ∙ take-append_seam text (x ∷ rest)
 
-  pub after_front : (text : List ℕ) (x : ℕ) (rest : List ℕ) → list_any test text ≡ false → test x ≡ true → after_first test (text ++ x ∷ rest) ≡ rest
-  after_front text x rest none here = ap (λ n. drop (n + 1) (text ++ x ∷ rest)) (place_front text x rest none here) ∙ drop-append-add text (x ∷ rest) 1
+  pub after_first-front : (text : List ℕ) (x : ℕ) (rest : List ℕ) → list_any test text ≡ false → test x ≡ true → after_first test (text ++ x ∷ rest) ≡ rest
+  after_first-front text x rest none here = ap (λ n. drop (n + 1) (text ++ x ∷ rest)) (place_front text x rest none here) ∙ drop-append-add text (x ∷ rest) 1
 
   -- the bytes at the front that pass are left out
-  pub start_front : (front rest : List ℕ) → list_all test front ≡ true → without_start test (front ++ rest) ≡ without_start test rest
-  start_front [] rest all = refl
-  start_front (x ∷ xs) rest all =
+  pub without_start-front : (front rest : List ℕ) → list_all test front ≡ true → without_start test (front ++ rest) ≡ without_start test rest
+  without_start-front [] rest all = refl
+  without_start-front (x ∷ xs) rest all =
       let parts = and_parts (test x) (list_all test xs) all in
       let one : 1 + prefix_len test (xs ++ rest) ≡ suc (prefix_len test (xs ++ rest)) = omega arith in
-      rw (parts.0, one) (start_front xs rest parts.1)
+      rw (parts.0, one) (without_start-front xs rest parts.1)
 
-  pub start_behind : (n : ℕ) (text : List ℕ) → n ≤ length text → ((k : ℕ) → k < n → test (get_or text k 0) ≡ true) → without_start test (drop n text) ≡ without_start test text
-  start_behind zero text within passes = refl
-  start_behind (suc n) [] within passes = absurd (omega arith)
-  start_behind (suc n) (x ∷ xs) within passes =
+  pub without_start-behind : (n : ℕ) (text : List ℕ) → n ≤ length text → ((k : ℕ) → k < n → test (get_or text k 0) ≡ true) → without_start test (drop n text) ≡ without_start test text
+  without_start-behind zero text within passes = refl
+  without_start-behind (suc n) [] within passes = absurd (omega arith)
+  without_start-behind (suc n) (x ∷ xs) within passes =
       let one : 1 + prefix_len test xs ≡ suc (prefix_len test xs) = omega arith in
-      rw (passes 0 (omega arith), one) (start_behind n xs (omega arith) (λ k less. passes (suc k) (omega arith)))
+      rw (passes 0 (omega arith), one) (without_start-behind n xs (omega arith) (λ k less. passes (suc k) (omega arith)))
 
   -- so are those that are counted in a block
   start_block : (other : ℕ → Bool) → ((byte : ℕ) → other byte ≡ false → test byte ≡ true) → (block count : ℕ) (text : List ℕ) → block ≤ length text → count ≡ position_or_len other (take block text)
@@ -48,18 +48,18 @@ module _ (test : ℕ → Bool) where
   start_block other passes block count text room counted =
       let inside : 0 + block ≤ length text = omega (arith, room) in
       let few = run_in_chunk_le other text 0 block count 0 inside counted in
-      start_behind count text (omega (arith, few, room)) (λ k less. passes (get_or text k 0) (run_in_chunk_fails other text 0 block count 0 inside counted k (omega arith) (omega (arith, less))))
+      without_start-behind count text (omega (arith, few, room)) (λ k less. passes (get_or text k 0) (run_in_chunk_fails other text 0 block count 0 inside counted k (omega arith) (omega (arith, less))))
 
   -- a text whose first byte does not pass stays
-  pub start_stays : (text rest : List ℕ) → 0 < length text → test (get_or text 0 0) ≡ false → without_start test (text ++ rest) ≡ text ++ rest
-  start_stays [] rest some first = absurd (omega arith)
-  start_stays (x ∷ xs) rest some first = rw first refl
+  pub without_start-stays : (text rest : List ℕ) → 0 < length text → test (get_or text 0 0) ≡ false → without_start test (text ++ rest) ≡ text ++ rest
+  without_start-stays [] rest some first = absurd (omega arith)
+  without_start-stays (x ∷ xs) rest some first = rw first refl
 
   start_all : (back : List ℕ) → list_all test back ≡ true → without_start test back ≡ []
-  start_all back all = ap (without_start test) (sym (append-nil back)) ∙ start_front back [] all
+  start_all back all = ap (without_start test) (sym (append-nil back)) ∙ without_start-front back [] all
 
-  pub end_front : (text back : List ℕ) → 0 < length text → test (get_or text (length text - 1) 0) ≡ false → list_all test back ≡ true → without_end test (text ++ back) ≡ text
-  end_front text back some last all =
+  pub without_end-front : (text back : List ℕ) → 0 < length text → test (get_or text (length text - 1) 0) ≡ false → list_all test back ≡ true → without_end test (text ++ back) ≡ text
+  without_end-front text back some last all =
       let whole = length-append text back in
       let end : suffix_len test (text ++ back) ≡ length (text ++ back) - length text =
       suffix_len_is test (text ++ back) (length text) 0 (omega arith)
@@ -70,19 +70,19 @@ module _ (test : ℕ → Bool) where
       ap (λ n. take n (text ++ back)) size ∙ take-append_seam text back
 
   -- bytes around a text that pass are left out
-  pub trim_around : (front text back : List ℕ) → list_all test front ≡ true → list_all test back ≡ true → IsTrimmed test text → trimmed_by test (front ++ (text ++ back)) ≡ text
-  trim_around front [] back before after is = ap (without_end test) (start_front front back before ∙ start_all back after)
-  trim_around front (x ∷ xs) back before after is =
-      ap (without_end test) (start_front front ((x ∷ xs) ++ back) before ∙ start_stays (x ∷ xs) back (omega arith) (is.first (omega arith)))
-      ∙ end_front (x ∷ xs) back (omega arith) (is.last (omega arith)) after
+  pub trimmed_by-around : (front text back : List ℕ) → list_all test front ≡ true → list_all test back ≡ true → IsTrimmed test text → trimmed_by test (front ++ (text ++ back)) ≡ text
+  trimmed_by-around front [] back before after is = ap (without_end test) (without_start-front front back before ∙ start_all back after)
+  trimmed_by-around front (x ∷ xs) back before after is =
+      ap (without_end test) (without_start-front front ((x ∷ xs) ++ back) before ∙ without_start-stays (x ∷ xs) back (omega arith) (is.first (omega arith)))
+      ∙ without_end-front (x ∷ xs) back (omega arith) (is.last (omega arith)) after
 
 -- a space is a gap
 space_is_gap : (byte : ℕ) → is_not_space byte ≡ false → is_gap byte ≡ true
 space_is_gap byte space = rw (not-false (eqb byte 32) space) refl
 
 -- the spaces at the front of a block are left out
-pub start_spaces : (block count : ℕ) (text : List ℕ) → block ≤ length text → count ≡ position_or_len is_not_space (take block text) → without_start is_gap (drop count text) ≡ without_start is_gap text
-start_spaces block count text room counted = start_block is_gap is_not_space space_is_gap block count text room counted
+pub without_start-spaces : (block count : ℕ) (text : List ℕ) → block ≤ length text → count ≡ position_or_len is_not_space (take block text) → without_start is_gap (drop count text) ≡ without_start is_gap text
+without_start-spaces block count text room counted = start_block is_gap is_not_space space_is_gap block count text room counted
 
 -- there is a piece after the first
 last_front : (text : List ℕ) (pieces : List (List ℕ)) (n : ℕ) → length pieces ≡ n + 1 → without_empty_last (text ∷ pieces) ≡ text ∷ without_empty_last pieces
@@ -90,32 +90,32 @@ last_front text [] n size = absurd (omega (arith, size))
 last_front text (piece ∷ pieces) n size = refl
 
 -- a line in front of others
-pub lines_front : (text rest : List ℕ) → list_any is_line_feed text ≡ false → lines_of (text ++ 10 ∷ rest) ≡ text ∷ lines_of rest
-lines_front text rest one =
+pub lines_of-front : (text rest : List ℕ) → list_any is_line_feed text ≡ false → lines_of (text ++ 10 ∷ rest) ≡ text ∷ lines_of rest
+lines_of-front text rest one =
     let place = place_front is_line_feed text 10 rest one refl in
     let inside : position_or_len is_line_feed (text ++ 10 ∷ rest) < length (text ++ 10 ∷ rest) = omega (arith, place, length-append text (10 ∷ rest)) in
     let split : slice_split is_line_feed (text ++ 10 ∷ rest) ≡ text ∷ slice_split is_line_feed rest =
     slice_split_first is_line_feed (text ++ 10 ∷ rest) 0 inside
-    ∙ ap₂ (λ (line more : List ℕ). line ∷ slice_split is_line_feed more) (before_front is_line_feed text 10 rest one refl) (after_front is_line_feed text 10 rest one refl) in
+    ∙ ap₂ (λ (line more : List ℕ). line ∷ slice_split is_line_feed more) (before_first-front is_line_feed text 10 rest one refl) (after_first-front is_line_feed text 10 rest one refl) in
     ap without_empty_last split ∙ last_front text (slice_split is_line_feed rest) _ (length-slice_split is_line_feed rest)
 
-pub after_line_front : (text rest : List ℕ) → list_any is_line_feed text ≡ false → after_line (text ++ 10 ∷ rest) ≡ rest
-after_line_front text rest one = after_front is_line_feed text 10 rest one refl
+pub after_line-front : (text rest : List ℕ) → list_any is_line_feed text ≡ false → after_line (text ++ 10 ∷ rest) ≡ rest
+after_line-front text rest one = after_first-front is_line_feed text 10 rest one refl
 
 -- no byte passes, so the first does not
-pub first_fails : (test : ℕ → Bool) (text : List ℕ) → 0 < length text → list_any test text ≡ false → test (get_or text 0 0) ≡ false
-first_fails test [] some none = absurd (omega arith)
-first_fails test (x ∷ xs) some none = (or_parts (test x) (list_any test xs) none).0
+pub list_any-first : (test : ℕ → Bool) (text : List ℕ) → 0 < length text → list_any test text ≡ false → test (get_or text 0 0) ≡ false
+list_any-first test [] some none = absurd (omega arith)
+list_any-first test (x ∷ xs) some none = (or_parts (test x) (list_any test xs) none).0
 
 module _ (front token : List ℕ) (gap : ℕ) (rest : List ℕ) (gaps : list_all is_gap front ≡ true) (some : 0 < length token) (none : list_any is_gap token ≡ false) (ends : is_gap gap ≡ true) where
   begins : without_start is_gap (front ++ (token ++ gap ∷ rest)) ≡ token ++ gap ∷ rest
-  begins = start_front is_gap front (token ++ gap ∷ rest) gaps ∙ start_stays is_gap token (gap ∷ rest) some (first_fails is_gap token some none)
+  begins = without_start-front is_gap front (token ++ gap ∷ rest) gaps ∙ without_start-stays is_gap token (gap ∷ rest) some (list_any-first is_gap token some none)
 
   -- a token between gaps
-  pub token_front : token_of (front ++ (token ++ gap ∷ rest)) ≡ token
+  pub token_of-front : token_of (front ++ (token ++ gap ∷ rest)) ≡ token
   unfolding token_of
-  token_front = ap (before_first is_gap) begins ∙ before_front is_gap token gap rest none ends
+  token_of-front = ap (before_first is_gap) begins ∙ before_first-front is_gap token gap rest none ends
 
-  pub after_token_front : after_token (front ++ (token ++ gap ∷ rest)) ≡ gap ∷ rest
+  pub after_token-front : after_token (front ++ (token ++ gap ∷ rest)) ≡ gap ∷ rest
   unfolding after_token
-  after_token_front = ap₂ (λ (n : ℕ) (xs : List ℕ). drop n xs) (ap length token_front) begins ∙ drop-append_seam token (gap ∷ rest)
+  after_token-front = ap₂ (λ (n : ℕ) (xs : List ℕ). drop n xs) (ap length token_of-front) begins ∙ drop-append_seam token (gap ∷ rest)

@@ -23,7 +23,7 @@ use Rattle.hd_sdf_read.specs.Grammar.{decimal_map}
 use Rattle.hd_sdf_read.specs.Reads.{◌>>=◌}
 use Rattle.hd_sdf_read.specs.Scaling.{IsScaled}
 use Rattle.hd_sdf_read.specs.Tokens.{after_token, is_absent, is_star, token_of}
-use Rattle.hd_sdf_read.proofs.Scaling.{in_range_from, most_push, out_of_range_from, signed_times, steps_grow}
+use Rattle.hd_sdf_read.proofs.Scaling.{steps_at-in_range, most_places_in-push, steps_at-out_of_range, signed_number-times, steps_at-grow}
 
 -- data that nothing behind them can tell apart
 pub record AreAlike (xs ys : List Datum) : Type 0 where
@@ -34,8 +34,8 @@ pub record AreAlike (xs ys : List Datum) : Type 0 where
 -- all are in range where the greatest is
 range_tested : (p : ℕ) (ds : List Datum) → list_all (λ d. nat_le (steps_at p d) most_steps) ds ≡ nat_le (greatest_in (cells_at p ds)) most_steps
 range_tested p ds = elim (cases_lt most_steps (greatest_in (cells_at p ds))) [
-  | inl great ↦ out_of_range_from p ds great ∙ sym (lt-leb _ _ great)
-  | inr small ↦ in_range_from p ds small ∙ sym (le-leb _ _ small)
+  | inl great ↦ steps_at-out_of_range p ds great ∙ sym (lt-leb _ _ great)
+  | inr small ↦ steps_at-in_range p ds small ∙ sym (le-leb _ _ small)
 ]
 
 range_alike : (xs ys : List Datum) → AreAlike xs ys → are_in_range xs ≡ are_in_range ys
@@ -47,8 +47,8 @@ range_alike xs ys alike =
 alike_push : (xs ys : List Datum) (d : Datum) → AreAlike xs ys → AreAlike (xs ++ d ∷ []) (ys ++ d ∷ [])
 alike_push xs ys d alike =
     let most = alike.most in
-    let left = most_push xs d in
-    let right = most_push ys d in
+    let left = most_places_in-push xs d in
+    let right = most_places_in-push ys d in
     record {
       count = length-append xs (d ∷ []) ∙ ap (λ n. n + 1) alike.count ∙ sym (length-append ys (d ∷ []));
       most = omega (arith, left, right, most);
@@ -98,9 +98,9 @@ alike_from size t zero text xs ys alike =
 alike_from size t (suc missing) text xs ys alike =
     alike_bind size t missing (after_token text) (data_with xs (token_of text)) (data_with ys (token_of text)) (with_alike xs ys (token_of text) alike) (alike_from size t missing (after_token text))
 
-pub alike_in : (size : Size) (t : DataType) (text : List ℕ) (xs ys : List Datum) → AreAlike xs ys → decimal_in size t xs text ≡ decimal_in size t ys text
+pub decimal_in-alike : (size : Size) (t : DataType) (text : List ℕ) (xs ys : List Datum) → AreAlike xs ys → decimal_in size t xs text ≡ decimal_in size t ys text
 unfolding decimal_in
-alike_in size t text xs ys alike =
+decimal_in-alike size t text xs ys alike =
     ap (λ n. (decimals_from xs (cell_count size - n) text >>= decimal_map size t) >>= trailed size) alike.count ∙ alike_from size t (cell_count size - length ys) text xs ys alike
 
 -- a height by its sign and how far it is from 0
@@ -115,8 +115,8 @@ cell_kept p q (Measured negative units own) few more =
     let m : ℕ = units * 10 ^ (p - own) in
     let h : ℤ = signed_number negative m in
     let k : ℕ = 10 ^ (q - p) in
-    ap (λ n. Height (signed_number negative n)) (steps_grow units own p q few more)
-    ∙ ap Height (sym (signed_times negative m k) ∙ ap (λ z. z *ℤ pos k) (sym (sign_back h)) ∙ signed_times (int_lt h (pos 0)) (unsigned_abs h) k)
+    ap (λ n. Height (signed_number negative n)) (steps_at-grow units own p q few more)
+    ∙ ap Height (sym (signed_number-times negative m k) ∙ ap (λ z. z *ℤ pos k) (sym (sign_back h)) ∙ signed_number-times (int_lt h (pos 0)) (unsigned_abs h) k)
 
 cells_kept : (p q : ℕ) (ds : List Datum) → most_places_in ds ≤ p → p ≤ q → cells_at q ds ≡ cells_at q (data_for p (cells_at p ds))
 cells_kept p q [] few more = refl
@@ -134,8 +134,8 @@ most_kept p (Unmeasured ∷ ds) few = let more = most_kept p ds (omega (arith, f
 most_kept p (Measured negative units own ∷ ds) few = let more = most_kept p ds (omega (arith, few)) in omega (arith, more, few)
 
 -- the data that a reader keeps
-pub kept_alike : (s : Scaled) (t : DataType) (ds : List Datum) → IsScaled s t ds → AreAlike ds (data_for s.places (wide_cells_in s.cells))
-kept_alike s t ds kept =
+pub AreAlike-kept : (s : Scaled) (t : DataType) (ds : List Datum) → IsScaled s t ds → AreAlike ds (data_for s.places (wide_cells_in s.cells))
+AreAlike-kept s t ds kept =
     let p : ℕ = s.places in
     let most = kept.places in
     let low = most_kept p ds (omega (arith, most)) in
@@ -146,8 +146,8 @@ kept_alike s t ds kept =
       cells = λ q enough. cells_kept p q ds (omega (arith, most)) (omega (arith, most, enough));
     })
 
-pub kept_again : (s : Scaled) (t : DataType) (ds : List Datum) → IsScaled s t ds → IsScaled s t (data_for s.places (wide_cells_in s.cells))
-kept_again s t ds kept =
-    let alike = kept_alike s t ds kept in
+pub IsScaled-kept_again : (s : Scaled) (t : DataType) (ds : List Datum) → IsScaled s t ds → IsScaled s t (data_for s.places (wide_cells_in s.cells))
+IsScaled-kept_again s t ds kept =
+    let alike = AreAlike-kept s t ds kept in
     let most = kept.places in
     record { cells = kept.cells ∙ alike.cells s.places (omega (arith, most)); places = kept.places ∙ alike.most; data_type = kept.data_type }

@@ -16,8 +16,8 @@ use Rattle.hd_sdf_read.specs.File.{AreGood, HasForms, is_trailer}
 use Rattle.hd_sdf_read.specs.Tokens.{is_gap}
 use Rattle.hd_sdf_read.specs.Grammar.{file_with, minus_one, resolution_of}
 use Rattle.hd_sdf_read.specs.RequiredKeys.{RequiredKeys, decimal_at, HasDecimals, IsRead}
-use Rattle.hd_sdf_read.proofs.GoodEntries.{extra_apart, extra_good, text_good}
-use Rattle.hd_sdf_read.proofs.Trims.{trimmed_is, trimmed_same}
+use Rattle.hd_sdf_read.proofs.GoodEntries.{are_apart-extra_entries, is_extra-good, text_of-good}
+use Rattle.hd_sdf_read.proofs.Trims.{IsTrimmed-trimmed_by, IsTrimmed-same}
 
 -- the literal of a decimal is its word
 literal_same : (word : List ℕ) (d : Decimal) → decimal_of word ≡ Some d → word ≡ d.literal
@@ -46,8 +46,8 @@ value_good None d e = cc
 value_good (Some word) d e = literal_is word d (sym e)
 
 -- the decimal of a key is read from its literal
-pub decimal_good : (key : List ℕ) (entries : List Extra) (d : Decimal) → Some d ≡ decimal_at key entries → decimal_of d.literal ≡ Some d
-decimal_good key entries d e = value_good (value_of key entries) d e
+pub decimal_of-literal : (key : List ℕ) (entries : List Extra) (d : Decimal) → Some d ≡ decimal_at key entries → decimal_of d.literal ≡ Some d
+decimal_of-literal key entries d e = value_good (value_of key entries) d e
 
 -- so is -1
 minus_one_good : decimal_of minus_one.literal ≡ Some minus_one
@@ -60,36 +60,36 @@ or_minus_one (Some d) good = good d refl
 
 -- and so is the resolution
 resolution_good : (entries : List Extra) → decimal_of (resolution_of entries).literal ≡ Some (resolution_of entries)
-resolution_good entries = or_minus_one (decimal_at (codes "Zresolution") entries) (decimal_good (codes "Zresolution") entries)
+resolution_good entries = or_minus_one (decimal_at (codes "Zresolution") entries) (decimal_of-literal (codes "Zresolution") entries)
 
 -- a trailer without its ends
-pub trailer_good : (text : List ℕ) → length (trimmed_by is_gap text) ≤ 65536 → is_trailer (trimmed_by is_gap text) ≡ true
-trailer_good text short =
-    and_from _ _ (le-leb _ _ short) ((bytes_eq-Decides (trimmed_by is_gap (trimmed_by is_gap text)) (trimmed_by is_gap text)).1 (trimmed_same is_gap (trimmed_by is_gap text) (trimmed_is is_gap text)))
+pub is_trailer-trimmed : (text : List ℕ) → length (trimmed_by is_gap text) ≤ 65536 → is_trailer (trimmed_by is_gap text) ≡ true
+is_trailer-trimmed text short =
+    and_from _ _ (le-leb _ _ short) ((bytes_eq-Decides (trimmed_by is_gap (trimmed_by is_gap text)) (trimmed_by is_gap text)).1 (IsTrimmed-same is_gap (trimmed_by is_gap text) (IsTrimmed-trimmed_by is_gap text)))
 
 -- the file of such parts
-pub forms_good : (version : Version) (entries : List Extra) (keys : RequiredKeys) (map : Map) (trailer : List ℕ) → AreGood entries → HasDecimals keys → is_trailer trailer ≡ true
+pub HasForms-good : (version : Version) (entries : List Extra) (keys : RequiredKeys) (map : Map) (trailer : List ℕ) → AreGood entries → HasDecimals keys → is_trailer trailer ≡ true
     → HasForms (file_with version entries keys map trailer)
-forms_good version entries keys map trailer good decimals end = record {
-  manufac_id = text_good (codes "ManufacID") entries good.forms;
-  create_date = text_good (codes "CreateDate") entries good.forms;
-  mod_date = text_good (codes "ModDate") entries good.forms;
+HasForms-good version entries keys map trailer good decimals end = record {
+  manufac_id = text_of-good (codes "ManufacID") entries good.forms;
+  create_date = text_of-good (codes "CreateDate") entries good.forms;
+  mod_date = text_of-good (codes "ModDate") entries good.forms;
   x_scale = decimals.x_scale;
   y_scale = decimals.y_scale;
   z_scale = decimals.z_scale;
   z_resolution = resolution_good entries;
   few = good.few;
-  extra = extra_good entries good.forms;
-  apart = extra_apart entries good.apart;
+  extra = is_extra-good entries good.forms;
+  apart = are_apart-extra_entries entries good.apart;
   trailer = end;
 }
 
 -- what is there in place of an error
-pub ok_some : (found : Option Decimal) (e : SdfError) (d : Decimal) → Ok d ≡ ok_or found e → Some d ≡ found
-ok_some None e d given = cc
-ok_some (Some x) e d given = cc
+pub ok_or-some : (found : Option Decimal) (e : SdfError) (d : Decimal) → Ok d ≡ ok_or found e → Some d ≡ found
+ok_or-some None e d given = cc
+ok_or-some (Some x) e d given = cc
 
 -- what is read of a key, or that it is missing
-pub scale_good : (key : List ℕ) (entries : List Extra) (found : Option Decimal) (e : SdfError) (r : Result Decimal SdfError) → found ≡ decimal_at key entries → r ≡ ok_or found e → IfOk r IsRead
-scale_good key entries found e (Ok d) at given = decimal_good key entries d (ok_some found e d given ∙ at)
-scale_good key entries found e (Err x) at given = tt
+pub IsRead-scale : (key : List ℕ) (entries : List Extra) (found : Option Decimal) (e : SdfError) (r : Result Decimal SdfError) → found ≡ decimal_at key entries → r ≡ ok_or found e → IfOk r IsRead
+IsRead-scale key entries found e (Ok d) at given = decimal_of-literal key entries d (ok_or-some found e d given ∙ at)
+IsRead-scale key entries found e (Err x) at given = tt

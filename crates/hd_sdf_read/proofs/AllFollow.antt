@@ -11,7 +11,7 @@ use Rattle.hd_sdf_read.specs.declared.file.Extra.{Extra}
 use Rattle.hd_sdf_read.specs.Entries.{extra_entries, has_key, offence, value_offence}
 use Rattle.hd_sdf_read.specs.File.{are_apart, is_entry, is_extra}
 use Rattle.hd_sdf_read.specs.Keys.{form_in, form_of, same_key}
-use Rattle.hd_sdf_read.proofs.GoodEntries.{not_true, same_turned}
+use Rattle.hd_sdf_read.proofs.GoodEntries.{not-true, same_key-turned}
 
 -- each entry has its form, and no offence after those before it
 abbrev pub AllFollow : List Extra → List Extra → Type 0
@@ -19,23 +19,23 @@ AllFollow before [] = Unit {0}
 AllFollow before (e ∷ es) = (is_entry e ≡ true) × ((n : ℕ) → offence n before e ≡ None) × AllFollow (before ++ e ∷ []) es
 
 -- some entries, and others after them
-pub follow_append : (before es fs : List Extra) → AllFollow before es → AllFollow (before ++ es) fs → AllFollow before (es ++ fs)
-follow_append before [] fs first more = subst (λ (b : List Extra). AllFollow b fs) (append-nil before) more
-follow_append before (e ∷ es) fs first more =
-    (first.0, first.1, follow_append (before ++ e ∷ []) es fs first.2 (subst (λ (b : List Extra). AllFollow b fs) (sym (append_assoc before (e ∷ []) es)) more))
+pub AllFollow-append : (before es fs : List Extra) → AllFollow before es → AllFollow (before ++ es) fs → AllFollow before (es ++ fs)
+AllFollow-append before [] fs first more = subst (λ (b : List Extra). AllFollow b fs) (append-nil before) more
+AllFollow-append before (e ∷ es) fs first more =
+    (first.0, first.1, AllFollow-append (before ++ e ∷ []) es fs first.2 (subst (λ (b : List Extra). AllFollow b fs) (sym (append_assoc before (e ∷ []) es)) more))
 
 -- none of the keys stands among the entries before
-abbrev pub are_new : List Extra → List Extra → Bool
-are_new before es = list_all (λ e. not (has_key e.key before)) es
+abbrev pub AllFollow-new : List Extra → List Extra → Bool
+AllFollow-new before es = list_all (λ e. not (has_key e.key before)) es
 
 -- one more entry before
-new_push : (before : List Extra) (e : Extra) (es : List Extra) → are_new before es ≡ true → has_key e.key es ≡ false → are_new (before ++ e ∷ []) es ≡ true
+new_push : (before : List Extra) (e : Extra) (es : List Extra) → AllFollow-new before es ≡ true → has_key e.key es ≡ false → AllFollow-new (before ++ e ∷ []) es ≡ true
 new_push before e [] new other = refl
 new_push before e (x ∷ xs) new other =
-    let parts = and_parts (not (has_key x.key before)) (are_new before xs) new in
+    let parts = and_parts (not (has_key x.key before)) (AllFollow-new before xs) new in
     let others = or_parts (same_key x.key e.key) (has_key e.key xs) other in
     let none : has_key x.key (before ++ e ∷ []) ≡ false =
-    list_any-append (λ (y : Extra). same_key y.key x.key) before (e ∷ []) ∙ or_from _ _ (not_true (has_key x.key before) parts.0) (or_from _ _ (same_turned x.key e.key false others.0) refl) in
+    list_any-append (λ (y : Extra). same_key y.key x.key) before (e ∷ []) ∙ or_from _ _ (not-true (has_key x.key before) parts.0) (or_from _ _ (same_key-turned x.key e.key false others.0) refl) in
     and_from _ _ (ap not none) (new_push before e xs parts.1 others.1)
 
 -- there is room for one more
@@ -56,33 +56,33 @@ extra_offence n before e new unknown few =
     ap (λ b. cond b (Some (KeyTwice n)) (value_offence n before (form_of e.key) e.value)) new ∙ unknown_offence n before e.value (form_of e.key) unknown few
 
 -- extra keys without an offence
-pub follow_extra : (es before : List Extra) → length (extra_entries before) + length es ≤ 240 → list_all is_extra es ≡ true → are_apart es ≡ true → are_new before es ≡ true → AllFollow before es
-follow_extra [] before few good apart new = tt
-follow_extra (e ∷ es) before few good apart new =
+pub AllFollow-extra : (es before : List Extra) → length (extra_entries before) + length es ≤ 240 → list_all is_extra es ≡ true → are_apart es ≡ true → AllFollow-new before es ≡ true → AllFollow before es
+AllFollow-extra [] before few good apart new = tt
+AllFollow-extra (e ∷ es) before few good apart new =
     let goods = and_parts (is_extra e) (list_all is_extra es) good in
     let form = and_parts (is_entry e) (is_none (form_of e.key)) goods.0 in
     let aparts = and_parts (not (has_key e.key es)) (are_apart es) apart in
-    let news = and_parts (not (has_key e.key before)) (are_new before es) new in
+    let news = and_parts (not (has_key e.key before)) (AllFollow-new before es) new in
     let more : extra_entries (before ++ e ∷ []) ≡ extra_entries before ++ e ∷ [] =
     filter-append (λ (x : Extra). is_none (form_of x.key)) before (e ∷ []) ∙ ap (λ b. extra_entries before ++ cond b (e ∷ []) []) form.1 in
     let size : length (extra_entries (before ++ e ∷ [])) ≡ length (extra_entries before) + 1 = ap length more ∙ length-append (extra_entries before) (e ∷ []) in (
       form.0,
-      λ n. extra_offence n before e (not_true _ news.0) form.1 (omega arith),
-      follow_extra es (before ++ e ∷ []) (omega (arith, size)) goods.1 aparts.1 (new_push before e es news.1 (not_true _ aparts.0)),
+      λ n. extra_offence n before e (not-true _ news.0) form.1 (omega arith),
+      AllFollow-extra es (before ++ e ∷ []) (omega (arith, size)) goods.1 aparts.1 (new_push before e es news.1 (not-true _ aparts.0)),
     )
 
 -- a key that is not known is no key of the table
-pub unknown_new : (table : List (List ℕ × Form)) (key : List ℕ) → is_none (form_in table key) ≡ true → list_any (λ known. same_key known.0 key) table ≡ false
-unknown_new [] key unknown = refl
-unknown_new (known ∷ more) key unknown = elim (cases_Bool (same_key known.0 key)) [
+pub same_key-unknown : (table : List (List ℕ × Form)) (key : List ℕ) → is_none (form_in table key) ≡ true → list_any (λ known. same_key known.0 key) table ≡ false
+same_key-unknown [] key unknown = refl
+same_key-unknown (known ∷ more) key unknown = elim (cases_Bool (same_key known.0 key)) [
   | inl same ↦ let wrong : false ≡ true = rw same at unknown in cc
-  | inr other ↦ or_from _ _ other (unknown_new more key (rw other at unknown))
+  | inr other ↦ or_from _ _ other (same_key-unknown more key (rw other at unknown))
 ]
 
 -- extra keys alone are kept
-pub extra_kept : (es : List Extra) → list_all is_extra es ≡ true → extra_entries es ≡ es
-extra_kept [] good = refl
-extra_kept (e ∷ es) good =
+pub extra_entries-kept : (es : List Extra) → list_all is_extra es ≡ true → extra_entries es ≡ es
+extra_entries-kept [] good = refl
+extra_entries-kept (e ∷ es) good =
     let goods = and_parts (is_extra e) (list_all is_extra es) good in
     let form = and_parts (is_entry e) (is_none (form_of e.key)) goods.0 in
-    ap (λ b. cond b (e ∷ extra_entries es) (extra_entries es)) form.1 ∙ ap (λ (xs : List Extra). e ∷ xs) (extra_kept es goods.1)
+    ap (λ b. cond b (e ∷ extra_entries es) (extra_entries es)) form.1 ∙ ap (λ (xs : List Extra). e ∷ xs) (extra_entries-kept es goods.1)
