@@ -19,8 +19,8 @@ pub record IsLine (text : List ℕ) : Type 0 where
   pub trims : IsTrimmed is_blank text
   pub one : list_any is_line_feed text ≡ false
 
-pub line_good : (text : List ℕ) → is_trimmed_line text ≡ true → IsLine text
-line_good text good =
+pub IsLine-good : (text : List ℕ) → is_trimmed_line text ≡ true → IsLine text
+IsLine-good text good =
     let parts = and_parts (bytes_eq (trimmed text) text) (not (list_any is_line_feed text)) good in
     record {
       trims = subst (IsTrimmed is_blank) ((bytes_eq-Decides (trimmed text) text).0 parts.0) (IsTrimmed-trimmed_by is_blank text);
@@ -36,8 +36,8 @@ pub record IsKeyText (key : List ℕ) : Type 0 where
   pub bare : list_any is_equals key ≡ false
   pub plain : is_comment key ≡ false
 
-pub key_good : (key : List ℕ) → is_header_key key ≡ true → IsKeyText key
-key_good key good =
+pub IsKeyText-good : (key : List ℕ) → is_header_key key ≡ true → IsKeyText key
+IsKeyText-good key good =
     let front = and_parts (is_key key && is_trimmed_line key && not (list_any is_equals key)) (not (is_comment key)) good in
     let more = and_parts (is_key key && is_trimmed_line key) (not (list_any is_equals key)) front.0 in
     let first = and_parts (is_key key) (is_trimmed_line key) more.0 in
@@ -48,7 +48,7 @@ key_good key good =
       form = first.0;
       some = omega (arith, low);
       short = leb-true (length key) 64 bounds.1;
-      line = line_good key first.1;
+      line = IsLine-good key first.1;
       bare = not-true (list_any is_equals key) more.1;
       plain = not-true (is_comment key) front.1;
     }
@@ -115,9 +115,9 @@ module _ (key tail value : List ℕ) (is : IsKeyText key) (good : is_value value
   keyed_is : keyed (entry_of (key ++ 32 ∷ 61 ∷ tail)) ≡ Keyed (entry key value)
   keyed_is = ap keyed entry_is ∙ ap (λ b. cond b (Keyed (entry key value)) Unread) (and_from _ _ is.form good)
 
-  pub kind_is : kind_of (key ++ 32 ∷ 61 ∷ tail) ≡ Keyed (entry key value)
+  pub kind_of-keyed : kind_of (key ++ 32 ∷ 61 ∷ tail) ≡ Keyed (entry key value)
   unfolding kind_of
-  kind_is =
+  kind_of-keyed =
       let size = length-append key (32 ∷ 61 ∷ tail) in
       let low = is.short in
       let fits : ltb 1024 (length (key ++ 32 ∷ 61 ∷ tail)) ≡ false = le-ltb 1024 (length (key ++ 32 ∷ 61 ∷ tail)) (omega arith) in
@@ -127,28 +127,28 @@ module _ (key tail value : List ℕ) (is : IsKeyText key) (good : is_value value
       ∙ ap (λ b. cond b (keyed (entry_of (key ++ 32 ∷ 61 ∷ tail))) Unread) equals ∙ keyed_is
 
 -- a key before a filled value
-pub entry_filled : (key : List ℕ) (x : ℕ) (xs : List ℕ) → entry_text key (x ∷ xs) ≡ key ++ 32 ∷ 61 ∷ 32 ∷ x ∷ xs
-entry_filled key x xs = ap (λ b. cond b (key ++ codes " =") (key ++ codes " = " ++ (x ∷ xs))) (ne_eqb (length (x ∷ xs)) 0 (λ none. omega (arith, none))) ∙ append_assoc key (codes " = ") (x ∷ xs)
+pub entry_text-filled : (key : List ℕ) (x : ℕ) (xs : List ℕ) → entry_text key (x ∷ xs) ≡ key ++ 32 ∷ 61 ∷ 32 ∷ x ∷ xs
+entry_text-filled key x xs = ap (λ b. cond b (key ++ codes " =") (key ++ codes " = " ++ (x ∷ xs))) (ne_eqb (length (x ∷ xs)) 0 (λ none. omega (arith, none))) ∙ append_assoc key (codes " = ") (x ∷ xs)
 
 -- the line of a key and its value is that entry
-pub kind_entry : (key value : List ℕ) → is_header_key key ≡ true → is_header_value value ≡ true → kind_of (entry_text key value) ≡ Keyed (entry key value)
-kind_entry key [] right good = kind_is key [] [] (key_good key right) refl refl (omega arith) (λ some. absurd (omega arith))
-kind_entry key (x ∷ xs) right good =
+pub kind_of-entry_text : (key value : List ℕ) → is_header_key key ≡ true → is_header_value value ≡ true → kind_of (entry_text key value) ≡ Keyed (entry key value)
+kind_of-entry_text key [] right good = kind_of-keyed key [] [] (IsKeyText-good key right) refl refl (omega arith) (λ some. absurd (omega arith))
+kind_of-entry_text key (x ∷ xs) right good =
     let parts = and_parts (is_value (x ∷ xs)) (is_trimmed_line (x ∷ xs)) good in
-    let line = line_good (x ∷ xs) parts.1 in
+    let line = IsLine-good (x ∷ xs) parts.1 in
     let few = leb-true (length (x ∷ xs)) 896 parts.0 in
-    ap kind_of (entry_filled key x xs) ∙ kind_is key (32 ∷ x ∷ xs) (x ∷ xs) (key_good key right) parts.0
+    ap kind_of (entry_text-filled key x xs) ∙ kind_of-keyed key (32 ∷ x ∷ xs) (x ∷ xs) (IsKeyText-good key right) parts.0
     (ap trimmed (ap (λ (t : List ℕ). 32 ∷ t) (sym (append-nil (x ∷ xs)))) ∙ trimmed_by-around is_blank (32 ∷ []) (x ∷ xs) [] refl refl line.trims) (omega arith)
     (λ _. (let place : length (32 ∷ x ∷ xs) - 1 ≡ suc (length (x ∷ xs) - 1) = omega arith in ap (λ k. is_blank (get_or (32 ∷ x ∷ xs) k 0)) place) ∙ line.trims.last (omega arith))
 
 -- it is one line
-pub entry_one : (key value : List ℕ) → is_header_key key ≡ true → is_header_value value ≡ true → list_any is_line_feed (entry_text key value) ≡ false
-entry_one key [] right good = list_any-append is_line_feed key (32 ∷ 61 ∷ []) ∙ ap (λ b. b || false) (key_good key right).line.one
-entry_one key (x ∷ xs) right good =
+pub entry_text-one_line : (key value : List ℕ) → is_header_key key ≡ true → is_header_value value ≡ true → list_any is_line_feed (entry_text key value) ≡ false
+entry_text-one_line key [] right good = list_any-append is_line_feed key (32 ∷ 61 ∷ []) ∙ ap (λ b. b || false) (IsKeyText-good key right).line.one
+entry_text-one_line key (x ∷ xs) right good =
     let parts = and_parts (is_value (x ∷ xs)) (is_trimmed_line (x ∷ xs)) good in
-    ap (list_any is_line_feed) (entry_filled key x xs) ∙ list_any-append is_line_feed key (32 ∷ 61 ∷ 32 ∷ x ∷ xs) ∙ ap (λ b. b || list_any is_line_feed (32 ∷ 61 ∷ 32 ∷ x ∷ xs)) (key_good key right).line.one ∙ (line_good (x ∷ xs) parts.1).one
+    ap (list_any is_line_feed) (entry_text-filled key x xs) ∙ list_any-append is_line_feed key (32 ∷ 61 ∷ 32 ∷ x ∷ xs) ∙ ap (λ b. b || list_any is_line_feed (32 ∷ 61 ∷ 32 ∷ x ∷ xs)) (IsKeyText-good key right).line.one ∙ (IsLine-good (x ∷ xs) parts.1).one
 
 -- the line that ends a header
-pub kind_star : kind_of (codes "*") ≡ Ends
+pub kind_of-star : kind_of (codes "*") ≡ Ends
 unfolding kind_of
-kind_star = refl
+kind_of-star = refl

@@ -12,7 +12,7 @@ use Rattle.hd_sdf_read.specs.Grammar.{after_lines}
 use Rattle.hd_sdf_read.proofs.AllFollow.{AllFollow}
 use Rattle.hd_sdf_write.specs.Canonical.{entry_line, entry_text, extra_lines, line}
 use Rattle.hd_sdf_read.proofs.TextFronts.{after_line-front, lines_of-front}
-use Rattle.hd_sdf_write.proofs.EntryLines.{entry_one, kind_entry, kind_star}
+use Rattle.hd_sdf_write.proofs.EntryLines.{entry_text-one_line, kind_of-entry_text, kind_of-star}
 
 -- the header that a text is, and the text after it
 pub record HeaderReads (n : ℕ) (bytes text : List ℕ) (before es : List Extra) (rest : List ℕ) : Type 0 where
@@ -34,7 +34,7 @@ header_wrong n before text lines e refusal kind wrong =
 
 header_ends : (n : ℕ) (before : List Extra) (lines : List (List ℕ)) → header_from n before (codes "*" ∷ lines) ≡ Ok (record { entries = before; last = n })
 unfolding header_from
-header_ends n before lines = ap (λ (k : Kind). header_by n before k (λ entries. header_from (n + 1) entries lines)) kind_star
+header_ends n before lines = ap (λ (k : Kind). header_by n before k (λ entries. header_from (n + 1) entries lines)) kind_of-star
 
 -- the first of the lines
 entry_front : (e : Extra) (es : List Extra) (rest : List ℕ) → extra_lines (e ∷ es) ++ rest ≡ entry_text e.key e.value ++ 10 ∷ (extra_lines es ++ rest)
@@ -44,26 +44,26 @@ entry_front e es rest =
     ∙ append_assoc (entry_text e.key e.value) (10 ∷ []) (extra_lines es ++ rest)
 
 -- the lines of such entries and the end of the header
-pub header_reads : (es before : List Extra) (n k : ℕ) (bytes text rest : List ℕ) → n ≡ suc k → text ≡ extra_lines es ++ (line (codes "*") ++ rest) → after_lines k bytes ≡ text → AllFollow before es
+pub HeaderReads-extra_lines : (es before : List Extra) (n k : ℕ) (bytes text rest : List ℕ) → n ≡ suc k → text ≡ extra_lines es ++ (line (codes "*") ++ rest) → after_lines k bytes ≡ text → AllFollow before es
     → HeaderReads n bytes text before es rest
-header_reads [] before n k bytes text rest is whole at good = record {
+HeaderReads-extra_lines [] before n k bytes text rest is whole at good = record {
   last = n;
   header = ap (header_from n before) (ap lines_of whole ∙ lines_of-front (codes "*") rest refl) ∙ header_ends n before (lines_of rest)
       ∙ ap (λ (entries : List Extra). Ok (record { entries = entries; last = n })) (sym (append-nil before));
   rest_is = ap (λ m. after_lines m bytes) is ∙ ap after_line (at ∙ whole) ∙ after_line-front (codes "*") rest refl;
 }
-header_reads (e ∷ es) before n k bytes text rest is whole at good =
+HeaderReads-extra_lines (e ∷ es) before n k bytes text rest is whole at good =
     let after : List ℕ = extra_lines es ++ (line (codes "*") ++ rest) in
     let front : text ≡ entry_text e.key e.value ++ 10 ∷ after = whole ∙ entry_front e es (line (codes "*") ++ rest) in
     let parts = and_parts (is_header_key e.key) (is_header_value e.value) good.0 in
-    let one = entry_one e.key e.value parts.0 parts.1 in
+    let one = entry_text-one_line e.key e.value parts.0 parts.1 in
     let lines : lines_of text ≡ entry_text e.key e.value ∷ lines_of after = ap lines_of front ∙ lines_of-front (entry_text e.key e.value) after one in
     let onward : after_lines n bytes ≡ after = ap (λ m. after_lines m bytes) is ∙ ap after_line (at ∙ front) ∙ after_line-front (entry_text e.key e.value) after one in
     let next : n + 1 ≡ suc n = omega arith in
-    let more = header_reads es (before ++ e ∷ []) (n + 1) n bytes after rest next refl onward good.2 in
+    let more = HeaderReads-extra_lines es (before ++ e ∷ []) (n + 1) n bytes after rest next refl onward good.2 in
     record {
       last = more.last;
-      header = ap (header_from n before) lines ∙ header_keyed n before (entry_text e.key e.value) (lines_of after) e (kind_entry e.key e.value parts.0 parts.1) (good.1 n)
+      header = ap (header_from n before) lines ∙ header_keyed n before (entry_text e.key e.value) (lines_of after) e (kind_of-entry_text e.key e.value parts.0 parts.1) (good.1 n)
           ∙ more.header ∙ ap (λ (entries : List Extra). Ok (record { entries = entries; last = more.last })) (append_assoc before (e ∷ []) es);
       rest_is = more.rest_is;
     }

@@ -1,10 +1,10 @@
 mod Data
 mod EntryLines
-mod Follow
+mod EntriesFollow
 mod HeaderText
-mod Joined
-mod Known
-mod Laid
-mod LaidDecimals
+mod JoinedTexts
+mod KnownEntries
+mod DataReadBack
+mod DecimalsReadBack
 mod ReadsBack
-mod Profiles
+mod SpacedProfiles

@@ -26,11 +26,11 @@ use Rattle.hd_sdf_read.proofs.Grammar.{mapped-decimals, body_in-whole_body, file
 use Rattle.hd_sdf_write.specs.Canonical.{as_read, canonical, cell_text, encoding_lines, end_lines, entry_line, extra_lines, is_height, line, name_lines, profile, profile_lines, scale_lines, spaced, type_read, typed, version_text}
 use Rattle.hd_sdf_read.proofs.TextFronts.{after_line-front, lines_of-front, after_token-front, token_of-front, trimmed_by-around}
 use Rattle.hd_sdf_read.proofs.Trims.{IsTrimmed, IsTrimmed-trimmed_by}
-use Rattle.hd_sdf_write.proofs.HeaderText.{header_reads}
-use Rattle.hd_sdf_write.proofs.Known.{entries_of, extra_is, required_keys_for, required_keys_are, known, resolution_is}
-use Rattle.hd_sdf_write.proofs.Follow.{entries_follow}
-use Rattle.hd_sdf_write.proofs.Laid.{are_gaps, gaps_after, whole_read}
-use Rattle.hd_sdf_write.proofs.LaidDecimals.{cells_are_read, data_for, decimals_read, type_is_read}
+use Rattle.hd_sdf_write.proofs.HeaderText.{HeaderReads-extra_lines}
+use Rattle.hd_sdf_write.proofs.KnownEntries.{entries_of, extra_entries-entries_of, required_keys_for, required_keys_of-entries_of, known, resolution_of-entries_of}
+use Rattle.hd_sdf_write.proofs.EntriesFollow.{AllFollow-entries_of}
+use Rattle.hd_sdf_write.proofs.DataReadBack.{gaps_after-are_gaps, gaps_after, cells_from-profile_lines}
+use Rattle.hd_sdf_write.proofs.DecimalsReadBack.{cells_at-most_places, data_for, decimals_from-profile_lines, type_read-with_places}
 
 -- the lines of the known entries
 known_group : (a b c d e f g h i j k l : List ℕ) → ((a ++ b ++ c ++ d ++ e) ++ (f ++ g ++ h ++ i)) ++ (j ++ k ++ l) ≡ a ++ (b ++ (c ++ (d ++ (e ++ (f ++ (g ++ (h ++ (i ++ (j ++ (k ++ (l ++ [])))))))))))
@@ -92,9 +92,9 @@ trailer_trims (x ∷ xs) good =
     ∙ trimmed_by-around is_gap (10 ∷ []) (x ∷ xs) (10 ∷ []) refl refl trims
 
 -- the end of the data and the trailer are read back
-pub trailer_read : (count : ℕ) (front trailer : List ℕ) → list_all is_gap front ≡ true → is_trailer trailer ≡ true → trailer_of count (front ++ end_lines trailer) ≡ Ok trailer
+pub trailer_of-end_lines : (count : ℕ) (front trailer : List ℕ) → list_all is_gap front ≡ true → is_trailer trailer ≡ true → trailer_of count (front ++ end_lines trailer) ≡ Ok trailer
 unfolding trailer_of end_lines
-trailer_read count front trailer gaps good =
+trailer_of-end_lines count front trailer gaps good =
     let more : List ℕ = cond (eqb (length trailer) 0) [] (line trailer) in
     let parts = and_parts _ (bytes_eq (trimmed_by is_gap trailer) trailer) good in
     let short = leb-true (length trailer) 65536 parts.0 in
@@ -106,7 +106,7 @@ trailer_read count front trailer gaps good =
 
 -- the parts make the file
 parts_are : (f : File) → HasForms f → file_with f.version (entries_of f) (required_keys_for f) (map_with f.map.size (type_read f.map) f.map.cells) f.trailer ≡ as_read f
-parts_are f forms = rw (resolution_is f forms, extra_is f forms) refl
+parts_are f forms = rw (resolution_of-entries_of f forms, extra_entries-entries_of f forms) refl
 
 -- a type of whole numbers has no places
 whole_type : (t : DataType) → has_decimals t ≡ false → with_places t 0 ≡ t
@@ -142,29 +142,29 @@ map_reads f whole = elim (cases_Bool (has_decimals f.map.data_type)) [
   | inl type ↦
       let m : Map = f.map in
       let p : ℕ = places_of m.data_type in
-      mapped-decimals m.size (with_places m.data_type 0) (data_text f) (record { items = data_for p m.cells; rest = gaps_after m.size.profiles ++ end_lines f.trailer }) (same_kind m.data_type ∙ type) (decimals_read m (end_lines f.trailer) whole type)
-      ∙ ap₂ (λ (t : DataType) (cells : List Cell). Ok (record { map = map_with m.size t cells; rest = gaps_after m.size.profiles ++ end_lines f.trailer })) (type_is_read m type) (cells_are_read m)
+      mapped-decimals m.size (with_places m.data_type 0) (data_text f) (record { items = data_for p m.cells; rest = gaps_after m.size.profiles ++ end_lines f.trailer }) (same_kind m.data_type ∙ type) (decimals_from-profile_lines m (end_lines f.trailer) whole type)
+      ∙ ap₂ (λ (t : DataType) (cells : List Cell). Ok (record { map = map_with m.size t cells; rest = gaps_after m.size.profiles ++ end_lines f.trailer })) (type_read-with_places m type) (cells_at-most_places m)
   | inr type ↦
       let m : Map = f.map in
       ap (λ (t : DataType). mapped m.size t (data_text f)) (whole_type m.data_type type)
-      ∙ mapped-whole_numbers m.size m.data_type (data_text f) (record { cells = m.cells; rest = gaps_after m.size.profiles ++ end_lines f.trailer }) type (whole_read m (end_lines f.trailer) whole type)
+      ∙ mapped-whole_numbers m.size m.data_type (data_text f) (record { cells = m.cells; rest = gaps_after m.size.profiles ++ end_lines f.trailer }) type (cells_from-profile_lines m (end_lines f.trailer) whole type)
       ∙ ap (λ (t : DataType). Ok (record { map = map_with m.size t m.cells; rest = gaps_after m.size.profiles ++ end_lines f.trailer })) (whole_type_read m type)
 ]
 
-pub reads_back : (f : File) → IsMap f.map → HasForms f → file_in (canonical f) ≡ Ok (as_read f)
-reads_back f whole forms =
+pub file_in-canonical : (f : File) → IsMap f.map → HasForms f → file_in (canonical f) ≡ Ok (as_read f)
+file_in-canonical f whole forms =
     let is = canonical_is f in
     let one = version_one f.version in
     let lines = canonical_lines f in
     let version = version_found f in
     let second : after_lines 1 (canonical f) ≡ header_text f = ap after_line is ∙ after_line-front (version_text f.version) (header_text f) one in
-    let reads = header_reads (entries_of f) [] 2 1 (canonical f) (header_text f) (data_text f) refl refl second (entries_follow f whole forms) in
+    let reads = HeaderReads-extra_lines (entries_of f) [] 2 1 (canonical f) (header_text f) (data_text f) refl refl second (AllFollow-entries_of f whole forms) in
     let header : header_from 2 [] (drop 1 (lines_of (canonical f))) ≡ Ok (record { entries = entries_of f; last = reads.last }) =
     ap (λ (ls : List (List ℕ)). header_from 2 [] (drop 1 ls)) lines ∙ reads.header in
-    let trailer = trailer_read (f.map.size.profiles * f.map.size.points) (gaps_after f.map.size.profiles) f.trailer (are_gaps f.map.size.profiles) forms.trailer in
+    let trailer = trailer_of-end_lines (f.map.size.profiles * f.map.size.points) (gaps_after f.map.size.profiles) f.trailer (gaps_after-are_gaps f.map.size.profiles) forms.trailer in
     file_in-whole_header (canonical f) f.version (record { entries = entries_of f; last = reads.last }) (data_text f) version header reads.rest_is
     ∙ body_in-whole_body f.version (entries_of f) (data_text f) (required_keys_for f) (record { map = map_with f.map.size (type_read f.map) f.map.cells; rest = gaps_after f.map.size.profiles ++ end_lines f.trailer }) f.trailer
-    (required_keys_are f whole forms) (map_reads f whole) trailer
+    (required_keys_of-entries_of f whole forms) (map_reads f whole) trailer
     ∙ ap (λ (x : File). Ok x) (parts_are f forms)
 
 -- the code of a type does not tell its places
@@ -223,9 +223,9 @@ unmasked_lines : (m : Map) (y : ℕ) → profile_lines (unmasked m) y ≡ profil
 unfolding profile_lines
 unmasked_lines m y = refl
 
-pub unmasked_text : (f : File) → canonical (record f { map = unmasked f.map }) ≡ canonical f
+pub canonical-unmasked : (f : File) → canonical (record f { map = unmasked f.map }) ≡ canonical f
 unfolding canonical name_lines scale_lines encoding_lines profile_lines
-unmasked_text f = refl
+canonical-unmasked f = refl
 
 -- nor are the places of a type without heights
 lines_stay : (m : Map) (y : ℕ) → profile_lines (typed (type_read m) (unmasked m)) y ≡ profile_lines m y
@@ -255,8 +255,8 @@ same_text f = ap₂ (λ (code : ℕ) (rows : List ℕ). line (version_text f.ver
     (code_stays f.map) (lines_stay f.map f.map.size.profiles)
 
 -- a file that is saved, read and saved again
-pub text_stays : (f again : File) → IsMap f.map → HasForms f → file_in (canonical f) ≡ Ok again → canonical again ≡ canonical f
-text_stays f again whole forms read =
-    let both : Ok (as_read f) ≡ Ok again = sym (reads_back f whole forms) ∙ read in
+pub canonical-stays : (f again : File) → IsMap f.map → HasForms f → file_in (canonical f) ≡ Ok again → canonical again ≡ canonical f
+canonical-stays f again whole forms read =
+    let both : Ok (as_read f) ≡ Ok again = sym (file_in-canonical f whole forms) ∙ read in
     let same : as_read f ≡ again = cc in
     ap canonical (sym same) ∙ same_text f

@@ -5,7 +5,7 @@ use Rattle.hd_map.specs.declared.types.Size.{Size}
 use Rattle.hd_map.specs.Map.{place_of, places_of}
 use Rattle.hd_map.proofs.PositionOrder.{IsAt}
 use Rattle.hd_sdf_write.specs.Data.{gap_after}
-use Rattle.hd_sdf_write.proofs.Data.{data_before, data_empty}
+use Rattle.hd_sdf_write.proofs.Data.{data_text-before, data_text-empty}
 use Rattle.hd_sdf_write.proofs.cells.write_data.Goals as goal
 
 -- the position of an index, in a size that is the same
@@ -27,7 +27,7 @@ points-init g c =
     let after = c.position_after-at.ensures in
     record {
       at = at_is m.size c.size-size.result c.args.to c.position_after-at.result c.size-size.ensures after.column (after.place ∙ ap (λ k. k + 1) c.position_of.ensures.place ∙ omega (arith, c.requires.some));
-      text = drop_all (length c.args.text.now) c.args.text.now (omega arith) ∙ sym (data_empty m c.args.to);
+      text = drop_all (length c.args.text.now) c.args.text.now (omega arith) ∙ sym (data_text-empty m c.args.to);
       least = omega (arith, c.requires.some);
       most = omega arith;
       room = c.requires.room;
@@ -48,7 +48,7 @@ points-preserved g c =
     let places = sym (c.places_of-places.ensures ∙ ap places_of c.data_type.ensures) in
     record {
       at = at;
-      text = data_before m index c.points.index c.args.to c.cell.result c.gap_after.result c.position_before-at.result (drop c.points.start c.points.text)
+      text = data_text-before m index c.points.index c.args.to c.cell.result c.gap_after.result c.position_before-at.result (drop c.points.start c.points.text)
           (drop c.write_byte-start.result c.write_byte-start.new.text) (drop c.write_cell-start.result c.write_cell-start.new.text)
           one so.most at.place so.text c.write_byte-start.ensures.text (c.write_cell-start.ensures.text m.data_type places) c.cell.ensures gap;
       least = omega (arith, some);

@@ -3,7 +3,7 @@ use Rattle.std.specs.Fmt.{decimal}
 use Rattle.hd_map.specs.Map.{code_of}
 use Rattle.hd_num.proofs.Percents.{OnOk-map}
 use Rattle.hd_sdf_write.specs.Canonical.{encoding_lines, entry_line}
-use Rattle.hd_sdf_write.proofs.Joined.{three_texts}
+use Rattle.hd_sdf_write.proofs.JoinedTexts.{three_texts}
 use Rattle.hd_sdf_write.proofs.header.push_encoding.Goals as goal
 
 pub returns : goal.returns

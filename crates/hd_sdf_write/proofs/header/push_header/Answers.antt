@@ -2,7 +2,7 @@ use Rattle.std.proofs.Common.{codes}
 use Rattle.hd_num.proofs.Percents.{OnOk-map}
 use Rattle.hd_sdf_write.specs.Canonical.{encoding_lines, extra_lines, line, name_lines, scale_lines, version_text}
 use Rattle.hd_sdf_write.specs.Texts.{file_with}
-use Rattle.hd_sdf_write.proofs.Joined.{six_texts}
+use Rattle.hd_sdf_write.proofs.JoinedTexts.{six_texts}
 use Rattle.hd_sdf_write.proofs.header.push_header.Goals as goal
 
 pub returns : goal.returns

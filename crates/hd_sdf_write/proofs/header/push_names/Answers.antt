@@ -3,7 +3,7 @@ use Rattle.std.specs.Fmt.{decimal}
 use Rattle.hd_map.specs.declared.types.Size.{Size}
 use Rattle.hd_num.proofs.Percents.{OnOk-map}
 use Rattle.hd_sdf_write.specs.Canonical.{entry_line, name_lines}
-use Rattle.hd_sdf_write.proofs.Joined.{five_texts}
+use Rattle.hd_sdf_write.proofs.JoinedTexts.{five_texts}
 use Rattle.hd_sdf_write.proofs.header.push_names.Goals as goal
 
 pub returns : goal.returns

@@ -1,7 +1,7 @@
 use Rattle.std.proofs.Common.{◌++◌, ap, codes, ◌∙◌}
 use Rattle.hd_num.proofs.Percents.{OnOk-map}
 use Rattle.hd_sdf_write.specs.Canonical.{entry_line, scale_lines}
-use Rattle.hd_sdf_write.proofs.Joined.{four_texts}
+use Rattle.hd_sdf_write.proofs.JoinedTexts.{four_texts}
 use Rattle.hd_sdf_write.proofs.header.push_scales.Goals as goal
 
 pub returns : goal.returns

@@ -1,5 +1,5 @@
-use Rattle.hd_sdf_write.proofs.ReadsBack.{unmasked_text}
+use Rattle.hd_sdf_write.proofs.ReadsBack.{canonical-unmasked}
 use Rattle.hd_sdf_write.proofs.laws.masks_are_not_written.Goals as goal
 
 pub returns : goal.returns
-returns c = unmasked_text
+returns c = canonical-unmasked

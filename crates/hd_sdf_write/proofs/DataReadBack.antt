@@ -32,7 +32,7 @@ use Rattle.hd_sdf_read.proofs.WholeFronts.{whole_of-apart}
 use Rattle.hd_sdf_write.specs.Canonical.{cell_text, line, profile, profile_lines, spaced}
 use Rattle.hd_sdf_read.proofs.TextFronts.{after_token-front, token_of-front}
 use Rattle.hd_sdf_read.proofs.Gapless.{is_decimal-form, is_gap-decimal, whole_of-some}
-use Rattle.hd_sdf_write.proofs.Profiles.{length-profile}
+use Rattle.hd_sdf_write.proofs.SpacedProfiles.{profile-length}
 
 -- heights fit 64 bits
 small_fits : (h : ℤ) → negsuc 9007199254740991 ≤ℤ h → h ≤ℤ pos 9007199254740992 → FitsSigned w64 h
@@ -58,8 +58,8 @@ height_text (Single places) h whole = cc
 height_text (Double places) h whole = cc
 
 -- a height of any type is a decimal
-pub height_decimal : (t : DataType) (h : ℤ) → places_of t ≤ most_places → IsCellOf t (Height h) → decimal_of (cell_text t (Height h)) ≡ Some (steps_decimal h (places_of t))
-height_decimal t h few fits = steps_read h (places_of t) (height_fits t h (fits h refl).0 (fits h refl).1) few
+pub decimal_of-cell_text : (t : DataType) (h : ℤ) → places_of t ≤ most_places → IsCellOf t (Height h) → decimal_of (cell_text t (Height h)) ≡ Some (steps_decimal h (places_of t))
+decimal_of-cell_text t h few fits = steps_read h (places_of t) (height_fits t h (fits h refl).0 (fits h refl).1) few
 
 -- a datum is a token
 pub record IsToken (token : List ℕ) : Type 0 where
@@ -71,10 +71,10 @@ unfolding decimal_of
 decimal_some [] d is = let wrong : None ≡ Some d = is in cc
 decimal_some (x ∷ xs) d is = omega arith
 
-pub cell_token : (t : DataType) (cell : Cell) → places_of t ≤ most_places → IsCellOf t cell → IsToken (cell_text t cell)
-cell_token t Bad few fits = record { some = omega arith; none = refl }
-cell_token t (Height h) few fits =
-    let decimal = height_decimal t h few fits in
+pub IsToken-cell_text : (t : DataType) (cell : Cell) → places_of t ≤ most_places → IsCellOf t cell → IsToken (cell_text t cell)
+IsToken-cell_text t Bad few fits = record { some = omega arith; none = refl }
+IsToken-cell_text t (Height h) few fits =
+    let decimal = decimal_of-cell_text t h few fits in
     record {
       some = decimal_some (cell_text t (Height h)) (steps_decimal h (places_of t)) decimal;
       none = is_gap-decimal (cell_text t (Height h)) (is_decimal-form (cell_text t (Height h)) (steps_decimal h (places_of t)) decimal);
@@ -120,9 +120,9 @@ abbrev pub AllFit : DataType → List Cell → Type 0
 AllFit t [] = Unit {0}
 AllFit t (cell ∷ cells) = IsCellOf t cell × AllFit t cells
 
-pub all_fit : (t : DataType) (cells : List Cell) → AreCellsOf t cells → AllFit t cells
-all_fit t [] fits = tt
-all_fit t (cell ∷ cells) fits = (fits 0 (omega arith), all_fit t cells (λ k inside. fits (suc k) (omega arith)))
+pub AllFit-cells : (t : DataType) (cells : List Cell) → AreCellsOf t cells → AllFit t cells
+AllFit-cells t [] fits = tt
+AllFit-cells t (cell ∷ cells) fits = (fits 0 (omega arith), AllFit-cells t cells (λ k inside. fits (suc k) (omega arith)))
 
 -- cells whose data a text holds are read from it
 cells_laid : (t : DataType) (cells : List Cell) (read : ℕ) (text tail : List ℕ) → has_decimals t ≡ false → places_of t ≤ most_places → AllFit t cells → Laid t cells text tail
@@ -131,7 +131,7 @@ unfolding cells_from
 cells_laid t [] read text tail whole few fits laid = ap (λ (r : List ℕ). Ok (record { cells = []; rest = r })) laid
 cells_laid t (cell ∷ cells) read text tail whole few fits laid =
     let b = laid.0 in
-    let token = cell_token t cell few fits.0 in
+    let token = IsToken-cell_text t cell few fits.0 in
     let found : datum_at (least_height t) (greatest_height t) read text ≡ Ok cell =
     datum_read t read text cell whole fits.0 (ap token_of b.whole ∙ token_of-front b.front (cell_text t cell) b.gap b.rest b.gaps token.some token.none b.ends) in
     let after : after_token text ≡ b.gap ∷ b.rest = ap after_token b.whole ∙ after_token-front b.front (cell_text t cell) b.gap b.rest b.gaps token.some token.none b.ends in
@@ -165,20 +165,20 @@ pub gaps_after : ℕ → List ℕ
 gaps_after zero = []
 gaps_after (suc y) = 10 ∷ []
 
-pub are_gaps : (y : ℕ) → list_all is_gap (gaps_after y) ≡ true
+pub gaps_after-are_gaps : (y : ℕ) → list_all is_gap (gaps_after y) ≡ true
 unfolding gaps_after
-are_gaps zero = refl
-are_gaps (suc y) = refl
+gaps_after-are_gaps zero = refl
+gaps_after-are_gaps (suc y) = refl
 
 -- the data of so many profiles
 laid_profiles : (m : Map) (y : ℕ) (rest : List ℕ) → IsMap m → y ≤ m.size.profiles → Laid m.data_type (take (y * m.size.points) m.cells) (profile_lines m y ++ rest) (gaps_after y ++ rest)
 unfolding profile_lines gaps_after
 laid_profiles m zero rest whole inside = let none : 0 ≡ 0 * m.size.points = omega arith in subst (λ n. Laid m.data_type (take n m.cells) rest rest) none refl
 laid_profiles m (suc y) rest whole inside =
-    let size = length-profile m y whole (omega arith) in
+    let size = profile-length m y whole (omega arith) in
     let some = whole.size.some_points in
     let before = laid_profiles m y (spaced m.data_type (profile m y) ++ 10 ∷ rest) whole (omega arith) in
-    let row = laid_filled m.data_type (profile m y) (gaps_after y) rest (omega (arith, size, some)) (are_gaps y) in
+    let row = laid_filled m.data_type (profile m y) (gaps_after y) rest (omega (arith, size, some)) (gaps_after-are_gaps y) in
     let text : (profile_lines m y ++ line (spaced m.data_type (profile m y))) ++ rest ≡ profile_lines m y ++ (spaced m.data_type (profile m y) ++ 10 ∷ rest) =
     append_assoc (profile_lines m y) (line (spaced m.data_type (profile m y))) rest ∙ ap (λ (t : List ℕ). profile_lines m y ++ t) (append_assoc (spaced m.data_type (profile m y)) (10 ∷ []) rest) in
     let count : suc y * m.size.points ≡ y * m.size.points + m.size.points = omega arith in
@@ -192,15 +192,15 @@ laid_profiles m (suc y) rest whole inside =
     (subst (λ (cs : List Cell). Laid m.data_type cs (profile_lines m y ++ (spaced m.data_type (profile m y) ++ 10 ∷ rest)) (10 ∷ rest)) (sym cells) laid)
 
 -- the lines of a map hold its cells
-pub cells_are_laid : (m : Map) (rest : List ℕ) → IsMap m → Laid m.data_type m.cells (profile_lines m m.size.profiles ++ rest) (gaps_after m.size.profiles ++ rest)
-cells_are_laid m rest whole =
+pub Laid-profile_lines : (m : Map) (rest : List ℕ) → IsMap m → Laid m.data_type m.cells (profile_lines m m.size.profiles ++ rest) (gaps_after m.size.profiles ++ rest)
+Laid-profile_lines m rest whole =
     let all : take (m.size.profiles * m.size.points) m.cells ≡ m.cells = take_all (m.size.profiles * m.size.points) m.cells (omega (arith, whole.cells)) in
     subst (λ (cs : List Cell). Laid m.data_type cs (profile_lines m m.size.profiles ++ rest) (gaps_after m.size.profiles ++ rest)) all (laid_profiles m m.size.profiles rest whole (omega arith))
 
 -- whole numbers are read from them
-pub whole_read : (m : Map) (rest : List ℕ) → IsMap m → has_decimals m.data_type ≡ false
+pub cells_from-profile_lines : (m : Map) (rest : List ℕ) → IsMap m → has_decimals m.data_type ≡ false
     → cells_from (least_height m.data_type) (greatest_height m.data_type) 0 (m.size.profiles * m.size.points) (profile_lines m m.size.profiles ++ rest)
     ≡ Ok (record { cells = m.cells; rest = gaps_after m.size.profiles ++ rest })
-whole_read m rest whole type =
+cells_from-profile_lines m rest whole type =
     ap (λ n. cells_from (least_height m.data_type) (greatest_height m.data_type) 0 n (profile_lines m m.size.profiles ++ rest)) (sym whole.cells)
-    ∙ cells_laid m.data_type m.cells 0 (profile_lines m m.size.profiles ++ rest) (gaps_after m.size.profiles ++ rest) type whole.places (all_fit m.data_type m.cells whole.heights) (cells_are_laid m rest whole)
+    ∙ cells_laid m.data_type m.cells 0 (profile_lines m m.size.profiles ++ rest) (gaps_after m.size.profiles ++ rest) type whole.places (AllFit-cells m.data_type m.cells whole.heights) (Laid-profile_lines m rest whole)

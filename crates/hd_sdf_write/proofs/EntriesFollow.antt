@@ -18,7 +18,7 @@ use Rattle.hd_sdf_read.specs.File.{File, HasForms, is_entry, is_extra, is_header
 use Rattle.hd_sdf_read.specs.Keys.{form_of, judge, judge_type, known_keys}
 use Rattle.hd_sdf_read.proofs.Gapless.{is_decimal-form, is_header_value-decimal, is_header_value-gapless, is_gap-number}
 use Rattle.hd_sdf_read.proofs.AllFollow.{AllFollow, AllFollow-new, AllFollow-append, AllFollow-extra, same_key-unknown}
-use Rattle.hd_sdf_write.proofs.Known.{code_few, code_known, entries_of, extent_is, firsts, known, last_entry, no_extra, type_entry, whole_of-decimal}
+use Rattle.hd_sdf_write.proofs.KnownEntries.{code_of-few, code_of-known, entries_of, extent_of-decimal, firsts, known, last_entry, extra_entries-known, type_entry, whole_of-decimal}
 
 -- the known values have their forms
 extent_value : (n : ℕ) → n ≤ 65535 → is_header_value (decimal n) ≡ true
@@ -27,16 +27,16 @@ extent_value n few =
     is_header_value-gapless (decimal n) (omega arith) (is_gap-number (decimal n) (pos n) (whole_of-decimal n few))
 
 extent_right : (n : ℕ) → 1 ≤ n → n ≤ 65535 → judge Extent (decimal n) ≡ Right
-extent_right n some few = ap (λ (o : Option ℕ). cond (is_some o) Right Wrong) (extent_is n some few)
+extent_right n some few = ap (λ (o : Option ℕ). cond (is_some o) Right Wrong) (extent_of-decimal n some few)
 
 number_right : (d : Decimal) → decimal_of d.literal ≡ Some d → judge Number d.literal ≡ Right
 number_right d is = ap (λ b. cond b Right Wrong) (is_decimal-form d.literal d is)
 
 type_right : (t : DataType) → judge TypeCode (decimal (code_of t)) ≡ Right
-type_right t = ap judge_type (whole_of-decimal (code_of t) (code_few t)) ∙ (code_known t).0
+type_right t = ap judge_type (whole_of-decimal (code_of t) (code_of-few t)) ∙ (code_of-known t).0
 
 type_value : (t : DataType) → is_header_value (decimal (code_of t)) ≡ true
-type_value t = extent_value (code_of t) (code_few t)
+type_value t = extent_value (code_of t) (code_of-few t)
 
 -- the known entries before the type have no offence
 firsts_follow : (f : File) → IsMap f.map → HasForms f → AllFollow [] (firsts f)
@@ -107,8 +107,8 @@ known_new f (e ∷ es) good =
     and_from _ _ (ap not (same_key-unknown known_keys e.key form.1)) (known_new f es goods.1)
 
 -- nor have all entries of a file
-pub entries_follow : (f : File) → IsMap f.map → HasForms f → AllFollow [] (entries_of f)
-entries_follow f whole forms =
+pub AllFollow-entries_of : (f : File) → IsMap f.map → HasForms f → AllFollow [] (entries_of f)
+AllFollow-entries_of f whole forms =
     let few = forms.few in
     AllFollow-append [] (known f) f.extra (known_follow f whole forms)
-    (AllFollow-extra f.extra (known f) (omega (arith, few, ap length (no_extra f []))) forms.extra forms.apart (known_new f f.extra forms.extra))
+    (AllFollow-extra f.extra (known f) (omega (arith, few, ap length (extra_entries-known f []))) forms.extra forms.apart (known_new f f.extra forms.extra))

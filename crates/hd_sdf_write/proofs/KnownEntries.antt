@@ -49,58 +49,58 @@ known f = firsts f ++ (type_entry f ∷ last_entry ∷ [])
 pub whole_of-decimal : (n : ℕ) → n ≤ 65535 → whole_of (decimal n) ≡ Is (pos n)
 whole_of-decimal n few = whole_of-signed_decimal (pos n) (record { sfits = omega arith })
 
-pub extent_is : (n : ℕ) → 1 ≤ n → n ≤ 65535 → extent_of (decimal n) ≡ Some n
-extent_is n some few =
+pub extent_of-decimal : (n : ℕ) → 1 ≤ n → n ≤ 65535 → extent_of (decimal n) ≡ Some n
+extent_of-decimal n some few =
     let range : is_in_range 1 65535 n ≡ true = and_from _ _ (le-leb 1 n some) (le-leb n 65535 few) in
     ap extent_in (whole_of-decimal n few) ∙ ap (λ b. cond b (Some n) None) range
 
 -- the code of a type
-pub code_few : (t : DataType) → code_of t ≤ 65535
-code_few U8 = omega arith
-code_few U16 = omega arith
-code_few U32 = omega arith
-code_few I8 = omega arith
-code_few I16 = omega arith
-code_few I32 = omega arith
-code_few (Single places) = omega arith
-code_few (Double places) = omega arith
+pub code_of-few : (t : DataType) → code_of t ≤ 65535
+code_of-few U8 = omega arith
+code_of-few U16 = omega arith
+code_of-few U32 = omega arith
+code_of-few I8 = omega arith
+code_of-few I16 = omega arith
+code_of-few I32 = omega arith
+code_of-few (Single places) = omega arith
+code_of-few (Double places) = omega arith
 
-pub code_known : (t : DataType) → (judge_type (Is (pos (code_of t))) ≡ Right) × (type_by_code (code_of t) ≡ Some (with_places t 0))
-code_known U8 = (refl, refl)
-code_known U16 = (refl, refl)
-code_known U32 = (refl, refl)
-code_known I8 = (refl, refl)
-code_known I16 = (refl, refl)
-code_known I32 = (refl, refl)
-code_known (Single places) = (refl, refl)
-code_known (Double places) = (refl, refl)
+pub code_of-known : (t : DataType) → (judge_type (Is (pos (code_of t))) ≡ Right) × (type_by_code (code_of t) ≡ Some (with_places t 0))
+code_of-known U8 = (refl, refl)
+code_of-known U16 = (refl, refl)
+code_of-known U32 = (refl, refl)
+code_of-known I8 = (refl, refl)
+code_of-known I16 = (refl, refl)
+code_of-known I32 = (refl, refl)
+code_of-known (Single places) = (refl, refl)
+code_of-known (Double places) = (refl, refl)
 
 type_is : (t : DataType) → type_of (decimal (code_of t)) ≡ Some (with_places t 0)
-type_is t = ap type_in (whole_of-decimal (code_of t) (code_few t)) ∙ (code_known t).1
+type_is t = ap type_in (whole_of-decimal (code_of t) (code_of-few t)) ∙ (code_of-known t).1
 
-pub no_extra : (f : File) (es : List Extra) → extra_entries (known f ++ es) ≡ extra_entries es
+pub extra_entries-known : (f : File) (es : List Extra) → extra_entries (known f ++ es) ≡ extra_entries es
 unfolding form_of
-no_extra f es = refl
+extra_entries-known f es = refl
 
 -- all entries of a file
 abbrev pub entries_of : File → List Extra
 entries_of f = known f ++ f.extra
 
-pub extra_is : (f : File) → HasForms f → extra_entries (entries_of f) ≡ f.extra
-extra_is f forms = no_extra f f.extra ∙ extra_entries-kept f.extra forms.extra
+pub extra_entries-entries_of : (f : File) → HasForms f → extra_entries (entries_of f) ≡ f.extra
+extra_entries-entries_of f forms = extra_entries-known f f.extra ∙ extra_entries-kept f.extra forms.extra
 
 -- what the required keys say
 abbrev pub required_keys_for : File → RequiredKeys
 required_keys_for f = record { size = f.map.size; data_type = with_places f.map.data_type 0; x_scale = f.x_scale; y_scale = f.y_scale; z_scale = f.z_scale }
 
-pub required_keys_are : (f : File) → IsMap f.map → HasForms f → required_keys_of (entries_of f) ≡ Ok (required_keys_for f)
+pub required_keys_of-entries_of : (f : File) → IsMap f.map → HasForms f → required_keys_of (entries_of f) ≡ Ok (required_keys_for f)
 unfolding required_keys_of
-required_keys_are f whole forms =
+required_keys_of-entries_of f whole forms =
     let size = whole.size in
     let few : leb (cell_count f.map.size) 4194304 ≡ true = le-leb (cell_count f.map.size) 4194304 size.cells in
     rw (
-      extent_is f.map.size.points size.some_points size.points,
-      extent_is f.map.size.profiles size.some_profiles size.profiles,
+      extent_of-decimal f.map.size.points size.some_points size.points,
+      extent_of-decimal f.map.size.profiles size.some_profiles size.profiles,
       forms.x_scale,
       forms.y_scale,
       forms.z_scale,
@@ -108,5 +108,5 @@ required_keys_are f whole forms =
       few,
     ) refl
 
-pub resolution_is : (f : File) → HasForms f → resolution_of (entries_of f) ≡ f.z_resolution
-resolution_is f forms = rw forms.z_resolution refl
+pub resolution_of-entries_of : (f : File) → HasForms f → resolution_of (entries_of f) ≡ f.z_resolution
+resolution_of-entries_of f forms = rw forms.z_resolution refl

@@ -20,17 +20,17 @@ spaced_push data_type (first ∷ cells) cell some =
     ∙ sym (append_assoc (spaced data_type (first ∷ cells)) (32 ∷ []) (cell_text data_type cell))
 
 -- a profile has as many cells as it has points
-pub length-profile : (m : Map) (y : ℕ) → IsMap m → y < m.size.profiles → length (profile m y) ≡ m.size.points
-length-profile m y whole inside =
+pub profile-length : (m : Map) (y : ℕ) → IsMap m → y < m.size.profiles → length (profile m y) ≡ m.size.points
+profile-length m y whole inside =
     let rows : suc y * m.size.points ≤ m.size.profiles * m.size.points = mul-le-mul_right m.size.points inside in
     let cells = whole.cells in
     omega (arith, rows, cells, length-take (y * m.size.points + m.size.points - y * m.size.points) (drop (y * m.size.points) m.cells), length-drop (y * m.size.points) m.cells)
 
 -- one more cell of a profile
-pub row_more : (m : Map) (x y : ℕ) (p : Pos) (cell : Cell) → IsMap m → 0 < x → x < m.size.points → y < m.size.profiles → p ≡ record { x = x; y = y } → cell ≡ cell_at m p
+pub spaced-more : (m : Map) (x y : ℕ) (p : Pos) (cell : Cell) → IsMap m → 0 < x → x < m.size.points → y < m.size.profiles → p ≡ record { x = x; y = y } → cell ≡ cell_at m p
     → spaced m.data_type (take (x + 1) (profile m y)) ≡ (spaced m.data_type (take x (profile m y)) ++ 32 ∷ []) ++ cell_text m.data_type cell
-row_more m x y p cell whole some inside below at is =
-    let size = length-profile m y whole below in
+spaced-more m x y p cell whole some inside below at is =
+    let size = profile-length m y whole below in
     let start : ℕ = y * m.size.points in
     let here : get_or (profile m y) x Bad ≡ cell =
     get_or-take (start + m.size.points - start) (drop start m.cells) x Bad (omega arith) ∙ get_or-drop start m.cells x Bad ∙ sym (is ∙ ap (cell_at m) at) in
@@ -38,10 +38,10 @@ row_more m x y p cell whole some inside below at is =
     ∙ spaced_push m.data_type (take x (profile m y)) cell (omega (arith, length-take x (profile m y)))
 
 -- the first datum of a profile, as it is written
-pub row_first : (m : Map) (y : ℕ) (cell : Cell) → IsMap m → y < m.size.profiles → cell ≡ cell_at m (record { x = 0; y = y })
+pub spaced-first : (m : Map) (y : ℕ) (cell : Cell) → IsMap m → y < m.size.profiles → cell ≡ cell_at m (record { x = 0; y = y })
     → (out after : List ℕ) → after ≡ out ++ cell_text m.data_type cell → after ≡ out ++ spaced m.data_type (take 1 (profile m y))
-row_first m y cell whole below is out after more =
-    let size = length-profile m y whole below in
+spaced-first m y cell whole below is out after more =
+    let size = profile-length m y whole below in
     let some = whole.size.some_points in
     let start : ℕ = y * m.size.points in
     let here : get_or (profile m y) 0 Bad ≡ cell =

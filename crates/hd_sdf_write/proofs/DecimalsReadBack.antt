@@ -22,7 +22,7 @@ use Rattle.hd_sdf_read.proofs.DecimalTokens.{decimal_of-apart, decimal_of-star, 
 use Rattle.hd_sdf_read.proofs.Scaling.{ranged-in, with_places-again}
 use Rattle.hd_sdf_read.proofs.TextFronts.{after_token-front, token_of-front}
 use Rattle.hd_sdf_write.specs.Canonical.{cell_text, is_height, profile_lines, type_read}
-use Rattle.hd_sdf_write.proofs.Laid.{AllFit, Laid, all_fit, cell_token, cells_are_laid, gaps_after, height_decimal}
+use Rattle.hd_sdf_write.proofs.DataReadBack.{AllFit, Laid, AllFit-cells, IsToken-cell_text, Laid-profile_lines, gaps_after, decimal_of-cell_text}
 
 -- the datum that the text of a cell is
 abbrev pub datum_for : ℕ → Cell → Datum
@@ -33,7 +33,7 @@ datum_for p (Height h) = Measured (int_lt h (pos 0)) (unsigned_abs h) p
 datum_read : (t : DataType) (p number : ℕ) (cell : Cell) → places_of t ≡ p → p ≤ most_places → IsCellOf t cell → datum_of number (cell_text t cell) ≡ Ok (datum_for p cell)
 datum_read t p number Bad is few fits = refl
 datum_read t p number (Height h) is few fits =
-    let decimal = height_decimal t h (rw is few) fits in
+    let decimal = decimal_of-cell_text t h (rw is few) fits in
     let bad : bytes_eq (cell_text t (Height h)) (codes "BAD") ≡ false = decimal_of-apart (codes "BAD") (cell_text t (Height h)) (steps_decimal h (places_of t)) decimal_of-bad decimal in
     rw (bad, decimal) (ap Ok (ap₂ (Measured (int_lt h (pos 0))) (power_above-is (unsigned_abs h) (places_of t)) (places_below-is (places_of t) ∙ is)))
 
@@ -51,28 +51,28 @@ most_few p [] = omega arith
 most_few p (Bad ∷ cells) = let more = most_few p cells in omega (arith, more)
 most_few p (Height h ∷ cells) = let more = most_few p cells in omega (arith, more)
 
-pub most_is : (p : ℕ) (cells : List Cell) → most_places_in (data_for p cells) ≡ cond (list_any is_height cells) p 0
-most_is p [] = refl
-most_is p (Bad ∷ cells) = let more = most_is p cells in omega (arith, more)
-most_is p (Height h ∷ cells) = let more = most_few p cells in omega (arith, more)
+pub most_places_in-data_for : (p : ℕ) (cells : List Cell) → most_places_in (data_for p cells) ≡ cond (list_any is_height cells) p 0
+most_places_in-data_for p [] = refl
+most_places_in-data_for p (Bad ∷ cells) = let more = most_places_in-data_for p cells in omega (arith, more)
+most_places_in-data_for p (Height h ∷ cells) = let more = most_few p cells in omega (arith, more)
 
 -- in these places the data are the cells
-pub cells_back : (q p : ℕ) (cells : List Cell) → most_places_in (data_for p cells) ≤ q → q ≤ p → cells_at q (data_for p cells) ≡ cells
-cells_back q p [] most few = refl
-cells_back q p (Bad ∷ cells) most few = ap (λ (cs : List Cell). Bad ∷ cs) (cells_back q p cells (omega (arith, most)) few)
-cells_back q p (Height h ∷ cells) most few =
+pub cells_at-data_for : (q p : ℕ) (cells : List Cell) → most_places_in (data_for p cells) ≤ q → q ≤ p → cells_at q (data_for p cells) ≡ cells
+cells_at-data_for q p [] most few = refl
+cells_at-data_for q p (Bad ∷ cells) most few = ap (λ (cs : List Cell). Bad ∷ cs) (cells_at-data_for q p cells (omega (arith, most)) few)
+cells_at-data_for q p (Height h ∷ cells) most few =
     let none : q - p ≡ 0 = omega (arith, most, few) in
     let plain : unsigned_abs h * 10 ^ 0 ≡ unsigned_abs h = omega arith in
     ap₂ (λ (c : Cell) (cs : List Cell). c ∷ cs)
     (ap (λ n. Height (signed_number (int_lt h (pos 0)) (unsigned_abs h * 10 ^ n))) none ∙ ap (λ n. Height (signed_number (int_lt h (pos 0)) n)) plain ∙ ap Height (sign_back h))
-    (cells_back q p cells (omega (arith, most)) few)
+    (cells_at-data_for q p cells (omega (arith, most)) few)
 
 -- they are in range
 data_ranged : (p : ℕ) (cells : List Cell) → p ≤ most_places → greatest_in cells ≤ most_steps → ranged (data_for p cells) ≡ Ok (data_for p cells)
 data_ranged p cells few small =
     let most = most_few p cells in
     let q : ℕ = most_places_in (data_for p cells) in
-    let back : cells_at q (data_for p cells) ≡ cells = cells_back q p cells (omega arith) most in
+    let back : cells_at q (data_for p cells) ≡ cells = cells_at-data_for q p cells (omega arith) most in
     ranged-in (data_for p cells) q refl (omega (arith, most, few)) (omega (arith, ap greatest_in back, small))
 
 -- cells at the front are no farther from 0
@@ -98,7 +98,7 @@ cells_small t (cell ∷ cells) decimals fits = let first = cell_small t cell dec
 -- the text of a cell is no `*` and not nothing
 no_star : (t : DataType) (cell : Cell) → places_of t ≤ most_places → IsCellOf t cell → is_star (cell_text t cell) ≡ false
 no_star t Bad few fits = refl
-no_star t (Height h) few fits = decimal_of-apart (codes "*") (cell_text t (Height h)) (steps_decimal h (places_of t)) decimal_of-star (height_decimal t h few fits)
+no_star t (Height h) few fits = decimal_of-apart (codes "*") (cell_text t (Height h)) (steps_decimal h (places_of t)) decimal_of-star (decimal_of-cell_text t h few fits)
 
 -- cells whose data a text holds are read from it, behind others
 decimals_laid : (t : DataType) (p : ℕ) (before cells : List Cell) (text tail : List ℕ) → places_of t ≡ p → p ≤ most_places → AllFit t cells → greatest_in (before ++ cells) ≤ most_steps → Laid t cells text tail
@@ -108,7 +108,7 @@ decimals_laid t p before [] text tail is few fits small laid = ap₂ (λ (cs : L
 decimals_laid t p before (cell ∷ cells) text tail is few fits small laid =
     let b = laid.0 in
     let places : places_of t ≤ most_places = rw is few in
-    let token = cell_token t cell places fits.0 in
+    let token = IsToken-cell_text t cell places fits.0 in
     let some = token.some in
     let found : token_of text ≡ cell_text t cell = ap token_of b.whole ∙ token_of-front b.front (cell_text t cell) b.gap b.rest b.gaps token.some token.none b.ends in
     let after : after_token text ≡ b.gap ∷ b.rest = ap after_token b.whole ∙ after_token-front b.front (cell_text t cell) b.gap b.rest b.gaps token.some token.none b.ends in
@@ -124,19 +124,19 @@ decimals_laid t p before (cell ∷ cells) text tail is few fits small laid =
     ∙ ap (λ (cs : List Cell). Ok (record { items = data_for p cs; rest = tail })) whole
 
 -- the decimals of a map are read from its lines
-pub decimals_read : (m : Map) (rest : List ℕ) → IsMap m → has_decimals m.data_type ≡ true
+pub decimals_from-profile_lines : (m : Map) (rest : List ℕ) → IsMap m → has_decimals m.data_type ≡ true
     → decimals_from [] (m.size.profiles * m.size.points) (profile_lines m m.size.profiles ++ rest) ≡ Ok (record { items = data_for (places_of m.data_type) m.cells; rest = gaps_after m.size.profiles ++ rest })
-decimals_read m rest whole decimals =
-    let fits = all_fit m.data_type m.cells whole.heights in
+decimals_from-profile_lines m rest whole decimals =
+    let fits = AllFit-cells m.data_type m.cells whole.heights in
     ap (λ n. decimals_from [] n (profile_lines m m.size.profiles ++ rest)) (sym whole.cells)
     ∙ decimals_laid m.data_type (places_of m.data_type) [] m.cells (profile_lines m m.size.profiles ++ rest) (gaps_after m.size.profiles ++ rest) refl whole.places fits
-    (cells_small m.data_type m.cells decimals fits) (cells_are_laid m rest whole)
+    (cells_small m.data_type m.cells decimals fits) (Laid-profile_lines m rest whole)
 
 -- their cells and their type
-pub cells_are_read : (m : Map) → cells_at (most_places_in (data_for (places_of m.data_type) m.cells)) (data_for (places_of m.data_type) m.cells) ≡ m.cells
-cells_are_read m =
+pub cells_at-most_places : (m : Map) → cells_at (most_places_in (data_for (places_of m.data_type) m.cells)) (data_for (places_of m.data_type) m.cells) ≡ m.cells
+cells_at-most_places m =
     let p : ℕ = places_of m.data_type in
-    cells_back (most_places_in (data_for p m.cells)) p m.cells (omega arith) (most_few p m.cells)
+    cells_at-data_for (most_places_in (data_for p m.cells)) p m.cells (omega arith) (most_few p m.cells)
 
 type_places : (t : DataType) → has_decimals t ≡ true → with_places (with_places t 0) (places_of t) ≡ t
 type_places (Single places) decimals = refl
@@ -148,8 +148,8 @@ type_places I8 decimals = cc
 type_places I16 decimals = cc
 type_places I32 decimals = cc
 
-pub type_is_read : (m : Map) → has_decimals m.data_type ≡ true → with_places (with_places m.data_type 0) (most_places_in (data_for (places_of m.data_type) m.cells)) ≡ type_read m
-type_is_read m decimals = elim (cases_Bool (list_any is_height m.cells)) [
-  | inl some ↦ ap (with_places (with_places m.data_type 0)) (most_is (places_of m.data_type) m.cells ∙ rw some refl) ∙ type_places m.data_type decimals ∙ rw some refl
-  | inr none ↦ ap (with_places (with_places m.data_type 0)) (most_is (places_of m.data_type) m.cells ∙ rw none refl) ∙ with_places-again m.data_type 0 0 ∙ rw none refl
+pub type_read-with_places : (m : Map) → has_decimals m.data_type ≡ true → with_places (with_places m.data_type 0) (most_places_in (data_for (places_of m.data_type) m.cells)) ≡ type_read m
+type_read-with_places m decimals = elim (cases_Bool (list_any is_height m.cells)) [
+  | inl some ↦ ap (with_places (with_places m.data_type 0)) (most_places_in-data_for (places_of m.data_type) m.cells ∙ rw some refl) ∙ type_places m.data_type decimals ∙ rw some refl
+  | inr none ↦ ap (with_places (with_places m.data_type 0)) (most_places_in-data_for (places_of m.data_type) m.cells ∙ rw none refl) ∙ with_places-again m.data_type 0 0 ∙ rw none refl
 ]
