@@ -16,7 +16,7 @@ use Rattle.hd_morph.specs.Raised.{plus}
 use Rattle.hd_morph.specs.declared.errors.MorphError.{MorphError}
 use Rattle.hd_morph.specs.declared.errors.MorphError.TheVariants as morph
 use Rattle.hd_morph.specs.Rectangle.{AreRaisedLists, AreRaisedWithin, IsRaiseRefusal, IsRaisedOutside}
-use Rattle.hd_morph.proofs.Listed.{cells_of_heights, get_or_cells_after, length_cells_after}
+use Rattle.hd_morph.proofs.Listed.{AreCellsWith-cells_after, cells_after-get_or, cells_after-length}
 use Rattle.hd_edit.specs.declared.edit.EditError.TheVariants.{HeightRange}
 use Rattle.hd_edit.specs.declared.stroke.Stroke.TheVariants as stroke
 use Rattle.hd_edit.specs.Board.{IsRefusalBy}
@@ -111,7 +111,7 @@ module _ (m : Map) (whole : IsMap m) (from to : Pos) (n : ℤ) where
     raised_new = record {
       held = are.held;
       plain = are.plain;
-      of_type = (cells_of_heights m (values_of narrow news) whole are.of_type).of_type;
+      of_type = (AreCellsWith-cells_after m (values_of narrow news) whole are.of_type).of_type;
       others = raised_others (values_of narrow news) are.raised;
     }
 
@@ -122,6 +122,6 @@ module _ (m : Map) (whole : IsMap m) (from to : Pos) (n : ℤ) where
         let fits : IsStrokeOf m from to (stroke.Raise n) = λ p inside.
         let k = place_of m.size p in
         let below = place_inside m.size p inside in
-        subst (λ (c : Cell). IsCellOf m.data_type c) (get_or_cells_after m (values_of narrow news) k Bad below ∙ new_is (relief m.size (values_of narrow news)) are.raised p inside)
-        (raised_new.of_type k (omega (arith, below, length_cells_after m (values_of narrow news)))) in
+        subst (λ (c : Cell). IsCellOf m.data_type c) (cells_after-get_or m (values_of narrow news) k Bad below ∙ new_is (relief m.size (values_of narrow news)) are.raised p inside)
+        (raised_new.of_type k (omega (arith, below, cells_after-length m (values_of narrow news)))) in
         sym (outcome-made m whole from to (stroke.Raise n) none fits ∙ ap Ok (sym map))

@@ -26,9 +26,9 @@ use Rattle.hd_morph.specs.NewHeights.{cell_after, cells_after}
 use Rattle.hd_morph.specs.Lists.{AreOldAndNew}
 use Rattle.hd_morph.specs.declared.new_heights.OldAndNew.{OldAndNew}
 use Rattle.hd_morph.specs.declared.new_heights.OldAndNew.TheVariants.{Narrow, Wide}
-use Rattle.hd_morph.proofs.Encodings.{length_values}
-use Rattle.hd_morph.proofs.Listed.{get_or_cells_after, length_cells_after}
-use Rattle.hd_morph.proofs.PlainNumbers.{some_or_none}
+use Rattle.hd_morph.proofs.Encodings.{values_of-length}
+use Rattle.hd_morph.proofs.Listed.{cells_after-get_or, cells_after-length}
+use Rattle.hd_morph.proofs.PlainNumbers.{Option-some_or_none}
 use Rattle.hd_edit.specs.declared.entry.Entry.{Entry}
 use Rattle.hd_edit.specs.declared.entry.Entry.TheVariants as entry
 use Rattle.hd_edit.specs.Entry.{AreHeightsFor, before_entry}
@@ -59,7 +59,7 @@ filtered_absent Closing s e f g is = λ p inside none. is.second.absent p inside
 -- so its cell stays
 others_left : (filter : Filter) (m : Map) (e : ElementTable) (heights : List (Option ℤ)) → AreFilteredCells filter m e (cells_after m heights) → LeavesOthers m heights
 others_left filter m e heights are = λ p inside none.
-    sym (get_or_cells_after m heights (place_of m.size p) Bad (place_inside m.size p inside)) ∙ are.are_cells.absent p inside (filtered_absent filter m.size e (relief_of m) are.heights are.filtered p inside none)
+    sym (cells_after-get_or m heights (place_of m.size p) Bad (place_inside m.size p inside)) ∙ are.are_cells.absent p inside (filtered_absent filter m.size e (relief_of m) are.heights are.filtered p inside none)
 
 -- new heights of a filter, in lists of either type
 pub lists_new : (filter : Filter) (m : Map) (e : ElementTable) (lists : OldAndNew) → AreOldAndNew filter m e lists → IsNewFor m lists
@@ -113,8 +113,8 @@ new_or_old t None old fits before = before
 -- with heights of the type each cell of a map is of it
 pub fitting_cells : (m : Map) (heights : List (Option ℤ)) → IsMap m → AreHeightsIn m.data_type heights → AreCellsOf m.data_type (cells_after m heights)
 fitting_cells m heights whole fit = λ k inside.
-    let below : k < cell_count m.size = omega (arith, inside, length_cells_after m heights) in
-    subst (λ (c : Cell). IsCellOf m.data_type c) (sym (get_or_cells_after m heights k Bad below))
+    let below : k < cell_count m.size = omega (arith, inside, cells_after-length m heights) in
+    subst (λ (c : Cell). IsCellOf m.data_type c) (sym (cells_after-get_or m heights k Bad below))
     (new_or_old m.data_type (get_or heights k None) (get_or m.cells k Bad) (fit k) (whole.heights k (omega (arith, below, whole.cells))))
 
 module _ (m : Map) (whole : IsMap m) (olds : List (Option ℤ)) (held : (p : Pos) → InGrid m.size p → get_or olds (place_of m.size p) None ≡ height_at m p) where
@@ -146,7 +146,7 @@ module _ (m : Map) (whole : IsMap m) (olds : List (Option ℤ)) (held : (p : Pos
         let here : cell_at m p ≡ get_or m.cells k Bad = ap (λ (i : ℕ). get_or m.cells i Bad) place in
         let same : get_or olds k None ≡ get_or news k None = one_height (get_or olds k None) (get_or news k None) (none_passes (λ i. differs (get_or olds i None) (get_or news i None)) (cell_count m.size) none k below) in
         let told = sym same ∙ held_at k below in
-        elim (some_or_none (height_at m p)) [
+        elim (Option-some_or_none (height_at m p)) [
           | inl some ↦ ap (λ (v : Option ℤ). cell_with v (get_or m.cells k Bad)) (told ∙ some.1) ∙ sym (shown-told (cell_at m p) (mask_at m p) some.0 some.1) ∙ here
           | inr gone ↦ ap (λ (v : Option ℤ). cell_with v (get_or m.cells k Bad)) (told ∙ gone)
         ]
@@ -167,9 +167,9 @@ module _ (m : Map) (whole : IsMap m) (olds : List (Option ℤ)) (held : (p : Pos
         let inside : InGrid m.size p = position_at-inside m.size k whole.size.some_points below in
         let told = held_at k below in
         let here : cell_at m p ≡ get_or m.cells k Bad = ap (λ (i : ℕ). get_or m.cells i Bad) place in
-        elim (some_or_none (height_at m p)) [
+        elim (Option-some_or_none (height_at m p)) [
           | inl some ↦ ap (λ (v : Option ℤ). cell_with v (get_or after.cells k Bad)) (told ∙ some.1) ∙ sym (shown-told (cell_at m p) (mask_at m p) some.0 some.1) ∙ here
-          | inr none ↦ ap (λ (v : Option ℤ). cell_with v (get_or after.cells k Bad)) (told ∙ none) ∙ get_or_cells_after m heights k Bad below
+          | inr none ↦ ap (λ (v : Option ℤ). cell_with v (get_or after.cells k Bad)) (told ∙ none) ∙ cells_after-get_or m heights k Bad below
               ∙ ap (cell_after m heights) (sym place) ∙ others p inside none ∙ here
         ]
 
@@ -183,4 +183,4 @@ module _ {L : Type 0} (code : Encoding L) (m new : Map) (numbers old : List L) (
   exchange_back others = ap (λ (n : Map). with_cells n (cells_after n (values_of code old))) are.sets ∙ heights_back m whole (values_of code old) are.held.each (values_of code numbers) others
 
   pub exchange_fit : AreHeightsFor m.size m.data_type (values_of code old)
-  exchange_fit = held_fit m whole (values_of code old) are.held.each (length_values code old ∙ are.held.plain.whole)
+  exchange_fit = held_fit m whole (values_of code old) are.held.each (values_of-length code old ∙ are.held.plain.whole)

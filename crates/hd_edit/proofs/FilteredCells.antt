@@ -11,14 +11,14 @@ use Rattle.hd_map.specs.declared.types.Cell.{Cell}
 use Rattle.hd_map.specs.declared.types.Cell.TheVariants.{Height, Bad}
 use Rattle.hd_map.specs.declared.types.Size.{Size}
 use Rattle.hd_map.specs.Encoding.{Encoding, values_of}
-use Rattle.hd_morph.proofs.Encodings.{values_part}
+use Rattle.hd_morph.proofs.Encodings.{values_of-part}
 use Rattle.hd_map.specs.Map.{Map, IsMap, IsCellOf, AreCellsOf, cell_at, cell_count, place_of, position_at}
 use Rattle.hd_map.proofs.Points.{position_at-place, position_at-inside}
 use Rattle.hd_map.specs.Sets.{AreHeightsIn, cell_with, cell_with_heights, with_heights}
 use Rattle.hd_map.proofs.Sets.{cell_in_profile, cell_off_profile}
 use Rattle.hd_morph.specs.Answer.{with_cells}
 use Rattle.hd_morph.specs.NewHeights.{cell_after, cells_after}
-use Rattle.hd_morph.proofs.Listed.{get_or_cells_after, length_cells_after}
+use Rattle.hd_morph.proofs.Listed.{cells_after-get_or, cells_after-length}
 use Rattle.hd_edit.specs.declared.change.Change.{Change}
 use Rattle.hd_edit.specs.Change.{IsChange, before_changes}
 use Rattle.hd_edit.specs.Profile.{AreNotedChanges}
@@ -49,7 +49,7 @@ module _ (m : Map) (heights : List (Option ℤ)) where
   profile_of-numbers code s numbers y same are =
       let n : ℕ = s.points in
       let long : y * n + n - y * n ≡ n = omega arith in
-      ap (λ (k : ℕ). values_of code (take k (drop (y * n) numbers))) long ∙ values_part code (y * n) n numbers
+      ap (λ (k : ℕ). values_of code (take k (drop (y * n) numbers))) long ∙ values_of-part code (y * n) n numbers
       ∙ ap (λ (t : Size). take t.points (drop (y * t.points) (values_of code numbers))) same ∙ ap (λ (hs : List (Option ℤ)). take m.size.points (drop (y * m.size.points) hs)) (sym are)
 
   profile_at : (y x : ℕ) → x < m.size.points → get_or (profile_of y) x None ≡ get_or heights (y * m.size.points + x) None
@@ -63,8 +63,8 @@ module _ (m : Map) (heights : List (Option ℤ)) where
           let k : ℕ = y * m.size.points + x in
           let rows : y * m.size.points + m.size.points ≤ m.size.profiles * m.size.points = omega (arith, mul-le-mul_right m.size.points inside) in
           let below : k < cell_count m.size = omega (arith, rows, column) in
-          let new : get_or (cells_after m heights) k Bad ≡ Height z = get_or_cells_after m heights k Bad below ∙ ap (λ (v : Option ℤ). cell_with v (old_cell k)) (sym (profile_at y x column) ∙ is) in
-          subst (λ (c : Cell). IsCellOf m.data_type c) new (are k (omega (arith, length_cells_after m heights, below)))
+          let new : get_or (cells_after m heights) k Bad ≡ Height z = cells_after-get_or m heights k Bad below ∙ ap (λ (v : Option ℤ). cell_with v (old_cell k)) (sym (profile_at y x column) ∙ is) in
+          subst (λ (c : Cell). IsCellOf m.data_type c) new (are k (omega (arith, cells_after-length m heights, below)))
       | inr past ↦
           let none : get_or (profile_of y) x None ≡ None = get_or_past (profile_of y) x None (omega (arith, length-take m.size.points (drop (y * m.size.points) heights), past)) in
           absurd (cc (none, is))

@@ -8,15 +8,15 @@ use Rattle.hd_map.specs.Map.{InGrid}
 use Rattle.hd_morph.specs.Element.{ElementTable, IsElement, number_at, centre}
 use Rattle.hd_morph.specs.Filter.{Relief, Links, IsRaised, IsLowered, IsDilation, IsErosion, IsOpening, IsClosing}
 use Rattle.hd_morph.specs.Compare.{HaveSamePoints, IsNowhereAbove}
-use Rattle.hd_morph.proofs.PlainNumbers.{some_or_none}
+use Rattle.hd_morph.proofs.PlainNumbers.{Option-some_or_none}
 
 -- two numbers of one value are one
-pub one_number : (v : Option ℤ) (x y : ℤ) → v ≡ Some x → v ≡ Some y → x ≡ y
-one_number v x y a b = cc
+pub Some-unique : (v : Option ℤ) (x y : ℤ) → v ≡ Some x → v ≡ Some y → x ≡ y
+Some-unique v x y a b = cc
 
 -- the dilation of f is nowhere above g exactly where f is nowhere above the erosion of g
-pub dilation_below : (s : Size) (e : ElementTable) (f g d w : Relief) → HaveSamePoints s f g → IsDilation s e f d → IsErosion s e g w → IsNowhereAbove s d g → IsNowhereAbove s f w
-dilation_below s e f g d w same raised lowered below = record {
+pub IsNowhereAbove-dilation : (s : Size) (e : ElementTable) (f g d w : Relief) → HaveSamePoints s f g → IsDilation s e f d → IsErosion s e g w → IsNowhereAbove s d g → IsNowhereAbove s f w
+IsNowhereAbove-dilation s e f g d w same raised lowered below = record {
   each = λ p inside x y is_x is_y.
       let here = same.there p inside x is_x in
       let low = (lowered.present p inside here.0 here.1).attained y is_y in
@@ -29,8 +29,8 @@ dilation_below s e f g d w same raised lowered below = record {
       omega (arith, ints);
 }
 
-pub erosion_above : (s : Size) (e : ElementTable) (f g d w : Relief) → HaveSamePoints s f g → IsDilation s e f d → IsErosion s e g w → IsNowhereAbove s f w → IsNowhereAbove s d g
-erosion_above s e f g d w same raised lowered below = record {
+pub IsNowhereAbove-erosion : (s : Size) (e : ElementTable) (f g d w : Relief) → HaveSamePoints s f g → IsDilation s e f d → IsErosion s e g w → IsNowhereAbove s f w → IsNowhereAbove s d g
+IsNowhereAbove-erosion s e f g d w same raised lowered below = record {
   each = λ p inside x y is_x is_y.
       let here = same.back p inside y is_y in
       let high = (raised.present p inside here.0 here.1).attained x is_x in
@@ -54,14 +54,14 @@ number_of : (v : Option ℤ) → IsSome v → (z : ℤ) × (v ≡ Some z)
 number_of (Some z) some = (z, refl)
 number_of None some = absurd (true≢false (sym some))
 
-pub origin_of : (e : ElementTable) → IsElement e → HasOrigin e
-origin_of e is =
+pub HasOrigin-element : (e : ElementTable) → IsElement e → HasOrigin e
+HasOrigin-element e is =
     let number = number_of (number_at e (centre e)) is.origin in
     record { some_columns = omega (arith, is.odd_width); some_rows = omega (arith, is.odd_height); number = number.0; is_number = number.1 }
 
 -- from each position of the grid the centre of the element leads back to it
-pub centre_links : (s : Size) (e : ElementTable) (o : HasOrigin e) (p : Pos) → InGrid s p → Links s e p p o.number
-centre_links s e o p inside = record {
+pub Links-centre : (s : Size) (e : ElementTable) (o : HasOrigin e) (p : Pos) → InGrid s p → Links s e p p o.number
+Links-centre s e o p inside = record {
   offset = centre e;
   from = inside;
   to = inside;
@@ -70,57 +70,57 @@ centre_links s e o p inside = record {
 }
 
 -- a dilation has the points of what it comes from
-pub dilation_points : (s : Size) (e : ElementTable) (f d : Relief) → HasOrigin e → IsDilation s e f d → HaveSamePoints s f d
-dilation_points s e f d o raised = record {
+pub HaveSamePoints-dilation : (s : Size) (e : ElementTable) (f d : Relief) → HasOrigin e → IsDilation s e f d → HaveSamePoints s f d
+HaveSamePoints-dilation s e f d o raised = record {
   there = λ p inside z is_z.
-      let top = (raised.present p inside z is_z).reached (z +ℤ o.number) (record { from = p; height = z; number = o.number; links = centre_links s e o p inside; is_height = is_z; sum = refl }) in
+      let top = (raised.present p inside z is_z).reached (z +ℤ o.number) (record { from = p; height = z; number = o.number; links = Links-centre s e o p inside; is_height = is_z; sum = refl }) in
       (top.0, top.1);
-  back = λ p inside z is_z. elim (some_or_none (f p)) [
+  back = λ p inside z is_z. elim (Option-some_or_none (f p)) [
     | inl some ↦ some
     | inr none ↦ let gone : d p ≡ None = raised.absent p inside none in cc
   ];
 }
 
 -- an erosion has the points of what it comes from
-pub erosion_points : (s : Size) (e : ElementTable) (f w : Relief) → HasOrigin e → IsErosion s e f w → HaveSamePoints s f w
-erosion_points s e f w o lowered = record {
+pub HaveSamePoints-erosion : (s : Size) (e : ElementTable) (f w : Relief) → HasOrigin e → IsErosion s e f w → HaveSamePoints s f w
+HaveSamePoints-erosion s e f w o lowered = record {
   there = λ p inside z is_z.
-      let low = (lowered.present p inside z is_z).reached (z -ℤ o.number) (record { to = p; height = z; number = o.number; links = centre_links s e o p inside; is_height = is_z; difference = refl }) in
+      let low = (lowered.present p inside z is_z).reached (z -ℤ o.number) (record { to = p; height = z; number = o.number; links = Links-centre s e o p inside; is_height = is_z; difference = refl }) in
       (low.0, low.1);
-  back = λ p inside z is_z. elim (some_or_none (f p)) [
+  back = λ p inside z is_z. elim (Option-some_or_none (f p)) [
     | inl some ↦ some
     | inr none ↦ let gone : w p ≡ None = lowered.absent p inside none in cc
   ];
 }
 
-pub points_then : (s : Size) (f g h : Relief) → HaveSamePoints s f g → HaveSamePoints s g h → HaveSamePoints s f h
-points_then s f g h a b = record {
+pub HaveSamePoints-then : (s : Size) (f g h : Relief) → HaveSamePoints s f g → HaveSamePoints s g h → HaveSamePoints s f h
+HaveSamePoints-then s f g h a b = record {
   there = λ p inside z is_z. let y = a.there p inside z is_z in b.there p inside y.0 y.1;
   back = λ p inside z is_z. let y = b.back p inside z is_z in a.back p inside y.0 y.1;
 }
 
-pub points_back : (s : Size) (f g : Relief) → HaveSamePoints s f g → HaveSamePoints s g f
-points_back s f g a = record { there = a.back; back = a.there }
+pub HaveSamePoints-back : (s : Size) (f g : Relief) → HaveSamePoints s f g → HaveSamePoints s g f
+HaveSamePoints-back s f g a = record { there = a.back; back = a.there }
 
 below_itself : (s : Size) (f : Relief) → IsNowhereAbove s f f
-below_itself s f = record { each = λ p inside x y a b. let e : x ≡ y = one_number (f p) x y a b in omega (arith, ints) }
+below_itself s f = record { each = λ p inside x y a b. let e : x ≡ y = Some-unique (f p) x y a b in omega (arith, ints) }
 
 -- an opening has the points of what it comes from
-pub opening_points : (s : Size) (e : ElementTable) (f g : Relief) → HasOrigin e → IsOpening s e f g → HaveSamePoints s f g
-opening_points s e f g o once = points_then s f once.between g (erosion_points s e f once.between o once.first) (dilation_points s e once.between g o once.second)
+pub HaveSamePoints-opening : (s : Size) (e : ElementTable) (f g : Relief) → HasOrigin e → IsOpening s e f g → HaveSamePoints s f g
+HaveSamePoints-opening s e f g o once = HaveSamePoints-then s f once.between g (HaveSamePoints-erosion s e f once.between o once.first) (HaveSamePoints-dilation s e once.between g o once.second)
 
 -- a closing has the points of what it comes from
-pub closing_points : (s : Size) (e : ElementTable) (f g : Relief) → HasOrigin e → IsClosing s e f g → HaveSamePoints s f g
-closing_points s e f g o once = points_then s f once.between g (dilation_points s e f once.between o once.first) (erosion_points s e once.between g o once.second)
+pub HaveSamePoints-closing : (s : Size) (e : ElementTable) (f g : Relief) → HasOrigin e → IsClosing s e f g → HaveSamePoints s f g
+HaveSamePoints-closing s e f g o once = HaveSamePoints-then s f once.between g (HaveSamePoints-dilation s e f once.between o once.first) (HaveSamePoints-erosion s e once.between g o once.second)
 
 -- an opening is the opening of itself
-pub opening_of_itself : (s : Size) (e : ElementTable) (f g : Relief) → HasOrigin e → IsOpening s e f g → IsOpening s e g g
-opening_of_itself s e f g o once =
+pub IsOpening-of_itself : (s : Size) (e : ElementTable) (f g : Relief) → HasOrigin e → IsOpening s e f g → IsOpening s e g g
+IsOpening-of_itself s e f g o once =
     let w : Relief = once.between in
-    let f_w : HaveSamePoints s f w = erosion_points s e f w o once.first in
-    let w_g : HaveSamePoints s w g = dilation_points s e w g o once.second in
+    let f_w : HaveSamePoints s f w = HaveSamePoints-erosion s e f w o once.first in
+    let w_g : HaveSamePoints s w g = HaveSamePoints-dilation s e w g o once.second in
     -- it is nowhere above what it comes from
-    let below : IsNowhereAbove s g f = erosion_above s e w f g w (points_back s f w f_w) once.second once.first (below_itself s w) in
+    let below : IsNowhereAbove s g f = IsNowhereAbove-erosion s e w f g w (HaveSamePoints-back s f w f_w) once.second once.first (below_itself s w) in
     record {
       between = w;
       first = record {
@@ -142,12 +142,12 @@ opening_of_itself s e f g o once =
                   let u = w_g.back l.to l.links.to l.height l.is_height in
                   let r : IsRaised s e w l.to (y.0 +ℤ l.number) = record { from = p; height = y.0; number = l.number; links = l.links; is_height = y.1; sum = refl } in
                   let top = (once.second.present l.to l.links.to u.0 u.1).reached (y.0 +ℤ l.number) r in
-                  let one : top.0 ≡ l.height = one_number (g l.to) top.0 l.height top.1 l.is_height in
+                  let one : top.0 ≡ l.height = Some-unique (g l.to) top.0 l.height top.1 l.is_height in
                   let up : (y.0 +ℤ l.number) ≤ℤ top.0 = top.2 in
                   let is : v ≡ l.height -ℤ l.number = l.difference in
                   (y.0, y.1, omega (arith, ints));
             };
-        absent = λ p inside none. elim (some_or_none (w p)) [
+        absent = λ p inside none. elim (Option-some_or_none (w p)) [
           | inl some ↦ let there = w_g.there p inside some.0 some.1 in let e' : None ≡ Some there.0 = sym none ∙ there.1 in cc
           | inr gone ↦ gone
         ];
@@ -156,13 +156,13 @@ opening_of_itself s e f g o once =
     }
 
 -- a closing is the closing of itself
-pub closing_of_itself : (s : Size) (e : ElementTable) (f g : Relief) → HasOrigin e → IsClosing s e f g → IsClosing s e g g
-closing_of_itself s e f g o once =
+pub IsClosing-of_itself : (s : Size) (e : ElementTable) (f g : Relief) → HasOrigin e → IsClosing s e f g → IsClosing s e g g
+IsClosing-of_itself s e f g o once =
     let d : Relief = once.between in
-    let f_d : HaveSamePoints s f d = dilation_points s e f d o once.first in
-    let d_g : HaveSamePoints s d g = erosion_points s e d g o once.second in
+    let f_d : HaveSamePoints s f d = HaveSamePoints-dilation s e f d o once.first in
+    let d_g : HaveSamePoints s d g = HaveSamePoints-erosion s e d g o once.second in
     -- what it comes from is nowhere above it
-    let above : IsNowhereAbove s f g = dilation_below s e f d d g f_d once.first once.second (below_itself s d) in
+    let above : IsNowhereAbove s f g = IsNowhereAbove-dilation s e f d d g f_d once.first once.second (below_itself s d) in
     record {
       between = d;
       first = record {
@@ -184,12 +184,12 @@ closing_of_itself s e f g o once =
                   let u = d_g.back r.from r.links.from r.height r.is_height in
                   let l : IsLowered s e d r.from (y.0 -ℤ r.number) = record { to = p; height = y.0; number = r.number; links = r.links; is_height = y.1; difference = refl } in
                   let low = (once.second.present r.from r.links.from u.0 u.1).reached (y.0 -ℤ r.number) l in
-                  let one : low.0 ≡ r.height = one_number (g r.from) low.0 r.height low.1 r.is_height in
+                  let one : low.0 ≡ r.height = Some-unique (g r.from) low.0 r.height low.1 r.is_height in
                   let down : low.0 ≤ℤ (y.0 -ℤ r.number) = low.2 in
                   let is : v ≡ r.height +ℤ r.number = r.sum in
                   (y.0, y.1, omega (arith, ints));
             };
-        absent = λ p inside none. elim (some_or_none (d p)) [
+        absent = λ p inside none. elim (Option-some_or_none (d p)) [
           | inl some ↦ let there = d_g.there p inside some.0 some.1 in let e' : None ≡ Some there.0 = sym none ∙ there.1 in cc
           | inr gone ↦ gone
         ];

@@ -14,8 +14,8 @@ use Rattle.hd_morph.specs.declared.filter.Filter.TheVariants.{Dilation, Erosion,
 use Rattle.hd_morph.specs.Filter.{Relief, IsRaised, IsLowered, IsDilation, IsErosion, IsFiltered}
 use Rattle.hd_morph.specs.Compare.{AreSame}
 use Rattle.hd_morph.specs.Answer.{AreFilteredCells, IsFirstOutside, IsOutOfRange, with_cells}
-use Rattle.hd_morph.proofs.Greatest.{greatest_same, least_same, greatest_of, least_of}
-use Rattle.hd_morph.proofs.PlainNumbers.{some_or_none}
+use Rattle.hd_morph.proofs.Greatest.{IsGreatest-unique, IsLeast-unique, IsGreatest-same_values, IsLeast-same_values}
+use Rattle.hd_morph.proofs.PlainNumbers.{Option-some_or_none}
 
 same_back : (s : Size) (f g : Relief) → AreSame s f g → AreSame s g f
 same_back s f g same = λ p inside. sym (same p inside)
@@ -29,7 +29,7 @@ lowered_same s e f g p z same r = record { to = r.to; height = r.height; number 
 -- reliefs that agree on the grid have the same dilations
 dilation_of_same : (s : Size) (e : ElementTable) (f f' g : Relief) → AreSame s f f' → IsDilation s e f g → IsDilation s e f' g
 dilation_of_same s e f f' g same was = record {
-  present = λ p inside z is. greatest_of (IsRaised s e f p) (IsRaised s e f' p) (g p) (λ y r. raised_same s e f f' p y same r) (λ y r. raised_same s e f' f p y (same_back s f f' same) r)
+  present = λ p inside z is. IsGreatest-same_values (IsRaised s e f p) (IsRaised s e f' p) (g p) (λ y r. raised_same s e f f' p y same r) (λ y r. raised_same s e f' f p y (same_back s f f' same) r)
       (was.present p inside z (same p inside ∙ is));
   absent = λ p inside none. was.absent p inside (same p inside ∙ none);
 }
@@ -37,40 +37,40 @@ dilation_of_same s e f f' g same was = record {
 -- and the same erosions
 erosion_of_same : (s : Size) (e : ElementTable) (f f' g : Relief) → AreSame s f f' → IsErosion s e f g → IsErosion s e f' g
 erosion_of_same s e f f' g same was = record {
-  present = λ p inside z is. least_of (IsLowered s e f p) (IsLowered s e f' p) (g p) (λ y r. lowered_same s e f f' p y same r) (λ y r. lowered_same s e f' f p y (same_back s f f' same) r)
+  present = λ p inside z is. IsLeast-same_values (IsLowered s e f p) (IsLowered s e f' p) (g p) (λ y r. lowered_same s e f f' p y same r) (λ y r. lowered_same s e f' f p y (same_back s f f' same) r)
       (was.present p inside z (same p inside ∙ is));
   absent = λ p inside none. was.absent p inside (same p inside ∙ none);
 }
 
 -- a relief has one dilation
 dilation_same : (s : Size) (e : ElementTable) (f g h : Relief) → IsDilation s e f g → IsDilation s e f h → AreSame s g h
-dilation_same s e f g h one other p inside = elim (some_or_none (f p)) [
-  | inl z ↦ greatest_same (IsRaised s e f p) (g p) (h p) (one.present p inside z.0 z.1) (other.present p inside z.0 z.1)
+dilation_same s e f g h one other p inside = elim (Option-some_or_none (f p)) [
+  | inl z ↦ IsGreatest-unique (IsRaised s e f p) (g p) (h p) (one.present p inside z.0 z.1) (other.present p inside z.0 z.1)
   | inr none ↦ one.absent p inside none ∙ sym (other.absent p inside none)
 ]
 
 -- and one erosion
 erosion_same : (s : Size) (e : ElementTable) (f g h : Relief) → IsErosion s e f g → IsErosion s e f h → AreSame s g h
-erosion_same s e f g h one other p inside = elim (some_or_none (f p)) [
-  | inl z ↦ least_same (IsLowered s e f p) (g p) (h p) (one.present p inside z.0 z.1) (other.present p inside z.0 z.1)
+erosion_same s e f g h one other p inside = elim (Option-some_or_none (f p)) [
+  | inl z ↦ IsLeast-unique (IsLowered s e f p) (g p) (h p) (one.present p inside z.0 z.1) (other.present p inside z.0 z.1)
   | inr none ↦ one.absent p inside none ∙ sym (other.absent p inside none)
 ]
 
 -- reliefs that agree on the grid are filtered to the same
-pub filtered_of_same : (filter : Filter) (s : Size) (e : ElementTable) (f f' g : Relief) → AreSame s f f' → IsFiltered filter s e f g → IsFiltered filter s e f' g
-filtered_of_same Dilation s e f f' g same was = dilation_of_same s e f f' g same was
-filtered_of_same Erosion s e f f' g same was = erosion_of_same s e f f' g same was
-filtered_of_same Opening s e f f' g same was = record { between = was.between; first = erosion_of_same s e f f' was.between same was.first; second = was.second }
-filtered_of_same Closing s e f f' g same was = record { between = was.between; first = dilation_of_same s e f f' was.between same was.first; second = was.second }
+pub IsFiltered-of_same : (filter : Filter) (s : Size) (e : ElementTable) (f f' g : Relief) → AreSame s f f' → IsFiltered filter s e f g → IsFiltered filter s e f' g
+IsFiltered-of_same Dilation s e f f' g same was = dilation_of_same s e f f' g same was
+IsFiltered-of_same Erosion s e f f' g same was = erosion_of_same s e f f' g same was
+IsFiltered-of_same Opening s e f f' g same was = record { between = was.between; first = erosion_of_same s e f f' was.between same was.first; second = was.second }
+IsFiltered-of_same Closing s e f f' g same was = record { between = was.between; first = dilation_of_same s e f f' was.between same was.first; second = was.second }
 
 -- a filter has one result
-pub filtered_same : (filter : Filter) (s : Size) (e : ElementTable) (f g h : Relief) → IsFiltered filter s e f g → IsFiltered filter s e f h → AreSame s g h
-filtered_same Dilation s e f g h one other = dilation_same s e f g h one other
-filtered_same Erosion s e f g h one other = erosion_same s e f g h one other
-filtered_same Opening s e f g h one other =
+pub IsFiltered-unique : (filter : Filter) (s : Size) (e : ElementTable) (f g h : Relief) → IsFiltered filter s e f g → IsFiltered filter s e f h → AreSame s g h
+IsFiltered-unique Dilation s e f g h one other = dilation_same s e f g h one other
+IsFiltered-unique Erosion s e f g h one other = erosion_same s e f g h one other
+IsFiltered-unique Opening s e f g h one other =
     let same = erosion_same s e f other.between one.between other.first one.first in
     dilation_same s e one.between g h one.second (dilation_of_same s e other.between one.between h same other.second)
-filtered_same Closing s e f g h one other =
+IsFiltered-unique Closing s e f g h one other =
     let same = dilation_same s e f other.between one.between other.first one.first in
     erosion_same s e one.between g h one.second (erosion_of_same s e other.between one.between h same other.second)
 
@@ -80,10 +80,10 @@ same_cells s a b some whole whole' same = ext_get_or Bad a b (whole ∙ sym whol
     let place : place_of s (position_at s k) ≡ k = position_at-place s k some in
     rw place at (same (position_at s k) (position_at-inside s k some (omega arith))))
 
-pub cells_same : (filter : Filter) (m : Map) (e : ElementTable) (a b : List Cell) → IsMap m → AreFilteredCells filter m e a → AreFilteredCells filter m e b → a ≡ b
-cells_same filter m e a b is one other =
-    let same = filtered_same filter m.size e _ one.heights other.heights one.filtered other.filtered in
-    same_cells m.size a b is.size.some_points one.are_cells.whole other.are_cells.whole (λ p inside. elim (some_or_none (one.heights p)) [
+pub AreFilteredCells-unique : (filter : Filter) (m : Map) (e : ElementTable) (a b : List Cell) → IsMap m → AreFilteredCells filter m e a → AreFilteredCells filter m e b → a ≡ b
+AreFilteredCells-unique filter m e a b is one other =
+    let same = IsFiltered-unique filter m.size e _ one.heights other.heights one.filtered other.filtered in
+    same_cells m.size a b is.size.some_points one.are_cells.whole other.are_cells.whole (λ p inside. elim (Option-some_or_none (one.heights p)) [
       | inl z ↦ one.are_cells.present p inside z.0 z.1 ∙ sym (other.are_cells.present p inside z.0 (sym (same p inside) ∙ z.1))
       | inr none ↦ one.are_cells.absent p inside none ∙ sym (other.are_cells.absent p inside (sym (same p inside) ∙ none))
     ])
@@ -95,16 +95,16 @@ not_before m f g p q same one other = elim (cases_lt (place_of m.size p) (place_
   | inr fine ↦ fine
 ]
 
-pub position_same : (filter : Filter) (m : Map) (e : ElementTable) (p q : Pos) → IsOutOfRange filter m e p → IsOutOfRange filter m e q → p ≡ q
-position_same filter m e p q one other =
-    let same = filtered_same filter m.size e _ one.heights other.heights one.filtered other.filtered in
+pub IsOutOfRange-unique : (filter : Filter) (m : Map) (e : ElementTable) (p q : Pos) → IsOutOfRange filter m e p → IsOutOfRange filter m e q → p ≡ q
+IsOutOfRange-unique filter m e p q one other =
+    let same = IsFiltered-unique filter m.size e _ one.heights other.heights one.filtered other.filtered in
     let le = not_before m one.heights other.heights p q same one.first_outside other.first_outside in
     let ge = not_before m other.heights one.heights q p (same_back m.size one.heights other.heights same) other.first_outside one.first_outside in
     same_place m.size p q one.first_outside.in_grid other.first_outside.in_grid (omega arith)
 
-pub never_both : (filter : Filter) (m : Map) (e : ElementTable) (cells : List Cell) (p : Pos) → IsMap m → AreFilteredCells filter m e cells → IsOutOfRange filter m e p → ⊥
-never_both filter m e cells p is accepted refused =
-    let same = filtered_same filter m.size e _ accepted.heights refused.heights accepted.filtered refused.filtered in
+pub IsOutOfRange-not_filtered : (filter : Filter) (m : Map) (e : ElementTable) (cells : List Cell) (p : Pos) → IsMap m → AreFilteredCells filter m e cells → IsOutOfRange filter m e p → ⊥
+IsOutOfRange-not_filtered filter m e cells p is accepted refused =
+    let same = IsFiltered-unique filter m.size e _ accepted.heights refused.heights accepted.filtered refused.filtered in
     let out = refused.first_outside in
     let cell : cell_at (with_cells m cells) p ≡ Height out.height = accepted.are_cells.present p out.in_grid out.height (same p out.in_grid ∙ out.is_height) in
     let of_type : IsCellOf m.data_type (cell_at (with_cells m cells) p) = accepted.are_cells.of_type (place_of m.size p) (omega (arith, accepted.are_cells.whole, place_inside m.size p out.in_grid)) in

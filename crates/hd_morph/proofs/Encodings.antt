@@ -8,8 +8,8 @@ use Rattle.hd_morph.specs.Plain.{value_at}
 
 module _ {L : Type 0} (code : Encoding L) where
   -- what a number stands for is the value at its place
-  pub value_of_number : (xs : List L) (k : ℕ) → value_at (values_of code xs) k ≡ code.shown (number_in code xs k)
-  value_of_number xs k = elim (cases_lt k (length xs)) [
+  pub value_at-number_in : (xs : List L) (k : ℕ) → value_at (values_of code xs) k ≡ code.shown (number_in code xs k)
+  value_at-number_in xs k = elim (cases_lt k (length xs)) [
     | inl inside ↦ get_or-map code.shown xs k code.missing None inside
     | inr past ↦
         let gone : number_in code xs k ≡ code.missing = get_or_past xs k code.missing past in
@@ -17,20 +17,20 @@ module _ {L : Type 0} (code : Encoding L) where
   ]
 
   -- a number that is read inside a list
-  pub number_read : (xs : List L) (k : ℕ) (x : L) → k < length xs → x ≡ get_or xs k x → x ≡ number_in code xs k
-  number_read xs k x inside is = get_or_read xs k x inside is code.missing
+  pub number_in-read : (xs : List L) (k : ℕ) (x : L) → k < length xs → x ≡ get_or xs k x → x ≡ number_in code xs k
+  number_in-read xs k x inside is = get_or_read xs k x inside is code.missing
 
-  pub value_read : (xs : List L) (k : ℕ) (x : L) → k < length xs → x ≡ get_or xs k x → code.shown x ≡ value_at (values_of code xs) k
-  value_read xs k x inside is = ap code.shown (number_read xs k x inside is) ∙ sym (value_of_number xs k)
+  pub value_at-read : (xs : List L) (k : ℕ) (x : L) → k < length xs → x ≡ get_or xs k x → code.shown x ≡ value_at (values_of code xs) k
+  value_at-read xs k x inside is = ap code.shown (number_in-read xs k x inside is) ∙ sym (value_at-number_in xs k)
 
   -- how many heights there are
-  pub length_values : (xs : List L) → length (values_of code xs) ≡ length xs
-  length_values xs = length-map xs code.shown
+  pub values_of-length : (xs : List L) → length (values_of code xs) ≡ length xs
+  values_of-length xs = length-map xs code.shown
 
   -- the heights of a stretch
-  pub values_part : (a k : ℕ) (xs : List L) → values_of code (take k (drop a xs)) ≡ take k (drop a (values_of code xs))
-  values_part a k xs = sym (take-map code.shown k (drop a xs)) ∙ ap (take k) (sym (drop-map code.shown a xs))
+  pub values_of-part : (a k : ℕ) (xs : List L) → values_of code (take k (drop a xs)) ≡ take k (drop a (values_of code xs))
+  values_of-part a k xs = sym (take-map code.shown k (drop a xs)) ∙ ap (take k) (sym (drop-map code.shown a xs))
 
   -- the heights of a list of which a stretch was written anew
-  pub values_mid : (a k : ℕ) (xs ys : List L) → values_of code (put_mid a k xs ys) ≡ put_mid a k (values_of code xs) (values_of code ys)
-  values_mid a k xs ys = rw (map-append code.shown (take a xs) (ys ++ drop k (drop a xs)), map-append code.shown ys (drop k (drop a xs)), take-map code.shown a xs, drop-map code.shown a xs, drop-map code.shown k (drop a xs))
+  pub values_of-mid : (a k : ℕ) (xs ys : List L) → values_of code (put_mid a k xs ys) ≡ put_mid a k (values_of code xs) (values_of code ys)
+  values_of-mid a k xs ys = rw (map-append code.shown (take a xs) (ys ++ drop k (drop a xs)), map-append code.shown ys (drop k (drop a xs)), take-map code.shown a xs, drop-map code.shown a xs, drop-map code.shown k (drop a xs))

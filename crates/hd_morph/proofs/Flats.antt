@@ -14,10 +14,10 @@ use Rattle.hd_morph.specs.Plain.{relief, ArePlain, HasNumbersWithin}
 use Rattle.hd_morph.specs.Raised.{IsFlat, AreFlatlyDilated, AreTopped, AreSettled, plus}
 use Rattle.hd_morph.specs.Round.{IsRound, AreRoundGreatests}
 use Rattle.hd_morph.specs.Turned.{turned_table}
-use Rattle.hd_morph.proofs.Encodings.{length_values}
-use Rattle.hd_morph.proofs.PlainNumbers.{IsBounded-value, some_inside}
-use Rattle.hd_morph.proofs.Settling.{settled_filtered}
-use Rattle.hd_morph.proofs.Turning.{opposite, turned_number}
+use Rattle.hd_morph.proofs.Encodings.{values_of-length}
+use Rattle.hd_morph.proofs.PlainNumbers.{IsBounded-value, value_at-inside}
+use Rattle.hd_morph.proofs.Settling.{ArePlainlyFiltered-topped}
+use Rattle.hd_morph.proofs.Turned.{opposite, turned_table-number}
 
 -- the heights round a position are those that the element leads from
 round_raised : (s : Size) (e : ElementTable) (across down : ℕ) (n : ℤ) (f : List (Option ℤ)) (p : Pos) (z : ℤ) → IsFlat e across down n → InGrid s p → IsRound s across down f p z → IsRaised s e (relief s f) p (z +ℤ n)
@@ -72,14 +72,14 @@ raised_greatest P Q n (Some x) up down was = record {
 
 module _ {L : Type 0} (code : Encoding L) where
   -- a position with a height has a height round it, and so a top
-  pub round_topped : (s : Size) (across down : ℕ) (f : List L) (tops : List (Option ℤ)) → 1 ≤ s.points → ArePlain code s (most_between code) f → AreRoundGreatests s across down (values_of code f) tops
+  pub AreTopped-round : (s : Size) (across down : ℕ) (f : List L) (tops : List (Option ℤ)) → 1 ≤ s.points → ArePlain code s (most_between code) f → AreRoundGreatests s across down (values_of code f) tops
       → AreTopped (most_filtered code) (values_of code f) tops
-  round_topped s across down f tops some plain round = record {
+  AreTopped-round s across down f tops some plain round = record {
     whole = round.whole;
     each = λ k z is.
         let p : Pos = position_at s k in
         let place : place_of s p ≡ k = position_at-place s k some in
-        let inside : InGrid s p = position_at-inside s k some (omega (arith, some_inside (values_of code f) k z is, length_values code f, plain.whole)) in
+        let inside : InGrid s p = position_at-inside s k some (omega (arith, value_at-inside (values_of code f) k z is, values_of-length code f, plain.whole)) in
         let itself : IsRound s across down (values_of code f) p z = record { at = p; inside = inside; columns = record { not_after = omega arith; not_before = omega arith }; rows = record { not_after = omega arith; not_before = omega arith }; is = rw place is } in
         let top = (round.each p inside).reached z itself in
         let from = (round.each p inside).attained top.0 top.1 in
@@ -90,33 +90,33 @@ module _ {L : Type 0} (code : Encoding L) where
   }
 
   -- tops that are the greatest heights of rectangles, settled, are the dilation
-  pub flatly_dilated : (s : Size) (across down : ℕ) (n : ℤ) (f : List L) (tops : List (Option ℤ)) (d : List L) → 1 ≤ s.points → ArePlain code s (most_between code) f
+  pub AreFlatlyDilated-settled : (s : Size) (across down : ℕ) (n : ℤ) (f : List L) (tops : List (Option ℤ)) (d : List L) → 1 ≤ s.points → ArePlain code s (most_between code) f
       → AreRoundGreatests s across down (values_of code f) tops → AreSettled code (values_of code f) tops n d → AreFlatlyDilated code s across down n f d
-  flatly_dilated s across down n f tops d some plain round settled = record {
-    each = λ e flat. settled_filtered code s e f tops d n plain.whole (round_topped s across down f tops some plain round) settled
+  AreFlatlyDilated-settled s across down n f tops d some plain round settled = record {
+    each = λ e flat. ArePlainlyFiltered-topped code s e f tops d n plain.whole (AreTopped-round s across down f tops some plain round) settled
         (λ p inside z is. raised_greatest (IsRound s across down (values_of code f) p) (IsRaised s e (relief s (values_of code f)) p) n (relief s tops p)
         (λ y a. round_raised s e across down n (values_of code f) p y flat inside a) (λ y r. raised_round s e across down n (values_of code f) p y flat r) (round.each p inside));
   }
 
 -- an element of which each number is the same is flat
-pub all_flat : (e : ElementTable) (n : ℤ) → IsElement e → ((k : ℕ) → k < length e.table → slice_index_or e.table k None ≡ Some n) → IsFlat e (e.width / 2) (e.height / 2) n
-all_flat e n is each = record {
+pub IsFlat-all : (e : ElementTable) (n : ℤ) → IsElement e → ((k : ℕ) → k < length e.table → slice_index_or e.table k None ≡ Some n) → IsFlat e (e.width / 2) (e.height / 2) n
+IsFlat-all e n is each = record {
   columns = omega (arith, is.odd_width);
   rows = omega (arith, is.odd_height);
   each = λ u column row. each (u.y * e.width + u.x) (omega (arith, is.whole, mul-add-lt u.y e.width u.x e.height row column));
 }
 
 -- the number of a flat element is within the limits
-pub flat_within : (e : ElementTable) (across down m : ℕ) (n : ℤ) → IsElement e → HasNumbersWithin m e → IsFlat e across down n → (neg_ℤ (pos m) ≤ℤ n) × (n ≤ℤ pos m)
-flat_within e across down m n is numbers flat =
+pub IsFlat-within : (e : ElementTable) (across down m : ℕ) (n : ℤ) → IsElement e → HasNumbersWithin m e → IsFlat e across down n → (neg_ℤ (pos m) ≤ℤ n) × (n ≤ℤ pos m)
+IsFlat-within e across down m n is numbers flat =
     let number : number_at e (centre e) ≡ Some n = flat.each (centre e) (omega (arith, is.odd_width)) (omega (arith, is.odd_height)) in
     let within = numbers.each ((centre e).y * e.width + (centre e).x) in
     (within.least n number, within.greatest n number)
 
 -- a flat element, turned, is flat
-pub flat_turned : (e : ElementTable) (across down : ℕ) (n : ℤ) → IsElement e → IsFlat e across down n → IsFlat (turned_table e) across down n
-flat_turned e across down n is flat = record {
+pub IsFlat-turned : (e : ElementTable) (across down : ℕ) (n : ℤ) → IsElement e → IsFlat e across down n → IsFlat (turned_table e) across down n
+IsFlat-turned e across down n is flat = record {
   columns = flat.columns;
   rows = flat.rows;
-  each = λ u column row. turned_number e u is.whole column row ∙ flat.each (opposite e u) (omega (arith, column)) (omega (arith, row));
+  each = λ u column row. turned_table-number e u is.whole column row ∙ flat.each (opposite e u) (omega (arith, column)) (omega (arith, row));
 }

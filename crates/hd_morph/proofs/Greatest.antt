@@ -14,23 +14,23 @@ max_cases : (x y : ℤ) → (int_max x y ≡ x) ⊎ (int_max x y ≡ y)
 max_cases x y = by_lt_z y x (λ below. inl (omega (arith, ints, clamps))) (λ not. inr (omega (arith, ints, clamps)))
 
 -- the larger of the greatest of two families is the greatest of a family that has the numbers of both
-pub greatest_join : (P Q R : ℤ → Type 0) (v w : Option ℤ) → ((z : ℤ) → P z → R z) → ((z : ℤ) → Q z → R z) → ((z : ℤ) → R z → P z ⊎ Q z)
+pub IsGreatest-join : (P Q R : ℤ → Type 0) (v w : Option ℤ) → ((z : ℤ) → P z → R z) → ((z : ℤ) → Q z → R z) → ((z : ℤ) → R z → P z ⊎ Q z)
     → IsGreatest P v → IsGreatest Q w → IsGreatest R (larger v w)
-greatest_join P Q R None w from_p from_q of_r before now = record {
+IsGreatest-join P Q R None w from_p from_q of_r before now = record {
   attained = λ z e. from_q z (now.attained z e);
   reached = λ z r. elim (of_r z r) [
     | inl p ↦ let found = before.reached z p in let e : None ≡ Some found.0 = found.1 in cc
     | inr q ↦ now.reached z q
   ];
 }
-greatest_join P Q R (Some x) None from_p from_q of_r before now = record {
+IsGreatest-join P Q R (Some x) None from_p from_q of_r before now = record {
   attained = λ z e. from_p z (before.attained z e);
   reached = λ z r. elim (of_r z r) [
     | inl p ↦ before.reached z p
     | inr q ↦ let found = now.reached z q in let e : None ≡ Some found.0 = found.1 in cc
   ];
 }
-greatest_join P Q R (Some x) (Some y) from_p from_q of_r before now = record {
+IsGreatest-join P Q R (Some x) (Some y) from_p from_q of_r before now = record {
   attained = λ z e. elim (max_cases x y) [
     | inl left ↦ from_p z (before.attained z (let same : int_max x y ≡ z = cc in cc))
     | inr right ↦ from_q z (now.attained z (let same : int_max x y ≡ z = cc in cc))
@@ -48,11 +48,11 @@ greatest_join P Q R (Some x) (Some y) from_p from_q of_r before now = record {
 }
 
 -- a family has one greatest at most
-pub greatest_same : (P : ℤ → Type 0) (v w : Option ℤ) → IsGreatest P v → IsGreatest P w → v ≡ w
-greatest_same P None None a b = refl
-greatest_same P None (Some y) a b = let found = a.reached y (b.attained y refl) in let e : None ≡ Some found.0 = found.1 in cc
-greatest_same P (Some x) None a b = let found = b.reached x (a.attained x refl) in let e : None ≡ Some found.0 = found.1 in cc
-greatest_same P (Some x) (Some y) a b =
+pub IsGreatest-unique : (P : ℤ → Type 0) (v w : Option ℤ) → IsGreatest P v → IsGreatest P w → v ≡ w
+IsGreatest-unique P None None a b = refl
+IsGreatest-unique P None (Some y) a b = let found = a.reached y (b.attained y refl) in let e : None ≡ Some found.0 = found.1 in cc
+IsGreatest-unique P (Some x) None a b = let found = b.reached x (a.attained x refl) in let e : None ≡ Some found.0 = found.1 in cc
+IsGreatest-unique P (Some x) (Some y) a b =
     let up = b.reached x (a.attained x refl) in
     let down = a.reached y (b.attained y refl) in
     let e : up.0 ≡ y = cc in
@@ -63,15 +63,15 @@ greatest_same P (Some x) (Some y) a b =
     ap Some same
 
 -- a family that has the same numbers has the same greatest
-pub greatest_of : (P R : ℤ → Type 0) (v : Option ℤ) → ((z : ℤ) → P z → R z) → ((z : ℤ) → R z → P z) → IsGreatest P v → IsGreatest R v
-greatest_of P R v from_p of_r was = record { attained = λ z e. from_p z (was.attained z e); reached = λ z r. was.reached z (of_r z r) }
+pub IsGreatest-same_values : (P R : ℤ → Type 0) (v : Option ℤ) → ((z : ℤ) → P z → R z) → ((z : ℤ) → R z → P z) → IsGreatest P v → IsGreatest R v
+IsGreatest-same_values P R v from_p of_r was = record { attained = λ z e. from_p z (was.attained z e); reached = λ z r. was.reached z (of_r z r) }
 
 -- a family has one least at most
-pub least_same : (P : ℤ → Type 0) (v w : Option ℤ) → IsLeast P v → IsLeast P w → v ≡ w
-least_same P None None a b = refl
-least_same P None (Some y) a b = let found = a.reached y (b.attained y refl) in let e : None ≡ Some found.0 = found.1 in cc
-least_same P (Some x) None a b = let found = b.reached x (a.attained x refl) in let e : None ≡ Some found.0 = found.1 in cc
-least_same P (Some x) (Some y) a b =
+pub IsLeast-unique : (P : ℤ → Type 0) (v w : Option ℤ) → IsLeast P v → IsLeast P w → v ≡ w
+IsLeast-unique P None None a b = refl
+IsLeast-unique P None (Some y) a b = let found = a.reached y (b.attained y refl) in let e : None ≡ Some found.0 = found.1 in cc
+IsLeast-unique P (Some x) None a b = let found = b.reached x (a.attained x refl) in let e : None ≡ Some found.0 = found.1 in cc
+IsLeast-unique P (Some x) (Some y) a b =
     let up = b.reached x (a.attained x refl) in
     let down = a.reached y (b.attained y refl) in
     let e : up.0 ≡ y = cc in
@@ -88,10 +88,10 @@ pub record IsOneOf (Index : Type 0) (In : Index → Type 0) (value : Index → O
   pub is : value index ≡ Some z
 
 -- the greatest of the greatest of several families is the greatest of a family that has the numbers of all
-pub greatest_nested : (Index : Type 0) (In : Index → Type 0) (P : Index → ℤ → Type 0) (value : Index → Option ℤ) (R : ℤ → Type 0) (v : Option ℤ)
+pub IsGreatest-nested : (Index : Type 0) (In : Index → Type 0) (P : Index → ℤ → Type 0) (value : Index → Option ℤ) (R : ℤ → Type 0) (v : Option ℤ)
     → ((i : Index) → In i → IsGreatest (P i) (value i)) → ((i : Index) (z : ℤ) → In i → P i z → R z) → ((z : ℤ) → R z → (i : Index) × In i × P i z)
     → IsGreatest (IsOneOf Index In value) v → IsGreatest R v
-greatest_nested Index In P value R v each from_p of_r outer = record {
+IsGreatest-nested Index In P value R v each from_p of_r outer = record {
   attained = λ z e. let one = outer.attained z e in from_p one.index z one.chosen ((each one.index one.chosen).attained z one.is);
   reached = λ z r.
       let found = of_r z r in
@@ -103,14 +103,14 @@ greatest_nested Index In P value R v each from_p of_r outer = record {
 }
 
 -- a family without numbers has no greatest
-pub greatest_none : (P : ℤ → Type 0) → ((z : ℤ) → P z → ⊥) → IsGreatest P None
-greatest_none P none = record { attained = λ z e. let e' : None ≡ Some z = e in cc; reached = λ z p. absurd (none z p) }
+pub IsGreatest-none : (P : ℤ → Type 0) → ((z : ℤ) → P z → ⊥) → IsGreatest P None
+IsGreatest-none P none = record { attained = λ z e. let e' : None ≡ Some z = e in cc; reached = λ z p. absurd (none z p) }
 
 -- none is below each value
-pub larger_none : (v : Option ℤ) → larger v None ≡ v
-larger_none (Some x) = refl
-larger_none None = refl
+pub larger-none : (v : Option ℤ) → larger v None ≡ v
+larger-none (Some x) = refl
+larger-none None = refl
 
 -- a family that has the same numbers has the same least
-pub least_of : (P R : ℤ → Type 0) (v : Option ℤ) → ((z : ℤ) → P z → R z) → ((z : ℤ) → R z → P z) → IsLeast P v → IsLeast R v
-least_of P R v from_p of_r was = record { attained = λ z e. from_p z (was.attained z e); reached = λ z r. was.reached z (of_r z r) }
+pub IsLeast-same_values : (P R : ℤ → Type 0) (v : Option ℤ) → ((z : ℤ) → P z → R z) → ((z : ℤ) → R z → P z) → IsLeast P v → IsLeast R v
+IsLeast-same_values P R v from_p of_r was = record { attained = λ z e. from_p z (was.attained z e); reached = λ z r. was.reached z (of_r z r) }

@@ -17,11 +17,11 @@ use Rattle.hd_morph.specs.declared.filter.Filter.TheVariants.{Dilation}
 use Rattle.hd_morph.specs.Filter.{Relief, IsOffset, IsRaised}
 use Rattle.hd_morph.specs.Plain.{value_at, relief, ArePlain, HasNumbersWithin}
 use Rattle.hd_morph.specs.Raised.{ArePlainlyFiltered, AreTopped, AreSettled, plus, AreRaisedTo, AreRaisedAcross, IsRaisedBy, IsRowRaisedOnce, AreBlank, IsBlankRow, IsRowRaised, AreRaised}
-use Rattle.hd_morph.proofs.Greatest.{greatest_of, greatest_join, greatest_none, larger_none}
-use Rattle.hd_morph.proofs.Encodings.{length_values}
-use Rattle.hd_morph.proofs.PlainNumbers.{some_or_none, some_inside, mid_inside, mid_before, mid_after, mid_length, part_at, part_length, IsBounded-relief}
-use Rattle.hd_morph.proofs.Adjunction.{origin_of, centre_links}
-use Rattle.hd_morph.proofs.Settling.{settled_filtered}
+use Rattle.hd_morph.proofs.Greatest.{IsGreatest-same_values, IsGreatest-join, IsGreatest-none, larger-none}
+use Rattle.hd_morph.proofs.Encodings.{values_of-length}
+use Rattle.hd_morph.proofs.PlainNumbers.{Option-some_or_none, value_at-inside, put_mid-inside, put_mid-before, put_mid-after, put_mid-length, take_drop-at, take_drop-length, IsBounded-relief}
+use Rattle.hd_morph.proofs.Adjunction.{HasOrigin-element, Links-centre}
+use Rattle.hd_morph.proofs.Settling.{ArePlainlyFiltered-topped}
 
 -- as many values of a stretch as there were steps are raised
 pub record RaisedBefore (heights : List (Option ℤ)) (from : ℕ) (number : ℤ) (to step : ℕ) (old now : List (Option ℤ)) : Type 0 where
@@ -30,13 +30,13 @@ pub record RaisedBefore (heights : List (Option ℤ)) (from : ℕ) (number : ℤ
   pub below : (k : ℕ) → k < to → value_at now k ≡ value_at old k
   pub above : (k : ℕ) → to + step ≤ k → value_at now k ≡ value_at old k
 
-pub raised_none : (heights : List (Option ℤ)) (from : ℕ) (number : ℤ) (to : ℕ) (old : List (Option ℤ)) → RaisedBefore heights from number to 0 old old
-raised_none heights from number to old = record { whole = refl; inside = λ k less. absurd (omega arith); below = λ k less. refl; above = λ k past. refl }
+pub RaisedBefore-none : (heights : List (Option ℤ)) (from : ℕ) (number : ℤ) (to : ℕ) (old : List (Option ℤ)) → RaisedBefore heights from number to 0 old old
+RaisedBefore-none heights from number to old = record { whole = refl; inside = λ k less. absurd (omega arith); below = λ k less. refl; above = λ k past. refl }
 
-pub raised_more : (heights : List (Option ℤ)) (from : ℕ) (number : ℤ) (to step : ℕ) (old now : List (Option ℤ)) (new : Option ℤ) → to + step < length old
+pub RaisedBefore-more : (heights : List (Option ℤ)) (from : ℕ) (number : ℤ) (to step : ℕ) (old now : List (Option ℤ)) (new : Option ℤ) → to + step < length old
     → new ≡ larger (value_at now (to + step)) (plus number (value_at heights (from + step)))
     → RaisedBefore heights from number to step old now → RaisedBefore heights from number to (step + 1) old (slice_set now (to + step) new)
-raised_more heights from number to step old now new room is was =
+RaisedBefore-more heights from number to step old now new room is was =
     let at : ℕ = to + step in
     let room_now : at < length now = omega (arith, was.whole) in
     let here : value_at now at ≡ value_at old at = was.above at (omega arith) in
@@ -49,13 +49,13 @@ raised_more heights from number to step old now new room is was =
       above = λ k past. get_or-set_other now at k new None (omega arith) ∙ was.above k (omega arith);
     }
 
-pub raised_all : (heights : List (Option ℤ)) (from : ℕ) (number : ℤ) (to step count : ℕ) (old now : List (Option ℤ)) → step ≡ count → RaisedBefore heights from number to step old now → AreRaisedTo heights from count number to old now
-raised_all heights from number to step count old now all was = record { whole = was.whole; inside = λ k less. was.inside k (omega arith); below = was.below; above = λ k past. was.above k (omega arith) }
+pub AreRaisedTo-all : (heights : List (Option ℤ)) (from : ℕ) (number : ℤ) (to step count : ℕ) (old now : List (Option ℤ)) → step ≡ count → RaisedBefore heights from number to step old now → AreRaisedTo heights from count number to old now
+AreRaisedTo-all heights from number to step count old now all was = record { whole = was.whole; inside = λ k less. was.inside k (omega arith); below = was.below; above = λ k past. was.above k (omega arith) }
 
 -- a stretch of a row is the part that an offset leads to
-pub raised_across : (heights : List (Option ℤ)) (reach column ahead behind count : ℕ) (number : ℤ) (old new : List (Option ℤ)) → length heights ≡ length old → ahead ≡ reach - column → behind ≡ column - reach
+pub AreRaisedAcross-stretch : (heights : List (Option ℤ)) (reach column ahead behind count : ℕ) (number : ℤ) (old new : List (Option ℤ)) → length heights ≡ length old → ahead ≡ reach - column → behind ≡ column - reach
     → ahead + behind < length heights → count ≡ length heights - ahead - behind → AreRaisedTo heights ahead count number behind old new → AreRaisedAcross heights reach column number old new
-raised_across heights reach column ahead behind count number old new whole ahead_is behind_is room count_is was = record {
+AreRaisedAcross-stretch heights reach column ahead behind count number old new whole ahead_is behind_is room count_is was = record {
   whole = was.whole;
   reached = λ x from inside from_inside leads.
       let k : ℕ = x - behind in
@@ -73,9 +73,9 @@ raised_across heights reach column ahead behind count number old new whole ahead
 }
 
 -- where nothing overlaps, nothing is reached
-pub raised_nowhere : (heights : List (Option ℤ)) (reach column ahead behind : ℕ) (number : ℤ) (old : List (Option ℤ)) → length heights ≡ length old → ahead ≡ reach - column → behind ≡ column - reach
+pub AreRaisedAcross-nowhere : (heights : List (Option ℤ)) (reach column ahead behind : ℕ) (number : ℤ) (old : List (Option ℤ)) → length heights ≡ length old → ahead ≡ reach - column → behind ≡ column - reach
     → length heights ≤ ahead + behind → AreRaisedAcross heights reach column number old old
-raised_nowhere heights reach column ahead behind number old whole ahead_is behind_is room = record {
+AreRaisedAcross-nowhere heights reach column ahead behind number old whole ahead_is behind_is room = record {
   whole = refl;
   reached = λ x from inside from_inside leads. absurd (omega arith);
   others = λ x none. refl;
@@ -88,18 +88,18 @@ one_from e u v from from' p same a b =
     same_pos from' from (omega (arith, a.across, c.across)) (omega (arith, a.down, c.down))
 
 module _ (s : Size) (e : ElementTable) (f : Relief) (p offset : Pos) where
-  pub no_number : number_at e offset ≡ None → IsGreatest (IsRaisedBy s e f p (λ u. u ≡ offset)) None
-  no_number none = greatest_none _ (λ z r.
+  pub IsRaisedBy-no_number : number_at e offset ≡ None → IsGreatest (IsRaisedBy s e f p (λ u. u ≡ offset)) None
+  IsRaisedBy-no_number none = IsGreatest-none _ (λ z r.
       let there : number_at e r.is_raised.links.offset ≡ Some r.is_raised.number = r.is_raised.links.is_number in
       let same : number_at e r.is_raised.links.offset ≡ number_at e offset = ap (number_at e) r.chosen in
       cc)
 
-  pub no_position : ((from : Pos) → InGrid s from → IsOffset e offset from p → ⊥) → IsGreatest (IsRaisedBy s e f p (λ u. u ≡ offset)) None
-  no_position none = greatest_none _ (λ z r. none r.is_raised.from r.is_raised.links.from
+  pub IsRaisedBy-no_position : ((from : Pos) → InGrid s from → IsOffset e offset from p → ⊥) → IsGreatest (IsRaisedBy s e f p (λ u. u ≡ offset)) None
+  IsRaisedBy-no_position none = IsGreatest-none _ (λ z r. none r.is_raised.from r.is_raised.links.from
       (subst (λ (u : Pos). IsOffset e u r.is_raised.from p) r.chosen r.is_raised.links.is_offset))
 
   no_height : (from : Pos) → IsOffset e offset from p → f from ≡ None → IsGreatest (IsRaisedBy s e f p (λ u. u ≡ offset)) None
-  no_height from leads none = greatest_none _ (λ z r.
+  no_height from leads none = IsGreatest-none _ (λ z r.
       let same : r.is_raised.from ≡ from = one_from e offset r.is_raised.links.offset from r.is_raised.from p r.chosen leads r.is_raised.links.is_offset in
       let there : f r.is_raised.from ≡ Some r.is_raised.height = r.is_raised.is_height in
       let same' : f r.is_raised.from ≡ f from = ap f same in
@@ -134,30 +134,30 @@ module _ (s : Size) (e : ElementTable) (f : Relief) (p offset : Pos) where
   }
 
   -- from the position that an offset leads from comes its height, raised
-  pub one_offset : (from : Pos) (number : ℤ) → InGrid s from → InGrid s p → IsOffset e offset from p → number_at e offset ≡ Some number
+  pub IsRaisedBy-one_offset : (from : Pos) (number : ℤ) → InGrid s from → InGrid s p → IsOffset e offset from p → number_at e offset ≡ Some number
       → IsGreatest (IsRaisedBy s e f p (λ u. u ≡ offset)) (plus number (f from))
-  one_offset from number inside inside' leads is_number = elim (some_or_none (f from)) [
+  IsRaisedBy-one_offset from number inside inside' leads is_number = elim (Option-some_or_none (f from)) [
     | inl z ↦ rw z.1 (one_raised from number z.0 inside inside' leads is_number z.1)
     | inr none ↦ rw none (no_height from leads none)
   ]
 
 -- a row that an offset leads nowhere in stays
-pub row_kept : (s : Size) (e : ElementTable) (f : Relief) (y : ℕ) (offset : Pos) (old : List (Option ℤ))
+pub IsRowRaisedOnce-kept : (s : Size) (e : ElementTable) (f : Relief) (y : ℕ) (offset : Pos) (old : List (Option ℤ))
     → ((x : ℕ) → x < s.points → IsGreatest (IsRaisedBy s e f (record { x = x; y = y }) (λ u. u ≡ offset)) None) → IsRowRaisedOnce s e f y offset old old
-row_kept s e f y offset old none = record { whole = refl; each = λ x inside. record { raised = None; greatest = none x inside; is = sym (larger_none (value_at old x)) } }
+IsRowRaisedOnce-kept s e f y offset old none = record { whole = refl; each = λ x inside. record { raised = None; greatest = none x inside; is = sym (larger-none (value_at old x)) } }
 
 -- no row of the grid leads to this one
-pub no_row : (s : Size) (e : ElementTable) (f : Relief) (y : ℕ) (offset : Pos) (old : List (Option ℤ)) → ((from : ℕ) → from < s.profiles → from + offset.y ≡ y + e.height / 2 → ⊥) → IsRowRaisedOnce s e f y offset old old
-no_row s e f y offset old none = row_kept s e f y offset old (λ x inside. no_position s e f (record { x = x; y = y }) offset (λ from within leads. none from.y within.profile leads.down))
+pub IsRowRaisedOnce-no_row : (s : Size) (e : ElementTable) (f : Relief) (y : ℕ) (offset : Pos) (old : List (Option ℤ)) → ((from : ℕ) → from < s.profiles → from + offset.y ≡ y + e.height / 2 → ⊥) → IsRowRaisedOnce s e f y offset old old
+IsRowRaisedOnce-no_row s e f y offset old none = IsRowRaisedOnce-kept s e f y offset old (λ x inside. IsRaisedBy-no_position s e f (record { x = x; y = y }) offset (λ from within leads. none from.y within.profile leads.down))
 
 -- a row of heights, raised across, raises a row once
-pub row_raised : (s : Size) (e : ElementTable) (heights : List (Option ℤ)) (y row start : ℕ) (offset : Pos) (number : ℤ) (old new : List (Option ℤ)) → length heights ≡ cell_count s → length old ≡ s.points → y < s.profiles
+pub IsRowRaisedOnce-across : (s : Size) (e : ElementTable) (heights : List (Option ℤ)) (y row start : ℕ) (offset : Pos) (number : ℤ) (old new : List (Option ℤ)) → length heights ≡ cell_count s → length old ≡ s.points → y < s.profiles
     → row < s.profiles → row + offset.y ≡ y + e.height / 2 → offset.x < e.width → offset.y < e.height → number_at e offset ≡ Some number → start ≡ row * s.points
     → AreRaisedAcross (take s.points (drop start heights)) (e.width / 2) offset.x number old new → IsRowRaisedOnce s e (relief s heights) y offset old new
-row_raised s e heights y row start offset number old new whole width within row_within leads column table_row is_number start_is was =
+IsRowRaisedOnce-across s e heights y row start offset number old new whole width within row_within leads column table_row is_number start_is was =
     let last : (row + 1) * s.points ≤ s.profiles * s.points = mul-le-mul_right s.points (let h : row + 1 ≤ s.profiles = omega arith in h) in
     let room : start + s.points ≤ length heights = omega (arith, whole, last) in
-    let size : length (take s.points (drop start heights)) ≡ s.points = part_length start s.points heights room in
+    let size : length (take s.points (drop start heights)) ≡ s.points = take_drop-length start s.points heights room in
     record {
       whole = was.whole;
       each = λ x inside.
@@ -166,23 +166,23 @@ row_raised s e heights y row start offset number old new whole width within row_
           elim (cases_lt (x + e.width / 2) offset.x) [
             | inl before ↦ record {
               raised = None;
-              greatest = no_position s e (relief s heights) p offset (λ from from_inside o. let across : from.x + offset.x ≡ x + e.width / 2 = o.across in omega arith);
-              is = was.others x (λ from less e'. omega arith) ∙ sym (larger_none (value_at old x));
+              greatest = IsRaisedBy-no_position s e (relief s heights) p offset (λ from from_inside o. let across : from.x + offset.x ≡ x + e.width / 2 = o.across in omega arith);
+              is = was.others x (λ from less e'. omega arith) ∙ sym (larger-none (value_at old x));
             }
             | inr after ↦ elim (cases_lt (x + e.width / 2 - offset.x) s.points) [
               | inl there ↦
                   let q : Pos = record { x = x + e.width / 2 - offset.x; y = row } in
                   let o : IsOffset e offset q p = record { column = column; row = table_row; across = omega arith; down = leads } in
-                  let value : value_at (take s.points (drop start heights)) q.x ≡ relief s heights q = part_at None start s.points q.x heights there ∙ ap (λ k. value_at heights (k + q.x)) start_is in
+                  let value : value_at (take s.points (drop start heights)) q.x ≡ relief s heights q = take_drop-at None start s.points q.x heights there ∙ ap (λ k. value_at heights (k + q.x)) start_is in
                   record {
                     raised = plus number (relief s heights q);
-                    greatest = one_offset s e (relief s heights) p offset q number (record { column = there; profile = row_within }) p_inside o is_number;
+                    greatest = IsRaisedBy-one_offset s e (relief s heights) p offset q number (record { column = there; profile = row_within }) p_inside o is_number;
                     is = rw value at (was.reached x q.x (omega (arith, width)) (omega (arith, size)) (omega arith));
                   }
               | inr past ↦ record {
                 raised = None;
-                greatest = no_position s e (relief s heights) p offset (λ from from_inside o. let across : from.x + offset.x ≡ x + e.width / 2 = o.across in let less : from.x < s.points = from_inside.column in omega arith);
-                is = was.others x (λ from less e'. omega (arith, size)) ∙ sym (larger_none (value_at old x));
+                greatest = IsRaisedBy-no_position s e (relief s heights) p offset (λ from from_inside o. let across : from.x + offset.x ≡ x + e.width / 2 = o.across in let less : from.x < s.points = from_inside.column in omega arith);
+                is = was.others x (λ from less e'. omega (arith, size)) ∙ sym (larger-none (value_at old x));
               }
             ]
           ];
@@ -197,17 +197,17 @@ pub record RowRaisedBefore (s : Size) (e : ElementTable) (f : Relief) (y index :
   pub whole : length row ≡ s.points
   pub each : (x : ℕ) → x < s.points → IsGreatest (IsRaisedBy s e f (record { x = x; y = y }) (λ u. place_in e u < index)) (value_at row x)
 
-pub row_none : (s : Size) (e : ElementTable) (f : Relief) (y : ℕ) (row : List (Option ℤ)) → IsBlankRow s row → RowRaisedBefore s e f y 0 row
-row_none s e f y row blank = record { whole = blank.whole; each = λ x inside. rw (blank.each x) (greatest_none _ (λ z r. omega (arith, r.chosen))) }
+pub RowRaisedBefore-none : (s : Size) (e : ElementTable) (f : Relief) (y : ℕ) (row : List (Option ℤ)) → IsBlankRow s row → RowRaisedBefore s e f y 0 row
+RowRaisedBefore-none s e f y row blank = record { whole = blank.whole; each = λ x inside. rw (blank.each x) (IsGreatest-none _ (λ z r. omega (arith, r.chosen))) }
 
-pub row_more : (s : Size) (e : ElementTable) (f : Relief) (y index : ℕ) (offset : Pos) (old new : List (Option ℤ)) → offset.x < e.width → place_in e offset ≡ index
+pub RowRaisedBefore-more : (s : Size) (e : ElementTable) (f : Relief) (y index : ℕ) (offset : Pos) (old new : List (Option ℤ)) → offset.x < e.width → place_in e offset ≡ index
     → RowRaisedBefore s e f y index old → IsRowRaisedOnce s e f y offset old new → RowRaisedBefore s e f y (index + 1) new
-row_more s e f y index offset old new column place was once = record {
+RowRaisedBefore-more s e f y index offset old new column place was once = record {
   whole = once.whole ∙ was.whole;
   each = λ x inside.
       let p : Pos = record { x = x; y = y } in
       let one = once.each x inside in
-      rw one.is (greatest_join (IsRaisedBy s e f p (λ u. place_in e u < index)) (IsRaisedBy s e f p (λ u. u ≡ offset)) (IsRaisedBy s e f p (λ u. place_in e u < index + 1)) (value_at old x) one.raised
+      rw one.is (IsGreatest-join (IsRaisedBy s e f p (λ u. place_in e u < index)) (IsRaisedBy s e f p (λ u. u ≡ offset)) (IsRaisedBy s e f p (λ u. place_in e u < index + 1)) (value_at old x) one.raised
       (λ z r. record { is_raised = r.is_raised; chosen = omega (arith, r.chosen) })
       (λ z r. record { is_raised = r.is_raised; chosen = (let here : place_in e r.is_raised.links.offset ≡ place_in e offset = ap (place_in e) r.chosen in omega arith) })
       (λ z r. elim (cases_lt (place_in e r.is_raised.links.offset) index) [
@@ -221,10 +221,10 @@ row_more s e f y index offset old new column place was once = record {
       (was.each x inside) one.greatest);
 }
 
-pub row_all : (s : Size) (e : ElementTable) (f : Relief) (y index : ℕ) (row : List (Option ℤ)) → e.width * e.height ≤ index → RowRaisedBefore s e f y index row → IsRowRaised s e f y row
-row_all s e f y index row all was = record {
+pub IsRowRaised-all : (s : Size) (e : ElementTable) (f : Relief) (y index : ℕ) (row : List (Option ℤ)) → e.width * e.height ≤ index → RowRaisedBefore s e f y index row → IsRowRaised s e f y row
+IsRowRaised-all s e f y index row all was = record {
   whole = was.whole;
-  each = λ x inside. greatest_of (IsRaisedBy s e f (record { x = x; y = y }) (λ u. place_in e u < index)) (IsRaised s e f (record { x = x; y = y })) (value_at row x)
+  each = λ x inside. IsGreatest-same_values (IsRaisedBy s e f (record { x = x; y = y }) (λ u. place_in e u < index)) (IsRaised s e f (record { x = x; y = y })) (value_at row x)
       (λ z r. r.is_raised)
       (λ z r. record { is_raised = r; chosen = omega (arith, mul-add-lt r.links.offset.y e.width r.links.offset.x e.height r.links.is_offset.row r.links.is_offset.column) })
       (was.each x inside);
@@ -236,53 +236,53 @@ pub record RowsRaised (s : Size) (e : ElementTable) (f : Relief) (y : ℕ) (tops
   pub done : (p : Pos) → InGrid s p → p.y < y → IsGreatest (IsRaised s e f p) (relief s tops p)
   pub left : (k : ℕ) → y * s.points ≤ k → value_at tops k ≡ None
 
-pub rows_none : (s : Size) (e : ElementTable) (f : Relief) (tops : List (Option ℤ)) → AreBlank s tops → RowsRaised s e f 0 tops
-rows_none s e f tops blank = record { whole = blank.whole; done = λ p inside less. absurd (omega arith); left = λ k past. blank.each k }
+pub RowsRaised-none : (s : Size) (e : ElementTable) (f : Relief) (tops : List (Option ℤ)) → AreBlank s tops → RowsRaised s e f 0 tops
+RowsRaised-none s e f tops blank = record { whole = blank.whole; done = λ p inside less. absurd (omega arith); left = λ k past. blank.each k }
 
 -- the next row stands for no height
-pub row_blank : (s : Size) (e : ElementTable) (f : Relief) (y k : ℕ) (tops : List (Option ℤ)) → y < s.profiles → k ≡ s.points → RowsRaised s e f y tops → IsBlankRow s (take k (drop (y * s.points) tops))
-row_blank s e f y k tops row width was =
+pub RowsRaised-blank : (s : Size) (e : ElementTable) (f : Relief) (y k : ℕ) (tops : List (Option ℤ)) → y < s.profiles → k ≡ s.points → RowsRaised s e f y tops → IsBlankRow s (take k (drop (y * s.points) tops))
+RowsRaised-blank s e f y k tops row width was =
     let last : (y + 1) * s.points ≤ s.profiles * s.points = mul-le-mul_right s.points (let h : y + 1 ≤ s.profiles = omega arith in h) in
-    let size : length (take k (drop (y * s.points) tops)) ≡ k = part_length (y * s.points) k tops (omega (arith, was.whole, last)) in
+    let size : length (take k (drop (y * s.points) tops)) ≡ k = take_drop-length (y * s.points) k tops (omega (arith, was.whole, last)) in
     record {
       whole = size ∙ width;
-      each = λ x. elim (some_or_none (value_at (take k (drop (y * s.points) tops)) x)) [
+      each = λ x. elim (Option-some_or_none (value_at (take k (drop (y * s.points) tops)) x)) [
         | inl z ↦
-            let inside : x < k = omega (arith, size, some_inside (take k (drop (y * s.points) tops)) x z.0 z.1) in
-            part_at None (y * s.points) k x tops inside ∙ was.left (y * s.points + x) (omega arith)
+            let inside : x < k = omega (arith, size, value_at-inside (take k (drop (y * s.points) tops)) x z.0 z.1) in
+            take_drop-at None (y * s.points) k x tops inside ∙ was.left (y * s.points + x) (omega arith)
         | inr none ↦ none
       ];
     }
 
-pub rows_more : (s : Size) (e : ElementTable) (f : Relief) (y k : ℕ) (tops part : List (Option ℤ)) → y < s.profiles → k ≡ s.points → RowsRaised s e f y tops → IsRowRaised s e f y part
+pub RowsRaised-more : (s : Size) (e : ElementTable) (f : Relief) (y k : ℕ) (tops part : List (Option ℤ)) → y < s.profiles → k ≡ s.points → RowsRaised s e f y tops → IsRowRaised s e f y part
     → RowsRaised s e f (y + 1) (put_mid (y * s.points) k tops part)
-rows_more s e f y k tops part row width was raised =
+RowsRaised-more s e f y k tops part row width was raised =
     let last : (y + 1) * s.points ≤ s.profiles * s.points = mul-le-mul_right s.points (let h : y + 1 ≤ s.profiles = omega arith in h) in
     let room : y * s.points + k ≤ length tops = omega (arith, was.whole, last) in
     let size : length part ≡ k = raised.whole ∙ sym width in
     record {
-      whole = mid_length (y * s.points) k tops part room size ∙ was.whole;
+      whole = put_mid-length (y * s.points) k tops part room size ∙ was.whole;
       done = λ p inside below. elim (cases_lt p.y y) [
         | inl before ↦
             let earlier : (p.y + 1) * s.points ≤ y * s.points = mul-le-mul_right s.points (let h : p.y + 1 ≤ y = omega arith in h) in
             let there : value_at (put_mid (y * s.points) k tops part) (place_of s p) ≡ value_at tops (place_of s p) =
-            mid_before None (y * s.points) k (place_of s p) tops part room size (omega (arith, earlier, inside.column)) in
+            put_mid-before None (y * s.points) k (place_of s p) tops part room size (omega (arith, earlier, inside.column)) in
             rw there (was.done p inside before)
         | inr not ↦
             let same : p.y ≡ y = omega arith in
             let place : place_of s p ≡ y * s.points + p.x = ap (λ t. t * s.points + p.x) same in
             let there : value_at (put_mid (y * s.points) k tops part) (place_of s p) ≡ value_at part p.x =
-            ap (value_at (put_mid (y * s.points) k tops part)) place ∙ mid_inside None (y * s.points) k p.x tops part room size (omega (arith, inside.column)) in
+            ap (value_at (put_mid (y * s.points) k tops part)) place ∙ put_mid-inside None (y * s.points) k p.x tops part room size (omega (arith, inside.column)) in
             let at : record { x = p.x; y = y } ≡ p = same_pos (record { x = p.x; y = y }) p refl (sym same) in
             rw there (subst (λ (q : Pos). IsGreatest (IsRaised s e f q) (value_at part p.x)) at (raised.each p.x inside.column))
       ];
       left = λ i above.
           let beyond : y * s.points + k ≤ i = omega arith in
-          mid_after None (y * s.points) k i tops part room size beyond ∙ was.left i (omega arith);
+          put_mid-after None (y * s.points) k i tops part room size beyond ∙ was.left i (omega arith);
     }
 
-pub rows_all : (s : Size) (e : ElementTable) (f : Relief) (y : ℕ) (tops : List (Option ℤ)) → s.profiles ≤ y → RowsRaised s e f y tops → AreRaised s e f tops
-rows_all s e f y tops all was = record { whole = was.whole; each = λ p inside. was.done p inside (omega (arith, inside.profile)) }
+pub AreRaised-all : (s : Size) (e : ElementTable) (f : Relief) (y : ℕ) (tops : List (Option ℤ)) → s.profiles ≤ y → RowsRaised s e f y tops → AreRaised s e f tops
+AreRaised-all s e f y tops all was = record { whole = was.whole; each = λ p inside. was.done p inside (omega (arith, inside.profile)) }
 
 plus_zero : (v : Option ℤ) → plus (pos 0) v ≡ v
 plus_zero (Some z) = ap Some (omega (arith, ints))
@@ -290,17 +290,17 @@ plus_zero None = refl
 
 module _ {L : Type 0} (code : Encoding L) where
   -- a present point is raised at least from itself
-  pub raised_topped : (s : Size) (e : ElementTable) (heights : List L) (tops : List (Option ℤ)) → 1 ≤ s.points → IsElement e → HasNumbersWithin code.most_number e → ArePlain code s (most_between code) heights
+  pub AreTopped-raised : (s : Size) (e : ElementTable) (heights : List L) (tops : List (Option ℤ)) → 1 ≤ s.points → IsElement e → HasNumbersWithin code.most_number e → ArePlain code s (most_between code) heights
       → AreRaised s e (relief s (values_of code heights)) tops → AreTopped (most_filtered code) (values_of code heights) tops
-  raised_topped s e heights tops some is numbers plain raised = record {
-    whole = raised.whole ∙ sym plain.whole ∙ sym (length_values code heights);
+  AreTopped-raised s e heights tops some is numbers plain raised = record {
+    whole = raised.whole ∙ sym plain.whole ∙ sym (values_of-length code heights);
     each = λ k z there.
         let p : Pos = position_at s k in
         let place : place_of s p ≡ k = position_at-place s k some in
-        let inside : InGrid s p = position_at-inside s k some (omega (arith, some_inside (values_of code heights) k z there, length_values code heights, plain.whole)) in
-        let o = origin_of e is in
+        let inside : InGrid s p = position_at-inside s k some (omega (arith, value_at-inside (values_of code heights) k z there, values_of-length code heights, plain.whole)) in
+        let o = HasOrigin-element e is in
         let height : relief s (values_of code heights) p ≡ Some z = rw place there in
-        let top = (raised.each p inside).reached (z +ℤ o.number) (record { from = p; height = z; number = o.number; links = centre_links s e o p inside; is_height = height; sum = refl }) in
+        let top = (raised.each p inside).reached (z +ℤ o.number) (record { from = p; height = z; number = o.number; links = Links-centre s e o p inside; is_height = height; sum = refl }) in
         let r = (raised.each p inside).attained top.0 top.1 in
         let within = IsBounded-relief code s (most_between code) heights plain r.from r.links.from in
         let low = within.least r.height r.is_height in
@@ -313,8 +313,8 @@ module _ {L : Type 0} (code : Encoding L) where
   }
 
   -- raised tops, settled, are the dilation
-  pub raised_settled : (s : Size) (e : ElementTable) (heights : List L) (tops : List (Option ℤ)) (new : List L) → 1 ≤ s.points → IsElement e → HasNumbersWithin code.most_number e → ArePlain code s (most_between code) heights
+  pub ArePlainlyFiltered-settled : (s : Size) (e : ElementTable) (heights : List L) (tops : List (Option ℤ)) (new : List L) → 1 ≤ s.points → IsElement e → HasNumbersWithin code.most_number e → ArePlain code s (most_between code) heights
       → AreRaised s e (relief s (values_of code heights)) tops → AreSettled code (values_of code heights) tops (pos 0) new → ArePlainlyFiltered code Dilation s e heights new
-  raised_settled s e heights tops new some is numbers plain raised settled =
-      settled_filtered code s e heights tops new (pos 0) plain.whole (raised_topped s e heights tops some is numbers plain raised) settled
+  ArePlainlyFiltered-settled s e heights tops new some is numbers plain raised settled =
+      ArePlainlyFiltered-topped code s e heights tops new (pos 0) plain.whole (AreTopped-raised s e heights tops some is numbers plain raised) settled
       (λ p inside z there. rw (plus_zero (relief s tops p)) (raised.each p inside))

@@ -16,31 +16,31 @@ use Rattle.hd_morph.specs.declared.filter.Filter.TheVariants.{Dilation, Erosion,
 use Rattle.hd_morph.specs.Filter.{Relief, IsRaised, IsLowered, IsDilation, IsErosion}
 use Rattle.hd_morph.specs.Plain.{value_at, relief, ArePlain, HasNumbersWithin}
 use Rattle.hd_morph.specs.Raised.{ArePlainlyFiltered, AreTopped, IsSettled, AreSettled, plus}
-use Rattle.hd_morph.proofs.Encodings.{value_of_number, length_values}
-use Rattle.hd_morph.proofs.PlainNumbers.{some_or_none, plain_more, IsBounded-relief}
+use Rattle.hd_morph.proofs.Encodings.{value_at-number_in, values_of-length}
+use Rattle.hd_morph.proofs.PlainNumbers.{Option-some_or_none, ArePlain-more, IsBounded-relief}
 
 module _ {L : Type 0} (code : Encoding L) where
   -- what settled tops are, in one step with what they were made for
-  pub settled_filtered : (s : Size) (e : ElementTable) (heights : List L) (tops : List (Option ℤ)) (new : List L) (number : ℤ) → length heights ≡ cell_count s
+  pub ArePlainlyFiltered-topped : (s : Size) (e : ElementTable) (heights : List L) (tops : List (Option ℤ)) (new : List L) (number : ℤ) → length heights ≡ cell_count s
       → AreTopped (most_filtered code) (values_of code heights) tops → AreSettled code (values_of code heights) tops number new
       → ((p : Pos) → InGrid s p → (z : ℤ) → relief s (values_of code heights) p ≡ Some z → IsGreatest (IsRaised s e (relief s (values_of code heights)) p) (plus number (relief s tops p)))
       → ArePlainlyFiltered code Dilation s e heights new
-  settled_filtered s e heights tops new number whole topped settled fits =
-      let size : length tops ≡ cell_count s = topped.whole ∙ length_values code heights ∙ whole in
+  ArePlainlyFiltered-topped s e heights tops new number whole topped settled fits =
+      let size : length tops ≡ cell_count s = topped.whole ∙ values_of-length code heights ∙ whole in
       let settled_at : (k : ℕ) → k < cell_count s → IsSettled code (value_at (values_of code heights) k) (value_at tops k) number (number_in code new k) = λ k below. settled.each k (omega (arith, size)) in
       record {
         whole = settled.whole ∙ size;
         filtered = record {
           present = λ p inside z is.
               let k : ℕ = place_of s p in
-              let value : value_at (values_of code new) k ≡ plus number (value_at tops k) = value_of_number code new k ∙ (settled_at k (place_inside s p inside)).present z is in
+              let value : value_at (values_of code new) k ≡ plus number (value_at tops k) = value_at-number_in code new k ∙ (settled_at k (place_inside s p inside)).present z is in
               rw value (fits p inside z is);
           absent = λ p inside none.
               let k : ℕ = place_of s p in
-              value_of_number code new k ∙ ap code.shown ((settled_at k (place_inside s p inside)).absent none) ∙ code.missing_none;
+              value_at-number_in code new k ∙ ap code.shown ((settled_at k (place_inside s p inside)).absent none) ∙ code.missing_none;
         };
         absent = λ k none. elim (cases_lt k (cell_count s)) [
-          | inl below ↦ elim (some_or_none (value_at (values_of code heights) k)) [
+          | inl below ↦ elim (Option-some_or_none (value_at (values_of code heights) k)) [
             | inl z ↦
                 let within = topped.each k z.0 z.1 in
                 let there : plus number (value_at tops k) ≡ Some (within.number +ℤ number) = rw within.is_number in
@@ -53,9 +53,9 @@ module _ {L : Type 0} (code : Encoding L) where
       }
 
   -- heights that are bounded at each position, with `missing` elsewhere, are plain
-  pub plain_of : (filter : Filter) (s : Size) (e : ElementTable) (n : ℕ) (old new : List L) → 1 ≤ s.points → ArePlainlyFiltered code filter s e old new
+  pub ArePlain-bounded : (filter : Filter) (s : Size) (e : ElementTable) (n : ℕ) (old new : List L) → 1 ≤ s.points → ArePlainlyFiltered code filter s e old new
       → ((p : Pos) → InGrid s p → IsBounded n (relief s (values_of code new) p)) → ArePlain code s n new
-  plain_of filter s e n old new some made within = record {
+  ArePlain-bounded filter s e n old new some made within = record {
     whole = made.whole;
     plain = record {
       each = λ k. record {
@@ -63,7 +63,7 @@ module _ {L : Type 0} (code : Encoding L) where
           | inl below ↦
               let place : place_of s (position_at s k) ≡ k = position_at-place s k some in
               let value : IsBounded n (value_at (values_of code new) k) = rw place at (within (position_at s k) (position_at-inside s k some below)) in
-              rw (value_of_number code new k) at value
+              rw (value_at-number_in code new k) at value
           | inr past ↦
               let none : code.shown (number_in code new k) ≡ None = ap code.shown (get_or_past new k code.missing (omega (arith, made.whole))) ∙ code.missing_none in
               record { least = λ z is. let e : None ≡ Some z = sym none ∙ is in cc; greatest = λ z is. let e : None ≡ Some z = sym none ∙ is in cc }
@@ -90,7 +90,7 @@ IsBounded-dilation s e m n f g numbers within raised p inside = record {
       omega (arith, ints);
 } where
   found : (z : ℤ) → g p ≡ Some z → IsRaised s e f p z
-  found z there = elim (some_or_none (f p)) [
+  found z there = elim (Option-some_or_none (f p)) [
     | inl some ↦ (raised.present p inside some.0 some.1).attained z there
     | inr none ↦ let e : None ≡ Some z = sym (raised.absent p inside none) ∙ there in cc
   ]
@@ -112,35 +112,35 @@ IsBounded-erosion s e m n f g numbers within lowered p inside = record {
       omega (arith, ints);
 } where
   found : (z : ℤ) → g p ≡ Some z → IsLowered s e f p z
-  found z there = elim (some_or_none (f p)) [
+  found z there = elim (Option-some_or_none (f p)) [
     | inl some ↦ (lowered.present p inside some.0 some.1).attained z there
     | inr none ↦ let e : None ≡ Some z = sym (lowered.absent p inside none) ∙ there in cc
   ]
 
 module _ {L : Type 0} (code : Encoding L) where
   -- what was dilated is plain, within more
-  pub dilated_plain : (s : Size) (e : ElementTable) (m n : ℕ) (old new : List L) → 1 ≤ s.points → HasNumbersWithin n e → ArePlain code s m old → ArePlainlyFiltered code Dilation s e old new → ArePlain code s (m + n) new
-  dilated_plain s e m n old new some numbers plain made =
-      plain_of code Dilation s e (m + n) old new some made (IsBounded-dilation s e m n (relief s (values_of code old)) (relief s (values_of code new)) numbers (IsBounded-relief code s m old plain) made.filtered)
+  pub ArePlain-dilated : (s : Size) (e : ElementTable) (m n : ℕ) (old new : List L) → 1 ≤ s.points → HasNumbersWithin n e → ArePlain code s m old → ArePlainlyFiltered code Dilation s e old new → ArePlain code s (m + n) new
+  ArePlain-dilated s e m n old new some numbers plain made =
+      ArePlain-bounded code Dilation s e (m + n) old new some made (IsBounded-dilation s e m n (relief s (values_of code old)) (relief s (values_of code new)) numbers (IsBounded-relief code s m old plain) made.filtered)
 
   -- and so is what was eroded
-  pub eroded_plain : (s : Size) (e : ElementTable) (m n : ℕ) (old new : List L) → 1 ≤ s.points → HasNumbersWithin n e → ArePlain code s m old → ArePlainlyFiltered code Erosion s e old new → ArePlain code s (m + n) new
-  eroded_plain s e m n old new some numbers plain made =
-      plain_of code Erosion s e (m + n) old new some made (IsBounded-erosion s e m n (relief s (values_of code old)) (relief s (values_of code new)) numbers (IsBounded-relief code s m old plain) made.filtered)
+  pub ArePlain-eroded : (s : Size) (e : ElementTable) (m n : ℕ) (old new : List L) → 1 ≤ s.points → HasNumbersWithin n e → ArePlain code s m old → ArePlainlyFiltered code Erosion s e old new → ArePlain code s (m + n) new
+  ArePlain-eroded s e m n old new some numbers plain made =
+      ArePlain-bounded code Erosion s e (m + n) old new some made (IsBounded-erosion s e m n (relief s (values_of code old)) (relief s (values_of code new)) numbers (IsBounded-relief code s m old plain) made.filtered)
 
   -- whatever a filter makes of plain heights is plain, within more
-  pub filtered_plain : (filter : Filter) (s : Size) (e : ElementTable) (old new : List L) → 1 ≤ s.points → HasNumbersWithin code.most_number e → ArePlain code s code.most_height old → ArePlainlyFiltered code filter s e old new → ArePlain code s (most_filtered code) new
-  filtered_plain Dilation s e old new some numbers plain made =
-      plain_more code s (most_between code) (most_filtered code) new (omega arith) (dilated_plain s e code.most_height code.most_number old new some numbers plain made)
-  filtered_plain Erosion s e old new some numbers plain made =
-      plain_more code s (most_between code) (most_filtered code) new (omega arith) (eroded_plain s e code.most_height code.most_number old new some numbers plain made)
-  filtered_plain Opening s e old new some numbers plain made =
+  pub ArePlain-filtered : (filter : Filter) (s : Size) (e : ElementTable) (old new : List L) → 1 ≤ s.points → HasNumbersWithin code.most_number e → ArePlain code s code.most_height old → ArePlainlyFiltered code filter s e old new → ArePlain code s (most_filtered code) new
+  ArePlain-filtered Dilation s e old new some numbers plain made =
+      ArePlain-more code s (most_between code) (most_filtered code) new (omega arith) (ArePlain-dilated s e code.most_height code.most_number old new some numbers plain made)
+  ArePlain-filtered Erosion s e old new some numbers plain made =
+      ArePlain-more code s (most_between code) (most_filtered code) new (omega arith) (ArePlain-eroded s e code.most_height code.most_number old new some numbers plain made)
+  ArePlain-filtered Opening s e old new some numbers plain made =
       let f = made.filtered in
-      plain_of code Opening s e (most_filtered code) old new some made
+      ArePlain-bounded code Opening s e (most_filtered code) old new some made
       (IsBounded-dilation s e (most_between code) code.most_number f.between (relief s (values_of code new)) numbers
       (IsBounded-erosion s e code.most_height code.most_number (relief s (values_of code old)) f.between numbers (IsBounded-relief code s code.most_height old plain) f.first) f.second)
-  filtered_plain Closing s e old new some numbers plain made =
+  ArePlain-filtered Closing s e old new some numbers plain made =
       let f = made.filtered in
-      plain_of code Closing s e (most_filtered code) old new some made
+      ArePlain-bounded code Closing s e (most_filtered code) old new some made
       (IsBounded-erosion s e (most_between code) code.most_number f.between (relief s (values_of code new)) numbers
       (IsBounded-dilation s e code.most_height code.most_number (relief s (values_of code old)) f.between numbers (IsBounded-relief code s code.most_height old plain) f.first) f.second)

@@ -6,11 +6,11 @@ use Rattle.std.proofs.Math.Nat.{mul-le-mul_right}
 use Rattle.hd_morph.specs.Greatest.{larger}
 use Rattle.hd_morph.specs.Plain.{value_at}
 use Rattle.hd_morph.specs.Window.{IsNearby, AreWindowGreatests, IsStridesOff, AreStrideGreatests, IsAhead, AreAheadGreatests, IsWidened, AreWidened, IsBehind, IsLookedBackAt, IsLookedBack, AreLookedBack}
-use Rattle.hd_morph.proofs.Greatest.{greatest_of, greatest_join}
+use Rattle.hd_morph.proofs.Greatest.{IsGreatest-same_values, IsGreatest-join}
 
 -- one value ahead is that of the place itself
-pub ahead_one : (values : List (Option ℤ)) (stride : ℕ) → AreAheadGreatests values stride 1 values
-ahead_one values stride = record {
+pub AreAheadGreatests-one : (values : List (Option ℤ)) (stride : ℕ) → AreAheadGreatests values stride 1 values
+AreAheadGreatests-one values stride = record {
   whole = refl;
   each = λ place. record {
     attained = λ z e. record { steps = 0; to = omega arith; is = (let here : place + 0 * stride ≡ place = omega arith in rw here e) };
@@ -36,10 +36,10 @@ back_steps stride reach place from at steps b near back = elim (cases_lt b.steps
 ]
 
 -- two stretches that leave no value between them out are one
-pub ahead_join : (values old new : List (Option ℤ)) (stride seen step : ℕ) → step ≤ seen → AreAheadGreatests values stride seen old → IsWidened old (step * stride) new → AreAheadGreatests values stride (seen + step) new
-ahead_join values old new stride seen step joined before now = record {
+pub AreAheadGreatests-join : (values old new : List (Option ℤ)) (stride seen step : ℕ) → step ≤ seen → AreAheadGreatests values stride seen old → IsWidened old (step * stride) new → AreAheadGreatests values stride (seen + step) new
+AreAheadGreatests-join values old new stride seen step joined before now = record {
   whole = omega (arith, before.whole, now.whole);
-  each = λ place. rw (now.each place) (greatest_join (IsAhead values stride seen place) (IsAhead values stride seen (place + step * stride)) (IsAhead values stride (seen + step) place)
+  each = λ place. rw (now.each place) (IsGreatest-join (IsAhead values stride seen place) (IsAhead values stride seen (place + step * stride)) (IsAhead values stride (seen + step) place)
       (value_at old place) (value_at old (place + step * stride))
       (λ z a. record { steps = a.steps; to = omega (arith, a.to); is = a.is })
       (λ z a. record { steps = step + a.steps; to = omega (arith, a.to); is = (let here : place + (step + a.steps) * stride ≡ (place + step * stride) + a.steps * stride = omega arith in rw here a.is) })
@@ -51,13 +51,13 @@ ahead_join values old new stride seen step joined before now = record {
 }
 
 -- the values ahead of a place, and ahead of one that is reach strides behind it, are those near it
-pub back_join : (values old new : List (Option ℤ)) (stride reach : ℕ) → AreAheadGreatests values stride (reach + 1) old → IsLookedBack old stride reach new → AreStrideGreatests values stride reach new
-back_join values old new stride reach before now = record {
+pub AreStrideGreatests-join : (values old new : List (Option ℤ)) (stride reach : ℕ) → AreAheadGreatests values stride (reach + 1) old → IsLookedBack old stride reach new → AreStrideGreatests values stride reach new
+AreStrideGreatests-join values old new stride reach before now = record {
   whole = omega (arith, before.whole, now.whole);
   each = λ place inside.
       let seen = now.each place (omega (arith, before.whole)) in
       let b = seen.behind in
-      rw seen.is (greatest_join (IsAhead values stride (reach + 1) place) (IsAhead values stride (reach + 1) seen.from) (IsStridesOff values stride reach place)
+      rw seen.is (IsGreatest-join (IsAhead values stride (reach + 1) place) (IsAhead values stride (reach + 1) seen.from) (IsStridesOff values stride reach place)
       (value_at old place) (value_at old seen.from)
       (λ z a. record { at = place + a.steps * stride; steps = a.steps; near = omega (arith, a.to); side = inl refl; is = a.is })
       (λ z a. elim (cases_lt a.steps b.steps) [
@@ -87,8 +87,8 @@ back_join values old new stride reach before now = record {
 }
 
 -- the place in the first stretch, where fewer strides are behind
-pub behind_first : (stride reach place : ℕ) → 0 < stride → place < reach * stride → IsBehind stride reach place (place % stride)
-behind_first stride reach place some few = record {
+pub IsBehind-first : (stride reach place : ℕ) → 0 < stride → place < reach * stride → IsBehind stride reach place (place % stride)
+IsBehind-first stride reach place some few = record {
   steps = place / stride;
   near = elim (cases_lt (place / stride) (reach + 1)) [
     | inl near ↦ omega arith
@@ -99,10 +99,10 @@ behind_first stride reach place some few = record {
 }
 
 -- strides of one step are places
-pub near_strides : (values tops : List (Option ℤ)) (reach : ℕ) → AreStrideGreatests values 1 reach tops → AreWindowGreatests values reach tops
-near_strides values tops reach was = record {
+pub AreWindowGreatests-near : (values tops : List (Option ℤ)) (reach : ℕ) → AreStrideGreatests values 1 reach tops → AreWindowGreatests values reach tops
+AreWindowGreatests-near values tops reach was = record {
   whole = was.whole;
-  each = λ place inside. greatest_of (IsStridesOff values 1 reach place) (IsNearby values reach place) (value_at tops place)
+  each = λ place inside. IsGreatest-same_values (IsStridesOff values 1 reach place) (IsNearby values reach place) (value_at tops place)
       (λ z a. elim a.side [
         | inl after ↦ record { at = a.at; not_after = omega (arith, a.near, after); not_before = omega (arith, a.near, after); is = a.is }
         | inr back ↦ record { at = a.at; not_after = omega (arith, a.near, back); not_before = omega (arith, a.near, back); is = a.is }
@@ -115,13 +115,13 @@ near_strides values tops reach was = record {
 }
 
 -- nothing is widened at first
-pub widened_none : (old : List (Option ℤ)) (step from to : ℕ) → to ≤ from → AreWidened old step from to old
-widened_none old step from to none = record { whole = refl; inside = λ k after before. absurd (omega arith); below = λ k before. refl; above = λ k after. refl }
+pub AreWidened-none : (old : List (Option ℤ)) (step from to : ℕ) → to ≤ from → AreWidened old step from to old
+AreWidened-none old step from to none = record { whole = refl; inside = λ k after before. absurd (omega arith); below = λ k before. refl; above = λ k after. refl }
 
 -- one place more is widened
-pub widened_more : (old now : List (Option ℤ)) (step from place : ℕ) (new : Option ℤ) → from ≤ place → place < length old → new ≡ larger (value_at now place) (value_at now (place + step))
+pub AreWidened-more : (old now : List (Option ℤ)) (step from place : ℕ) (new : Option ℤ) → from ≤ place → place < length old → new ≡ larger (value_at now place) (value_at now (place + step))
     → AreWidened old step from place now → AreWidened old step from (place + 1) (slice_set now place new)
-widened_more old now step from place new after room is was = record {
+AreWidened-more old now step from place new after room is was = record {
   whole = length-set now place new ∙ was.whole;
   inside = λ k more less. elim (cases_lt k place) [
     | inl before ↦ get_or-set_other now place k new None (omega arith) ∙ was.inside k more before
@@ -136,8 +136,8 @@ widened_more old now step from place new after room is was = record {
 }
 
 -- a further run is widened
-pub widened_join : (old now new : List (Option ℤ)) (step from mid to : ℕ) → from ≤ mid → mid ≤ to → AreWidened old step from mid now → AreWidened now step mid to new → AreWidened old step from to new
-widened_join old now new step from mid to low high was is = record {
+pub AreWidened-join : (old now new : List (Option ℤ)) (step from mid to : ℕ) → from ≤ mid → mid ≤ to → AreWidened old step from mid now → AreWidened now step mid to new → AreWidened old step from to new
+AreWidened-join old now new step from mid to low high was is = record {
   whole = is.whole ∙ was.whole;
   inside = λ k more less. elim (cases_lt k mid) [
     | inl before ↦ is.below k before ∙ was.inside k more before
@@ -148,13 +148,13 @@ widened_join old now new step from mid to low high was is = record {
 }
 
 -- nothing is looked back from at first
-pub looked_back_none : (old : List (Option ℤ)) (step from to : ℕ) → to ≤ from → AreLookedBack old step from to old
-looked_back_none old step from to none = record { whole = refl; inside = λ k after before. absurd (omega arith); below = λ k before. refl; above = λ k after. refl }
+pub AreLookedBack-none : (old : List (Option ℤ)) (step from to : ℕ) → to ≤ from → AreLookedBack old step from to old
+AreLookedBack-none old step from to none = record { whole = refl; inside = λ k after before. absurd (omega arith); below = λ k before. refl; above = λ k after. refl }
 
 -- one place more is looked back from
-pub looked_back_more : (old now : List (Option ℤ)) (step place next to : ℕ) (new : Option ℤ) → next ≡ place + 1 → step ≤ place → place < to → place < length old
+pub AreLookedBack-more : (old now : List (Option ℤ)) (step place next to : ℕ) (new : Option ℤ) → next ≡ place + 1 → step ≤ place → place < to → place < length old
     → new ≡ larger (value_at now place) (value_at now (place - step)) → AreLookedBack old step next to now → AreLookedBack old step place to (slice_set now place new)
-looked_back_more old now step place next to new onward far before room is was = record {
+AreLookedBack-more old now step place next to new onward far before room is was = record {
   whole = length-set now place new ∙ was.whole;
   inside = λ k more less. elim (cases_lt place k) [
     | inl after ↦ get_or-set_other now place k new None (omega arith) ∙ was.inside k (omega arith) less
@@ -169,9 +169,9 @@ looked_back_more old now step place next to new onward far before room is was = 
 }
 
 -- a further run of at most a step is looked back from
-pub looked_back_join : (old now new : List (Option ℤ)) (step from mid to : ℕ) → step ≤ from → from ≤ mid → mid ≤ to → mid ≤ from + step → 0 < step → AreLookedBack old step mid to now → AreLookedBack now step from mid new
+pub AreLookedBack-join : (old now new : List (Option ℤ)) (step from mid to : ℕ) → step ≤ from → from ≤ mid → mid ≤ to → mid ≤ from + step → 0 < step → AreLookedBack old step mid to now → AreLookedBack now step from mid new
     → AreLookedBack old step from to new
-looked_back_join old now new step from mid to far low high run some was is = record {
+AreLookedBack-join old now new step from mid to far low high run some was is = record {
   whole = is.whole ∙ was.whole;
   inside = λ k more less. elim (cases_lt k mid) [
     | inl before ↦ is.inside k more before ∙ rw (was.below k before, was.below (k - step) (omega arith))
@@ -188,9 +188,9 @@ pub record LookedBackFrom (old : List (Option ℤ)) (stride reach place : ℕ) (
   pub left : (k : ℕ) → k < place → value_at now k ≡ value_at old k
 
 -- those that have as many strides behind them are looked back from
-pub far_looked_back : (old now : List (Option ℤ)) (stride reach place : ℕ) → place ≤ reach * stride → ((k : ℕ) → place ≤ k → k < length old → reach * stride ≤ k) → AreLookedBack old (reach * stride) (reach * stride) (length old) now
+pub LookedBackFrom-far : (old now : List (Option ℤ)) (stride reach place : ℕ) → place ≤ reach * stride → ((k : ℕ) → place ≤ k → k < length old → reach * stride ≤ k) → AreLookedBack old (reach * stride) (reach * stride) (length old) now
     → LookedBackFrom old stride reach place now
-far_looked_back old now stride reach place low far was = record {
+LookedBackFrom-far old now stride reach place low far was = record {
   whole = was.whole;
   done = λ k more less.
       let room : reach * stride ≤ k = far k more less in
@@ -199,10 +199,10 @@ far_looked_back old now stride reach place low far was = record {
 }
 
 -- one place more is looked back from, to the first stretch
-pub looked_near_more : (old now : List (Option ℤ)) (stride reach place : ℕ) (new : Option ℤ) → 0 < stride → 0 < place → place - 1 < length old → place - 1 < reach * stride
+pub LookedBackFrom-more : (old now : List (Option ℤ)) (stride reach place : ℕ) (new : Option ℤ) → 0 < stride → 0 < place → place - 1 < length old → place - 1 < reach * stride
     → new ≡ larger (value_at now (place - 1)) (value_at now ((place - 1) % stride))
     → LookedBackFrom old stride reach place now → LookedBackFrom old stride reach (place - 1) (slice_set now (place - 1) new)
-looked_near_more old now stride reach place new some more inside near is was =
+LookedBackFrom-more old now stride reach place new some more inside near is was =
     let at : ℕ = place - 1 in
     let room : at < length now = omega (arith, was.whole) in
     let here : value_at now at ≡ value_at old at = was.left at (omega arith) in
@@ -214,7 +214,7 @@ looked_near_more old now stride reach place new some more inside near is was =
         | inr not ↦
             let same : at ≡ k = omega arith in
             let is_at : IsLookedBackAt old stride reach at (value_at (slice_set now at new) at) =
-            record { from = at % stride; behind = behind_first stride reach at some near; is = get_or-set_same now at new None room ∙ is ∙ rw (here, there) } in
+            record { from = at % stride; behind = IsBehind-first stride reach at some near; is = get_or-set_same now at new None room ∙ is ∙ rw (here, there) } in
             subst (λ (i : ℕ). IsLookedBackAt old stride reach i (value_at (slice_set now at new) i)) same is_at
       ];
       left = λ k less. get_or-set_other now at k new None (omega arith) ∙ was.left k (omega arith);

@@ -3,7 +3,7 @@ use Rattle.hd_map.specs.Encoding.{most_filtered, narrow, values_of}
 use Rattle.hd_map.specs.Map.{AreCellsOf}
 use Rattle.hd_morph.specs.Answer.{with_cells}
 use Rattle.hd_morph.specs.NewHeights.{cells_after}
-use Rattle.hd_morph.proofs.PlainNumbers.{plain_more}
+use Rattle.hd_morph.proofs.PlainNumbers.{ArePlain-more}
 use Rattle.hd_edit.specs.Exchange.{AreExchanged, different}
 use Rattle.hd_edit.proofs.Entries.{exchange_back, exchange_fit, heights_stay}
 use Rattle.hd_edit.proofs.filter.put_narrow.Goals as goal
@@ -11,7 +11,7 @@ use Rattle.hd_edit.proofs.filter.put_narrow.Goals as goal
 pub way_for-requires-clause-olds : goal.way_for-requires-clause-olds
 way_for-requires-clause-olds g c =
     let m = g.G.Heights.map c.args.grid.now in
-    rw c.deref.ensures.value (plain_more narrow m.size narrow.most_height (most_filtered narrow) c.args.lists.before.items (omega arith) c.requires.lists.held.plain).plain
+    rw c.deref.ensures.value (ArePlain-more narrow m.size narrow.most_height (most_filtered narrow) c.args.lists.before.items (omega arith) c.requires.lists.held.plain).plain
 
 pub set_profiles-requires-clause-of_type : goal.set_profiles-requires-clause-of_type
 set_profiles-requires-clause-of_type g c =

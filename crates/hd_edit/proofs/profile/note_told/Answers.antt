@@ -5,7 +5,7 @@ use Rattle.hd_map.specs.declared.types.Size.{Size}
 use Rattle.hd_map.specs.Encoding.{values_of}
 use Rattle.hd_map.specs.Map.{InGrid, IsCellOf, cell_at, mask_at, place_of}
 use Rattle.hd_map.proofs.Lanes.{value_in}
-use Rattle.hd_morph.proofs.Encodings.{number_read}
+use Rattle.hd_morph.proofs.Encodings.{number_in-read}
 use Rattle.hd_edit.proofs.Changes.{cell_of}
 use Rattle.hd_edit.proofs.ProfileChanges.{noted-none, noted-more, shown-told}
 use Rattle.hd_edit.proofs.profile.note_told.Goals as goal
@@ -27,7 +27,7 @@ note_number-requires-clause-of_type g c =
     let inside : InGrid m.size at = record { column = omega (arith, c.loop-x-test.true, c.requires.columns); profile = c.requires.profile } in
     let heights = c.if-not-fill_heights.ensures.row in
     let below : c.loop-x.x < length c.fill_heights.new.row = omega (arith, heights.whole, inside.column) in
-    let read = number_read g.L.Lane.code c.fill_heights.new.row c.loop-x.x c.index-row-x.result below c.index-row-x.is in
+    let read = number_in-read g.L.Lane.code c.fill_heights.new.row c.loop-x.x c.index-row-x.result below c.index-row-x.is in
     let shown = ap g.L.Lane.code.shown read ∙ (heights.each c.loop-x.x inside.column).is in
     λ z is. rw c.data_type-data_type.ensures (subst (λ (cell : Cell). IsCellOf m.data_type cell) (shown-told (cell_at m at) (mask_at m at) z (sym shown ∙ is)) (cell_of m (g.met.G.Heights.whole c.args.grid.now) at inside))
 
@@ -38,7 +38,7 @@ loop-x-preserved g c =
     let inside : InGrid m.size at = record { column = omega (arith, c.loop-x-test.true, c.requires.columns); profile = c.requires.profile } in
     let heights = c.if-not-fill_heights.ensures.row in
     let below : c.loop-x.x < length c.fill_heights.new.row = omega (arith, heights.whole, inside.column) in
-    let read = number_read g.L.Lane.code c.fill_heights.new.row c.loop-x.x c.index-row-x.result below c.index-row-x.is in
+    let read = number_in-read g.L.Lane.code c.fill_heights.new.row c.loop-x.x c.index-row-x.result below c.index-row-x.is in
     let shown = ap g.L.Lane.code.shown read ∙ (heights.each c.loop-x.x inside.column).is in
     let new = value_in g.L.Lane.code c.args.new.now c.loop-x.x c.index-new-x.result c.loop-x-test.true c.index-new-x.is in
     let noted = c.if-not-note_number.ensures.told (cell_at m at) (λ z is. shown-told (cell_at m at) (mask_at m at) z (sym shown ∙ is)) in

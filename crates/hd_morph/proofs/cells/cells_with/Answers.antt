@@ -5,12 +5,12 @@ use Rattle.hd_map.specs.declared.types.Size.{Size}
 use Rattle.hd_map.specs.Map.{place_of, cell_at, cell_count}
 use Rattle.hd_map.specs.Sets.{cell_with}
 use Rattle.hd_morph.specs.NewHeights.{cell_after}
-use Rattle.hd_morph.proofs.Listed.{cells_none, cells_more}
+use Rattle.hd_morph.proofs.Listed.{CellsBefore-none, CellsBefore-more}
 use Rattle.hd_morph.proofs.cells.cells_with.Goals as goal
 
 pub loop-index-init : goal.loop-index-init
 loop-index-init g c =
-    cells_none (g.G.Heights.map c.args.grid.now) c.args.heights.now _ c.in_ok-cells.cells refl refl (g.met.G.Heights.whole c.args.grid.now).size.some_points c.in_ok-cells.ensures
+    CellsBefore-none (g.G.Heights.map c.args.grid.now) c.args.heights.now _ c.in_ok-cells.cells refl refl (g.met.G.Heights.whole c.args.grid.now).size.some_points c.in_ok-cells.ensures
 
 pub loop-index-preserved : goal.loop-index-preserved
 loop-index-preserved g c =
@@ -23,7 +23,7 @@ loop-index-preserved g c =
     let height : Option ℤ = slice_index_or c.args.heights.now c.loop-index.index None in
     let cell : c.cell-in-loop-index.result ≡ cell_with height (cell_at m at) = rw (← c.cell.ensures) c.cell-in-loop-index.ensures in
     let pushed : c.push.new.self ≡ c.loop-index.cells ++ cell_with height (cell_at m at) ∷ [] = rw (← cell) c.in_ok-push.ensures.ok in
-    cells_more m c.args.heights.now c.loop-index.index at next c.loop-index.cells c.push.new.self column place pushed c.loop-index.invariant
+    CellsBefore-more m c.args.heights.now c.loop-index.index at next c.loop-index.cells c.push.new.self column place pushed c.loop-index.invariant
 
 pub returns : goal.returns
 returns g c =

@@ -1,14 +1,14 @@
 use Rattle.std.proofs.Common.{arith}
 use Rattle.hd_map.specs.Encoding.{most_between}
-use Rattle.hd_morph.proofs.PlainNumbers.{plain_more}
+use Rattle.hd_morph.proofs.PlainNumbers.{ArePlain-more}
 use Rattle.hd_morph.proofs.filter.filtered.Goals as goal
 
 pub dilate_by_offsets-requires-clause-heights : goal.dilate_by_offsets-requires-clause-heights
 dilate_by_offsets-requires-clause-heights g c =
     let code = g.L.Lane.code in
-    rw c.deref.ensures.value (plain_more code c.args.size code.most_height (most_between code) c.args.heights.items (omega arith) c.requires.heights)
+    rw c.deref.ensures.value (ArePlain-more code c.args.size code.most_height (most_between code) c.args.heights.items (omega arith) c.requires.heights)
 
 pub eroded-requires-clause-heights : goal.eroded-requires-clause-heights
 eroded-requires-clause-heights g c =
     let code = g.L.Lane.code in
-    rw c.deref_mut.ensures.value (plain_more code c.args.size code.most_height (most_between code) c.args.heights.items (omega arith) c.requires.heights)
+    rw c.deref_mut.ensures.value (ArePlain-more code c.args.size code.most_height (most_between code) c.args.heights.items (omega arith) c.requires.heights)

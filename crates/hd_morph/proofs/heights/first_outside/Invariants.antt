@@ -1,5 +1,5 @@
 use Rattle.hd_map.specs.Encoding.{values_of}
-use Rattle.hd_morph.proofs.Between.{BetweenBefore}
+use Rattle.hd_morph.proofs.AreBetween.{BetweenBefore}
 use Rattle.hd_morph.proofs.heights.first_outside.Given as goal
 
 abbrev pub invariant-loop-index : goal.invariant-loop-index

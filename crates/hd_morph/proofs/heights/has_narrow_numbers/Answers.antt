@@ -1,6 +1,6 @@
 use Rattle.std.proofs.Common.{refl, ap, arith, below_more, length}
 use Rattle.std.proofs.lemmas.Bool.{false≢true}
-use Rattle.hd_morph.proofs.PlainNumbers.{bounded_before}
+use Rattle.hd_morph.proofs.PlainNumbers.{HasNumbersWithin-before}
 use Rattle.hd_morph.proofs.heights.has_narrow_numbers.Goals as goal
 
 pub returns-then-not-is_between-clause-narrow : goal.returns-then-not-is_between-clause-narrow
@@ -16,4 +16,4 @@ loop-index-preserved c =
 pub returns-clause-narrow : goal.returns-clause-narrow
 returns-clause-narrow c =
     let same = ap length c.table-table.ensures.table in
-    (λ _. bounded_before _ c.args.element.now c.loop-index.index (omega (arith, same)) c.loop-index.invariant, λ _. refl)
+    (λ _. HasNumbersWithin-before _ c.args.element.now c.loop-index.index (omega (arith, same)) c.loop-index.invariant, λ _. refl)

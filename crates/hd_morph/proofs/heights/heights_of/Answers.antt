@@ -4,14 +4,14 @@ use borrow.Rule.Slice.PartMut.{put_mid}
 use Rattle.hd_map.specs.declared.types.Size.{Size}
 use Rattle.hd_map.specs.Map.{cell_count}
 use Rattle.hd_map.specs.Lanes.{IsRowOfHeights}
-use Rattle.hd_morph.proofs.PlainNumbers.{all_written}
-use Rattle.hd_morph.proofs.Listed.{HeightsBefore, heights_none, heights_more, heights_all, far_beyond}
+use Rattle.hd_morph.proofs.PlainNumbers.{take-joined}
+use Rattle.hd_morph.proofs.Listed.{HeightsBefore, HeightsBefore-none, HeightsBefore-more, AreHeightsOf-all, IsBeyond-far}
 use Rattle.hd_morph.proofs.heights.heights_of.Goals as goal
 
 pub loop-y-init : goal.loop-y-init
 loop-y-init g c =
     let m = g.G.Heights.map c.args.grid.now in
-    heights_none g.L.Lane.code m c.in_ok-heights.heights.items
+    HeightsBefore-none g.L.Lane.code m c.in_ok-heights.heights.items
     (subst (λ (s : Size). length c.in_ok-heights.heights.items ≡ cell_count s) c.size-size.ensures (omega (arith, c.in_ok-heights.heights.ok.0, c.in_ok-heights.ensures.len)))
 
 pub loop-y-preserved : goal.loop-y-preserved
@@ -27,14 +27,14 @@ loop-y-preserved g c =
     let inside : y < m.size.profiles = subst (λ (s : Size). y < s.profiles) c.size-size.ensures c.loop-y-test.true in
     let filled : IsRowOfHeights g.L.Lane.code m y row = c.if-not-fill_heights.ensures.row in
     let more : HeightsBefore g.L.Lane.code m (y + 1) (put_mid first (first + points - first) old row) =
-    rw (same, count) (heights_more g.L.Lane.code m y old row inside filled c.loop-y.invariant) in
+    rw (same, count) (HeightsBefore-more g.L.Lane.code m y old row inside filled c.loop-y.invariant) in
     let whole : c.loop-y.heights.len ≡ length (put_mid first (first + points - first) old row) = omega (arith, more.whole, c.loop-y.invariant.whole, c.loop-y.heights.ok.0) in
-    rw (c.deref_mut.ensures.value, all_written c.loop-y.heights.len (put_mid first (first + points - first) old row) (drop (length (put_mid first (first + points - first) old row)) old) whole) more
+    rw (c.deref_mut.ensures.value, take-joined c.loop-y.heights.len (put_mid first (first + points - first) old row) (drop (length (put_mid first (first + points - first) old row)) old) whole) more
 
 pub returns-then-not-fill_heights : goal.returns-then-not-fill_heights
 returns-then-not-fill_heights g c =
     let m = g.G.Heights.map c.args.grid.now in
-    far_beyond g.L.Lane.code m c.loop-y.y (subst (λ (s : Size). c.loop-y.y < s.profiles) c.size-size.ensures c.loop-y-test.true) c.if-not-fill_heights.ensures.far
+    IsBeyond-far g.L.Lane.code m c.loop-y.y (subst (λ (s : Size). c.loop-y.y < s.profiles) c.size-size.ensures c.loop-y-test.true) c.if-not-fill_heights.ensures.far
 
 pub slice_bounds-fill_heights-end : goal.slice_bounds-fill_heights-end
 slice_bounds-fill_heights-end g c =
@@ -48,7 +48,7 @@ slice_bounds-fill_heights-end g c =
 pub returns : goal.returns
 returns g c =
     let m = g.G.Heights.map c.args.grid.now in
-    heights_all g.L.Lane.code m c.loop-y.y c.loop-y.heights.items (g.met.G.Heights.whole c.args.grid.now).size.some_points
+    AreHeightsOf-all g.L.Lane.code m c.loop-y.y c.loop-y.heights.items (g.met.G.Heights.whole c.args.grid.now).size.some_points
     (subst (λ (s : Size). s.profiles ≤ c.loop-y.y) c.size-size.ensures c.loop-y-test.false) c.loop-y.invariant
 
 pub overflow_mul-count : goal.overflow_mul-count

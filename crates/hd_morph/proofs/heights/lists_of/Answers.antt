@@ -1,6 +1,6 @@
 use Rattle.hd_morph.specs.Listed.{AreHeightsOf}
 use Rattle.hd_morph.specs.Raised.{ArePlainlyFiltered}
-use Rattle.hd_morph.proofs.Listed.{filtered_from}
+use Rattle.hd_morph.proofs.Listed.{AreFilteredFrom-plainly}
 use Rattle.hd_morph.proofs.heights.lists_of.Goals as goal
 
 pub filtered_flatly-requires-clause-heights : goal.filtered_flatly-requires-clause-heights
@@ -23,7 +23,7 @@ returns-in-Some-flat_number g c =
     let new = c.in_ok-after.after.items in
     let are : AreHeightsOf code m old = rw c.in-Some.is at c.in_ok-before.ensures in
     let made : ArePlainlyFiltered code c.args.filter m.size c.args.element.now old new = rw (c.deref.ensures.value, c.size-size.ensures) at c.in_ok-after.ensures in
-    (are, filtered_from code c.args.filter m c.args.element.now old new (g.met.G.Heights.whole c.args.grid.now) c.requires are made)
+    (are, AreFilteredFrom-plainly code c.args.filter m c.args.element.now old new (g.met.G.Heights.whole c.args.grid.now) c.requires are made)
 
 pub returns : goal.returns
 returns g c =
@@ -33,4 +33,4 @@ returns g c =
     let new = c.in_ok-after-2.after.items in
     let are : AreHeightsOf code m old = rw c.in-Some.is at c.in_ok-before.ensures in
     let made : ArePlainlyFiltered code c.args.filter m.size c.args.element.now old new = rw c.size-size.ensures at c.in_ok-after-2.ensures in
-    (rw c.in-Some-2.is at c.in_ok-again.ensures, filtered_from code c.args.filter m c.args.element.now old new (g.met.G.Heights.whole c.args.grid.now) c.requires are made)
+    (rw c.in-Some-2.is at c.in_ok-again.ensures, AreFilteredFrom-plainly code c.args.filter m c.args.element.now old new (g.met.G.Heights.whole c.args.grid.now) c.requires are made)

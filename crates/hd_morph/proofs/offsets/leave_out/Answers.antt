@@ -1,7 +1,7 @@
 use Rattle.std.proofs.Common.{ap, ◌∙◌, inl, inr, length-set, get_or-set_other, get_or-set_same, below_more, arith}
 use Rattle.std.proofs.lemmas.Bool.{cases_lt}
 use Rattle.std.proofs.lemmas.List.{get_or_past}
-use Rattle.hd_morph.proofs.Encodings.{value_of_number}
+use Rattle.hd_morph.proofs.Encodings.{value_at-number_in}
 use Rattle.hd_morph.proofs.offsets.leave_out.Goals as goal
 
 pub loop-place-preserved : goal.loop-place-preserved
@@ -19,7 +19,7 @@ loop-place-preserved g c =
 pub returns-clause-blank : goal.returns-clause-blank
 returns-clause-blank g c = λ k.
     let code = g.L.Lane.code in
-    value_of_number code c.loop-place.tops k ∙ elim (cases_lt k c.loop-place.place) [
+    value_at-number_in code c.loop-place.tops k ∙ elim (cases_lt k c.loop-place.place) [
       | inl below ↦ ap code.shown (c.loop-place.invariant.blank k below) ∙ code.missing_none
       | inr past ↦ ap code.shown (get_or_past c.loop-place.tops k code.missing (omega arith)) ∙ code.missing_none
     ]

@@ -4,8 +4,8 @@ use Rattle.hd_map.specs.declared.types.Size.{Size}
 use Rattle.hd_map.specs.Encoding.{values_of}
 use Rattle.hd_morph.specs.Plain.{relief}
 use Rattle.hd_morph.specs.Raised.{AreRaisedAcross}
-use Rattle.hd_morph.proofs.Encodings.{length_values, values_part}
-use Rattle.hd_morph.proofs.Raising.{no_number, row_kept, no_row, row_raised}
+use Rattle.hd_morph.proofs.Encodings.{values_of-length, values_of-part}
+use Rattle.hd_morph.proofs.Raising.{IsRaisedBy-no_number, IsRowRaisedOnce-kept, IsRowRaisedOnce-no_row, IsRowRaisedOnce-across}
 use Rattle.hd_morph.proofs.offsets.raise_by.Goals as goal
 
 -- the points of a profile lie within those of the map
@@ -16,13 +16,13 @@ pub returns-in_default : goal.returns-in_default
 returns-in_default g c =
     let code = g.L.Lane.code in
     let f = relief c.args.size (values_of code c.args.heights.now) in
-    row_kept c.args.size c.args.element.now f c.args.y c.args.offset (values_of code c.args.tops.now)
-    (λ x inside. no_number c.args.size c.args.element.now f (record { x = x; y = c.args.y }) c.args.offset (sym c.in_default.ensures))
+    IsRowRaisedOnce-kept c.args.size c.args.element.now f c.args.y c.args.offset (values_of code c.args.tops.now)
+    (λ x inside. IsRaisedBy-no_number c.args.size c.args.element.now f (record { x = x; y = c.args.y }) c.args.offset (sym c.in_default.ensures))
 
 pub returns-in_default-row_before : goal.returns-in_default-row_before
 returns-in_default-row_before g c =
     let code = g.L.Lane.code in
-    no_row c.args.size c.args.element.now (relief c.args.size (values_of code c.args.heights.now)) c.args.y c.args.offset (values_of code c.args.tops.now) c.in_default-row_before.ensures.none
+    IsRowRaisedOnce-no_row c.args.size c.args.element.now (relief c.args.size (values_of code c.args.heights.now)) c.args.y c.args.offset (values_of code c.args.tops.now) c.in_default-row_before.ensures.none
 
 pub returns : goal.returns
 returns g c =
@@ -33,11 +33,11 @@ returns g c =
     let start = c.in-Some-row_before.from * c.args.size.points in
     let fits : SFits w64 c.in-Some.number = search rules in
     let row = c.in-Some-row_before.ensures.some in
-    let across = rw (to_z-of_z w64 c.in-Some.number fits, values_part code start _ c.args.heights.now) at c.raise_from_row.ensures in
+    let across = rw (to_z-of_z w64 c.in-Some.number fits, values_of-part code start _ c.args.heights.now) at c.raise_from_row.ensures in
     let raised : AreRaisedAcross (take c.args.size.points (drop start heights)) (c.args.element.now.width / 2) c.args.offset.x c.in-Some.number tops new =
     rw (sym c.width.ensures.width) (subst (λ k. AreRaisedAcross (take k (drop start heights)) (c.width.result / 2) c.args.offset.x c.in-Some.number tops new) (omega arith) across) in
-    row_raised c.args.size c.args.element.now heights c.args.y c.in-Some-row_before.from start c.args.offset c.in-Some.number tops new
-    (length_values code c.args.heights.now ∙ c.requires.heights.whole) (length_values code c.args.tops.now ∙ c.requires.whole) c.requires.row row.0 row.1 c.requires.column c.requires.table_row (sym c.in-Some.ensures) refl raised
+    IsRowRaisedOnce-across c.args.size c.args.element.now heights c.args.y c.in-Some-row_before.from start c.args.offset c.in-Some.number tops new
+    (values_of-length code c.args.heights.now ∙ c.requires.heights.whole) (values_of-length code c.args.tops.now ∙ c.requires.whole) c.requires.row row.0 row.1 c.requires.column c.requires.table_row (sym c.in-Some.ensures) refl raised
 
 pub overflow_mul-start : goal.overflow_mul-start
 overflow_mul-start g c = omega (arith, row_within c.args.size c.in-Some-row_before.from c.in-Some-row_before.ensures.some.0, c.requires.size.cells, c.requires.heights.whole)

@@ -1,6 +1,6 @@
 use Rattle.std.proofs.Common.{refl, ◌∙◌, arith}
-use Rattle.hd_morph.proofs.Encodings.{number_read}
-use Rattle.hd_morph.proofs.PlainNumbers.{negated_more, negated_all}
+use Rattle.hd_morph.proofs.Encodings.{number_in-read}
+use Rattle.hd_morph.proofs.PlainNumbers.{NegatedBefore-more, AreNegated-all}
 use Rattle.hd_morph.proofs.plain.negate.Goals as goal
 
 pub loop-place-init : goal.loop-place-init
@@ -10,12 +10,12 @@ pub negated-requires : goal.negated-requires
 negated-requires g c =
     let code = g.L.Lane.code in
     let number = c.index-values-place.result in
-    let here = number_read code c.loop-place.values c.loop-place.place number (omega arith) c.index-values-place.is ∙ c.loop-place.invariant.left c.loop-place.place (omega arith) in
+    let here = number_in-read code c.loop-place.values c.loop-place.place number (omega arith) c.index-values-place.is ∙ c.loop-place.invariant.left c.loop-place.place (omega arith) in
     rw here ((c.requires.each c.loop-place.place).bounded)
 
 pub loop-place-preserved : goal.loop-place-preserved
 loop-place-preserved g c =
-    negated_more g.L.Lane.code c.args.values.now c.loop-place.values c.loop-place.place c.index-values-place.result c.negated.result (omega arith) c.index-values-place.is c.negated.ensures c.loop-place.invariant
+    NegatedBefore-more g.L.Lane.code c.args.values.now c.loop-place.values c.loop-place.place c.index-values-place.result c.negated.result (omega arith) c.index-values-place.is c.negated.ensures c.loop-place.invariant
 
 pub returns : goal.returns
-returns g c = negated_all g.L.Lane.code c.args.values.now c.loop-place.values c.loop-place.place (omega arith) c.loop-place.invariant
+returns g c = AreNegated-all g.L.Lane.code c.args.values.now c.loop-place.values c.loop-place.place (omega arith) c.loop-place.invariant

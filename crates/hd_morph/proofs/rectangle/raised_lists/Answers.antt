@@ -4,7 +4,7 @@ use Rattle.hd_map.specs.Encoding.{narrow, values_of}
 use Rattle.hd_morph.specs.Listed.{AreHeightsOf}
 use Rattle.hd_morph.specs.Plain.{relief}
 use Rattle.hd_morph.specs.Rectangle.{AreNumbersRaised}
-use Rattle.hd_morph.proofs.RaisedRectangles.{map_raised, raised_plain}
+use Rattle.hd_morph.proofs.RaisedRectangles.{AreRaisedWithin-map, ArePlain-raised}
 use Rattle.hd_morph.proofs.rectangle.raised_lists.Goals as goal
 
 pub returns-in-Some-first_outside : goal.returns-in-Some-first_outside
@@ -16,7 +16,7 @@ returns-in-Some-first_outside g c =
     let raised : AreNumbersRaised narrow m.size c.args.from c.args.to c.args.number olds news = rw (c.deref.ensures.value, c.size.ensures, to_z-of_z w64 c.args.number c.ranges.number) at c.in_ok-after.ensures in
     record {
       heights = relief m.size (values_of narrow news);
-      raised = map_raised narrow m c.args.from c.args.to c.args.number olds news raised are;
+      raised = AreRaisedWithin-map narrow m c.args.from c.args.to c.args.number olds news raised are;
       first_outside = rw c.deref-2.ensures.value at c.in-Some-first_outside.ensures;
     }
 
@@ -30,7 +30,7 @@ returns g c =
     let some = (g.met.G.Heights.whole c.args.grid.now).size.some_points in
     record {
       held = are;
-      plain = raised_plain narrow m c.args.from c.args.to c.args.number olds news raised some (omega (arith, ints, c.if-number.false)) (omega (arith, ints, c.if-number-gt-MOST_NARROW_NUMBER.false)) are.plain;
-      raised = map_raised narrow m c.args.from c.args.to c.args.number olds news raised are;
+      plain = ArePlain-raised narrow m c.args.from c.args.to c.args.number olds news raised some (omega (arith, ints, c.if-number.false)) (omega (arith, ints, c.if-number-gt-MOST_NARROW_NUMBER.false)) are.plain;
+      raised = AreRaisedWithin-map narrow m c.args.from c.args.to c.args.number olds news raised are;
       of_type = rw c.deref-2.ensures.value at c.in_default-first_outside.ensures;
     }

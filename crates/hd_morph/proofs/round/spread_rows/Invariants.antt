@@ -1,5 +1,5 @@
 use Rattle.hd_map.specs.Encoding.{values_of}
-use Rattle.hd_morph.proofs.Rectangles.{RowsDone}
+use Rattle.hd_morph.proofs.RoundGreatests.{RowsDone}
 use Rattle.hd_morph.proofs.round.spread_rows.Given as goal
 
 abbrev pub invariant-loop-y : goal.invariant-loop-y

@@ -1,10 +1,10 @@
 use Rattle.std.proofs.Common.{arith}
 use Rattle.hd_map.specs.Encoding.{values_of}
-use Rattle.hd_morph.proofs.Windows.{ahead_one, ahead_join}
+use Rattle.hd_morph.proofs.Windows.{AreAheadGreatests-one, AreAheadGreatests-join}
 use Rattle.hd_morph.proofs.window.look_ahead.Goals as goal
 
 pub wider-init : goal.wider-init
-wider-init g c = record { some = omega arith; below = omega arith; ahead = ahead_one (values_of g.L.Lane.code c.args.tops.now) c.args.stride }
+wider-init g c = record { some = omega arith; below = omega arith; ahead = AreAheadGreatests-one (values_of g.L.Lane.code c.args.tops.now) c.args.stride }
 
 pub wider-preserved : goal.wider-preserved
 wider-preserved g c =
@@ -12,5 +12,5 @@ wider-preserved g c =
     record {
       some = omega arith;
       below = omega arith;
-      ahead = ahead_join (values_of code c.args.tops.now) (values_of code c.wider.tops) (values_of code c.widen.new.tops) c.args.stride c.wider.seen c.min-step.result (omega arith) c.wider.invariant.ahead c.widen.ensures;
+      ahead = AreAheadGreatests-join (values_of code c.args.tops.now) (values_of code c.wider.tops) (values_of code c.widen.new.tops) c.args.stride c.wider.seen c.min-step.result (omega arith) c.wider.invariant.ahead c.widen.ensures;
     }

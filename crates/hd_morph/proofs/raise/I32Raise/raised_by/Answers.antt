@@ -2,7 +2,7 @@ use Rattle.std.proofs.Common.{◌+ℤ◌, refl, arith, to_z, of_z, w32, w64}
 use Rattle.std.proofs.lemmas.Int.{ints}
 use Rattle.hd_map.specs.Encoding.{narrow, narrow_floor}
 use Rattle.hd_map.proofs.Lanes.{plain_bounds}
-use Rattle.hd_morph.proofs.Lanes.{raised_number}
+use Rattle.hd_morph.proofs.RaisedLanes.{plus-raised}
 use Rattle.hd_morph.proofs.raise.I32Raise.raised_by.Goals as goal
 
 pub overflow_add-result : goal.overflow_add-result
@@ -17,4 +17,4 @@ returns c =
     let bounds = plain_bounds narrow narrow_floor (λ z. refl) c.args.self (omega (arith, ints)) (omega (arith, ints)) c.requires.plain in
     let low = bounds.0 in
     let high = bounds.1 in
-    raised_number narrow narrow_floor (λ z. refl) c.args.self c.args.number (to_z w32 (of_z w32 (to_z w32 (of_z w32 c.args.self) +ℤ to_z w32 (of_z w32 (to_z w64 (of_z w64 c.args.number)))))) (omega (arith, ints)) (omega (arith, ints)) c.requires.plain c.requires.least c.requires.greatest (omega (arith, ints))
+    plus-raised narrow narrow_floor (λ z. refl) c.args.self c.args.number (to_z w32 (of_z w32 (to_z w32 (of_z w32 c.args.self) +ℤ to_z w32 (of_z w32 (to_z w64 (of_z w64 c.args.number)))))) (omega (arith, ints)) (omega (arith, ints)) c.requires.plain c.requires.least c.requires.greatest (omega (arith, ints))

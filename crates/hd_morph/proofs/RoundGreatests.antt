@@ -11,8 +11,8 @@ use Rattle.hd_morph.specs.Greatest.{IsGreatest}
 use Rattle.hd_morph.specs.Plain.{value_at, relief}
 use Rattle.hd_morph.specs.Window.{IsNearby, AreWindowGreatests, IsStridesOff, AreStrideGreatests}
 use Rattle.hd_morph.specs.Round.{IsNear, IsInRow, AreRowGreatests, IsRound, AreRoundGreatests}
-use Rattle.hd_morph.proofs.Greatest.{greatest_of, greatest_nested, IsOneOf}
-use Rattle.hd_morph.proofs.PlainNumbers.{some_inside, mid_inside, mid_before, mid_after, mid_length, part_at, part_length}
+use Rattle.hd_morph.proofs.Greatest.{IsGreatest-same_values, IsGreatest-nested, IsOneOf}
+use Rattle.hd_morph.proofs.PlainNumbers.{value_at-inside, put_mid-inside, put_mid-before, put_mid-after, put_mid-length, take_drop-at, take_drop-length}
 
 -- the rows before y are done
 pub record RowsDone (s : Size) (reach : ℕ) (old : List (Option ℤ)) (y : ℕ) (now : List (Option ℤ)) : Type 0 where
@@ -20,48 +20,48 @@ pub record RowsDone (s : Size) (reach : ℕ) (old : List (Option ℤ)) (y : ℕ)
   pub done : (p : Pos) → InGrid s p → p.y < y → IsGreatest (IsInRow s reach old p) (relief s now p)
   pub left : (k : ℕ) → y * s.points ≤ k → value_at now k ≡ value_at old k
 
-pub rows_none : (s : Size) (reach : ℕ) (old : List (Option ℤ)) → RowsDone s reach old 0 old
-rows_none s reach old = record { whole = refl; done = λ p inside below. absurd (omega arith); left = λ k above. refl }
+pub RowsDone-none : (s : Size) (reach : ℕ) (old : List (Option ℤ)) → RowsDone s reach old 0 old
+RowsDone-none s reach old = record { whole = refl; done = λ p inside below. absurd (omega arith); left = λ k above. refl }
 
-pub rows_all : (s : Size) (reach y : ℕ) (old now : List (Option ℤ)) → s.profiles ≤ y → RowsDone s reach old y now → AreRowGreatests s reach old now
-rows_all s reach y old now all rows = record { whole = rows.whole; each = λ p inside. rows.done p inside (omega (arith, inside.profile)) }
+pub AreRowGreatests-all : (s : Size) (reach y : ℕ) (old now : List (Option ℤ)) → s.profiles ≤ y → RowsDone s reach old y now → AreRowGreatests s reach old now
+AreRowGreatests-all s reach y old now all rows = record { whole = rows.whole; each = λ p inside. rows.done p inside (omega (arith, inside.profile)) }
 
 -- one row more
-pub rows_more : (s : Size) (reach y k : ℕ) (old now part : List (Option ℤ)) → y < s.profiles → length old ≡ cell_count s → k ≡ s.points
+pub RowsDone-more : (s : Size) (reach y k : ℕ) (old now part : List (Option ℤ)) → y < s.profiles → length old ≡ cell_count s → k ≡ s.points
     → RowsDone s reach old y now → AreWindowGreatests (take k (drop (y * s.points) now)) reach part → RowsDone s reach old (y + 1) (put_mid (y * s.points) k now part)
-rows_more s reach y k old now part row whole width rows window =
+RowsDone-more s reach y k old now part row whole width rows window =
     let row_room : (y + 1) * s.points ≤ s.profiles * s.points = mul-le-mul_right s.points (let h : y + 1 ≤ s.profiles = omega arith in h) in
     let room : y * s.points + k ≤ length now = omega (arith, rows.whole, row_room) in
-    let size : length part ≡ k = window.whole ∙ part_length (y * s.points) k now room in
+    let size : length part ≡ k = window.whole ∙ take_drop-length (y * s.points) k now room in
     record {
-      whole = mid_length (y * s.points) k now part room size ∙ rows.whole;
+      whole = put_mid-length (y * s.points) k now part room size ∙ rows.whole;
       done = λ p inside below. elim (cases_lt p.y y) [
         | inl before ↦
             let earlier : (p.y + 1) * s.points ≤ y * s.points = mul-le-mul_right s.points (let h : p.y + 1 ≤ y = omega arith in h) in
             let there : value_at (put_mid (y * s.points) k now part) (place_of s p) ≡ value_at now (place_of s p) =
-            mid_before None (y * s.points) k (place_of s p) now part room size (omega (arith, earlier, inside.column)) in
+            put_mid-before None (y * s.points) k (place_of s p) now part room size (omega (arith, earlier, inside.column)) in
             rw there (rows.done p inside before)
         | inr not ↦
             let same : p.y ≡ y = omega arith in
             let place : place_of s p ≡ y * s.points + p.x = ap (λ t. t * s.points + p.x) same in
             let there : value_at (put_mid (y * s.points) k now part) (place_of s p) ≡ value_at part p.x =
-            ap (value_at (put_mid (y * s.points) k now part)) place ∙ mid_inside None (y * s.points) k p.x now part room size (omega (arith, inside.column)) in
-            rw there (greatest_of (IsNearby (take k (drop (y * s.points) now)) reach p.x) (IsInRow s reach old p) (value_at part p.x)
+            ap (value_at (put_mid (y * s.points) k now part)) place ∙ put_mid-inside None (y * s.points) k p.x now part room size (omega (arith, inside.column)) in
+            rw there (IsGreatest-same_values (IsNearby (take k (drop (y * s.points) now)) reach p.x) (IsInRow s reach old p) (value_at part p.x)
             (λ z a.
-            let below : a.at < k = omega (arith, some_inside (take k (drop (y * s.points) now)) a.at z a.is, part_length (y * s.points) k now room) in
+            let below : a.at < k = omega (arith, value_at-inside (take k (drop (y * s.points) now)) a.at z a.is, take_drop-length (y * s.points) k now room) in
             let at : value_at (take k (drop (y * s.points) now)) a.at ≡ value_at old (p.y * s.points + a.at) =
-            part_at None (y * s.points) k a.at now below ∙ rows.left (y * s.points + a.at) (omega arith) ∙ ap (λ t. value_at old (t * s.points + a.at)) (sym same) in
+            take_drop-at None (y * s.points) k a.at now below ∙ rows.left (y * s.points + a.at) (omega arith) ∙ ap (λ t. value_at old (t * s.points + a.at)) (sym same) in
             record { column = a.at; inside = omega (arith, below); near = record { not_after = a.not_after; not_before = a.not_before }; is = sym at ∙ a.is })
             (λ z a.
             let below : a.column < k = omega (arith, a.inside) in
             let at : value_at (take k (drop (y * s.points) now)) a.column ≡ value_at old (p.y * s.points + a.column) =
-            part_at None (y * s.points) k a.column now below ∙ rows.left (y * s.points + a.column) (omega arith) ∙ ap (λ t. value_at old (t * s.points + a.column)) (sym same) in
+            take_drop-at None (y * s.points) k a.column now below ∙ rows.left (y * s.points + a.column) (omega arith) ∙ ap (λ t. value_at old (t * s.points + a.column)) (sym same) in
             record { at = a.column; not_after = a.near.not_after; not_before = a.near.not_before; is = at ∙ a.is })
-            (window.each p.x (omega (arith, inside.column, part_length (y * s.points) k now room))))
+            (window.each p.x (omega (arith, inside.column, take_drop-length (y * s.points) k now room))))
       ];
       left = λ i above.
           let beyond : y * s.points + k ≤ i = omega arith in
-          mid_after None (y * s.points) k i now part room size beyond ∙ rows.left i (omega arith);
+          put_mid-after None (y * s.points) k i now part room size beyond ∙ rows.left i (omega arith);
     }
 
 -- a position of the row, at most reach columns off
@@ -92,7 +92,7 @@ rows_apart w x y n at inside e =
 -- strides of one row are a column
 column_strides : (s : Size) (down : ℕ) (old new : List (Option ℤ)) → length old ≡ cell_count s → AreStrideGreatests old s.points down new
     → (p : Pos) → InGrid s p → IsGreatest (IsInColumn s down old p) (relief s new p)
-column_strides s down old new whole was p inside = greatest_of (IsStridesOff old s.points down (place_of s p)) (IsInColumn s down old p) (relief s new p)
+column_strides s down old new whole was p inside = IsGreatest-same_values (IsStridesOff old s.points down (place_of s p)) (IsInColumn s down old p) (relief s new p)
     (λ z a. elim a.side [
       | inl after ↦ record {
         y = p.y + a.steps;
@@ -127,17 +127,17 @@ column_strides s down old new whole was p inside = greatest_of (IsStridesOff old
     sum_of a b c w x e = rw (← e) (omega arith)
 
 -- the greatest over the columns, and then over the rows, is the greatest of the rectangle
-pub round_join : (s : Size) (across down : ℕ) (old mid new : List (Option ℤ)) → length old ≡ cell_count s
+pub AreRoundGreatests-join : (s : Size) (across down : ℕ) (old mid new : List (Option ℤ)) → length old ≡ cell_count s
     → AreStrideGreatests old s.points down mid → AreRowGreatests s across mid new → AreRoundGreatests s across down old new
-round_join s across down old mid new whole columns rows = record {
+AreRoundGreatests-join s across down old mid new whole columns rows = record {
   whole = rows.whole ∙ columns.whole;
-  each = λ p inside. greatest_nested Pos (IsBeside s across p) (λ q. IsInColumn s down old q) (relief s mid) (IsRound s across down old p) (relief s new p)
+  each = λ p inside. IsGreatest-nested Pos (IsBeside s across p) (λ q. IsInColumn s down old q) (relief s mid) (IsRound s across down old p) (relief s new p)
       (λ q beside. column_strides s down old mid whole columns q (record { column = beside.inside; profile = omega (arith, beside.row, inside.profile) }))
       (λ q z beside a.
       let at : Pos = record { x = q.x; y = a.y } in
       record {
         at = at;
-        inside = inside_place s at beside.inside (omega (arith, whole, some_inside old (place_of s at) z a.is));
+        inside = inside_place s at beside.inside (omega (arith, whole, value_at-inside old (place_of s at) z a.is));
         columns = beside.near;
         rows = record { not_after = omega (arith, a.near.not_after, beside.row); not_before = omega (arith, a.near.not_before, beside.row) };
         is = a.is;
@@ -145,7 +145,7 @@ round_join s across down old mid new whole columns rows = record {
       (λ z a.
       let q : Pos = record { x = a.at.x; y = p.y } in
       (q, record { row = refl; inside = a.inside.column; near = a.columns }, record { y = a.at.y; near = a.rows; is = a.is }))
-      (greatest_of (IsInRow s across mid p) (IsOneOf Pos (IsBeside s across p) (relief s mid)) (relief s new p)
+      (IsGreatest-same_values (IsInRow s across mid p) (IsOneOf Pos (IsBeside s across p) (relief s mid)) (relief s new p)
       (λ z a. record { index = record { x = a.column; y = p.y }; chosen = record { row = refl; inside = a.inside; near = a.near }; is = a.is })
       (λ z a. record { column = a.index.x; inside = a.chosen.inside; near = a.chosen.near; is = (let place : a.index.y ≡ p.y = a.chosen.row in rw (ap (λ t. t * s.points + a.index.x) place) at a.is) })
       (rows.each p inside));

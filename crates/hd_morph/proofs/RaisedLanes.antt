@@ -10,9 +10,9 @@ use Rattle.hd_morph.specs.Plain.{IsBetween}
 use Rattle.hd_morph.specs.Raised.{plus}
 
 -- whether a number is from a least to a greatest one, by limits that are right for heights
-pub tested_between : (floor z least greatest low high : ℤ) (shown : Bool) → shown ≡ is_some (shown_over floor z) → (floor <ℤ z → (low ≤ℤ z) ↔ (least ≤ℤ z)) → (floor <ℤ z → (z ≤ℤ high) ↔ (z ≤ℤ greatest))
+pub IsBetween-tested : (floor z least greatest low high : ℤ) (shown : Bool) → shown ≡ is_some (shown_over floor z) → (floor <ℤ z → (low ≤ℤ z) ↔ (least ≤ℤ z)) → (floor <ℤ z → (z ≤ℤ high) ↔ (z ≤ℤ greatest))
     → IsTrue (not shown || (int_le low z && int_le z high)) ↔ IsBetween least greatest (shown_over floor z)
-tested_between floor z least greatest low high shown is from to = by_lt_z floor z
+IsBetween-tested floor z least greatest low high shown is from to = by_lt_z floor z
     (λ above.
     let some : shown_over floor z ≡ Some z = shown_above floor z above in
     let there : shown ≡ true = is ∙ ap is_some some in
@@ -38,10 +38,10 @@ tested_between floor z least greatest low high shown is from to = by_lt_z floor 
     (λ _ w at. let never : None ≡ Some w = sym none ∙ at in cc, λ _. rw gone refl))
 
 -- a plain number plus a number of an element stands for the height plus that number
-pub raised_number : (code : Encoding ℤ) (floor : ℤ) (over : (z : ℤ) → code.shown z ≡ shown_over floor z) (z number new : ℤ) → (code.missing +ℤ pos code.most_number) ≤ℤ floor
+pub plus-raised : (code : Encoding ℤ) (floor : ℤ) (over : (z : ℤ) → code.shown z ≡ shown_over floor z) (z number new : ℤ) → (code.missing +ℤ pos code.most_number) ≤ℤ floor
     → floor <ℤ neg_ℤ (pos (most_filtered code + code.most_number)) → IsPlainNumber code (most_filtered code) z
     → neg_ℤ (pos code.most_number) ≤ℤ number → number ≤ℤ pos code.most_number → new ≡ z +ℤ number → code.shown new ≡ plus number (code.shown z)
-raised_number code floor over z number new low room plain least greatest is = by_lt_z floor z
+plus-raised code floor over z number new low room plain least greatest is = by_lt_z floor z
     (λ above.
     let some : code.shown z ≡ Some z = above_floor code floor over z above in
     let from = plain.bounded.least z some in

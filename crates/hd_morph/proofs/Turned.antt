@@ -17,8 +17,8 @@ use Rattle.hd_morph.specs.Filter.{Relief, IsOffset, IsRaised, IsDilation, IsEros
 use Rattle.hd_morph.specs.Plain.{relief, ArePlain, HasNumbersWithin}
 use Rattle.hd_morph.specs.Raised.{ArePlainlyFiltered}
 use Rattle.hd_morph.specs.Turned.{AreNegated, turned_table}
-use Rattle.hd_morph.proofs.Encodings.{value_of_number}
-use Rattle.hd_morph.proofs.PlainNumbers.{none_bounded}
+use Rattle.hd_morph.proofs.Encodings.{value_at-number_in}
+use Rattle.hd_morph.proofs.PlainNumbers.{IsBounded-none}
 
 -- the entry of a table at a place
 abbrev entry_at : List (Option ℤ) → ℕ → Option ℤ
@@ -38,8 +38,8 @@ opposite_place w h x y i j columns rows =
     omega (arith, all)
 
 -- a turned element has at an offset the number of the opposite one
-pub turned_number : (e : ElementTable) (u : Pos) → length e.table ≡ e.width * e.height → u.x < e.width → u.y < e.height → number_at (turned_table e) u ≡ number_at e (opposite e u)
-turned_number e u whole column row =
+pub turned_table-number : (e : ElementTable) (u : Pos) → length e.table ≡ e.width * e.height → u.x < e.width → u.y < e.height → number_at (turned_table e) u ≡ number_at e (opposite e u)
+turned_table-number e u whole column row =
     let below : u.y * e.width + u.x < e.width * e.height = mul-add-lt u.y e.width u.x e.height row column in
     let place : length e.table - 1 - (u.y * e.width + u.x) ≡ (opposite e u).y * e.width + (opposite e u).x =
     ap (λ t. t - 1 - (u.y * e.width + u.x)) whole ∙ opposite_place e.width e.height u.x u.y (opposite e u).y (opposite e u).x (omega arith) (omega arith) in
@@ -58,12 +58,12 @@ turned_offset e u p q is o = record {
   down = omega (arith, o.row, o.down, is.odd_height);
 }
 
-pub minus_some : (v : Option ℤ) (z : ℤ) → minus v ≡ Some z → v ≡ Some (neg_ℤ z)
-minus_some (Some x) z e = let same : neg_ℤ x ≡ z = cc in ap Some (omega (arith, ints))
-minus_some None z e = let e' : None ≡ Some z = e in cc
+pub minus-some : (v : Option ℤ) (z : ℤ) → minus v ≡ Some z → v ≡ Some (neg_ℤ z)
+minus-some (Some x) z e = let same : neg_ℤ x ≡ z = cc in ap Some (omega (arith, ints))
+minus-some None z e = let e' : None ≡ Some z = e in cc
 
-pub minus_of : (v : Option ℤ) (z : ℤ) → v ≡ Some z → minus v ≡ Some (neg_ℤ z)
-minus_of v z e = rw e
+pub minus-of : (v : Option ℤ) (z : ℤ) → v ≡ Some z → minus v ≡ Some (neg_ℤ z)
+minus-of v z e = rw e
 
 minus_none : (v : Option ℤ) → v ≡ None → minus v ≡ None
 minus_none v e = rw e
@@ -74,13 +74,13 @@ minus_gone (Some z) e = let e' : Some (neg_ℤ z) ≡ None = e in cc
 minus_gone None e = refl
 
 -- a dilation of the negated heights by the turned element, negated, is the erosion
-pub erosion_turned : (s : Size) (e : ElementTable) (f n d w : Relief) → IsElement e → IsNegative f n → IsDilation s (turned_table e) n d → IsNegative d w → IsErosion s e f w
-erosion_turned s e f n d w is first dilation second = record {
+pub IsErosion-turned : (s : Size) (e : ElementTable) (f n d w : Relief) → IsElement e → IsNegative f n → IsDilation s (turned_table e) n d → IsNegative d w → IsErosion s e f w
+IsErosion-turned s e f n d w is first dilation second = record {
   present = λ p inside z is_z.
-      let top = dilation.present p inside (neg_ℤ z) (first.each p ∙ minus_of (f p) z is_z) in
+      let top = dilation.present p inside (neg_ℤ z) (first.each p ∙ minus-of (f p) z is_z) in
       record {
         attained = λ y is_y.
-            let r = top.attained (neg_ℤ y) (minus_some (d p) y (sym (second.each p) ∙ is_y)) in
+            let r = top.attained (neg_ℤ y) (minus-some (d p) y (sym (second.each p) ∙ is_y)) in
             let o = r.links.is_offset in
             let sum : neg_ℤ y ≡ r.height +ℤ r.number = r.sum in
             record {
@@ -92,9 +92,9 @@ erosion_turned s e f n d w is first dilation second = record {
                 from = inside;
                 to = r.links.from;
                 is_offset = turned_offset e r.links.offset r.from p is (record { column = o.column; row = o.row; across = o.across; down = o.down });
-                is_number = sym (turned_number e r.links.offset is.whole o.column o.row) ∙ r.links.is_number;
+                is_number = sym (turned_table-number e r.links.offset is.whole o.column o.row) ∙ r.links.is_number;
               };
-              is_height = minus_some (f r.from) r.height (sym (first.each r.from) ∙ r.is_height);
+              is_height = minus-some (f r.from) r.height (sym (first.each r.from) ∙ r.is_height);
               difference = omega (arith, ints);
             };
         reached = λ y l.
@@ -111,23 +111,23 @@ erosion_turned s e f n d w is first dilation second = record {
                 from = l.links.to;
                 to = inside;
                 is_offset = record { column = o'.column; row = o'.row; across = o'.across; down = o'.down };
-                is_number = turned_number e u is.whole o'.column o'.row ∙ ap (number_at e) twice ∙ l.links.is_number;
+                is_number = turned_table-number e u is.whole o'.column o'.row ∙ ap (number_at e) twice ∙ l.links.is_number;
               };
-              is_height = first.each l.to ∙ minus_of (f l.to) l.height l.is_height;
+              is_height = first.each l.to ∙ minus-of (f l.to) l.height l.is_height;
               sum = refl;
             } in
             let found = top.reached (neg_ℤ l.height +ℤ l.number) r in
             let up : (neg_ℤ l.height +ℤ l.number) ≤ℤ found.0 = found.2 in
             let is : y ≡ l.height -ℤ l.number = l.difference in
-            (neg_ℤ found.0, second.each p ∙ minus_of (d p) found.0 found.1, omega (arith, ints));
+            (neg_ℤ found.0, second.each p ∙ minus-of (d p) found.0 found.1, omega (arith, ints));
       };
   absent = λ p inside none.
       second.each p ∙ minus_none (d p) (dilation.absent p inside (first.each p ∙ minus_none (f p) none));
 }
 
 -- a turned element is an element
-pub turned_element : (e : ElementTable) → IsElement e → IsElement (turned_table e)
-turned_element e is = record {
+pub IsElement-turned : (e : ElementTable) → IsElement e → IsElement (turned_table e)
+IsElement-turned e is = record {
   odd_width = is.odd_width;
   odd_height = is.odd_height;
   width = is.width;
@@ -138,36 +138,36 @@ turned_element e is = record {
       rw (get_or-reverse e.table k None inside) (All-get_or IsEntry e.table (length e.table - 1 - k) None (omega arith) is.entries));
   origin =
       let same : number_at (turned_table e) (centre e) ≡ number_at e (centre e) =
-      turned_number e (centre e) is.whole (omega (arith, is.odd_width)) (omega (arith, is.odd_height))
+      turned_table-number e (centre e) is.whole (omega (arith, is.odd_width)) (omega (arith, is.odd_height))
       ∙ ap (number_at e) (same_pos (opposite e (centre e)) (centre e) (omega (arith, is.odd_width)) (omega (arith, is.odd_height))) in
       subst (λ (v : Option ℤ). IsSome v) (sym same) is.origin;
 }
 
 -- the table decides alone whether it makes an element
-pub renamed_element : (e : ElementTable) (name : List ℕ) (table : List (Option ℤ)) → table ≡ e.table → IsElement e → IsElement (record { name = name; width = e.width; height = e.height; table = table })
-renamed_element e name table same is =
+pub IsElement-renamed : (e : ElementTable) (name : List ℕ) (table : List (Option ℤ)) → table ≡ e.table → IsElement e → IsElement (record { name = name; width = e.width; height = e.height; table = table })
+IsElement-renamed e name table same is =
     subst (λ (t : List (Option ℤ)). IsElement (record { name = name; width = e.width; height = e.height; table = t })) (sym same)
     (record { odd_width = is.odd_width; odd_height = is.odd_height; width = is.width; height = is.height; whole = is.whole; entries = is.entries; origin = is.origin })
 
 -- the numbers of a turned element are within the limits of the element's
-pub turned_within : (n : ℕ) (e : ElementTable) → HasNumbersWithin n e → HasNumbersWithin n (turned_table e)
-turned_within n e numbers = record {
+pub HasNumbersWithin-turned : (n : ℕ) (e : ElementTable) → HasNumbersWithin n e → HasNumbersWithin n (turned_table e)
+HasNumbersWithin-turned n e numbers = record {
   each = λ k. elim (cases_lt k (length e.table)) [
     | inl inside ↦ rw (get_or-reverse e.table k None inside) (numbers.each (length e.table - 1 - k))
     | inr past ↦
         let none : slice_index_or (reverse e.table) k None ≡ None = get_or_past (reverse e.table) k None (omega (arith, length-reverse e.table)) in
-        rw none (none_bounded n)
+        rw none (IsBounded-none n)
   ];
 }
 
 module _ {L : Type 0} (code : Encoding L) where
   -- negated numbers stand for the negative
-  pub negative_relief : (s : Size) (old new : List L) → AreNegated code old new → IsNegative (relief s (values_of code old)) (relief s (values_of code new))
-  negative_relief s old new negated = record { each = λ p. rw (value_of_number code new (place_of s p), value_of_number code old (place_of s p)) ((negated.each (place_of s p)).value) }
+  pub IsNegative-relief : (s : Size) (old new : List L) → AreNegated code old new → IsNegative (relief s (values_of code old)) (relief s (values_of code new))
+  IsNegative-relief s old new negated = record { each = λ p. rw (value_at-number_in code new (place_of s p), value_at-number_in code old (place_of s p)) ((negated.each (place_of s p)).value) }
 
   -- negated numbers are plain as the numbers are
-  pub negated_plain : (s : Size) (n : ℕ) (old new : List L) → AreNegated code old new → ArePlain code s n old → ArePlain code s n new
-  negated_plain s n old new negated are = record {
+  pub ArePlain-negated : (s : Size) (n : ℕ) (old new : List L) → AreNegated code old new → ArePlain code s n old → ArePlain code s n new
+  ArePlain-negated s n old new negated are = record {
     whole = negated.whole ∙ are.whole;
     plain = record {
       each = λ k.
@@ -175,8 +175,8 @@ module _ {L : Type 0} (code : Encoding L) where
           let within = (are.plain.each k).bounded in
           record {
             bounded = record {
-              least = λ z there. let h = within.greatest (neg_ℤ z) (minus_some (code.shown (number_in code old k)) z (sym is.value ∙ there)) in omega (arith, ints);
-              greatest = λ z there. let h = within.least (neg_ℤ z) (minus_some (code.shown (number_in code old k)) z (sym is.value ∙ there)) in omega (arith, ints);
+              least = λ z there. let h = within.greatest (neg_ℤ z) (minus-some (code.shown (number_in code old k)) z (sym is.value ∙ there)) in omega (arith, ints);
+              greatest = λ z there. let h = within.least (neg_ℤ z) (minus-some (code.shown (number_in code old k)) z (sym is.value ∙ there)) in omega (arith, ints);
             };
             absent = λ none. is.absent (minus_gone (code.shown (number_in code old k)) (sym is.value ∙ none));
           };
@@ -184,11 +184,11 @@ module _ {L : Type 0} (code : Encoding L) where
   }
 
   -- the negated dilation of negated numbers by the turned element is the erosion
-  pub eroded_of : (s : Size) (e : ElementTable) (n : ℕ) (old negatives lowered new : List L) → IsElement e → AreNegated code old negatives
+  pub ArePlainlyFiltered-eroded : (s : Size) (e : ElementTable) (n : ℕ) (old negatives lowered new : List L) → IsElement e → AreNegated code old negatives
       → IsDilation s (turned_table e) (relief s (values_of code negatives)) (relief s (values_of code lowered)) → ArePlain code s n lowered → AreNegated code lowered new → ArePlainlyFiltered code Erosion s e old new
-  eroded_of s e n old negatives lowered new is first dilation plain second = record {
+  ArePlainlyFiltered-eroded s e n old negatives lowered new is first dilation plain second = record {
     whole = second.whole ∙ plain.whole;
-    filtered = erosion_turned s e (relief s (values_of code old)) (relief s (values_of code negatives)) (relief s (values_of code lowered)) (relief s (values_of code new)) is (negative_relief s old negatives first) dilation
-        (negative_relief s lowered new second);
+    filtered = IsErosion-turned s e (relief s (values_of code old)) (relief s (values_of code negatives)) (relief s (values_of code lowered)) (relief s (values_of code new)) is (IsNegative-relief s old negatives first) dilation
+        (IsNegative-relief s lowered new second);
     absent = λ k none. (second.each k).absent (minus_gone (code.shown (number_in code lowered k)) (sym (second.each k).value ∙ none));
   }
