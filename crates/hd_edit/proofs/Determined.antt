@@ -38,13 +38,13 @@ module _ (m : Map)
       let other = in_range_of filter m e b second in
       ap Err (one.1 ∙ ap HeightRange (one_position filter e one.0 other.0 one.2 other.2) ∙ sym other.1)
 
-  pub one_outcome : (elements : List ElementTable) (e : Edit) (x y : Result Map EditError) → IsEdited elements m e x → IsEdited elements m e y → x ≡ y
-  one_outcome elements (edit.Set at z) x y first second = first ∙ sym second
-  one_outcome elements (edit.Bad at) x y first second = first ∙ sym second
-  one_outcome elements (edit.Add from to delta) x y first second = first ∙ sym second
-  one_outcome elements (edit.Mask from to) x y first second = first ∙ sym second
-  one_outcome elements (edit.Unmask from to) x y first second = first ∙ sym second
-  one_outcome elements (edit.Dilate name) x y first second = one_filtered Dilation (first_named elements name) x y first second
-  one_outcome elements (edit.Erode name) x y first second = one_filtered Erosion (first_named elements name) x y first second
-  one_outcome elements (edit.Open name) x y first second = one_filtered Opening (first_named elements name) x y first second
-  one_outcome elements (edit.Close name) x y first second = one_filtered Closing (first_named elements name) x y first second
+  pub IsEdited-unique : (elements : List ElementTable) (e : Edit) (x y : Result Map EditError) → IsEdited elements m e x → IsEdited elements m e y → x ≡ y
+  IsEdited-unique elements (edit.Set at z) x y first second = first ∙ sym second
+  IsEdited-unique elements (edit.Bad at) x y first second = first ∙ sym second
+  IsEdited-unique elements (edit.Add from to delta) x y first second = first ∙ sym second
+  IsEdited-unique elements (edit.Mask from to) x y first second = first ∙ sym second
+  IsEdited-unique elements (edit.Unmask from to) x y first second = first ∙ sym second
+  IsEdited-unique elements (edit.Dilate name) x y first second = one_filtered Dilation (first_named elements name) x y first second
+  IsEdited-unique elements (edit.Erode name) x y first second = one_filtered Erosion (first_named elements name) x y first second
+  IsEdited-unique elements (edit.Open name) x y first second = one_filtered Opening (first_named elements name) x y first second
+  IsEdited-unique elements (edit.Close name) x y first second = one_filtered Closing (first_named elements name) x y first second

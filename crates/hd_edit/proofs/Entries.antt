@@ -36,18 +36,18 @@ use Rattle.hd_edit.specs.Exchange.{AreExchanged, different, differs}
 use Rattle.hd_edit.specs.Filter.{IsFilteredMap}
 use Rattle.hd_edit.specs.Filtered.{IsNewFor, LeavesOthers, map_after}
 use Rattle.hd_edit.specs.Stroke.{count_below}
-use Rattle.hd_edit.proofs.Changes.{cell_of, kind_stays, under_before}
-use Rattle.hd_edit.proofs.ProfileChanges.{shown-told}
+use Rattle.hd_edit.proofs.Changes.{IsCellOf-cell_at, before_changes-kind, before_changes-under}
+use Rattle.hd_edit.proofs.ProfileChanges.{shown_height-told}
 
 -- the map before an entry has the size and the type of the map after it
-pub entry_kind : (P : Size → DataType → Type 0) (e : Entry) (m : Map) → P m.size m.data_type → P (before_entry e m).size (before_entry e m).data_type
-entry_kind P (entry.Changes changes) m p = kind_stays P changes m p
-entry_kind P (entry.Heights numbers) m p = p
+pub before_entry-kind : (P : Size → DataType → Type 0) (e : Entry) (m : Map) → P m.size m.data_type → P (before_entry e m).size (before_entry e m).data_type
+before_entry-kind P (entry.Changes changes) m p = before_changes-kind P changes m p
+before_entry-kind P (entry.Heights numbers) m p = p
 
 -- an entry is undone alike under each setting
-pub under_entry : (adjacency : Adjacency) (e : Entry) (m : Map) → before_entry e (under adjacency m) ≡ under adjacency (before_entry e m)
-under_entry adjacency (entry.Changes changes) m = under_before adjacency changes m
-under_entry adjacency (entry.Heights numbers) m = refl
+pub before_entry-under : (adjacency : Adjacency) (e : Entry) (m : Map) → before_entry e (under adjacency m) ≡ under adjacency (before_entry e m)
+before_entry-under adjacency (entry.Changes changes) m = before_changes-under adjacency changes m
+before_entry-under adjacency (entry.Heights numbers) m = refl
 
 -- where no point is present none is once a map is filtered
 filtered_absent : (filter : Filter) (s : Size) (e : ElementTable) (f g : Relief) → IsFiltered filter s e f g → (p : Pos) → InGrid s p → f p ≡ None → g p ≡ None
@@ -62,14 +62,14 @@ others_left filter m e heights are = λ p inside none.
     sym (cells_after-get_or m heights (place_of m.size p) Bad (place_inside m.size p inside)) ∙ are.are_cells.absent p inside (filtered_absent filter m.size e (relief_of m) are.heights are.filtered p inside none)
 
 -- new heights of a filter, in lists of either type
-pub lists_new : (filter : Filter) (m : Map) (e : ElementTable) (lists : OldAndNew) → AreOldAndNew filter m e lists → IsNewFor m lists
-lists_new filter m e (Narrow lists) are = record {
+pub IsNewFor-lists : (filter : Filter) (m : Map) (e : ElementTable) (lists : OldAndNew) → AreOldAndNew filter m e lists → IsNewFor m lists
+IsNewFor-lists filter m e (Narrow lists) are = record {
   held = are.held;
   plain = are.plain;
   of_type = are.made.filtered.are_cells.of_type;
   others = others_left filter m e (values_of narrow lists.after.items) are.made.filtered;
 }
-lists_new filter m e (Wide lists) are = record {
+IsNewFor-lists filter m e (Wide lists) are = record {
   held = are.held;
   plain = are.plain;
   of_type = are.made.filtered.are_cells.of_type;
@@ -77,9 +77,9 @@ lists_new filter m e (Wide lists) are = record {
 }
 
 -- the map with them is the filtered one
-pub lists_filtered : (filter : Filter) (m : Map) (e : ElementTable) (lists : OldAndNew) → AreOldAndNew filter m e lists → IsFilteredMap filter m e (map_after m lists)
-lists_filtered filter m e (Narrow lists) are = record { cells = cells_after m (values_of narrow lists.after.items); are_filtered = are.made.filtered; is_map = refl }
-lists_filtered filter m e (Wide lists) are = record { cells = cells_after m (values_of wide lists.after.items); are_filtered = are.made.filtered; is_map = refl }
+pub IsFilteredMap-lists : (filter : Filter) (m : Map) (e : ElementTable) (lists : OldAndNew) → AreOldAndNew filter m e lists → IsFilteredMap filter m e (map_after m lists)
+IsFilteredMap-lists filter m e (Narrow lists) are = record { cells = cells_after m (values_of narrow lists.after.items); are_filtered = are.made.filtered; is_map = refl }
+IsFilteredMap-lists filter m e (Wide lists) are = record { cells = cells_after m (values_of wide lists.after.items); are_filtered = are.made.filtered; is_map = refl }
 
 -- two heights of which neither exceeds the other do not differ
 pub exceeds_differs : (a b : Option ℤ) → (exceeds a b || exceeds b a) ≡ differs a b
@@ -106,16 +106,16 @@ none_passes p (suc n) none k below = elim (cases_lt k n) [
 ]
 
 -- a new height of the type, or the old cell of it, is of it
-pub new_or_old : (t : DataType) (new : Option ℤ) (old : Cell) → ((z : ℤ) → new ≡ Some z → IsCellOf t (Height z)) → IsCellOf t old → IsCellOf t (cell_with new old)
-new_or_old t (Some z) old fits before = fits z refl
-new_or_old t None old fits before = before
+pub IsCellOf-new_or_old : (t : DataType) (new : Option ℤ) (old : Cell) → ((z : ℤ) → new ≡ Some z → IsCellOf t (Height z)) → IsCellOf t old → IsCellOf t (cell_with new old)
+IsCellOf-new_or_old t (Some z) old fits before = fits z refl
+IsCellOf-new_or_old t None old fits before = before
 
 -- with heights of the type each cell of a map is of it
-pub fitting_cells : (m : Map) (heights : List (Option ℤ)) → IsMap m → AreHeightsIn m.data_type heights → AreCellsOf m.data_type (cells_after m heights)
-fitting_cells m heights whole fit = λ k inside.
+pub AreCellsOf-cells_after : (m : Map) (heights : List (Option ℤ)) → IsMap m → AreHeightsIn m.data_type heights → AreCellsOf m.data_type (cells_after m heights)
+AreCellsOf-cells_after m heights whole fit = λ k inside.
     let below : k < cell_count m.size = omega (arith, inside, cells_after-length m heights) in
     subst (λ (c : Cell). IsCellOf m.data_type c) (sym (cells_after-get_or m heights k Bad below))
-    (new_or_old m.data_type (get_or heights k None) (get_or m.cells k Bad) (fit k) (whole.heights k (omega (arith, below, whole.cells))))
+    (IsCellOf-new_or_old m.data_type (get_or heights k None) (get_or m.cells k Bad) (fit k) (whole.heights k (omega (arith, below, whole.cells))))
 
 module _ (m : Map) (whole : IsMap m) (olds : List (Option ℤ)) (held : (p : Pos) → InGrid m.size p → get_or olds (place_of m.size p) None ≡ height_at m p) where
   -- what the list tells at an index
@@ -125,14 +125,14 @@ module _ (m : Map) (whole : IsMap m) (olds : List (Option ℤ)) (held : (p : Pos
       ap (λ (i : ℕ). get_or olds i None) (sym (position_at-place m.size k some)) ∙ held (position_at m.size k) (position_at-inside m.size k some below)
 
   -- each height is of the type
-  pub held_fit : length olds ≡ cell_count m.size → AreHeightsFor m.size m.data_type olds
-  held_fit long = record {
+  pub AreHeightsFor-held : length olds ≡ cell_count m.size → AreHeightsFor m.size m.data_type olds
+  AreHeightsFor-held long = record {
     whole = long;
     of_type = λ k z is. elim (cases_lt k (cell_count m.size)) [
       | inl below ↦
           let p : Pos = position_at m.size k in
-          let cell : cell_at m p ≡ Height z = shown-told (cell_at m p) (mask_at m p) z (sym (held_at k below) ∙ is) in
-          subst (λ (c : Cell). IsCellOf m.data_type c) cell (cell_of m whole p (position_at-inside m.size k whole.size.some_points below))
+          let cell : cell_at m p ≡ Height z = shown_height-told (cell_at m p) (mask_at m p) z (sym (held_at k below) ∙ is) in
+          subst (λ (c : Cell). IsCellOf m.data_type c) cell (IsCellOf-cell_at m whole p (position_at-inside m.size k whole.size.some_points below))
       | inr past ↦ absurd (let none : None ≡ Some z = sym (get_or_past olds k None (omega (arith, past, long))) ∙ is in cc)
     ];
   }
@@ -147,13 +147,13 @@ module _ (m : Map) (whole : IsMap m) (olds : List (Option ℤ)) (held : (p : Pos
         let same : get_or olds k None ≡ get_or news k None = one_height (get_or olds k None) (get_or news k None) (none_passes (λ i. differs (get_or olds i None) (get_or news i None)) (cell_count m.size) none k below) in
         let told = sym same ∙ held_at k below in
         elim (Option-some_or_none (height_at m p)) [
-          | inl some ↦ ap (λ (v : Option ℤ). cell_with v (get_or m.cells k Bad)) (told ∙ some.1) ∙ sym (shown-told (cell_at m p) (mask_at m p) some.0 some.1) ∙ here
+          | inl some ↦ ap (λ (v : Option ℤ). cell_with v (get_or m.cells k Bad)) (told ∙ some.1) ∙ sym (shown_height-told (cell_at m p) (mask_at m p) some.0 some.1) ∙ here
           | inr gone ↦ ap (λ (v : Option ℤ). cell_with v (get_or m.cells k Bad)) (told ∙ gone)
         ]
 
     -- and so does the map
-    pub heights_stay : with_cells m (cells_after m news) ≡ m
-    heights_stay = ap (λ (cs : List Cell). record m { cells = cs }) (sym (fill_by_all (cell_after m news) m.cells (cell_count m.size) Bad whole.cells (λ k h. sym (stays_at k h))))
+    pub with_cells-stay : with_cells m (cells_after m news) ≡ m
+    with_cells-stay = ap (λ (cs : List Cell). record m { cells = cs }) (sym (fill_by_all (cell_after m news) m.cells (cell_count m.size) Bad whole.cells (λ k h. sym (stays_at k h))))
 
   module _ (heights : List (Option ℤ)) (others : LeavesOthers m heights) where
     abbrev after : Map
@@ -168,19 +168,19 @@ module _ (m : Map) (whole : IsMap m) (olds : List (Option ℤ)) (held : (p : Pos
         let told = held_at k below in
         let here : cell_at m p ≡ get_or m.cells k Bad = ap (λ (i : ℕ). get_or m.cells i Bad) place in
         elim (Option-some_or_none (height_at m p)) [
-          | inl some ↦ ap (λ (v : Option ℤ). cell_with v (get_or after.cells k Bad)) (told ∙ some.1) ∙ sym (shown-told (cell_at m p) (mask_at m p) some.0 some.1) ∙ here
+          | inl some ↦ ap (λ (v : Option ℤ). cell_with v (get_or after.cells k Bad)) (told ∙ some.1) ∙ sym (shown_height-told (cell_at m p) (mask_at m p) some.0 some.1) ∙ here
           | inr none ↦ ap (λ (v : Option ℤ). cell_with v (get_or after.cells k Bad)) (told ∙ none) ∙ cells_after-get_or m heights k Bad below
               ∙ ap (cell_after m heights) (sym place) ∙ others p inside none ∙ here
         ]
 
     -- and so the map
-    pub heights_back : with_cells after (cells_after after olds) ≡ m
-    heights_back = ap (λ (cs : List Cell). record m { cells = cs }) (sym (fill_by_all (cell_after after olds) m.cells (cell_count m.size) Bad whole.cells (λ k h. sym (back_at k h))))
+    pub with_cells-back : with_cells after (cells_after after olds) ≡ m
+    with_cells-back = ap (λ (cs : List Cell). record m { cells = cs }) (sym (fill_by_all (cell_after after olds) m.cells (cell_count m.size) Bad whole.cells (λ k h. sym (back_at k h))))
 
 module _ {L : Type 0} (code : Encoding L) (m new : Map) (numbers old : List L) (whole : IsMap m) (are : AreExchanged code m new numbers old) where
   -- an exchange is undone by the heights that stood there
-  pub exchange_back : LeavesOthers m (values_of code numbers) → with_cells new (cells_after new (values_of code old)) ≡ m
-  exchange_back others = ap (λ (n : Map). with_cells n (cells_after n (values_of code old))) are.sets ∙ heights_back m whole (values_of code old) are.held.each (values_of code numbers) others
+  pub LeavesOthers-back : LeavesOthers m (values_of code numbers) → with_cells new (cells_after new (values_of code old)) ≡ m
+  LeavesOthers-back others = ap (λ (n : Map). with_cells n (cells_after n (values_of code old))) are.sets ∙ with_cells-back m whole (values_of code old) are.held.each (values_of code numbers) others
 
-  pub exchange_fit : AreHeightsFor m.size m.data_type (values_of code old)
-  exchange_fit = held_fit m whole (values_of code old) are.held.each (values_of-length code old ∙ are.held.plain.whole)
+  pub AreHeightsFor-exchange : AreHeightsFor m.size m.data_type (values_of code old)
+  AreHeightsFor-exchange = AreHeightsFor-held m whole (values_of code old) are.held.each (values_of-length code old ∙ are.held.plain.whole)

@@ -22,7 +22,7 @@ use Rattle.hd_morph.proofs.Listed.{cells_after-get_or, cells_after-length}
 use Rattle.hd_edit.specs.declared.change.Change.{Change}
 use Rattle.hd_edit.specs.Change.{IsChange, before_changes}
 use Rattle.hd_edit.specs.Profile.{AreNotedChanges}
-use Rattle.hd_edit.proofs.Strokes.{mix, mix-before, mix-from, same_fill}
+use Rattle.hd_edit.proofs.Strokes.{mix, mix-before, mix-from, map_range-same}
 
 module _ (m : Map) (heights : List (Option ℤ)) where
   -- the cells, and by index what they become
@@ -33,11 +33,11 @@ module _ (m : Map) (heights : List (Option ℤ)) where
   abbrev pub partly_new : ℕ → Map
   partly_new n = record m { cells = map (mix n (cell_after m heights) old_cell) (range_with_len 0 (cell_count m.size)) }
 
-  pub new-none : (n : ℕ) → n ≡ 0 → length m.cells ≡ cell_count m.size → m ≡ partly_new n
-  new-none n none whole = ap (λ (cs : List Cell). record m { cells = cs }) (fill_by_all (mix n (cell_after m heights) old_cell) m.cells (cell_count m.size) Bad whole (λ k h. sym (mix-from n (cell_after m heights) old_cell k (omega (arith, none)))))
+  pub partly_new-none : (n : ℕ) → n ≡ 0 → length m.cells ≡ cell_count m.size → m ≡ partly_new n
+  partly_new-none n none whole = ap (λ (cs : List Cell). record m { cells = cs }) (fill_by_all (mix n (cell_after m heights) old_cell) m.cells (cell_count m.size) Bad whole (λ k h. sym (mix-from n (cell_after m heights) old_cell k (omega (arith, none)))))
 
-  pub new-all : (n : ℕ) → cell_count m.size ≤ n → partly_new n ≡ with_cells m (cells_after m heights)
-  new-all n past = ap (λ (cs : List Cell). record m { cells = cs }) (same_fill (mix n (cell_after m heights) old_cell) (cell_after m heights) (cell_count m.size) Bad (λ k h. mix-before n (cell_after m heights) old_cell k (omega (arith, h, past))))
+  pub partly_new-all : (n : ℕ) → cell_count m.size ≤ n → partly_new n ≡ with_cells m (cells_after m heights)
+  partly_new-all n past = ap (λ (cs : List Cell). record m { cells = cs }) (map_range-same (mix n (cell_after m heights) old_cell) (cell_after m heights) (cell_count m.size) Bad (λ k h. mix-before n (cell_after m heights) old_cell k (omega (arith, h, past))))
 
   -- the heights of a profile
   abbrev pub profile_of : ℕ → List (Option ℤ)
@@ -57,8 +57,8 @@ module _ (m : Map) (heights : List (Option ℤ)) where
 
   module _ (y : ℕ) (some : 1 ≤ m.size.points) (inside : y < m.size.profiles) where
     -- each of them is of the type
-    pub profile_fits : AreCellsOf m.data_type (cells_after m heights) → AreHeightsIn m.data_type (profile_of y)
-    profile_fits are x z is = elim (cases_lt x m.size.points) [
+    pub AreHeightsIn-profile_of : AreCellsOf m.data_type (cells_after m heights) → AreHeightsIn m.data_type (profile_of y)
+    AreHeightsIn-profile_of are x z is = elim (cases_lt x m.size.points) [
       | inl column ↦
           let k : ℕ = y * m.size.points + x in
           let rows : y * m.size.points + m.size.points ≤ m.size.profiles * m.size.points = omega (arith, mul-le-mul_right m.size.points inside) in
@@ -98,9 +98,9 @@ module _ (m : Map) (heights : List (Option ℤ)) where
           ]
         ]
 
-    pub new-profile : with_heights (partly_new (y * m.size.points)) y (profile_of y) ≡ partly_new ((y + 1) * m.size.points)
-    new-profile = ap (λ (cs : List Cell). record m { cells = cs })
-        (same_fill (λ k. cell_with_heights (partly_new (y * m.size.points)) y (profile_of y) (position_at m.size k)) (mix ((y + 1) * m.size.points) (cell_after m heights) old_cell) (cell_count m.size) Bad cell_next)
+    pub partly_new-profile : with_heights (partly_new (y * m.size.points)) y (profile_of y) ≡ partly_new ((y + 1) * m.size.points)
+    partly_new-profile = ap (λ (cs : List Cell). record m { cells = cs })
+        (map_range-same (λ k. cell_with_heights (partly_new (y * m.size.points)) y (profile_of y) (position_at m.size k)) (mix ((y + 1) * m.size.points) (cell_after m heights) old_cell) (cell_count m.size) Bad cell_next)
 
   -- the cells of the profiles before one are new, and what those were that became others is noted
   pub record Noted (y : ℕ) (now : Map) (notes : List Change) : Type 0 where
@@ -110,30 +110,30 @@ module _ (m : Map) (heights : List (Option ℤ)) where
     pub few : length notes ≤ y * m.size.points
 
   -- at first nothing is
-  pub noted_first : (notes : List Change) → IsMap m → notes ≡ [] → Noted 0 m notes
-  noted_first notes whole none = record {
-    map = new-none (0 * m.size.points) (omega arith) whole.cells;
+  pub Noted-first : (notes : List Change) → IsMap m → notes ≡ [] → Noted 0 m notes
+  Noted-first notes whole none = record {
+    map = partly_new-none (0 * m.size.points) (omega arith) whole.cells;
     before = ap (λ (cs : List Change). before_changes cs m) none;
     notes_are = rw none (All-nil (IsChange m));
     few = rw none (omega arith);
   }
 
   module _ (y : ℕ) (now : Map) (notes : List Change) (so : Noted y now notes) where
-    pub noted_size : now.size ≡ m.size
-    noted_size = ap (λ (s : Map). s.size) so.map
+    pub Noted-size : now.size ≡ m.size
+    Noted-size = ap (λ (s : Map). s.size) so.map
 
-    pub noted_type : now.data_type ≡ m.data_type
-    noted_type = ap (λ (s : Map). s.data_type) so.map
+    pub Noted-type : now.data_type ≡ m.data_type
+    Noted-type = ap (λ (s : Map). s.data_type) so.map
 
     -- one profile further
-    pub noted_next : (now' : Map) (most : ℕ) (notes' : List Change) → 1 ≤ m.size.points → y < m.size.profiles → most ≤ m.size.points → AreNotedChanges now (with_heights now y (profile_of y)) most notes notes' → now' ≡ with_heights now y (profile_of y) → Noted (y + 1) now' notes'
-    noted_next now' most notes' some inside columns changes sets = record {
-      map = sets ∙ ap (λ (s : Map). with_heights s y (profile_of y)) so.map ∙ new-profile y some inside;
+    pub Noted-next : (now' : Map) (most : ℕ) (notes' : List Change) → 1 ≤ m.size.points → y < m.size.profiles → most ≤ m.size.points → AreNotedChanges now (with_heights now y (profile_of y)) most notes notes' → now' ≡ with_heights now y (profile_of y) → Noted (y + 1) now' notes'
+    Noted-next now' most notes' some inside columns changes sets = record {
+      map = sets ∙ ap (λ (s : Map). with_heights s y (profile_of y)) so.map ∙ partly_new-profile y some inside;
       before = ap (before_changes notes') sets ∙ changes.undone ∙ so.before;
       notes_are = subst (λ (s : Map). All (IsChange s) notes') so.map changes.each;
       few = omega (arith, changes.few, so.few, columns);
     }
 
     -- past the last profile all cells are new
-    pub noted_last : m.size.profiles ≤ y → now ≡ with_cells m (cells_after m heights)
-    noted_last past = so.map ∙ new-all (y * m.size.points) (omega (arith, mul-le-mul_right m.size.points past))
+    pub Noted-last : m.size.profiles ≤ y → now ≡ with_cells m (cells_after m heights)
+    Noted-last past = so.map ∙ partly_new-all (y * m.size.points) (omega (arith, mul-le-mul_right m.size.points past))

@@ -1,4 +1,4 @@
-pub mod DataTypes
+pub mod HeightLimits
 pub mod IfLess
 pub mod Rectangles
 pub mod Strokes
@@ -10,7 +10,7 @@ pub mod NotedStrokes
 pub mod Entries
 pub mod Logs
 pub mod Outcomes
-pub mod Added
+pub mod RaisedStrokes
 pub mod Determined
 pub mod ProfileChanges
 pub mod FilteredCells

@@ -26,11 +26,11 @@ module _ {K : Type 0} (items : K → List ℕ) where
   abbrev pub same_key : K → K → Bool
   same_key a b = pointwise nat_eq (items a) (items b)
 
-  pub found_by_name : (es : List (K × ElementTable)) (name : List ℕ) → All IsNamed es → first_named (tables es) name ≡ lookup (has_name name) es
-  found_by_name [] name are = refl
-  found_by_name ((k, e) ∷ es) name are =
+  pub first_named-found : (es : List (K × ElementTable)) (name : List ℕ) → All IsNamed es → first_named (tables es) name ≡ lookup (has_name name) es
+  first_named-found [] name are = refl
+  first_named-found ((k, e) ∷ es) name are =
       ap (λ (n : List ℕ). if pointwise nat_eq name n then Some e else first_named (tables es) name) (sym (All-head IsNamed (k, e) es are))
-      ∙ ap (λ (rest : Option ElementTable). if pointwise nat_eq name (items k) then Some e else rest) (found_by_name es name (All-tail IsNamed (k, e) es are))
+      ∙ ap (λ (rest : Option ElementTable). if pointwise nat_eq name (items k) then Some e else rest) (first_named-found es name (All-tail IsNamed (k, e) es are))
 
   read_table : (es : List (K × ElementTable)) (i : ℕ) → slice_get (tables es) i ≡ option_map (λ entry. entry.1) (slice_get es i)
   read_table [] i = refl
@@ -38,9 +38,9 @@ module _ {K : Type 0} (items : K → List ℕ) where
   read_table (e ∷ es) (suc i) = read_table es i
 
   -- the lines with that of one element more
-  pub line_more : (es : List (K × ElementTable)) (i : ℕ) (entry : K × ElementTable) (lines : List ElementLine) → slice_get es i ≡ Some entry → lines ≡ map line_of (take i (tables es))
+  pub line_of-more : (es : List (K × ElementTable)) (i : ℕ) (entry : K × ElementTable) (lines : List ElementLine) → slice_get es i ≡ Some entry → lines ≡ map line_of (take i (tables es))
       → lines ++ line_of entry.1 ∷ [] ≡ map line_of (take (i + 1) (tables es))
-  line_more es i entry lines is so =
+  line_of-more es i entry lines is so =
       let here : slice_get (tables es) i ≡ Some entry.1 = read_table es i ∙ ap (option_map (λ entry. entry.1)) is in
       let more : take (i + 1) (tables es) ≡ take i (tables es) ++ entry.1 ∷ [] =
       take_more (tables es) i entry.1 (slice_get_within (tables es) i entry.1 here)
@@ -54,11 +54,11 @@ module _ {K : Type 0} (items : K → List ℕ) where
   chosen_tables false xs ys = refl
 
   module _ (key : K) (new : ElementTable) (named : items key ≡ new.name) where
-    pub tables_with : (es : List (K × ElementTable)) → All IsNamed es → tables (insert_entry same_key es key new) ≡ elements_with (tables es) new
-    tables_with [] are = refl
-    tables_with ((k, e) ∷ es) are =
+    pub elements_with-tables : (es : List (K × ElementTable)) → All IsNamed es → tables (insert_entry same_key es key new) ≡ elements_with (tables es) new
+    elements_with-tables [] are = refl
+    elements_with-tables ((k, e) ∷ es) are =
         chosen_tables (same_key key k) ((k, new) ∷ es) ((k, e) ∷ insert_entry same_key es key new)
-        ∙ ap (λ (rest : List ElementTable). if same_key key k then new ∷ tables es else e ∷ rest) (tables_with es (All-tail IsNamed (k, e) es are))
+        ∙ ap (λ (rest : List ElementTable). if same_key key k then new ∷ tables es else e ∷ rest) (elements_with-tables es (All-tail IsNamed (k, e) es are))
         ∙ ap (λ (n : List ℕ). if pointwise nat_eq n (items k) then new ∷ tables es else e ∷ elements_with (tables es) new) named
         ∙ ap (λ (n : List ℕ). if pointwise nat_eq new.name n then new ∷ tables es else e ∷ elements_with (tables es) new) (All-head IsNamed (k, e) es are)
 
@@ -66,10 +66,10 @@ module _ {K : Type 0} (items : K → List ℕ) where
     chosen_named true xs ys first second = first refl
     chosen_named false xs ys first second = second
 
-    pub named_with : (es : List (K × ElementTable)) → All IsNamed es → All IsNamed (insert_entry same_key es key new)
-    named_with [] are = All-cons IsNamed (key, new) [] named (All-nil IsNamed)
-    named_with ((k, e) ∷ es) are =
+    pub IsNamed-with : (es : List (K × ElementTable)) → All IsNamed es → All IsNamed (insert_entry same_key es key new)
+    IsNamed-with [] are = All-cons IsNamed (key, new) [] named (All-nil IsNamed)
+    IsNamed-with ((k, e) ∷ es) are =
         let rest = All-tail IsNamed (k, e) es are in
         chosen_named (same_key key k) ((k, new) ∷ es) ((k, e) ∷ insert_entry same_key es key new)
         (λ same. All-cons IsNamed (k, new) es (sym (same_text (items key) (items k) (sym same)) ∙ named) rest)
-        (All-cons IsNamed (k, e) (insert_entry same_key es key new) (All-head IsNamed (k, e) es are) (named_with es rest))
+        (All-cons IsNamed (k, e) (insert_entry same_key es key new) (All-head IsNamed (k, e) es are) (IsNamed-with es rest))

@@ -13,22 +13,22 @@ use Rattle.hd_map.proofs.Sets.{cell_not_yet, heights_more, heights_none}
 use Rattle.hd_edit.specs.declared.change.Change.{Change}
 use Rattle.hd_edit.specs.Change.{IsCellThatWas, IsChange, before_changes}
 use Rattle.hd_edit.specs.Profile.{AreNotedChanges, IsNotedCell, IsToldCell}
-use Rattle.hd_edit.proofs.Changes.{before-cell, was-of, cell_of}
+use Rattle.hd_edit.proofs.Changes.{before_changes-cell, IsWasOf-cell, IsCellOf-cell_at}
 
 -- a cell that is set to itself stays
 with_cell-same : (m : Map) (at : Pos) (cell : Cell) → cell ≡ cell_at m at → with_cell m at cell ≡ m
 with_cell-same m at cell same = ap (with_cell m at) same ∙ ap (λ (cs : List Cell). record m { cells = cs }) (set-get_or m.cells (place_of m.size at) Bad)
 
 -- a height that shows tells the cell
-pub shown-told : (cell : Cell) (masked : Bool) → IsToldCell (shown_height cell masked) cell
-shown-told (Height h) false z is = cc
-shown-told (Height h) true z is = absurd (cc is)
-shown-told Bad masked z is = absurd (cc is)
+pub shown_height-told : (cell : Cell) (masked : Bool) → IsToldCell (shown_height cell masked) cell
+shown_height-told (Height h) false z is = cc
+shown_height-told (Height h) true z is = absurd (cc is)
+shown_height-told Bad masked z is = absurd (cc is)
 
 module _ (m : Map) (y : ℕ) (heights : List (Option ℤ)) (whole : IsMap m) where
   -- before the first column
-  pub noted-none : (notes : List Change) → All (IsChange m) notes → AreNotedChanges m (with_heights m y (take 0 heights)) 0 notes notes
-  noted-none notes are = record { undone = ap (before_changes notes) (heights_none m y whole); each = are; few = omega arith }
+  pub AreNotedChanges-none : (notes : List Change) → All (IsChange m) notes → AreNotedChanges m (with_heights m y (take 0 heights)) 0 notes notes
+  AreNotedChanges-none notes are = record { undone = ap (before_changes notes) (heights_none m y whole); each = are; few = omega arith }
 
   module _ (x : ℕ) (inside : InGrid m.size (record { x = x; y = y })) where
     abbrev at : Pos
@@ -42,10 +42,10 @@ module _ (m : Map) (y : ℕ) (heights : List (Option ℤ)) (whole : IsMap m) whe
     after = with_heights m y (take (x + 1) heights)
 
     -- one column more
-    pub noted-more : (old : Map) (most : ℕ) (earlier notes notes' : List Change) (type : DataType) (index : ℕ) (height : Option ℤ) → old.size ≡ m.size → old.data_type ≡ m.data_type → type ≡ m.data_type → index ≡ place_of m.size (record { x = x; y = y })
+    pub AreNotedChanges-more : (old : Map) (most : ℕ) (earlier notes notes' : List Change) (type : DataType) (index : ℕ) (height : Option ℤ) → old.size ≡ m.size → old.data_type ≡ m.data_type → type ≡ m.data_type → index ≡ place_of m.size (record { x = x; y = y })
         → height ≡ get_or heights x None → AreNotedChanges old (with_heights m y (take x heights)) most earlier notes
         → IsNotedCell type index (cell_at m (record { x = x; y = y })) (cell_with height (cell_at m (record { x = x; y = y }))) notes notes' → AreNotedChanges old (with_heights m y (take (x + 1) heights)) (most + 1) earlier notes'
-    noted-more old most earlier notes notes' type index height old_size old_type same place there so noted =
+    AreNotedChanges-more old most earlier notes notes' type index height old_size old_type same place there so noted =
         let cell : Cell = cell_at m at in
         let new : Cell = cell_with height cell in
         let as_now : cell ≡ cell_at now at = sym (cell_not_yet m y heights x inside) in
@@ -60,10 +60,10 @@ module _ (m : Map) (y : ℕ) (heights : List (Option ℤ)) (whole : IsMap m) whe
               let c : Change = record { index = index; was = other.0 } in
               let was : IsCellThatWas m.data_type other.0 cell = subst (λ (t : DataType). IsCellThatWas t other.0 cell) same other.2 in
               record {
-                undone = before-cell now after notes notes' at index cell new other.0 other.3 place was as_now one_more ∙ so.undone;
+                undone = before_changes-cell now after notes notes' at index cell new other.0 other.3 place was as_now one_more ∙ so.undone;
                 each = rw other.3 (All-push (IsChange old) notes c so.each (record {
                   inside = rw (old_size, place) (place_inside m.size at inside);
-                  height = rw old_type (was-of m.data_type other.0 cell was (cell_of m whole at inside));
+                  height = rw old_type (IsWasOf-cell m.data_type other.0 cell was (IsCellOf-cell_at m whole at inside));
                 }));
                 few = let len = ap (λ (cs : List Change). length cs) other.3 in omega (arith, len, length_push notes c, so.few);
               }

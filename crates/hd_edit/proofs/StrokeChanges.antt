@@ -24,9 +24,9 @@ same_cell-true Bad (Height y) e = cc
 same_cell-true Bad Bad e = refl
 
 -- a test whether two cells are one
-pub same_cell_is : (b : Bool) (x y : Cell) → (IsTrue b ↔ (x ≡ y)) → b ≡ same_cell x y
-same_cell_is true x y is = rw (is.0 refl) (sym (same_cell-itself y))
-same_cell_is false x y is = sym (false_from_ne_true (same_cell x y) (λ same. let e : false ≡ true = is.1 (same_cell-true x y same) in cc))
+pub same_cell-is : (b : Bool) (x y : Cell) → (IsTrue b ↔ (x ≡ y)) → b ≡ same_cell x y
+same_cell-is true x y is = rw (is.0 refl) (sym (same_cell-itself y))
+same_cell-is false x y is = sym (false_from_ne_true (same_cell x y) (λ same. let e : false ≡ true = is.1 (same_cell-true x y same) in cc))
 
 same_mask-true : (a b : Bool) → same_mask a b ≡ true → a ≡ b
 same_mask-true true true e = refl

@@ -15,7 +15,7 @@ use Rattle.hd_edit.specs.declared.stroke.Stroke.{Stroke}
 use Rattle.hd_edit.specs.Edit.{in_rectangle}
 use Rattle.hd_edit.specs.Stroke.{cell_after, mask_after, new_cell, new_mask, stroked, stroked_at, count_below}
 use Rattle.hd_edit.proofs.IfLess.{if-less, if-not_less}
-use Rattle.hd_edit.proofs.Rectangles.{IsIn, in_rectangle-is}
+use Rattle.hd_edit.proofs.Rectangles.{IsIn, in_rectangle-true}
 
 -- new before an index, and old from there on
 abbrev pub mix : {X : Type 0} → ℕ → (ℕ → X) → (ℕ → X) → ℕ → X
@@ -40,20 +40,20 @@ pub mix-other : {X : Type 0} (n : ℕ) (new old : ℕ → X) (k : ℕ) → k ≢
 mix-other n new old k other = mix-skip n (n + 1) new old k (omega arith) (λ from below. absurd (other (omega (arith, from, below))))
 
 -- maps of the same lists are one
-pub same_map : (m : Map) (cells cells' : List Cell) (masks masks' : List Bool) → cells ≡ cells' → masks ≡ masks' → ◌≡◌ {A = Map} (record m { cells = cells; masks = masks }) (record m { cells = cells'; masks = masks' })
-same_map m cells cells' masks masks' one other = cc
+pub Map-same : (m : Map) (cells cells' : List Cell) (masks masks' : List Bool) → cells ≡ cells' → masks ≡ masks' → ◌≡◌ {A = Map} (record m { cells = cells; masks = masks }) (record m { cells = cells'; masks = masks' })
+Map-same m cells cells' masks masks' one other = cc
 
 at_most_one : (b : Bool) → (if b then 1 else 0) ≤ 1
 at_most_one true = omega arith
 at_most_one false = omega arith
 
 -- lists of two functions that agree are one
-pub same_fill : {X : Type 0} (f g : ℕ → X) (count : ℕ) (d : X) → ((k : ℕ) → k < count → f k ≡ g k) → map f (range_with_len 0 count) ≡ map g (range_with_len 0 count)
-same_fill f g count d same = fill_by_all g (map f (range_with_len 0 count)) count d (length-map-range_with_len f 0 count) (λ k h. get_or-map-range_with_len f 0 count k k d h (omega arith) ∙ same k h)
+pub map_range-same : {X : Type 0} (f g : ℕ → X) (count : ℕ) (d : X) → ((k : ℕ) → k < count → f k ≡ g k) → map f (range_with_len 0 count) ≡ map g (range_with_len 0 count)
+map_range-same f g count d same = fill_by_all g (map f (range_with_len 0 count)) count d (length-map-range_with_len f 0 count) (λ k h. get_or-map-range_with_len f 0 count k k d h (omega arith) ∙ same k h)
 
 -- a list of a function with one place set
-pub set_fill : {X : Type 0} (f g : ℕ → X) (count n : ℕ) (v d : X) → n < count → ((k : ℕ) → k ≢ n → k < count → f k ≡ g k) → v ≡ g n → set (map f (range_with_len 0 count)) n v ≡ map g (range_with_len 0 count)
-set_fill f g count n v d inside others here =
+pub map_range-set : {X : Type 0} (f g : ℕ → X) (count n : ℕ) (v d : X) → n < count → ((k : ℕ) → k ≢ n → k < count → f k ≡ g k) → v ≡ g n → set (map f (range_with_len 0 count)) n v ≡ map g (range_with_len 0 count)
+map_range-set f g count n v d inside others here =
     let xs = map f (range_with_len 0 count) in
     let len = length-map-range_with_len f 0 count in
     fill_by_all g (set xs n v) count d (length-set xs n v ∙ len) (λ k h. elim (cases_eq k n) [
@@ -85,10 +85,10 @@ module _ (m : Map) (from to : Pos) (s : Stroke) where
 
   -- a point of the rectangle is stroked
   pub new_cell-in : (at : Pos) → IsIn from to at → new_cell m from to s at ≡ cell_after s (cell_at m at) (mask_at m at)
-  new_cell-in at is = rw (in_rectangle-is from to at is)
+  new_cell-in at is = rw (in_rectangle-true from to at is)
 
   pub new_mask-in : (at : Pos) → IsIn from to at → new_mask m from to s at ≡ mask_after s (mask_at m at)
-  new_mask-in at is = rw (in_rectangle-is from to at is)
+  new_mask-in at is = rw (in_rectangle-true from to at is)
 
   -- a point outside the rectangle stays
   stays_cell : (k : ℕ) → in_rectangle from to (position_at m.size k) ≡ false → new_cells k ≡ old_cells k
@@ -99,15 +99,15 @@ module _ (m : Map) (from to : Pos) (s : Stroke) where
 
   -- over indexes without a point of the rectangle nothing changes
   pub partly-skip : (n n' : ℕ) → n ≤ n' → NoneFrom n n' → partly n ≡ partly n'
-  partly-skip n n' on none = same_map m
+  partly-skip n n' on none = Map-same m
       (map (mix n new_cells old_cells) (range_with_len 0 (cell_count m.size))) (map (mix n' new_cells old_cells) (range_with_len 0 (cell_count m.size)))
       (map (mix n new_masks old_masks) (range_with_len 0 (cell_count m.size))) (map (mix n' new_masks old_masks) (range_with_len 0 (cell_count m.size)))
-      (same_fill (mix n new_cells old_cells) (mix n' new_cells old_cells) (cell_count m.size) Bad (λ k h. mix-skip n n' new_cells old_cells k on (λ from' to'. stays_cell k (none k from' to'))))
-      (same_fill (mix n new_masks old_masks) (mix n' new_masks old_masks) (cell_count m.size) false (λ k h. mix-skip n n' new_masks old_masks k on (λ from' to'. stays_mask k (none k from' to'))))
+      (map_range-same (mix n new_cells old_cells) (mix n' new_cells old_cells) (cell_count m.size) Bad (λ k h. mix-skip n n' new_cells old_cells k on (λ from' to'. stays_cell k (none k from' to'))))
+      (map_range-same (mix n new_masks old_masks) (mix n' new_masks old_masks) (cell_count m.size) false (λ k h. mix-skip n n' new_masks old_masks k on (λ from' to'. stays_mask k (none k from' to'))))
 
   -- at first nothing is stroked
   pub partly-none : IsMap m → partly 0 ≡ m
-  partly-none whole = same_map m
+  partly-none whole = Map-same m
       (map (mix 0 new_cells old_cells) (range_with_len 0 (cell_count m.size))) m.cells
       (map (mix 0 new_masks old_masks) (range_with_len 0 (cell_count m.size))) m.masks
       (sym (fill_by_all (mix 0 new_cells old_cells) m.cells (cell_count m.size) Bad whole.cells (λ k h. sym (mix-from 0 new_cells old_cells k (omega arith) ∙ ap (λ i. get_or m.cells i Bad) (position_at-place m.size k whole.size.some_points)))))
@@ -115,11 +115,11 @@ module _ (m : Map) (from to : Pos) (s : Stroke) where
 
   -- past the last index all is stroked
   pub partly-all : (n : ℕ) → cell_count m.size ≤ n → partly n ≡ stroked m from to s
-  partly-all n past = same_map m
+  partly-all n past = Map-same m
       (map (mix n new_cells old_cells) (range_with_len 0 (cell_count m.size))) (map new_cells (range_with_len 0 (cell_count m.size)))
       (map (mix n new_masks old_masks) (range_with_len 0 (cell_count m.size))) (map new_masks (range_with_len 0 (cell_count m.size)))
-      (same_fill (mix n new_cells old_cells) new_cells (cell_count m.size) Bad (λ k h. mix-before n new_cells old_cells k (omega (arith, h, past))))
-      (same_fill (mix n new_masks old_masks) new_masks (cell_count m.size) false (λ k h. mix-before n new_masks old_masks k (omega (arith, h, past))))
+      (map_range-same (mix n new_cells old_cells) new_cells (cell_count m.size) Bad (λ k h. mix-before n new_cells old_cells k (omega (arith, h, past))))
+      (map_range-same (mix n new_masks old_masks) new_masks (cell_count m.size) false (λ k h. mix-before n new_masks old_masks k (omega (arith, h, past))))
 
   module _ (at : Pos) (inside : InGrid m.size at) where
     -- the point that comes next is as it was
@@ -134,42 +134,42 @@ module _ (m : Map) (from to : Pos) (s : Stroke) where
         get_or-map-range_with_len (mix n new_masks old_masks) 0 (cell_count m.size) n n false (place_inside m.size at inside) (omega arith) ∙ mix-from n new_masks old_masks n (omega arith) ∙ ap (mask_at m) (position_at-of m.size at inside)
 
     -- once the point at the index is stroked, the index is one more
-    pub partly-stroked_at : IsIn from to at → stroked_at s at (partly (place_of m.size at)) ≡ partly (place_of m.size at + 1)
-    partly-stroked_at is =
+    pub partly-stroked : IsIn from to at → stroked_at s at (partly (place_of m.size at)) ≡ partly (place_of m.size at + 1)
+    partly-stroked is =
         let n = place_of m.size at in
         let new_cell-here : cell_after s (cell_at m at) (mask_at m at) ≡ new_cells n = sym (ap (new_cell m from to s) (position_at-of m.size at inside) ∙ new_cell-in at is) in
         let new_mask-here : mask_after s (mask_at m at) ≡ new_masks n = sym (ap (new_mask m from to s) (position_at-of m.size at inside) ∙ new_mask-in at is) in
-        same_map m
+        Map-same m
         (set (partly n).cells n (cell_after s (cell_at (partly n) at) (mask_at (partly n) at))) (partly (n + 1)).cells
         (set (partly n).masks n (mask_after s (mask_at (partly n) at))) (partly (n + 1)).masks
-        (set_fill (mix n new_cells old_cells) (mix (n + 1) new_cells old_cells) (cell_count m.size) n (cell_after s (cell_at (partly n) at) (mask_at (partly n) at)) Bad (place_inside m.size at inside)
+        (map_range-set (mix n new_cells old_cells) (mix (n + 1) new_cells old_cells) (cell_count m.size) n (cell_after s (cell_at (partly n) at) (mask_at (partly n) at)) Bad (place_inside m.size at inside)
         (λ k other h. mix-other n new_cells old_cells k other)
         (ap (λ c. cell_after s c (mask_at (partly n) at)) partly-cell ∙ ap (cell_after s (cell_at m at)) partly-mask ∙ new_cell-here ∙ sym (mix-before (n + 1) new_cells old_cells n (omega arith))))
-        (set_fill (mix n new_masks old_masks) (mix (n + 1) new_masks old_masks) (cell_count m.size) n (mask_after s (mask_at (partly n) at)) false (place_inside m.size at inside)
+        (map_range-set (mix n new_masks old_masks) (mix (n + 1) new_masks old_masks) (cell_count m.size) n (mask_after s (mask_at (partly n) at)) false (place_inside m.size at inside)
         (λ k other h. mix-other n new_masks old_masks k other)
         (ap (mask_after s) partly-mask ∙ new_mask-here ∙ sym (mix-before (n + 1) new_masks old_masks n (omega arith))))
 
 -- a count at one more
-pub count-more : (p : ℕ → Bool) (n : ℕ) → count_below p (n + 1) ≡ count_below p n + (if p n then 1 else 0)
-count-more p n = rw add-one
+pub count_below-more : (p : ℕ → Bool) (n : ℕ) → count_below p (n + 1) ≡ count_below p n + (if p n then 1 else 0)
+count_below-more p n = rw add-one
 
 -- a count over numbers that do not pass stays
-pub count-skip : (p : ℕ → Bool) (n n' : ℕ) → n ≤ n' → ((k : ℕ) → n ≤ k → k < n' → p k ≡ false) → count_below p n ≡ count_below p n'
-count-skip p n zero on none = let e : n ≡ 0 = omega (arith, on) in ap (count_below p) e
-count-skip p n (suc n') on none = elim (cases_lt n (suc n')) [
-  | inl less ↦ rw (none n' (omega (arith, less)) (omega arith)) (count-skip p n n' (omega (arith, less)) (λ k h below. none k h (omega (arith, below))) ∙ sym (add-zero (count_below p n')))
+pub count_below-skip : (p : ℕ → Bool) (n n' : ℕ) → n ≤ n' → ((k : ℕ) → n ≤ k → k < n' → p k ≡ false) → count_below p n ≡ count_below p n'
+count_below-skip p n zero on none = let e : n ≡ 0 = omega (arith, on) in ap (count_below p) e
+count_below-skip p n (suc n') on none = elim (cases_lt n (suc n')) [
+  | inl less ↦ rw (none n' (omega (arith, less)) (omega arith)) (count_below-skip p n n' (omega (arith, less)) (λ k h below. none k h (omega (arith, below))) ∙ sym (add-zero (count_below p n')))
   | inr more ↦ let e : n ≡ suc n' = omega (arith, on, more) in ap (count_below p) e
 ]
 
 -- a count up to a greater number is not less
-pub count-grows : (p : ℕ → Bool) (n n' : ℕ) → n ≤ n' → count_below p n ≤ count_below p n'
-count-grows p n zero on = let e : n ≡ 0 = omega (arith, on) in rw e (omega arith)
-count-grows p n (suc n') on = elim (cases_lt n (suc n')) [
-  | inl less ↦ omega (arith, count-grows p n n' (omega (arith, less)))
+pub count_below-grows : (p : ℕ → Bool) (n n' : ℕ) → n ≤ n' → count_below p n ≤ count_below p n'
+count_below-grows p n zero on = let e : n ≡ 0 = omega (arith, on) in rw e (omega arith)
+count_below-grows p n (suc n') on = elim (cases_lt n (suc n')) [
+  | inl less ↦ omega (arith, count_below-grows p n n' (omega (arith, less)))
   | inr more ↦ let e : n ≡ suc n' = omega (arith, on, more) in rw e (omega arith)
 ]
 
 -- no more numbers below n pass than there are
-pub count-few : (p : ℕ → Bool) (n : ℕ) → count_below p n ≤ n
-count-few p zero = omega arith
-count-few p (suc n) = let one = at_most_one (p n) in omega (arith, count-few p n, one)
+pub count_below-few : (p : ℕ → Bool) (n : ℕ) → count_below p n ≤ n
+count_below-few p zero = omega arith
+count_below-few p (suc n) = let one = at_most_one (p n) in omega (arith, count_below-few p n, one)

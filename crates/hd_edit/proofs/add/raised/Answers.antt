@@ -9,7 +9,7 @@ use Rattle.hd_edit.specs.declared.stroke.Stroke.TheVariants as stroke
 use Rattle.hd_edit.specs.Board.{IsRefusalBy}
 use Rattle.hd_edit.specs.Filtered.{map_after, refusal_of}
 use Rattle.hd_edit.specs.Stroke.{IsStroked}
-use Rattle.hd_edit.proofs.Added.{raise_refusal, raised_made, raised_new}
+use Rattle.hd_edit.proofs.RaisedStrokes.{IsRefusalBy-raise, IsStroked-raised, AreNewFor-raised}
 use Rattle.hd_edit.proofs.add.raised.Goals as goal
 
 -- a refusal that is passed on
@@ -22,7 +22,7 @@ returns-in_err-lists-clause-edit g c =
     let m = g.G.Heights.map c.args.grid.now in
     let delta = c.in-Raise.delta in
     let fits : SFits w64 delta = search rules in
-    let refused = raise_refusal m (g.met.G.Heights.whole c.args.grid.now) c.args.from c.args.to delta c.requires.accepted c.in_err-lists.field-0.0 (rw (to_z-of_z w64 delta fits) at c.in_err-lists.ensures) in
+    let refused = IsRefusalBy-raise m (g.met.G.Heights.whole c.args.grid.now) c.args.from c.args.to delta c.requires.accepted c.in_err-lists.field-0.0 (rw (to_z-of_z w64 delta fits) at c.in_err-lists.ensures) in
     rw c.in-Raise.is
     (passed_on (λ (found : Option OldAndNew). IfSome found (λ (lists : OldAndNew). IsStroked m c.args.from c.args.to (stroke.Raise delta) (Ok (map_after m lists))))
     (IsRefusalBy (IsStroked m c.args.from c.args.to (stroke.Raise delta))) c.from_residual.result c.in_err-lists.field-0.0 c.from_residual.ensures.1 refused)
@@ -33,7 +33,7 @@ returns-in-Some-clause-edit g c =
     let lists = c.in-Some.lists in
     let fits : SFits w64 c.in-Raise.delta = search rules in
     let are : AreRaisedLists m c.args.from c.args.to c.in-Raise.delta lists.before.items lists.after.items = rw (c.in-Some.is, to_z-of_z w64 c.in-Raise.delta fits) at c.in_ok-lists.ensures in
-    rw c.in-Raise.is (raised_made m (g.met.G.Heights.whole c.args.grid.now) c.args.from c.args.to c.in-Raise.delta lists.before.items lists.after.items are c.requires.accepted)
+    rw c.in-Raise.is (IsStroked-raised m (g.met.G.Heights.whole c.args.grid.now) c.args.from c.args.to c.in-Raise.delta lists.before.items lists.after.items are c.requires.accepted)
 
 pub returns-in-Some-clause-heights : goal.returns-in-Some-clause-heights
 returns-in-Some-clause-heights g c =
@@ -41,4 +41,4 @@ returns-in-Some-clause-heights g c =
     let lists = c.in-Some.lists in
     let fits : SFits w64 c.in-Raise.delta = search rules in
     let are : AreRaisedLists m c.args.from c.args.to c.in-Raise.delta lists.before.items lists.after.items = rw (c.in-Some.is, to_z-of_z w64 c.in-Raise.delta fits) at c.in_ok-lists.ensures in
-    raised_new m (g.met.G.Heights.whole c.args.grid.now) c.args.from c.args.to c.in-Raise.delta lists.before.items lists.after.items are
+    AreNewFor-raised m (g.met.G.Heights.whole c.args.grid.now) c.args.from c.args.to c.in-Raise.delta lists.before.items lists.after.items are

@@ -6,7 +6,7 @@ use Rattle.hd_edit.specs.Exchange.{differs}
 use Rattle.hd_morph.proofs.Encodings.{value_at-read}
 use Rattle.hd_morph.proofs.PlainNumbers.{IsPlainNumber-read}
 use Rattle.hd_edit.specs.Stroke.{count_below}
-use Rattle.hd_edit.proofs.Strokes.{count-few, count-more}
+use Rattle.hd_edit.proofs.Strokes.{count_below-few, count_below-more}
 use Rattle.hd_edit.proofs.exchange.count_different.Goals as goal
 
 -- a test as a number
@@ -38,5 +38,5 @@ loop-place-preserved g c =
     let is : c.differ.result ≡ differs (get_or olds k None) (get_or news k None) = c.differ.ensures ∙ ap₂ differs old new in
     let test : ℕ → Bool = λ i. differs (get_or olds i None) (get_or news i None) in
     let counted : c.loop-place.count + c.from-count.result ≡ count_below test (k + 1) =
-    ap (λ (n : ℕ). c.loop-place.count + n) (c.from-count.ensures ∙ byte_is c.differ.result) ∙ ap (λ (b : Bool). c.loop-place.count + (if b then 1 else 0)) is ∙ ap (λ (n : ℕ). n + (if test k then 1 else 0)) c.loop-place.invariant.counted ∙ sym (count-more test k) in
-    record { counted = counted; few = omega (arith, counted, count-few test (k + 1)) }
+    ap (λ (n : ℕ). c.loop-place.count + n) (c.from-count.ensures ∙ byte_is c.differ.result) ∙ ap (λ (b : Bool). c.loop-place.count + (if b then 1 else 0)) is ∙ ap (λ (n : ℕ). n + (if test k then 1 else 0)) c.loop-place.invariant.counted ∙ sym (count_below-more test k) in
+    record { counted = counted; few = omega (arith, counted, count_below-few test (k + 1)) }

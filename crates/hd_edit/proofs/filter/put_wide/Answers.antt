@@ -5,7 +5,7 @@ use Rattle.hd_morph.specs.Answer.{with_cells}
 use Rattle.hd_morph.specs.NewHeights.{cells_after}
 use Rattle.hd_morph.proofs.PlainNumbers.{ArePlain-more}
 use Rattle.hd_edit.specs.Exchange.{AreExchanged, different}
-use Rattle.hd_edit.proofs.Entries.{exchange_back, exchange_fit, heights_stay}
+use Rattle.hd_edit.proofs.Entries.{LeavesOthers-back, AreHeightsFor-exchange, with_cells-stay}
 use Rattle.hd_edit.proofs.filter.put_wide.Goals as goal
 
 pub way_for-requires-clause-olds : goal.way_for-requires-clause-olds
@@ -30,7 +30,7 @@ returns-in_ok-nothing-in-Leave-clause-map g c =
     let news = values_of wide c.args.lists.after.items in
     let none : different olds news (length c.args.lists.after.items) ≡ 0 = rw (c.deref.ensures.value, c.deref-2.ensures.value) at c.in-Leave.ensures in
     let held = c.requires.lists.held in
-    sym (heights_stay m (g.met.G.Heights.whole c.args.grid.now) olds held.each news (rw (← c.requires.lists.plain.whole) none))
+    sym (with_cells-stay m (g.met.G.Heights.whole c.args.grid.now) olds held.each news (rw (← c.requires.lists.plain.whole) none))
 
 pub returns-in-Exchange-clause-before : goal.returns-in-Exchange-clause-before
 returns-in-Exchange-clause-before g c =
@@ -39,7 +39,7 @@ returns-in-Exchange-clause-before g c =
     let lists = c.args.lists in
     let sets : new ≡ with_cells m (cells_after m (values_of wide lists.after.items)) = rw c.deref-in-Exchange.ensures.value at c.set_profiles.ensures.map in
     let are : AreExchanged wide m new lists.after.items lists.before.items = record { sets = sets; held = c.requires.lists.held } in
-    exchange_back wide m new lists.after.items lists.before.items (g.met.G.Heights.whole c.args.grid.now) are c.requires.lists.others
+    LeavesOthers-back wide m new lists.after.items lists.before.items (g.met.G.Heights.whole c.args.grid.now) are c.requires.lists.others
 
 pub returns-in-Exchange-clause-entry : goal.returns-in-Exchange-clause-entry
 returns-in-Exchange-clause-entry g c =
@@ -48,4 +48,4 @@ returns-in-Exchange-clause-entry g c =
     let lists = c.args.lists in
     let sets : new ≡ with_cells m (cells_after m (values_of wide lists.after.items)) = rw c.deref-in-Exchange.ensures.value at c.set_profiles.ensures.map in
     let are : AreExchanged wide m new lists.after.items lists.before.items = record { sets = sets; held = c.requires.lists.held } in
-    exchange_fit wide m new lists.after.items lists.before.items (g.met.G.Heights.whole c.args.grid.now) are
+    AreHeightsFor-exchange wide m new lists.after.items lists.before.items (g.met.G.Heights.whole c.args.grid.now) are

@@ -2,7 +2,7 @@ use Rattle.std.proofs.Common.{◌≡◌, ◌≤◌, ◌+◌, ◌∷◌, [], ◌+
 use Rattle.hd_map.specs.Map.{Map}
 use Rattle.std.proofs.lemmas.List.{length_push}
 use Rattle.hd_edit.specs.Board.{map_before, earlier_before}
-use Rattle.hd_edit.proofs.Logs.{back_more, back_item, back_rest}
+use Rattle.hd_edit.proofs.Logs.{take_back-more, take_back-item, take_back-rest}
 use Rattle.hd_edit.proofs.board.Board.undo.Goals as goal
 
 pub loop-step-preserved : goal.loop-step-preserved
@@ -11,7 +11,7 @@ loop-step-preserved g c =
     let is = c.loop-step.invariant in
     let one : length c.loop-step.self.earlier ≡ length c.undo_last.new.self.earlier + 1 = ap (λ (xs : List Map). length xs) c.undo_last.ensures.earlier ∙ length_push c.undo_last.new.self.earlier (g.G.Heights.map c.undo_last.new.self.grid) in
     record {
-      history = back_more all c.loop-step.self.earlier c.undo_last.new.self.earlier (g.G.Heights.map c.loop-step.self.grid) (g.G.Heights.map c.undo_last.new.self.grid) (length c.args.self.now.earlier) c.loop-step._step
+      history = take_back-more all c.loop-step.self.earlier c.undo_last.new.self.earlier (g.G.Heights.map c.loop-step.self.grid) (g.G.Heights.map c.undo_last.new.self.grid) (length c.args.self.now.earlier) c.loop-step._step
           is.history is.len c.undo_last.ensures.earlier;
       len = omega (arith, is.len, one);
       elements = c.undo_last.ensures.elements ∙ is.elements;
@@ -28,6 +28,6 @@ returns-clause-undo g c =
     let kept : c.args.n ≤ length earlier = omega (arith, c.if-n-from.false, c.from.ensures, c.kept-kept.ensures.kept) in
     let end : c.loop-step._step ≡ c.args.n = omega (arith, c.loop-step-test.false, c.loop-step.auto._step-end) in (
       kept,
-      back_item earlier c.loop-step.self.earlier m (g.G.Heights.map c.loop-step.self.grid) c.loop-step._step is.history is.len ∙ ap (λ (i : ℕ). map_before i earlier m) end,
-      back_rest earlier c.loop-step.self.earlier m (g.G.Heights.map c.loop-step.self.grid) c.loop-step._step is.history is.len ∙ ap (λ (i : ℕ). earlier_before i earlier) end,
+      take_back-item earlier c.loop-step.self.earlier m (g.G.Heights.map c.loop-step.self.grid) c.loop-step._step is.history is.len ∙ ap (λ (i : ℕ). map_before i earlier m) end,
+      take_back-rest earlier c.loop-step.self.earlier m (g.G.Heights.map c.loop-step.self.grid) c.loop-step._step is.history is.len ∙ ap (λ (i : ℕ). earlier_before i earlier) end,
     )
