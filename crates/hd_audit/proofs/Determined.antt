@@ -8,7 +8,7 @@ use Rattle.hd_map.proofs.Points.{same_place}
 use Rattle.hd_map.proofs.Prunings.{sz-unique}
 use Rattle.hd_check.specs.declared.types.Verdict.{Verdict}
 use Rattle.hd_check.specs.Judged.{TriedFrom}
-use Rattle.hd_check.proofs.Determined.{AreDetermined, IsDetermined, each_one, tried_one}
+use Rattle.hd_check.proofs.Determined.{AreDetermined, IsDetermined, AsksEach-one, TriedFrom-unique}
 use Rattle.hd_audit.specs.declared.types.Audit.{Audit}
 use Rattle.hd_audit.specs.declared.types.AuditLine.{AuditLine}
 use Rattle.hd_audit.specs.Rules.{CutsClosed, FirstLeak, IsVerdict, all_rules, rules_of}
@@ -32,10 +32,10 @@ closed_one m side thousandths sz lines (Some p) (Some q) (i, inside, before, lea
 
 rules_one : (m : Map) (side : SideName) (thousandths : ℕ) (sz : ℤ) (lines : List AuditLine) → AreDetermined (rules_of m side thousandths sz lines)
 rules_one m side thousandths sz lines =
-    (each_one _ _ _, (each_one _ _ _, (each_one _ _ _, (each_one _ _ _, (each_one _ _ _, (closed_one m side thousandths sz lines, (each_one _ _ _, tt)))))))
+    (AsksEach-one _ _ _, (AsksEach-one _ _ _, (AsksEach-one _ _ _, (AsksEach-one _ _ _, (AsksEach-one _ _ _, (closed_one m side thousandths sz lines, (AsksEach-one _ _ _, tt)))))))
 
 pub verdict_one : (m : Map) (a : Audit) (v w : Verdict) → IsVerdict m a v → IsVerdict m a w → v ≡ w
 verdict_one m a v w h k =
     let same = sz-unique (under a.adjacency m) k.sz h.sz k.sz_is h.sz_is in
-    tried_one 12 (all_rules (under a.adjacency m) h.sz a) (rules_one (under a.adjacency m) a.side a.percent.thousandths h.sz a.lines) v w h.tried
+    TriedFrom-unique 12 (all_rules (under a.adjacency m) h.sz a) (rules_one (under a.adjacency m) a.side a.percent.thousandths h.sz a.lines) v w h.tried
     (subst (λ (sz : ℤ). TriedFrom 12 (all_rules (under a.adjacency m) sz a) w) same k.tried)

@@ -9,8 +9,8 @@ use Rattle.hd_map.specs.declared.types.SideName.{SideName}
 use Rattle.hd_map.specs.Map.{Map, place_of}
 use Rattle.hd_map.specs.Neighbour.{Neighbour}
 use Rattle.hd_check.specs.Rules.{point_of}
-use Rattle.hd_check.proofs.Pits.{near_at}
-use Rattle.hd_check.proofs.Searching.{place_found}
+use Rattle.hd_check.proofs.Pits.{Neighbour-listed}
+use Rattle.hd_check.proofs.Searching.{Contains-place}
 use Rattle.hd_audit.specs.declared.types.AuditLine.{AuditLine}
 use Rattle.hd_audit.specs.Leaks.{FirstLeakRound, FirstLeaking, LeaksTo}
 use Rattle.hd_audit.specs.Lines.{line_at, point_at}
@@ -21,12 +21,12 @@ module _ (m : Map) (side : SideName) (thousandths : ℕ) (sz : ℤ) (lines : Lis
   pub round_leak : (cut : ℕ) (at : Pos) (round : List Pos) → ((q : Pos) → Contains round q ↔ Neighbour m at q) → AllPairs (λ a b. place_of m.size a < place_of m.size b) round
       → (o : Option Pos) → FirstLeaking m side thousandths sz lines cut round o → FirstLeakRound m side thousandths sz lines cut at o
   round_leak cut at round all ordered None none = λ q near leak.
-      (let f = place_found round q ((all q).1 near) in none f.0 f.1 (subst (LeaksTo m side thousandths sz lines cut) (sym f.2) leak))
+      (let f = Contains-place round q ((all q).1 near) in none f.0 f.1 (subst (LeaksTo m side thousandths sz lines cut) (sym f.2) leak))
   round_leak cut at round all ordered (Some q) (j, inside, before, leak, is) = (
-    subst (Neighbour m at) (sym is) (near_at m at round all j inside),
+    subst (Neighbour m at) (sym is) (Neighbour-listed m at round all j inside),
     leak,
     λ r near leak'. (
-        let f = place_found round r ((all r).1 near) in
+        let f = Contains-place round r ((all r).1 near) in
         let within = f.1 in
         elim (cases_lt f.0 j) [
           | inl early ↦ absurd (before f.0 early (subst (LeaksTo m side thousandths sz lines cut) (sym f.2) leak'))

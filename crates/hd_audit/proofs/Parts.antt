@@ -7,7 +7,7 @@ use Rattle.hd_map.specs.declared.types.SideName.{SideName}
 use Rattle.hd_map.specs.declared.types.SideName.TheVariants.{Dales, Hills}
 use Rattle.hd_num.specs.Percent.{percent_text}
 use Rattle.hd_check.specs.Text.{adjacency_word, line_text, side_word}
-use Rattle.hd_check.proofs.AppendedTexts.{counted_text}
+use Rattle.hd_check.proofs.AppendedTexts.{line_text-counted}
 use Rattle.hd_audit.specs.declared.types.Audit.{Audit}
 use Rattle.hd_audit.specs.declared.types.AuditLine.{AuditLine}
 use Rattle.hd_audit.specs.Text.{audit_text, point_line, point_words}
@@ -31,4 +31,4 @@ pub audit_parts : (a : Audit) (points : List AuditLine) → points ≡ a.lines �
 audit_parts a points e =
     let head : List ℕ = line_text (codes "pruning" ∷ side_word a.side ∷ percent_text a.percent.thousandths ∷ adjacency_word a.adjacency ∷ []) in
     rw e (ap (λ (t : List ℕ). head ++ t)
-    (flat_map-append line_text (points_lines a.lines) ((codes "end" ∷ []) ∷ []) ∙ ap (λ (t : List ℕ). t ++ (codes "end" ++ 10 ∷ [])) (counted_text point_words (codes "points") (decimal (length a.lines)) a.lines)))
+    (flat_map-append line_text (points_lines a.lines) ((codes "end" ∷ []) ∷ []) ∙ ap (λ (t : List ℕ). t ++ (codes "end" ++ 10 ∷ [])) (line_text-counted point_words (codes "points") (decimal (length a.lines)) a.lines)))

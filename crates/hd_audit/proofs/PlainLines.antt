@@ -12,13 +12,13 @@ use Rattle.hd_num.specs.Lines.{lines_of, words_of}
 use Rattle.hd_num.specs.Whole.{count_of, is_numeral}
 use Rattle.hd_num.proofs.Decimals.{count_of-parts}
 use Rattle.hd_check.specs.Text.{line_text}
-use Rattle.hd_check.proofs.ReadsBack.{IsWord, clear_digits, word-filled, first_line}
+use Rattle.hd_check.proofs.ReadsBack.{IsWord, is_clear-digits, IsWord-filled, lines_of-first}
 use Rattle.hd_audit.specs.Plain.{BeginsWith, BeginsWithLine}
 use Rattle.hd_audit.specs.Reading.{count_or_none, given, line_of_parts}
 
 -- what is read as a count is a word
 count_is_word : (w : List ℕ) (n : ℕ) → count_of w ≡ Some n → IsWord w
-count_is_word w n read = let parts = and_parts _ _ (count_of-parts w n (sym read)).numeral in record { some = parts.0; clear = clear_digits w parts.1 }
+count_is_word w n read = let parts = and_parts _ _ (count_of-parts w n (sym read)).numeral in record { some = parts.0; clear = is_clear-digits w parts.1 }
 
 -- so is what is read as a count or none
 count_or_none_is_word : (w : List ℕ) (o : Option ℕ) → count_or_none w ≡ Some o → IsWord w
@@ -45,7 +45,7 @@ digits_before text rest d n some within digits value small is_rest = record {
 }
   where
     numeral : is_numeral (take d text) ≡ true
-    numeral = and_from _ _ (word-filled (take d text) (let long = length-take d text in omega (arith, long, some, within))) digits
+    numeral = and_from _ _ (IsWord-filled (take d text) (let long = length-take d text in omega (arith, long, some, within))) digits
 
 -- a count is read as a count or none
 pub count_given : (w : List ℕ) (n : ℕ) → count_of w ≡ Some n → count_or_none w ≡ Some (Some n)
@@ -74,7 +74,7 @@ module _ (text rest a b c d e : List ℕ) (index : ℕ) (parent cut : Option ℕ
   plain_first = record {
     words = words;
     lines = ap (λ (t : List ℕ). map words_of (lines_of t)) plain_line-first
-        ∙ first_line first.word (second.word ∷ third.word ∷ []) rest (count_is_word first.word index first.reads, (count_or_none_is_word second.word parent second.reads, (count_or_none_is_word third.word cut third.reads, tt)));
+        ∙ lines_of-first first.word (second.word ∷ third.word ∷ []) rest (count_is_word first.word index first.reads, (count_or_none_is_word second.word parent second.reads, (count_or_none_is_word third.word cut third.reads, tt)));
     form = ap (λ (i : Option ℕ). line_of_parts i (count_or_none second.word) (count_or_none third.word)) first.reads
         ∙ ap₂ (λ (p q : Option (Option ℕ)). line_of_parts (Some index) p q) second.reads third.reads;
     front = line_text words;

@@ -17,7 +17,7 @@ use Rattle.hd_num.proofs.PercentReadsBack.{percent_of-percent_text}
 use Rattle.hd_num.proofs.WholeReadsBack.{count_of-decimal, decimal-first}
 use Rattle.hd_check.specs.Reading.{Read, adjacency_of, and_then, line_as, line_gives, side_of, value_of}
 use Rattle.hd_check.specs.Text.{adjacency_word, side_word}
-use Rattle.hd_check.proofs.ReadsBack.{AreLines, IsWord, adjacency_clear, counted_back, decimal_word, word-filled, from_line, is_clear, items_clear, lines_back, number_clear, side_clear, word_end}
+use Rattle.hd_check.proofs.ReadsBack.{AreLines, IsWord, adjacency_word-clear, count_form-counted, IsWord-decimal, IsWord-filled, numbered-from_line, is_clear, AreLines-items, lines_of-line_text, AreWords-number, side_word-clear, IsWord-end}
 use Rattle.hd_audit.specs.declared.types.Audit.{Audit}
 use Rattle.hd_audit.specs.declared.types.AuditLine.{AuditLine}
 use Rattle.hd_audit.specs.declared.words.Head.{Head}
@@ -37,7 +37,7 @@ word_none = record { some = refl; clear = refl }
 
 -- a count or none is a word, and reads back
 count_clear : (o : Option ℕ) → IfSome o (λ n. n < 2 ^ 32) → IsWord (count_word o)
-count_clear (Some n) small = decimal_word n (omega (arith, small))
+count_clear (Some n) small = IsWord-decimal n (omega (arith, small))
 count_clear None small = word_none
 
 count_back : (o : Option ℕ) → IfSome o (λ n. n < 2 ^ 32) → count_or_none (count_word o) ≡ Some o
@@ -51,7 +51,7 @@ count_back None small = refl
 
 -- so does a line
 line_clear : (x : AuditLine) → IsWritableLine x → AreLines (point_words x ∷ [])
-line_clear x fits = let small = fits.index in ((decimal_word x.index (omega arith), (count_clear x.parent fits.parent, (count_clear x.cut fits.cut, tt))), tt)
+line_clear x fits = let small = fits.index in ((IsWord-decimal x.index (omega arith), (count_clear x.parent fits.parent, (count_clear x.cut fits.cut, tt))), tt)
 
 line_back : (x : AuditLine) → IsWritableLine x → point_form (point_words x) ≡ Some x
 line_back x fits =
@@ -63,11 +63,11 @@ percent_clear : (t : ℕ) → t ≤ 100000 → IsWord (percent_text t)
 percent_clear t most =
     let w : ℕ = t / 1000 in
     let f : ℕ = t % 1000 in
-    let wholes = decimal_word w (omega arith) in
+    let wholes = IsWord-decimal w (omega arith) in
     let rest = fraction_clear f (omega arith) in
     let some : 0 < length (percent_text t) = omega (arith, decimal_nonempty w (omega arith), length-append {A = ℕ} (decimal w) (fraction_text f ++ 37 ∷ [])) in
     record {
-      some = word-filled (percent_text t) some;
+      some = IsWord-filled (percent_text t) some;
       clear = list_all-append is_clear (decimal w) (fraction_text f ++ 37 ∷ []) ∙ and_from _ _ wholes.clear (list_all-append is_clear (fraction_text f) (37 ∷ []) ∙ and_from _ _ rest refl);
     }
   where
@@ -111,15 +111,15 @@ points_part lines = (codes "points" ∷ decimal (length lines) ∷ []) ∷ (map 
 
 all_clear : (a : Audit) → IsWritable a → AreLines (audit_lines a)
 all_clear a is = (
-  (word_pruning, (side_clear a.side, (percent_clear a.percent.thousandths is.percent, (adjacency_clear a.adjacency, tt)))),
-  (number_clear (codes "points") (length a.lines) word_points is.few, items_clear point_words IsWritableLine line_clear a.lines is.each ((codes "end" ∷ []) ∷ []) ((word_end, tt), tt)),
+  (word_pruning, (side_word-clear a.side, (percent_clear a.percent.thousandths is.percent, (adjacency_word-clear a.adjacency, tt)))),
+  (AreWords-number (codes "points") (length a.lines) word_points is.few, AreLines-items point_words IsWritableLine line_clear a.lines is.each ((codes "end" ∷ []) ∷ []) ((IsWord-end, tt), tt)),
 )
 
 -- the text of a pruning certificate is read as this certificate
 pub text_back : (a : Audit) → IsWritable a → audit_of (audit_text a) ≡ Ok a
 text_back a is =
     let head : Head = record { side = a.side; percent = a.percent; adjacency = a.adjacency } in
-    let more = counted_back point_words point_form IsWritableLine line_back (codes "points") refl a.lines 2 ((codes "end" ∷ []) ∷ []) is.few is.each in
-    ap (λ (lines : List (List (List ℕ))). value_of (and_then (line_as head_form (from_line 1 lines)) after_head)) (lines_back (audit_lines a) (all_clear a is))
+    let more = count_form-counted point_words point_form IsWritableLine line_back (codes "points") refl a.lines 2 ((codes "end" ∷ []) ∷ []) is.few is.each in
+    ap (λ (lines : List (List (List ℕ))). value_of (and_then (line_as head_form (numbered-from_line 1 lines)) after_head)) (lines_of-line_text (audit_lines a) (all_clear a is))
     ∙ ap (λ (o : Option Head). value_of (and_then (line_gives 1 (points_part a.lines) o) after_head)) (head_back a.side a.percent.thousandths a.adjacency is.percent)
     ∙ ap (λ (r : Read (List AuditLine)). value_of (and_then r (after_points head))) more.1

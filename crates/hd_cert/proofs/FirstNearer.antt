@@ -7,7 +7,7 @@ use Rattle.hd_map.specs.declared.types.Pos.{Pos}
 use Rattle.hd_map.specs.Map.{Map, Present, cell_count, place_of}
 use Rattle.hd_map.proofs.Points.{neighbour-sym}
 use Rattle.hd_check.specs.Rules.{point_of}
-use Rattle.hd_check.proofs.Searching.{place_found}
+use Rattle.hd_check.proofs.Searching.{Contains-place}
 use Rattle.hd_cert.specs.FirstNearer.{GoesNearer, IsBesideWith, IsFirst, IsNearer, LeadsDown}
 use Rattle.hd_cert.specs.declared.residue.Residue.{Residue}
 use Rattle.hd_cert.specs.Residues.{residue_after, residue_of_steps, residue_at, residue_of}
@@ -25,7 +25,7 @@ positions-different p q same is not e =
 pub first_of : (m : Map) (P : Pos → Type 0) (round : List Pos) → AllPairs (λ (a b : Pos). place_of m.size a < place_of m.size b) round → (k : ℕ) → ((i : ℕ) → i < k → P (point_of round i) → ⊥)
     → (r : Pos) → Contains round r → P r → place_of m.size (point_of round k) ≤ place_of m.size r
 first_of m P round ordered k before r c h =
-    let f = place_found round r c in
+    let f = Contains-place round r c in
     let e : place_of m.size (point_of round f.0) ≡ place_of m.size r = ap (place_of m.size) f.2 in
     elim (cases_lt f.0 k) [
       | inl less ↦ absurd (before f.0 less (subst P (sym f.2) h))

@@ -12,7 +12,7 @@ use Rattle.hd_map.specs.Region.{AreNexts}
 use Rattle.hd_map.specs.Shown.{IsReachedBelow}
 use Rattle.hd_map.specs.SideLaws.{below_by-order}
 use Rattle.hd_map.proofs.Points.{place_inside, point_at, same_point}
-use Rattle.hd_check.proofs.Searching.{place_found}
+use Rattle.hd_check.proofs.Searching.{Contains-place}
 use Rattle.hd_steep.specs.Crossings.{IsNumberOf, pit_at}
 use Rattle.hd_steep.specs.Numbering.{AreNumbered, Numbering, number_of}
 use Rattle.hd_steep.specs.Reached.{AreReachedPits}
@@ -90,7 +90,7 @@ listed_cut m side saddle a cut low listed = record {
   rises = listed.rises;
   low = low;
   all = λ p. (
-    λ c. (let f = place_found cut p c in subst (IsReachedLow m side saddle a) f.2 (listed.chosen f.0 f.1)),
+    λ c. (let f = Contains-place cut p c in subst (IsReachedLow m side saddle a) f.2 (listed.chosen f.0 f.1)),
     λ w. (let there = (low_end m side saddle a w.0 p low w.1).present in listed.all p there.in_grid (place_inside m.size p there.in_grid) w),
   );
 }

@@ -13,7 +13,7 @@ use Rattle.hd_map.proofs.Items.{Contains-map, map-Contains}
 use Rattle.hd_map.proofs.Points.{same_point}
 use Rattle.hd_check.specs.declared.types.Certificate.{Certificate}
 use Rattle.hd_check.specs.Rules.{IsRight}
-use Rattle.hd_check.proofs.Searching.{place_found}
+use Rattle.hd_check.proofs.Searching.{Contains-place}
 use Rattle.hd_reach.specs.Reached.{IsReachedLow}
 use Rattle.hd_reach.specs.Within.{LiesWithin}
 use Rattle.hd_reach.proofs.ReachedBelow.{low_end, reached-below, reached-low}
@@ -40,7 +40,7 @@ path_or_none m side a b (Some s) path here there at = path_over m side a b s pat
 
 module _ (m : Map) (side : SideName) (a b : Pos) (saddle : Option Rank) (cut : List Pos) (low : LiesWithin m side saddle true a) (at : IsCutAt m side a b saddle cut) where
   listed_present : (p : Pos) → Contains cut p → Present m p
-  listed_present p c = let f = place_found cut p c in subst (Present m) f.2 (All-get_or (Present m) cut f.0 (record { x = 0; y = 0 }) f.1 at.stand.0)
+  listed_present p c = let f = Contains-place cut p c in subst (Present m) f.2 (All-get_or (Present m) cut f.0 (record { x = 0; y = 0 }) f.1 at.stand.0)
 
   -- what is listed is reached
   listed_reached : (p : Pos) → Contains cut p → IsReachedLow m side saddle a p

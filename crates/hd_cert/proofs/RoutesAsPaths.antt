@@ -16,8 +16,8 @@ use Rattle.hd_map.proofs.Items.{Contains-map, map-Contains}
 use Rattle.hd_map.proofs.Points.{same_point, point_at}
 use Rattle.hd_check.specs.declared.types.Certificate.{Certificate}
 use Rattle.hd_check.specs.Rules.{point_of}
-use Rattle.hd_check.proofs.Paths.{path_leads}
-use Rattle.hd_check.proofs.Searching.{place_at, rises_far}
+use Rattle.hd_check.proofs.Paths.{Leads-path}
+use Rattle.hd_check.proofs.Searching.{place_at, Rises-far}
 use Rattle.hd_reach.proofs.ReachedBelow.{low_end, reached-below, reached-low}
 use Rattle.hd_cert.specs.Routes.{IsRouteOver, IsShownRoute, IsRouteCut, IsMade}
 use Rattle.hd_cert.specs.Shown.{AreTwoPits, IsPathAt, IsCutAt, IsShownCertificate}
@@ -87,7 +87,7 @@ module _ (m : Map) (side : SideName) (a b : Pos) (s : Rank) (here : Present m a)
       let first : rank m p ≡ rank m a = ap (rank m) begins in
       let leads : Leads (Near m) (rank m a) (map (rank m) ps) (rank m b) =
       subst (λ (x : Rank). Leads (Near m) x (map (rank m) ps) (rank m b)) first
-      (subst (λ (y : Rank). Leads (Near m) (rank m p) (map (rank m) ps) y) (ap (rank m) shown.over.ends) (path_leads m p ps shown.over.steps)) in
+      (subst (λ (y : Rank). Leads (Near m) (rank m p) (map (rank m) ps) y) (ap (rank m) shown.over.ends) (Leads-path m p ps shown.over.steps)) in
       record {
         points = map (rank m) ps;
         shown = record {
@@ -128,7 +128,7 @@ module _ (m : Map) (side : SideName) (a b : Pos) (saddle : Option Rank) (here : 
   rises_more : (i j : ℕ) → i < j → j < length cut → place_at m.size cut i < place_at m.size cut j
   rises_more i j less inside =
       let next = shown.rises i (omega (arith, less, inside)) in
-      let far = rises_far m.size cut shown.rises (i + 1) j (omega (arith, less)) inside in
+      let far = Rises-far m.size cut shown.rises (i + 1) j (omega (arith, less)) inside in
       omega (arith, next, far)
 
   -- what is listed is reached

@@ -13,8 +13,8 @@ use Rattle.hd_map.specs.Order.{IsNotAbove}
 use Rattle.hd_map.specs.Path.{Leads, IsTop}
 use Rattle.hd_map.proofs.Levels.{NoneAbove, top_of, top-not_above}
 use Rattle.hd_check.specs.Rules.{point_of}
-use Rattle.hd_check.proofs.Paths.{path_leads, none_above-listed}
-use Rattle.hd_check.proofs.Searching.{place_found}
+use Rattle.hd_check.proofs.Paths.{Leads-path, NoneAbove-listed}
+use Rattle.hd_check.proofs.Searching.{Contains-place}
 use Rattle.hd_map.specs.Rank.{rank, below_by, IsPoint, Near}
 use Rattle.hd_map.specs.Region.{IsPit}
 use Rattle.hd_map.proofs.Points.{same_place, same_point, point_at, place_inside}
@@ -242,8 +242,8 @@ module _ (m : Map) (side : SideName) (s : Rank) (a b : Pos) (steps : List (Optio
   goes_top [] count noted goes = let long = goes.long in absurd (omega (arith, long))
   goes_top (p ∷ ps) count noted goes =
       let begins : rank m p ≡ rank m a = ap (rank m) goes.begins in
-      let none = none_above-listed m side s (p ∷ ps) (goes_low (p ∷ ps) count noted goes) in
-      let leads = path_leads m p ps (goes_steps (p ∷ ps) count noted goes) in
+      let none = NoneAbove-listed m side s (p ∷ ps) (goes_low (p ∷ ps) count noted goes) in
+      let leads = Leads-path m p ps (goes_steps (p ∷ ps) count noted goes) in
       let leads' : Leads (Near m) (rank m a) (map (rank m) ps) (rank m b) =
       subst (λ (x : Rank). Leads (Near m) x (map (rank m) ps) (rank m b)) begins
       (subst (λ (y : Rank). Leads (Near m) (rank m p) (map (rank m) ps) y) (ap (rank m) (goes_ends (p ∷ ps) count noted goes)) leads) in
@@ -311,7 +311,7 @@ cut_shown m side saddle a residues cut known listed low = record {
   low = low;
   all = λ p. (
     λ c.
-        (let f = place_found cut p c in
+        (let f = Contains-place cut p c in
         let inside : InGrid m.size p = subst (InGrid m.size) f.2 (listed.inside f.0 f.1) in
         let reached : IsReached m.size residues p = subst (IsReached m.size residues) f.2 (listed.chosen f.0 f.1) in
         let n = steps_noted (steps_at m.size known.steps p) (λ none. reached (known.read p inside ∙ none)) in

@@ -16,7 +16,7 @@ use Rattle.hd_map.proofs.Points.{same_point}
 use Rattle.hd_map.specs.SideLaws.{below_by-order}
 use Rattle.hd_check.specs.Certified.{position_only}
 use Rattle.hd_check.specs.Rules.{point_of, IsBelowLevel, IsLeak, IsRight}
-use Rattle.hd_check.proofs.Searching.{place_found}
+use Rattle.hd_check.proofs.Searching.{Contains-place}
 use Rattle.hd_map.specs.Saddle.{SaddleIs}
 use Rattle.hd_map.specs.Shown.{IsBelowSaddle}
 use Rattle.hd_reach.specs.Reached.{IsLowStep, IsReachedLow}
@@ -39,7 +39,7 @@ not_joined m side a b (Some s) is low w =
 listed_rank : (m : Map) (p : Pos) (ps : List Pos) → Present m p → ((k : ℕ) → k < length ps → Present m (point_of ps k)) → Contains (map (rank m) ps) (rank m p) → Contains ps p
 listed_rank m p ps here all at =
     let q = Contains-map (rank m) ps (rank m p) at in
-    let place = place_found ps q.0 q.1 in
+    let place = Contains-place ps q.0 q.1 in
     subst (Contains ps) (same_point m q.0 p (subst (Present m) place.2 (all place.0 place.1)) here q.2) q.1
 
 -- the level of a written saddle

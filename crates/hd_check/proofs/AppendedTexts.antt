@@ -21,8 +21,8 @@ prefix_back k [] u = (k, refl)
 prefix_back k (x ∷ t) u = let r = prefix_back k t u in (suc r.0, ap (λ (xs : List ℕ). x ∷ xs) r.1)
 
 -- a refusal in the first text is one in both
-pub adds_part : (old new t u : List ℕ) → AppendsPrefix old new t → AppendsPrefix old new (t ++ u)
-adds_part old new t u p = let r = prefix_front p.0 t u in (r.0, p.1 ∙ ap (λ (xs : List ℕ). old ++ xs) r.1)
+pub AppendsPrefix-first : (old new t u : List ℕ) → AppendsPrefix old new t → AppendsPrefix old new (t ++ u)
+AppendsPrefix-first old new t u p = let r = prefix_front p.0 t u in (r.0, p.1 ∙ ap (λ (xs : List ℕ). old ++ xs) r.1)
 
 prefix_after : (old mid new t u : List ℕ) → mid ≡ old ++ t → AppendsPrefix mid new u → AppendsPrefix old new (t ++ u)
 prefix_after old mid new t u is p =
@@ -30,12 +30,12 @@ prefix_after old mid new t u is p =
     (r.0, p.1 ∙ ap (λ (xs : List ℕ). xs ++ take p.0 u) is ∙ append_assoc old t (take p.0 u) ∙ ap (λ (xs : List ℕ). old ++ xs) r.1)
 
 -- the last text
-pub adds_last : (old mid new t u : List ℕ) → mid ≡ old ++ t → new ≡ mid ++ u → new ≡ old ++ (t ++ u)
-adds_last old mid new t u is a = a ∙ ap (λ (xs : List ℕ). xs ++ u) is ∙ append_assoc old t u
+pub append-last : (old mid new t u : List ℕ) → mid ≡ old ++ t → new ≡ mid ++ u → new ≡ old ++ (t ++ u)
+append-last old mid new t u is a = a ∙ ap (λ (xs : List ℕ). xs ++ u) is ∙ append_assoc old t u
 
 -- a refusal in the second
-pub part_after : (old mid new t u : List ℕ) → mid ≡ old ++ t → AppendsPrefix mid new u → AppendsPrefix old new (t ++ u)
-part_after old mid new t u is p = prefix_after old mid new t u is p
+pub AppendsPrefix-then : (old mid new t u : List ℕ) → mid ≡ old ++ t → AppendsPrefix mid new u → AppendsPrefix old new (t ++ u)
+AppendsPrefix-then old mid new t u is p = prefix_after old mid new t u is p
 
 module _ {A : Type 0} (line : A → List ℕ) (d : A) where
   -- the lines before an item, its line, and those after it
@@ -55,18 +55,18 @@ module _ {A : Type 0} (line : A → List ℕ) (d : A) where
   take_next xs k inside = (let e : k + 1 ≡ suc k = omega arith in ap (λ (n : ℕ). flat_map line (take n xs)) e) ∙ take_suc xs k inside
 
   -- one more line is added
-  pub line_added : (old out new : List ℕ) (xs : List A) (k : ℕ) → k < length xs → out ≡ old ++ flat_map line (take k xs)
+  pub flat_map-more : (old out new : List ℕ) (xs : List A) (k : ℕ) → k < length xs → out ≡ old ++ flat_map line (take k xs)
       → new ≡ out ++ line (slice_index_or xs k d) → new ≡ old ++ flat_map line (take (k + 1) xs)
-  line_added old out new xs k inside so_far is =
-      adds_last old out new (flat_map line (take k xs)) (line (slice_index_or xs k d)) so_far is ∙ ap (λ (t : List ℕ). old ++ t) (sym (take_next xs k inside))
+  flat_map-more old out new xs k inside so_far is =
+      append-last old out new (flat_map line (take k xs)) (line (slice_index_or xs k d)) so_far is ∙ ap (λ (t : List ℕ). old ++ t) (sym (take_next xs k inside))
 
   -- a line is refused its memory
-  pub line_refused : (old out new : List ℕ) (xs : List A) (k : ℕ) → k < length xs → out ≡ old ++ flat_map line (take k xs)
+  pub AppendsPrefix-flat_map : (old out new : List ℕ) (xs : List A) (k : ℕ) → k < length xs → out ≡ old ++ flat_map line (take k xs)
       → AppendsPrefix out new (line (slice_index_or xs k d)) → AppendsPrefix old new (flat_map line xs)
-  line_refused old out new xs k inside so_far part =
+  AppendsPrefix-flat_map old out new xs k inside so_far part =
       let here : List ℕ = line (slice_index_or xs k d) in
       let more : List ℕ = flat_map line (drop (suc k) xs) in
-      rw (lines_at xs k inside) (part_after old out new (flat_map line (take k xs)) (here ++ more) so_far (adds_part out new here more part))
+      rw (lines_at xs k inside) (AppendsPrefix-then old out new (flat_map line (take k xs)) (here ++ more) so_far (AppendsPrefix-first out new here more part))
 
 module _ {A : Type 0} (words : A → List (List ℕ)) where
   -- the lines of items, by their words
@@ -75,6 +75,6 @@ module _ {A : Type 0} (words : A → List (List ℕ)) where
   lines_map (x ∷ xs) = ap (λ (t : List ℕ). line_text (words x) ++ t) (lines_map xs)
 
   -- after the line of a key and their number
-  pub counted_text : (key number : List ℕ) (xs : List A) → (key ++ 32 ∷ (number ++ 10 ∷ [])) ++ flat_map line_text (map words xs) ≡ key ++ 32 ∷ (number ++ 10 ∷ flat_map (λ (x : A). line_text (words x)) xs)
-  counted_text key number xs = ap (λ (t : List ℕ). (key ++ 32 ∷ (number ++ 10 ∷ [])) ++ t) (lines_map xs)
+  pub line_text-counted : (key number : List ℕ) (xs : List A) → (key ++ 32 ∷ (number ++ 10 ∷ [])) ++ flat_map line_text (map words xs) ≡ key ++ 32 ∷ (number ++ 10 ∷ flat_map (λ (x : A). line_text (words x)) xs)
+  line_text-counted key number xs = ap (λ (t : List ℕ). (key ++ 32 ∷ (number ++ 10 ∷ [])) ++ t) (lines_map xs)
       ∙ append_assoc key (32 ∷ (number ++ 10 ∷ [])) (flat_map (λ (x : A). line_text (words x)) xs) ∙ ap (λ (t : List ℕ). key ++ 32 ∷ t) (append_assoc number (10 ∷ []) (flat_map (λ (x : A). line_text (words x)) xs))

@@ -8,9 +8,9 @@ use Rattle.hd_map.proofs.Levels.{Contains-head, Contains-tail}
 
 module _ {V : Type 0} (Near : V → V → Type 0) where
   -- a path from a cut that all neighbours of its points are in stays in it
-  pub stays_in : (Cut : V → Type 0) → ((x y : V) → Cut x → Near x y → Cut y) → (a b : V) (xs : List V) → Leads Near a xs b → Cut a → Cut b
-  stays_in Cut closed a b [] l h = subst Cut l h
-  stays_in Cut closed a b (x ∷ xs) l h = stays_in Cut closed x b xs l.1 (closed a x h l.0)
+  pub Leads-closed : (Cut : V → Type 0) → ((x y : V) → Cut x → Near x y → Cut y) → (a b : V) (xs : List V) → Leads Near a xs b → Cut a → Cut b
+  Leads-closed Cut closed a b [] l h = subst Cut l h
+  Leads-closed Cut closed a b (x ∷ xs) l h = Leads-closed Cut closed x b xs l.1 (closed a x h l.0)
 
   module _ (below : V → V → Bool) where
     -- a path that leaves a cut which is closed below s has a point that is not below s
@@ -23,9 +23,9 @@ module _ {V : Type 0} (Near : V → V → Type 0) where
     ] refl
 
     -- so no path out of it has a lower top
-    pub no_lower : ((a b c : V) → IsNotAbove below a b → IsNotAbove below b c → IsNotAbove below a c)
+    pub IsTop-closed : ((a b c : V) → IsNotAbove below a b → IsNotAbove below b c → IsNotAbove below a c)
         → (s : V) (Cut : V → Type 0) → ((x y : V) → Cut x → Near x y → below y s ≡ true → Cut y) → (a b : V) → Cut a → (Cut b → ⊥)
         → (xs : List V) (t : V) → Leads Near a xs b → IsTop below t (a ∷ xs) → IsNotAbove below s t
-    no_lower trans s Cut closed a b h out xs t l top =
+    IsTop-closed trans s Cut closed a b h out xs t l top =
         let y = leaves_cut s Cut closed a b xs l h out in
         trans s y.0 t y.2 (All-contains (λ x. IsNotAbove below x t) (a ∷ xs) y.0 top.none_above y.1)

@@ -6,9 +6,9 @@ pub mod AppendedTexts
 pub mod Determined
 pub mod ReadsBack
 mod ReadingSteps
-mod Pairs
+mod ConsecutivePairs
 mod Leaks
 mod Verdicts
 mod ClosedCuts
-mod Right
-mod Parts
+mod IsRight
+mod TextParts

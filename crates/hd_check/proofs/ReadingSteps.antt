@@ -29,9 +29,9 @@ module _ {A : Type 0} (form : List (List ℕ) → Option A) where
   items_fail n rest e read = ap (λ (r : Read A). and_then r (λ x rest. and_then (items_in form n rest) (λ xs rest. Ok (x ∷ xs, rest)))) read
 
   -- one more is read
-  pub items_more : (bytes : List ℕ) (count : ℕ) (start : Place) (items : List A) (place next : Place) (k : ℕ) (x : A) → k < count → AreItemsBefore bytes count start items place k
+  pub AreItemsBefore-more : (bytes : List ℕ) (count : ℕ) (start : Place) (items : List A) (place next : Place) (k : ℕ) (x : A) → k < count → AreItemsBefore bytes count start items place k
       → line_as form (lines_at bytes place) ≡ Ok (x, lines_at bytes next) → IsPlace bytes next → AreItemsBefore bytes count start (items ++ x ∷ []) next (k + 1)
-  items_more bytes count start items place next k x less so_far read at =
+  AreItemsBefore-more bytes count start items place next k x less so_far read at =
       let left : count - k ≡ suc (count - (k + 1)) = omega (arith, less) in
       record {
         at = at;
@@ -41,9 +41,9 @@ module _ {A : Type 0} (form : List (List ℕ) → Option A) where
       }
 
   -- one is not read
-  pub items_bad : (bytes : List ℕ) (count : ℕ) (start : Place) (items : List A) (place : Place) (k : ℕ) (e : CertificateError) → k < count → AreItemsBefore bytes count start items place k
+  pub items_in-bad : (bytes : List ℕ) (count : ℕ) (start : Place) (items : List A) (place : Place) (k : ℕ) (e : CertificateError) → k < count → AreItemsBefore bytes count start items place k
       → line_as form (lines_at bytes place) ≡ Err e → items_in form count (lines_at bytes start) ≡ Err e
-  items_bad bytes count start items place k e less so_far read =
+  items_in-bad bytes count start items place k e less so_far read =
       let left : count - k ≡ suc (count - (k + 1)) = omega (arith, less) in
       so_far.whole ∙ ap (λ (n : ℕ). before items (items_in form n (lines_at bytes place))) left ∙ ap (before items) (items_fail (count - (k + 1)) (lines_at bytes place) e read)
 

@@ -122,12 +122,12 @@ map_words ([] ∷ lines) are = absurd are
 map_words ((w ∷ ws) ∷ lines) are = ap₂ (λ (us : List (List ℕ)) (uss : List (List (List ℕ))). us ∷ uss) (words_joined w ws are.0) (map_words lines are.1)
 
 -- the lines of the text, by their words
-pub lines_back : (lines : List (List (List ℕ))) → AreLines lines → map words_of (lines_of (flat_map line_text lines)) ≡ lines
-lines_back lines are = ap (λ (ps : List (List ℕ)). map words_of (without_empty_last ps)) (split_text lines are) ∙ ap (map words_of) (empty_last (map joined lines)) ∙ map_words lines are
+pub lines_of-line_text : (lines : List (List (List ℕ))) → AreLines lines → map words_of (lines_of (flat_map line_text lines)) ≡ lines
+lines_of-line_text lines are = ap (λ (ps : List (List ℕ)). map words_of (without_empty_last ps)) (split_text lines are) ∙ ap (map words_of) (empty_last (map joined lines)) ∙ map_words lines are
 
 -- a line before more text is its first line
-pub first_line : (w : List ℕ) (ws : List (List ℕ)) (rest : List ℕ) → AreWords (w ∷ ws) → map words_of (lines_of (line_text (w ∷ ws) ++ rest)) ≡ (w ∷ ws) ∷ map words_of (lines_of rest)
-first_line w ws rest are =
+pub lines_of-first : (w : List ℕ) (ws : List (List ℕ)) (rest : List ℕ) → AreWords (w ∷ ws) → map words_of (lines_of (line_text (w ∷ ws) ++ rest)) ≡ (w ∷ ws) ∷ map words_of (lines_of rest)
+lines_of-first w ws rest are =
     ap (λ (t : List ℕ). map words_of (lines_of t)) (line_joined (w ∷ ws) rest)
     ∙ ap (λ (ps : List (List ℕ)). map words_of (without_empty_last ps)) (split_line w ws rest are)
     ∙ ap (map words_of) (not_last (joined (w ∷ ws)) (slice_split is_line_feed rest) (omega (arith, length-slice_split is_line_feed rest)))
@@ -138,45 +138,45 @@ first_line w ws rest are =
     not_last p (q ∷ ps) some = refl
 
 -- digits are a word
-pub clear_digit : (b : ℕ) → is_ascii_digit b ≡ true → is_clear b ≡ true
-clear_digit b h = grind (arith, nat_tests)
+pub is_clear-digit : (b : ℕ) → is_ascii_digit b ≡ true → is_clear b ≡ true
+is_clear-digit b h = grind (arith, nat_tests)
 
-pub clear_digits : (w : List ℕ) → list_all is_ascii_digit w ≡ true → list_all is_clear w ≡ true
-clear_digits [] h = refl
-clear_digits (b ∷ w) h = and_from _ _ (clear_digit b (and_parts _ _ h).0) (clear_digits w (and_parts _ _ h).1)
+pub is_clear-digits : (w : List ℕ) → list_all is_ascii_digit w ≡ true → list_all is_clear w ≡ true
+is_clear-digits [] h = refl
+is_clear-digits (b ∷ w) h = and_from _ _ (is_clear-digit b (and_parts _ _ h).0) (is_clear-digits w (and_parts _ _ h).1)
 
-pub word-filled : (w : List ℕ) → 0 < length w → is_filled w ≡ true
-word-filled w some = ap not (ne_eqb (length w) 0 (λ none. omega (arith, none, some)))
+pub IsWord-filled : (w : List ℕ) → 0 < length w → is_filled w ≡ true
+IsWord-filled w some = ap not (ne_eqb (length w) 0 (λ none. omega (arith, none, some)))
 
-pub decimal_word : (n : ℕ) → n < 2 ^ 64 → IsWord (decimal n)
-decimal_word n small = record { some = word-filled (decimal n) (decimal_nonempty n small); clear = clear_digits (decimal n) (digits_decimal IsNumeralModel-digits n small) }
+pub IsWord-decimal : (n : ℕ) → n < 2 ^ 64 → IsWord (decimal n)
+IsWord-decimal n small = record { some = IsWord-filled (decimal n) (decimal_nonempty n small); clear = is_clear-digits (decimal n) (digits_decimal IsNumeralModel-digits n small) }
 
 signed_word : (z : ℤ) → FitsSigned w64 z → IsWord (signed_decimal z)
-signed_word (pos n) fits = let small : n < 2 ^ 63 = fits.sfits in decimal_word n (omega arith)
+signed_word (pos n) fits = let small : n < 2 ^ 63 = fits.sfits in IsWord-decimal n (omega arith)
 signed_word (negsuc n) fits =
     let small : n < 2 ^ 63 = fits.sfits in
-    let w = decimal_word (suc n) (omega arith) in
-    record { some = word-filled (45 ∷ decimal (suc n)) (omega arith); clear = w.clear }
+    let w = IsWord-decimal (suc n) (omega arith) in
+    record { some = IsWord-filled (45 ∷ decimal (suc n)) (omega arith); clear = w.clear }
 
 -- a point has words
 point_clear : (p : Pos) → IsWritablePoint p → AreWords (point_words p)
-point_clear p fits = let x = fits.column in let y = fits.profile in (decimal_word p.x (omega arith), (decimal_word p.y (omega arith), tt))
+point_clear p fits = let x = fits.column in let y = fits.profile in (IsWord-decimal p.x (omega arith), (IsWord-decimal p.y (omega arith), tt))
 
 -- lines of items are lines of words
-pub items_clear : {A : Type 0} (words : A → List (List ℕ)) (Is : A → Type 0) → ((x : A) → Is x → AreLines (words x ∷ [])) → (xs : List A) → All Is xs → (rest : List (List (List ℕ))) → AreLines rest → AreLines (map words xs ++ rest)
-items_clear words Is clear [] all rest are = are
-items_clear words Is clear (x ∷ xs) all rest are = more_lines (words x) (clear x (All-head Is x xs all)) (items_clear words Is clear xs (All-tail Is x xs all) rest are)
+pub AreLines-items : {A : Type 0} (words : A → List (List ℕ)) (Is : A → Type 0) → ((x : A) → Is x → AreLines (words x ∷ [])) → (xs : List A) → All Is xs → (rest : List (List (List ℕ))) → AreLines rest → AreLines (map words xs ++ rest)
+AreLines-items words Is clear [] all rest are = are
+AreLines-items words Is clear (x ∷ xs) all rest are = more_lines (words x) (clear x (All-head Is x xs all)) (AreLines-items words Is clear xs (All-tail Is x xs all) rest are)
   where
     more_lines : (ws : List (List ℕ)) → AreLines (ws ∷ []) → AreLines (map words xs ++ rest) → AreLines (ws ∷ (map words xs ++ rest))
     more_lines [] one more = absurd one
     more_lines (w ∷ ws) one more = (one.0, more)
 
 points_clear : (ps : List Pos) → All IsWritablePoint ps → (rest : List (List (List ℕ))) → AreLines rest → AreLines (map point_words ps ++ rest)
-points_clear = items_clear point_words IsWritablePoint (λ p fits. (point_clear p fits, tt))
+points_clear = AreLines-items point_words IsWritablePoint (λ p fits. (point_clear p fits, tt))
 
 -- a line of a word and a number
-pub number_clear : (key : List ℕ) (n : ℕ) → IsWord key → n < 2 ^ 32 → AreWords (key ∷ decimal n ∷ [])
-number_clear key n is small = (is, (decimal_word n (omega arith), tt))
+pub AreWords-number : (key : List ℕ) (n : ℕ) → IsWord key → n < 2 ^ 32 → AreWords (key ∷ decimal n ∷ [])
+AreWords-number key n is small = (is, (IsWord-decimal n (omega arith), tt))
 
 -- the words that stand in each certificate
 word_certificate : IsWord (codes "certificate")
@@ -200,37 +200,37 @@ word_path = record { some = refl; clear = refl }
 word_cut : IsWord (codes "cut")
 word_cut = record { some = refl; clear = refl }
 
-pub word_end : IsWord (codes "end")
-word_end = record { some = refl; clear = refl }
+pub IsWord-end : IsWord (codes "end")
+IsWord-end = record { some = refl; clear = refl }
 
-pub side_clear : (side : SideName) → IsWord (side_word side)
-side_clear Dales = record { some = refl; clear = refl }
-side_clear Hills = record { some = refl; clear = refl }
+pub side_word-clear : (side : SideName) → IsWord (side_word side)
+side_word-clear Dales = record { some = refl; clear = refl }
+side_word-clear Hills = record { some = refl; clear = refl }
 
-pub adjacency_clear : (adjacency : Adjacency) → IsWord (adjacency_word adjacency)
-adjacency_clear Four = record { some = refl; clear = refl }
-adjacency_clear Six = record { some = refl; clear = refl }
-adjacency_clear Eight = record { some = refl; clear = refl }
+pub adjacency_word-clear : (adjacency : Adjacency) → IsWord (adjacency_word adjacency)
+adjacency_word-clear Four = record { some = refl; clear = refl }
+adjacency_word-clear Six = record { some = refl; clear = refl }
+adjacency_word-clear Eight = record { some = refl; clear = refl }
 
 -- the lines from that of the cut on
 abbrev cut_part : List Pos → List (List (List ℕ))
 cut_part cut = (codes "cut" ∷ decimal (length cut) ∷ []) ∷ (map point_words cut ++ (codes "end" ∷ []) ∷ [])
 
 cut_clear : (cut : List Pos) → AreWritable cut → AreLines (cut_part cut)
-cut_clear cut are = (number_clear (codes "cut") (length cut) word_cut are.few, points_clear cut are.each ((codes "end" ∷ []) ∷ []) ((word_end, tt), tt))
+cut_clear cut are = (AreWords-number (codes "cut") (length cut) word_cut are.few, points_clear cut are.each ((codes "end" ∷ []) ∷ []) ((IsWord-end, tt), tt))
 
 saddle_clear : (saddle : Option (Pos × ℤ)) (path : List Pos) → IsWritableSaddle saddle path → AreWritable path → (rest : List (List (List ℕ))) → AreLines rest → AreLines (saddle_lines saddle path ++ rest)
 saddle_clear (Some s) path is are rest more =
     let x = is.0.column in
     let y = is.0.profile in (
-      (word_saddle, (decimal_word s.0.x (omega arith), (decimal_word s.0.y (omega arith), (signed_word s.1 is.1, tt)))),
-      (number_clear (codes "path") (length path) word_path are.few, points_clear path are.each rest more),
+      (word_saddle, (IsWord-decimal s.0.x (omega arith), (IsWord-decimal s.0.y (omega arith), (signed_word s.1 is.1, tt)))),
+      (AreWords-number (codes "path") (length path) word_path are.few, points_clear path are.each rest more),
     )
 saddle_clear None path is are rest more = ((word_saddle, (word_none, tt)), more)
 
 all_clear : (c : Certificate) → IsWritable c → AreLines (certificate_lines c)
 all_clear c is = (
-  (word_certificate, (side_clear c.side, (adjacency_clear c.adjacency, tt))),
+  (word_certificate, (side_word-clear c.side, (adjacency_word-clear c.adjacency, tt))),
   ((word_from, point_clear c.from is.from), ((word_to, point_clear c.to is.to), saddle_clear c.saddle c.path is.saddle is.path (cut_part c.cut) (cut_clear c.cut is.cut))),
 )
 
@@ -238,11 +238,11 @@ all_clear c is = (
 point_back : (p : Pos) → IsWritablePoint p → point_form (point_words p) ≡ Some p
 point_back p fits = ap₂ point_of_counts (count_of-decimal p.x fits.column) (count_of-decimal p.y fits.profile)
 
-abbrev pub from_line : ℕ → List (List (List ℕ)) → Lines
-from_line number lines = record { number = number; lines = lines }
+abbrev pub numbered-from_line : ℕ → List (List (List ℕ)) → Lines
+numbered-from_line number lines = record { number = number; lines = lines }
 
 module _ {A : Type 0} (words : A → List (List ℕ)) (form : List (List ℕ) → Option A) (Is : A → Type 0) (back : (x : A) → Is x → form (words x) ≡ Some x) where
-  items_back : (xs : List A) (number : ℕ) (rest : List (List (List ℕ))) → All Is xs → (n : ℕ) × (items_in form (length xs) (from_line number (map words xs ++ rest)) ≡ Ok (xs, from_line n rest))
+  items_back : (xs : List A) (number : ℕ) (rest : List (List (List ℕ))) → All Is xs → (n : ℕ) × (items_in form (length xs) (numbered-from_line number (map words xs ++ rest)) ≡ Ok (xs, numbered-from_line n rest))
   items_back [] number rest all = (number, refl)
   items_back (x ∷ xs) number rest all =
       let more = items_back xs (number + 1) rest (All-tail Is x xs all) in (
@@ -252,9 +252,9 @@ module _ {A : Type 0} (words : A → List (List ℕ)) (form : List (List ℕ) �
       )
 
   -- a number and so many items read back
-  pub counted_back : (key : List ℕ) → bytes_eq key key ≡ true → (xs : List A) (number : ℕ) (rest : List (List (List ℕ))) → length xs < 2 ^ 32 → All Is xs
-      → (n : ℕ) × (and_then (line_as (count_form key) (from_line number ((key ∷ decimal (length xs) ∷ []) ∷ (map words xs ++ rest)))) (items_in form) ≡ Ok (xs, from_line n rest))
-  counted_back key same xs number rest few all =
+  pub count_form-counted : (key : List ℕ) → bytes_eq key key ≡ true → (xs : List A) (number : ℕ) (rest : List (List (List ℕ))) → length xs < 2 ^ 32 → All Is xs
+      → (n : ℕ) × (and_then (line_as (count_form key) (numbered-from_line number ((key ∷ decimal (length xs) ∷ []) ∷ (map words xs ++ rest)))) (items_in form) ≡ Ok (xs, numbered-from_line n rest))
+  count_form-counted key same xs number rest few all =
       let more = items_back xs (number + 1) rest all in (
         more.0,
         ap₂ (λ (b : Bool) (o : Option ℕ). and_then (line_gives number (map words xs ++ rest) (if b then o else None)) (items_in form)) same (count_of-decimal (length xs) few) ∙ more.1,
@@ -266,20 +266,20 @@ saddle_back s point fits = ap₂ (λ (p : Option Pos) (h : Option ℤ). saddle_o
 
 -- the lines of a saddle and a path, and what follows them
 path_back : (head : Head) (from to : Pos) (saddle : Option (Pos × ℤ)) (path : List Pos) (number : ℕ) (rest : List (List (List ℕ))) → IsWritableSaddle saddle path → AreWritable path
-    → (n : ℕ) × (after_to head from to (from_line number (saddle_lines saddle path ++ rest)) ≡ after_path head from to saddle path (from_line n rest))
+    → (n : ℕ) × (after_to head from to (numbered-from_line number (saddle_lines saddle path ++ rest)) ≡ after_path head from to saddle path (numbered-from_line n rest))
 path_back head from to (Some s) path number rest is are =
-    let more = counted_back point_words point_form IsWritablePoint point_back (codes "path") refl path (number + 1) rest are.few are.each in (
+    let more = count_form-counted point_words point_form IsWritablePoint point_back (codes "path") refl path (number + 1) rest are.few are.each in (
       more.0,
       ap (λ (o : Option (Option (Pos × ℤ))). and_then (line_gives number ((codes "path" ∷ decimal (length path) ∷ []) ∷ (map point_words path ++ rest)) o) (after_saddle head from to)) (saddle_back s is.0 is.1)
           ∙ ap (λ (r : Read (List Pos)). and_then r (after_path head from to (Some s))) more.1,
     )
-path_back head from to None path number rest is are = (number + 1, ap (λ (ps : List Pos). after_path head from to None ps (from_line (number + 1) rest)) (sym is))
+path_back head from to None path number rest is are = (number + 1, ap (λ (ps : List Pos). after_path head from to None ps (numbered-from_line (number + 1) rest)) (sym is))
 
 -- the lines of a cut, and the end
 cut_back : (head : Head) (from to : Pos) (saddle : Option (Pos × ℤ)) (path cut : List Pos) (number : ℕ) → AreWritable cut
-    → value_of (after_path head from to saddle path (from_line number (cut_part cut))) ≡ Ok (record { side = head.side; adjacency = head.adjacency; from = from; to = to; saddle = saddle; path = path; cut = cut })
+    → value_of (after_path head from to saddle path (numbered-from_line number (cut_part cut))) ≡ Ok (record { side = head.side; adjacency = head.adjacency; from = from; to = to; saddle = saddle; path = path; cut = cut })
 cut_back head from to saddle path cut number are =
-    let more = counted_back point_words point_form IsWritablePoint point_back (codes "cut") refl cut number ((codes "end" ∷ []) ∷ []) are.few are.each in
+    let more = count_form-counted point_words point_form IsWritablePoint point_back (codes "cut") refl cut number ((codes "end" ∷ []) ∷ []) are.few are.each in
     ap (λ (r : Read (List Pos)). value_of (and_then r (after_cut head from to saddle path))) more.1
 
 head_back : (side : SideName) (adjacency : Adjacency) → head_form (codes "certificate" ∷ side_word side ∷ adjacency_word adjacency ∷ []) ≡ Some (record { side = side; adjacency = adjacency })
@@ -291,14 +291,14 @@ head_back Hills Six = refl
 head_back Hills Eight = refl
 
 -- the text of a certificate is read as this certificate
-pub text_back : (c : Certificate) → IsWritable c → certificate_of (certificate_text c) ≡ Ok c
-text_back c is =
+pub certificate_in-certificate_text : (c : Certificate) → IsWritable c → certificate_of (certificate_text c) ≡ Ok c
+certificate_in-certificate_text c is =
     let head : Head = record { side = c.side; adjacency = c.adjacency } in
     let tail : List (List (List ℕ)) = saddle_lines c.saddle c.path ++ cut_part c.cut in
     let third : List (List (List ℕ)) = (codes "to" ∷ point_words c.to) ∷ tail in
     let second : List (List (List ℕ)) = (codes "from" ∷ point_words c.from) ∷ third in
     let path = path_back head c.from c.to c.saddle c.path 4 (cut_part c.cut) is.saddle is.path in
-    ap (λ (lines : List (List (List ℕ))). value_of (and_then (line_as head_form (from_line 1 lines)) after_head)) (lines_back (certificate_lines c) (all_clear c is))
+    ap (λ (lines : List (List (List ℕ))). value_of (and_then (line_as head_form (numbered-from_line 1 lines)) after_head)) (lines_of-line_text (certificate_lines c) (all_clear c is))
     ∙ ap (λ (o : Option Head). value_of (and_then (line_gives 1 second o) after_head)) (head_back c.side c.adjacency)
     ∙ ap (λ (o : Option Pos). value_of (and_then (line_gives 2 third o) (after_from head))) (point_back c.from is.from)
     ∙ ap (λ (o : Option Pos). value_of (and_then (line_gives 3 tail o) (after_to head c.from))) (point_back c.to is.to)

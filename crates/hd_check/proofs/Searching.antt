@@ -27,8 +27,8 @@ rises_by s cut up i (suc n) h =
     subst (λ (k : ℕ). place_at s cut i ≤ place_at s cut k) e (omega (arith, before, next))
 
 -- what is not before another is not less
-pub rises_far : (s : Size) (cut : List Pos) → Rises s cut → (i j : ℕ) → i ≤ j → j < length cut → place_at s cut i ≤ place_at s cut j
-rises_far s cut up i j le h =
+pub Rises-far : (s : Size) (cut : List Pos) → Rises s cut → (i j : ℕ) → i ≤ j → j < length cut → place_at s cut i ≤ place_at s cut j
+Rises-far s cut up i j le h =
     let e : i + (j - i) ≡ j = omega arith in
     subst (λ (k : ℕ). place_at s cut i ≤ place_at s cut k) e (rises_by s cut up i (j - i) (omega arith))
 
@@ -39,34 +39,34 @@ pub record IsBetween (s : Size) (cut : List Pos) (place low high : ℕ) : Type 0
   pub left : (i : ℕ) → i < low → place_at s cut i < place
   pub right : (i : ℕ) → high ≤ i → i < length cut → place < place_at s cut i
 
-pub go_right : (s : Size) (cut : List Pos) (place low high middle : ℕ) → Rises s cut → middle < high → place_at s cut middle < place → IsBetween s cut place low high
+pub IsBetween-right : (s : Size) (cut : List Pos) (place low high middle : ℕ) → Rises s cut → middle < high → place_at s cut middle < place → IsBetween s cut place low high
     → IsBetween s cut place (middle + 1) high
-go_right s cut place low high middle up below less b = record {
+IsBetween-right s cut place low high middle up below less b = record {
   ordered = omega arith;
   inside = b.inside;
-  left = λ i h. let far = rises_far s cut up i middle (omega arith) (omega (arith, b.inside)) in omega (arith, far, less);
+  left = λ i h. let far = Rises-far s cut up i middle (omega arith) (omega (arith, b.inside)) in omega (arith, far, less);
   right = b.right;
 }
 
-pub go_left : (s : Size) (cut : List Pos) (place low high middle : ℕ) → Rises s cut → low ≤ middle → middle < high → place < place_at s cut middle → IsBetween s cut place low high
+pub IsBetween-left : (s : Size) (cut : List Pos) (place low high middle : ℕ) → Rises s cut → low ≤ middle → middle < high → place < place_at s cut middle → IsBetween s cut place low high
     → IsBetween s cut place low middle
-go_left s cut place low high middle up above below more b = record {
+IsBetween-left s cut place low high middle up above below more b = record {
   ordered = above;
   inside = omega (arith, b.inside);
   left = b.left;
-  right = λ i h k. let far = rises_far s cut up middle i h k in omega (arith, far, more);
+  right = λ i h k. let far = Rises-far s cut up middle i h k in omega (arith, far, more);
 }
 
-pub is_found : (s : Size) (cut : List Pos) (at : Pos) (k : ℕ) → k < length cut → InGrid s (point_of cut k) → InGrid s at → place_at s cut k ≡ place_of s at → Contains cut at
-is_found s cut at k inside here there e = subst (Contains cut) (same_place s (point_of cut k) at here there e) (Contains-get_or cut k (record { x = 0; y = 0 }) inside)
+pub Contains-found : (s : Size) (cut : List Pos) (at : Pos) (k : ℕ) → k < length cut → InGrid s (point_of cut k) → InGrid s at → place_at s cut k ≡ place_of s at → Contains cut at
+Contains-found s cut at k inside here there e = subst (Contains cut) (same_place s (point_of cut k) at here there e) (Contains-get_or cut k (record { x = 0; y = 0 }) inside)
 
 -- an element stands at a place
-pub place_found : (cut : List Pos) (at : Pos) → Contains cut at → (k : ℕ) × (k < length cut) × (point_of cut k ≡ at)
-place_found cut at c = (c.0, c.1, get_or_default cut c.0 (record { x = 0; y = 0 }) at c.1 ∙ c.2)
+pub Contains-place : (cut : List Pos) (at : Pos) → Contains cut at → (k : ℕ) × (k < length cut) × (point_of cut k ≡ at)
+Contains-place cut at c = (c.0, c.1, get_or_default cut c.0 (record { x = 0; y = 0 }) at c.1 ∙ c.2)
 
-pub is_not_found : (s : Size) (cut : List Pos) (at : Pos) (low high : ℕ) → high ≤ low → IsBetween s cut (place_of s at) low high → Contains cut at → ⊥
-is_not_found s cut at low high done b c =
-    let f = place_found cut at c in
+pub IsBetween-absent : (s : Size) (cut : List Pos) (at : Pos) (low high : ℕ) → high ≤ low → IsBetween s cut (place_of s at) low high → Contains cut at → ⊥
+IsBetween-absent s cut at low high done b c =
+    let f = Contains-place cut at c in
     let e : place_at s cut f.0 ≡ place_of s at = ap (place_of s) f.2 in
     elim (cases_lt f.0 low) [
       | inl before ↦ let less = b.left f.0 before in omega (arith, less, e)

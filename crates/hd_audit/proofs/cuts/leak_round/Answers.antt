@@ -4,7 +4,7 @@ use Rattle.std.specs.List.{AllPairs, Contains}
 use Rattle.hd_map.specs.declared.types.Pos.{Pos}
 use Rattle.hd_map.specs.Map.{place_of}
 use Rattle.hd_map.specs.Neighbour.{Neighbour}
-use Rattle.hd_check.proofs.Pits.{near_at}
+use Rattle.hd_check.proofs.Pits.{Neighbour-listed}
 use Rattle.hd_audit.specs.Leaks.{FirstLeakRound}
 use Rattle.hd_audit.proofs.Leaking.{round_leak}
 use Rattle.hd_audit.proofs.cuts.leak_round.Goals as goal
@@ -13,7 +13,7 @@ pub first_leaking-requires-clause-present : goal.first_leaking-requires-clause-p
 first_leaking-requires-clause-present g c =
     let m = g.G.Heights.map c.args.surface.now in
     let all : (q : Pos) → Contains c.as_slice.result.now q ↔ Neighbour m c.position_in-at.result q = rw c.as_slice.ensures c.neighbours-near.ensures.all in
-    λ j inside. (near_at m c.position_in-at.result c.as_slice.result.now all j inside).to
+    λ j inside. (Neighbour-listed m c.position_in-at.result c.as_slice.result.now all j inside).to
 
 pub returns : goal.returns
 returns g c =

@@ -1,5 +1,5 @@
 use Rattle.std.proofs.Common.{inl, inr, refl, Some, None}
-use Rattle.hd_check.proofs.Verdicts.{rule_rises, rule_parts, rule_low, rule_closed}
+use Rattle.hd_check.proofs.Verdicts.{CutRises-rule, CutParts-rule, CutLow-rule, CutClosed-rule}
 use Rattle.hd_check.proofs.checking.check_cut.Goals as goal
 
 pub returns-in-Some-wrong_part : goal.returns-in-Some-wrong_part
@@ -8,7 +8,7 @@ returns-in-Some-wrong_part g c =
     let f = c.args.certificate.now in
     let cut = c.as_slice-cut.result.now in
     let e = c.as_slice-cut.ensures in
-    inr (rule_rises m f cut e None c.size-size.result c.size-size.ensures c.in_default.ensures, inl (refl, rule_parts m f cut e (Some c.in-Some-wrong_part.at) c.in-Some-wrong_part.ensures))
+    inr (CutRises-rule m f cut e None c.size-size.result c.size-size.ensures c.in_default.ensures, inl (refl, CutParts-rule m f cut e (Some c.in-Some-wrong_part.at) c.in-Some-wrong_part.ensures))
 
 pub returns-in-Some-first_not_below : goal.returns-in-Some-first_not_below
 returns-in-Some-first_not_below g c =
@@ -17,10 +17,10 @@ returns-in-Some-first_not_below g c =
     let cut = c.as_slice-cut.result.now in
     let e = c.as_slice-cut.ensures in
     inr (
-      rule_rises m f cut e None c.size-size.result c.size-size.ensures c.in_default.ensures,
+      CutRises-rule m f cut e None c.size-size.result c.size-size.ensures c.in_default.ensures,
       inr (
-        rule_parts m f cut e None c.in_default-wrong_part.ensures,
-        inl (refl, rule_low m f cut e (Some c.in-Some-first_not_below.at) c.level-level.result c.level-level.ensures c.in-Some-first_not_below.ensures),
+        CutParts-rule m f cut e None c.in_default-wrong_part.ensures,
+        inl (refl, CutLow-rule m f cut e (Some c.in-Some-first_not_below.at) c.level-level.result c.level-level.ensures c.in-Some-first_not_below.ensures),
       ),
     )
 
@@ -31,12 +31,12 @@ returns-in-Some-first_leak g c =
     let cut = c.as_slice-cut.result.now in
     let e = c.as_slice-cut.ensures in
     inr (
-      rule_rises m f cut e None c.size-size.result c.size-size.ensures c.in_default.ensures,
+      CutRises-rule m f cut e None c.size-size.result c.size-size.ensures c.in_default.ensures,
       inr (
-        rule_parts m f cut e None c.in_default-wrong_part.ensures,
+        CutParts-rule m f cut e None c.in_default-wrong_part.ensures,
         inr (
-          rule_low m f cut e None c.level-level.result c.level-level.ensures c.in_default-first_not_below.ensures,
-          inl (refl, rule_closed m f cut e (Some c.in-Some-first_leak.at) c.level-level.result c.level-level.ensures c.in-Some-first_leak.ensures),
+          CutLow-rule m f cut e None c.level-level.result c.level-level.ensures c.in_default-first_not_below.ensures,
+          inl (refl, CutClosed-rule m f cut e (Some c.in-Some-first_leak.at) c.level-level.result c.level-level.ensures c.in-Some-first_leak.ensures),
         ),
       ),
     )
@@ -45,7 +45,7 @@ pub returns-in-Some : goal.returns-in-Some
 returns-in-Some g c =
     let m = g.G.Heights.map c.args.surface.now in
     let f = c.args.certificate.now in
-    inl (refl, rule_rises m f c.as_slice-cut.result.now c.as_slice-cut.ensures (Some c.in-Some.at) c.size-size.result c.size-size.ensures c.in-Some.ensures)
+    inl (refl, CutRises-rule m f c.as_slice-cut.result.now c.as_slice-cut.ensures (Some c.in-Some.at) c.size-size.result c.size-size.ensures c.in-Some.ensures)
 
 pub returns : goal.returns
 returns g c =
@@ -53,12 +53,12 @@ returns g c =
     let f = c.args.certificate.now in
     let cut = c.as_slice-cut.result.now in
     let e = c.as_slice-cut.ensures in (
-      rule_rises m f cut e None c.size-size.result c.size-size.ensures c.in_default.ensures,
+      CutRises-rule m f cut e None c.size-size.result c.size-size.ensures c.in_default.ensures,
       (
-        rule_parts m f cut e None c.in_default-wrong_part.ensures,
+        CutParts-rule m f cut e None c.in_default-wrong_part.ensures,
         (
-          rule_low m f cut e None c.level-level.result c.level-level.ensures c.in_default-first_not_below.ensures,
-          (rule_closed m f cut e None c.level-level.result c.level-level.ensures c.in_default-first_leak.ensures, tt),
+          CutLow-rule m f cut e None c.level-level.result c.level-level.ensures c.in_default-first_not_below.ensures,
+          (CutClosed-rule m f cut e None c.level-level.result c.level-level.ensures c.in_default-first_leak.ensures, tt),
         ),
       ),
     )

@@ -1,5 +1,5 @@
 use Rattle.std.proofs.Common.{inl, inr, refl}
-use Rattle.hd_check.proofs.Verdicts.{rules_before}
+use Rattle.hd_check.proofs.Verdicts.{all_rules-before}
 use Rattle.hd_check.proofs.checking.try_rules.Goals as goal
 
 pub returns-in-Some-wrong_pit : goal.returns-in-Some-wrong_pit
@@ -20,5 +20,5 @@ returns-in-Some-first_high g c = let m = g.G.Heights.map c.args.surface.now in i
 pub returns : goal.returns
 returns g c =
     let m = g.G.Heights.map c.args.surface.now in
-    rules_before m c.args.certificate.now c.check_cut.result c.in_default.ensures c.in_default-wrong_pit.ensures c.in_default-wrong_height.ensures (c.in_default-wrong_end.ensures m)
+    all_rules-before m c.args.certificate.now c.check_cut.result c.in_default.ensures c.in_default-wrong_pit.ensures c.in_default-wrong_height.ensures (c.in_default-wrong_end.ensures m)
     c.in_default-wrong_step.ensures (c.in_default-off_path.ensures m) c.in_default-first_high.ensures c.check_cut.ensures

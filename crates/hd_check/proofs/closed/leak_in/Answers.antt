@@ -7,7 +7,7 @@ use Rattle.hd_map.specs.declared.types.Size.{Size}
 use Rattle.hd_map.specs.Map.{InGrid, place_of}
 use Rattle.hd_check.specs.Profiles.{IsBehind, left_index}
 use Rattle.hd_check.specs.Rules.{point_of}
-use Rattle.hd_check.proofs.Leaks.{behind_left, first_after, first_stays, is_leak, none_more, not_in_cut, other_point, place_goes_on}
+use Rattle.hd_check.proofs.Leaks.{IsBehind-left, IsFirstFrom-after, IsFirstFrom-stays, IsLeak-open, IsLeak-none_more, IsFirstFrom-absent, place_at-apart, IsPlaceOf-goes_on}
 use Rattle.hd_check.proofs.closed.leak_in.Goals as goal
 use Rattle.hd_check.proofs.closed.leak_in.Goals.{then-stands_at, else-stands_at+else-is_open}
 
@@ -17,12 +17,12 @@ returns-then-is_open-clause-first g c =
     let at = c.args.at in
     let q : Pos = record { x = c.loop-x.x; y = at.y + c.args.step - 1 } in
     let other : c.loop-x.next < length c.args.cut.now → point_of c.args.cut.now c.loop-x.next ≡ q → ⊥ = λ inside e. false≢true (sym c.if-stands_at.false ∙ c.stands_at.ensures.1 (inside, e)) in
-    let out = not_in_cut m.size c.args.cut.now q c.loop-x.next c.requires.rises other c.loop-x.invariant.next in
+    let out = IsFirstFrom-absent m.size c.args.cut.now q c.loop-x.next c.requires.rises other c.loop-x.invariant.next in
     let row : at.y + c.args.step - 1 + 1 ≡ at.y + c.args.step = omega (arith, c.if-at-step-eq0.false) in
     let left = c.saturating_sub-left.ensures in
     let right = c.min-x-end.ensures in (
       row,
-      is_leak m c.args.side c.args.level c.args.cut.now at q c.requires.at c.requires.here (c.is_open.ensures.0 c.if-is_open.true) (omega (arith, left, c.loop-x.auto.x)) (omega (arith, right, c.loop-x-test.true))
+      IsLeak-open m c.args.side c.args.level c.args.cut.now at q c.requires.at c.requires.here (c.is_open.ensures.0 c.if-is_open.true) (omega (arith, left, c.loop-x.auto.x)) (omega (arith, right, c.loop-x-test.true))
           (omega (arith, row, c.requires.step)) (omega (arith, row)) out,
       λ r e leak. elim (cases_lt r.x c.loop-x.x) [
         | inl before ↦ absurd (c.loop-x.invariant.none r (omega (arith, e)) before leak)
@@ -33,8 +33,8 @@ returns-then-is_open-clause-first g c =
 pub returns-then-is_open-clause-place : goal.returns-then-is_open-clause-place
 returns-then-is_open-clause-place g c =
     let m = g.G.Heights.map c.args.surface.now in
-    place_goes_on m.size c.args.cut.now c.args.at c.args.step c.first_from.result (omega (arith, c.if-at-step-eq0.false))
-    (behind_left c.size-size.result m.size c.args.cut.now c.args.at c.args.step c.saturating_sub-left.result c.index_of.result c.first_from.result c.size-size.ensures (omega (arith, c.saturating_sub-left.ensures)) c.index_of.ensures.value c.first_from.ensures)
+    IsPlaceOf-goes_on m.size c.args.cut.now c.args.at c.args.step c.first_from.result (omega (arith, c.if-at-step-eq0.false))
+    (IsBehind-left c.size-size.result m.size c.args.cut.now c.args.at c.args.step c.saturating_sub-left.result c.index_of.result c.first_from.result c.size-size.ensures (omega (arith, c.saturating_sub-left.ensures)) c.index_of.ensures.value c.first_from.ensures)
 
 pub loop-x-preserved : goal.loop-x-preserved
 loop-x-preserved g c =
@@ -53,23 +53,23 @@ loop-x-preserved g c =
       | then-stands_at w ↦ rw w.next-is
           (let found = c.stands_at.ensures.0 w.if-stands_at.true in
           record {
-            next = first_after m.size cut index (row * m.size.points + (c.loop-x.x + 1)) next (omega arith) c.requires.rises found.0 (ap (place_of m.size) found.1);
-            none = none_more m c.args.side c.args.level cut at row c.loop-x.x
+            next = IsFirstFrom-after m.size cut index (row * m.size.points + (c.loop-x.x + 1)) next (omega arith) c.requires.rises found.0 (ap (place_of m.size) found.1);
+            none = IsLeak-none_more m c.args.side c.args.level cut at row c.loop-x.x
                 (λ leak. leak.outside (subst (Contains cut) found.1 (Contains-get_or cut next (record { x = 0; y = 0 }) found.0))) c.loop-x.invariant.none;
           })
       | else-stands_at+else-is_open w ↦ rw w.next-is
           (let other : next < length cut → point_of cut next ≡ q → ⊥ = λ inside e. false≢true (sym w.if-stands_at.false ∙ c.stands_at.ensures.1 (inside, e)) in
           record {
-            next = first_stays m.size cut index (row * m.size.points + (c.loop-x.x + 1)) next (omega arith) (λ inside. other_point m.size cut q next (c.requires.present next inside).in_grid there (other inside)) c.loop-x.invariant.next;
-            none = none_more m c.args.side c.args.level cut at row c.loop-x.x (λ leak. false≢true (sym w.if-is_open.false ∙ w.is_open.ensures.1 (leak.neighbour.beside, leak.neighbour.to, leak.below))) c.loop-x.invariant.none;
+            next = IsFirstFrom-stays m.size cut index (row * m.size.points + (c.loop-x.x + 1)) next (omega arith) (λ inside. place_at-apart m.size cut q next (c.requires.present next inside).in_grid there (other inside)) c.loop-x.invariant.next;
+            none = IsLeak-none_more m c.args.side c.args.level cut at row c.loop-x.x (λ leak. false≢true (sym w.if-is_open.false ∙ w.is_open.ensures.1 (leak.neighbour.beside, leak.neighbour.to, leak.below))) c.loop-x.invariant.none;
           })
     ]
 
 pub returns-clause-place : goal.returns-clause-place
 returns-clause-place g c =
     let m = g.G.Heights.map c.args.surface.now in
-    place_goes_on m.size c.args.cut.now c.args.at c.args.step c.first_from.result (omega (arith, c.if-at-step-eq0.false))
-    (behind_left c.size-size.result m.size c.args.cut.now c.args.at c.args.step c.saturating_sub-left.result c.index_of.result c.first_from.result c.size-size.ensures (omega (arith, c.saturating_sub-left.ensures)) c.index_of.ensures.value c.first_from.ensures)
+    IsPlaceOf-goes_on m.size c.args.cut.now c.args.at c.args.step c.first_from.result (omega (arith, c.if-at-step-eq0.false))
+    (IsBehind-left c.size-size.result m.size c.args.cut.now c.args.at c.args.step c.saturating_sub-left.result c.index_of.result c.first_from.result c.size-size.ensures (omega (arith, c.saturating_sub-left.ensures)) c.index_of.ensures.value c.first_from.ensures)
 
 pub index_of-requires : goal.index_of-requires
 index_of-requires g c =

@@ -1,5 +1,5 @@
-use Rattle.hd_check.proofs.Right.{right_saddle}
+use Rattle.hd_check.proofs.IsRight.{IsRight-saddle}
 use Rattle.hd_check.proofs.laws.right_certificate_tells_the_saddle.Goals as goal
 
 pub returns : goal.returns
-returns c = right_saddle
+returns c = IsRight-saddle

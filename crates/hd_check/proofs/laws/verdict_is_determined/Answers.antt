@@ -1,5 +1,5 @@
-use Rattle.hd_check.proofs.Determined.{verdict_one}
+use Rattle.hd_check.proofs.Determined.{IsVerdict-unique}
 use Rattle.hd_check.proofs.laws.verdict_is_determined.Goals as goal
 
 pub returns : goal.returns
-returns c = verdict_one
+returns c = IsVerdict-unique

@@ -1,5 +1,5 @@
-use Rattle.hd_check.proofs.ReadsBack.{text_back}
+use Rattle.hd_check.proofs.ReadsBack.{certificate_in-certificate_text}
 use Rattle.hd_check.proofs.laws.written_certificate_reads_back.Goals as goal
 
 pub returns : goal.returns
-returns c = text_back
+returns c = certificate_in-certificate_text

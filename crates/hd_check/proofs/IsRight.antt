@@ -21,9 +21,9 @@ use Rattle.hd_check.specs.Judged.{TriedFrom}
 use Rattle.hd_check.specs.Rules.{point_of, IsBelowLevel, IsCutClosed, IsRight, all_rules}
 use Rattle.hd_map.specs.Saddle.{IsSaddle, SaddleIs}
 use Rattle.hd_check.specs.Certified.{saddle_of, written_rank}
-use Rattle.hd_check.proofs.ClosedCuts.{stays_in, no_lower}
-use Rattle.hd_check.proofs.Paths.{path_leads, none_above-listed}
-use Rattle.hd_check.proofs.Searching.{place_found}
+use Rattle.hd_check.proofs.ClosedCuts.{Leads-closed, IsTop-closed}
+use Rattle.hd_check.proofs.Paths.{Leads-path, NoneAbove-listed}
+use Rattle.hd_check.proofs.Searching.{Contains-place}
 
 -- the point x lies in the cut, as far as it can be told without looking
 record IsInCut (m : Map) (cut : List Pos) (x : Rank) : Type 0 where
@@ -42,7 +42,7 @@ module _ (m : Map) (side : SideName) (level : Option Pos) (cut : List Pos) (clos
         at = n.to;
         present = n.neighbour.to;
         listed = λ out. h.listed (λ c.
-            let f = place_found cut h.at c in
+            let f = Contains-place cut h.at c in
             closed f.0 f.1 n.to (record { neighbour = subst (λ (p : Pos). Neighbour m p n.to) (sym f.2) near; below = low n.to n.to_rank; outside = out }));
         rank_is = n.to_rank;
       }
@@ -59,7 +59,7 @@ out_of_cut m cut p here out h = h.listed (λ c. out (subst (Contains cut) (same_
 right_at : (m : Map) (side : SideName) (adjacency : Adjacency) (from to : Pos) (saddle : Option (Pos × ℤ)) (path cut : List Pos)
     → TriedFrom 1 (all_rules m (record { side = side; adjacency = adjacency; from = from; to = to; saddle = saddle; path = path; cut = cut })) Yes → SaddleIs m side (rank m from) (rank m to) (written_rank m saddle)
 right_at m side adjacency from to None path cut (present, (pits, (height, (ends, (steps, (on, (low, (rises, (parts, (cut_low, (closed, _))))))))))) = λ xs p.
-    out_of_cut m cut to present.1.0 parts.1 (stays_in (Near m) (IsInCut m cut) (λ x y h n. cut_step m side None cut closed x y h n (λ q e. tt)) (rank m from) (rank m to) xs p.leads
+    out_of_cut m cut to present.1.0 parts.1 (Leads-closed (Near m) (IsInCut m cut) (λ x y h n. cut_step m side None cut closed x y h n (λ q e. tt)) (rank m from) (rank m to) xs p.leads
     (in_cut m cut from present.0 parts.0))
 right_at m side adjacency from to (Some (s, h)) [] cut (present, (pits, (height, (ends, _)))) = absurd (omega (arith, ends.0))
 right_at m side adjacency from to (Some (s, h)) (p ∷ ps) cut (present, (pits, (height, (ends, (steps, (on, (low, (rises, (parts, (cut_low, (closed, _))))))))))) =
@@ -68,17 +68,17 @@ right_at m side adjacency from to (Some (s, h)) (p ∷ ps) cut (present, (pits, 
     let stops : rank m (point_of (p ∷ ps) (length (p ∷ ps) - 1)) ≡ rank m to = ap (rank m) ends.1.1 in
     let top : IsTop (below_by side) (rank m s) (map (rank m) (p ∷ ps)) = record {
       one_of = map-Contains (rank m) (p ∷ ps) s on;
-      none_above = none_above-listed m side (rank m s) (p ∷ ps) low;
+      none_above = NoneAbove-listed m side (rank m s) (p ∷ ps) low;
     } in
     let leads : Leads (Near m) (rank m from) (map (rank m) ps) (rank m to) =
-    subst (λ (a : Rank). Leads (Near m) a (map (rank m) ps) (rank m to)) begins (subst (λ (b : Rank). Leads (Near m) (rank m p) (map (rank m) ps) b) stops (path_leads m p ps steps)) in
+    subst (λ (a : Rank). Leads (Near m) a (map (rank m) ps) (rank m to)) begins (subst (λ (b : Rank). Leads (Near m) (rank m p) (map (rank m) ps) b) stops (Leads-path m p ps steps)) in
     let tops : IsTop (below_by side) (rank m s) (rank m from ∷ map (rank m) ps) = subst (λ (a : Rank). IsTop (below_by side) (rank m s) (a ∷ map (rank m) ps)) begins top in
     subst (λ (t : Rank). IsSaddle m side (rank m from) (rank m to) t) written (record {
       reached = (map (rank m) ps, record { point = point_at m from present.0; leads = leads }, tops);
-      least = λ xs t path u. no_lower (Near m) (below_by side) (not_above-trans (below_by side) (below_by-order side)) (rank m s) (IsInCut m cut)
+      least = λ xs t path u. IsTop-closed (Near m) (below_by side) (not_above-trans (below_by side) (below_by-order side)) (rank m s) (IsInCut m cut)
           (λ x y h n below. cut_step m side (Some s) cut closed x y h n (λ q e. subst (λ (r : Rank). below_by side r (rank m s) ≡ true) e below))
           (rank m from) (rank m to) (in_cut m cut from present.0 parts.0) (out_of_cut m cut to present.1.0 parts.1) xs t path.leads u;
     })
 
-pub right_saddle : (m : Map) (c : Certificate) → IsRight m c → SaddleIs (under c.adjacency m) c.side (rank m c.from) (rank m c.to) (saddle_of m c)
-right_saddle m c h = right_at (under c.adjacency m) c.side c.adjacency c.from c.to c.saddle c.path c.cut h
+pub IsRight-saddle : (m : Map) (c : Certificate) → IsRight m c → SaddleIs (under c.adjacency m) c.side (rank m c.from) (rank m c.to) (saddle_of m c)
+IsRight-saddle m c h = right_at (under c.adjacency m) c.side c.adjacency c.from c.to c.saddle c.path c.cut h
