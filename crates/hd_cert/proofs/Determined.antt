@@ -23,17 +23,17 @@ tail_same : {X : Type 0} (x y : X) (xs ys : List X) → x ∷ xs ≡ y ∷ ys �
 tail_same x y xs ys e = cc
 
 -- positions of the same ranks are the same
-pub same_positions : (m : Map) (ps qs : List Pos) → All (Present m) ps → All (Present m) qs → map (rank m) ps ≡ map (rank m) qs → ps ≡ qs
-same_positions m [] [] here there e = refl
-same_positions m [] (q ∷ qs) here there e = absurd (let l = ap length e in let k = length-map qs (rank m) in omega (arith, l, k))
-same_positions m (p ∷ ps) [] here there e = absurd (let l = ap length e in let k = length-map ps (rank m) in omega (arith, l, k))
-same_positions m (p ∷ ps) (q ∷ qs) here there e =
+pub rank-same_positions : (m : Map) (ps qs : List Pos) → All (Present m) ps → All (Present m) qs → map (rank m) ps ≡ map (rank m) qs → ps ≡ qs
+rank-same_positions m [] [] here there e = refl
+rank-same_positions m [] (q ∷ qs) here there e = absurd (let l = ap length e in let k = length-map qs (rank m) in omega (arith, l, k))
+rank-same_positions m (p ∷ ps) [] here there e = absurd (let l = ap length e in let k = length-map ps (rank m) in omega (arith, l, k))
+rank-same_positions m (p ∷ ps) (q ∷ qs) here there e =
     let first : p ≡ q = same_point m p q (All-head (Present m) p ps here) (All-head (Present m) q qs there) (head_same (rank m p) (rank m q) (map (rank m) ps) (map (rank m) qs) e) in
-    let rest : ps ≡ qs = same_positions m ps qs (All-tail (Present m) p ps here) (All-tail (Present m) q qs there) (tail_same (rank m p) (rank m q) (map (rank m) ps) (map (rank m) qs) e) in
+    let rest : ps ≡ qs = rank-same_positions m ps qs (All-tail (Present m) p ps here) (All-tail (Present m) q qs there) (tail_same (rank m p) (rank m q) (map (rank m) ps) (map (rank m) qs) e) in
     ap₂ (λ (r : Pos) (rs : List Pos). r ∷ rs) first rest
 
 stand_same : (m : Map) (xs : List Rank) (ps qs : List Pos) → StandAt m xs ps → StandAt m xs qs → ps ≡ qs
-stand_same m xs ps qs here there = same_positions m ps qs here.0 there.0 (sym here.1 ∙ there.1)
+stand_same m xs ps qs here there = rank-same_positions m ps qs here.0 there.0 (sym here.1 ∙ there.1)
 
 -- lists neither of which is after the other
 not_after_both : (is js : List ℕ) → length is ≡ length js → IsNotAfter is js → IsNotAfter js is → is ≡ js
@@ -104,7 +104,7 @@ same_parts : (side side' : SideName) (adjacency adjacency' : Adjacency) (from fr
 same_parts side side' adjacency adjacency' from from' to to' saddle saddle' path path' cut cut' a b c d e f g = cc
 
 -- there is one shown certificate
-pub certificate_one : (m : Map) (side : SideName) (a b : Pos) (saddle : Option Rank) (c d : Certificate) → IsShownCertificate m side a b saddle c → IsShownCertificate m side a b saddle d → c ≡ d
-certificate_one m side a b saddle c d h k = same_parts c.side d.side c.adjacency d.adjacency c.from d.from c.to d.to c.saddle d.saddle c.path d.path c.cut d.cut
+pub IsShownCertificate-unique : (m : Map) (side : SideName) (a b : Pos) (saddle : Option Rank) (c d : Certificate) → IsShownCertificate m side a b saddle c → IsShownCertificate m side a b saddle d → c ≡ d
+IsShownCertificate-unique m side a b saddle c d h k = same_parts c.side d.side c.adjacency d.adjacency c.from d.from c.to d.to c.saddle d.saddle c.path d.path c.cut d.cut
     (h.side_is ∙ sym k.side_is) (h.setting_is ∙ sym k.setting_is) (h.from_is ∙ sym k.from_is) (h.to_is ∙ sym k.to_is) (written_one m saddle c.saddle d.saddle h.saddle_is k.saddle_is)
     (maybe_path_one m side a b saddle c.path d.path h.path k.path) (cut_at_one m side a b saddle c.cut d.cut h.cut k.cut)

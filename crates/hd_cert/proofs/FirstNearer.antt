@@ -12,19 +12,19 @@ use Rattle.hd_cert.specs.FirstNearer.{GoesNearer, IsBesideWith, IsFirst, IsNeare
 use Rattle.hd_cert.specs.declared.residue.Residue.{Residue}
 use Rattle.hd_cert.specs.Residues.{residue_after, residue_of_steps, residue_at, residue_of}
 use Rattle.hd_reach.specs.Steps.{steps_at}
-use Rattle.hd_cert.proofs.Residues.{one_more, reached_in, same_before, same_steps}
+use Rattle.hd_cert.proofs.Residues.{residue_of_steps-more, residue_of_steps-reached, residue_after-same, residue_of_steps-same}
 
 -- positions that compare as different are different
-pub positions-different : (p q : Pos) (same : Bool) → same ≡ (nat_eq p.x q.x && nat_eq p.y q.y) → same ≡ false → p ≡ q → ⊥
-positions-different p q same is not e =
+pub Pos-different : (p q : Pos) (same : Bool) → same ≡ (nat_eq p.x q.x && nat_eq p.y q.y) → same ≡ false → p ≡ q → ⊥
+Pos-different p q same is not e =
     let x : nat_eq p.x q.x ≡ true = eq-eqb p.x q.x (ap (λ (r : Pos). r.x) e) in
     let y : nat_eq p.y q.y ≡ true = eq-eqb p.y q.y (ap (λ (r : Pos). r.y) e) in
     false≢true (sym not ∙ is ∙ ap₂ (λ a b. a && b) x y)
 
 -- the first of a rising list that has the property
-pub first_of : (m : Map) (P : Pos → Type 0) (round : List Pos) → AllPairs (λ (a b : Pos). place_of m.size a < place_of m.size b) round → (k : ℕ) → ((i : ℕ) → i < k → P (point_of round i) → ⊥)
+pub place_of-first : (m : Map) (P : Pos → Type 0) (round : List Pos) → AllPairs (λ (a b : Pos). place_of m.size a < place_of m.size b) round → (k : ℕ) → ((i : ℕ) → i < k → P (point_of round i) → ⊥)
     → (r : Pos) → Contains round r → P r → place_of m.size (point_of round k) ≤ place_of m.size r
-first_of m P round ordered k before r c h =
+place_of-first m P round ordered k before r c h =
     let f = Contains-place round r c in
     let e : place_of m.size (point_of round f.0) ≡ place_of m.size r = ap (place_of m.size) f.2 in
     elim (cases_lt f.0 k) [
@@ -36,9 +36,9 @@ first_of m P round ordered k before r c h =
     ]
 
 -- a path goes on by the first nearer point
-pub goes_more : (m : Map) (steps : List (Option ℕ)) (from : Pos) (count gone : ℕ) (path : List Pos) (here next : Pos) → GoesNearer m steps from count path gone → point_of path gone ≡ here
+pub GoesNearer-more : (m : Map) (steps : List (Option ℕ)) (from : Pos) (count gone : ℕ) (path : List Pos) (here next : Pos) → GoesNearer m steps from count path gone → point_of path gone ≡ here
     → IsFirst m (IsNearer m steps (count - (gone + 1)) here) next → GoesNearer m steps from count (path ++ next ∷ []) (gone + 1) × (point_of (path ++ next ∷ []) (gone + 1) ≡ next)
-goes_more m steps from count gone path here next g is first =
+GoesNearer-more m steps from count gone path here next g is first =
     let long = g.long in
     let old : (k : ℕ) → k < length path → point_of (path ++ next ∷ []) k ≡ point_of path k = λ k h. get_or_append_left path (next ∷ []) (record { x = 0; y = 0 }) k h in
     let new : point_of (path ++ next ∷ []) (gone + 1) ≡ next = get_or_push path next (record { x = 0; y = 0 }) (gone + 1) long in (
@@ -64,8 +64,8 @@ pub record IsDown (m : Map) (from : Pos) (steps : List (Option ℕ)) (count : �
   pub last : point_of path gone ≡ here
   pub noted : steps_at m.size steps here ≡ Some (count - gone)
 
-pub down_begin : (m : Map) (residues : List Residue) (from to : Pos) (steps : List (Option ℕ)) (count : ℕ) → LeadsDown m residues from to steps count → IsDown m from steps count (from ∷ []) from 0
-down_begin m residues from to steps count leads = record {
+pub IsDown-begin : (m : Map) (residues : List Residue) (from to : Pos) (steps : List (Option ℕ)) (count : ℕ) → LeadsDown m residues from to steps count → IsDown m from steps count (from ∷ []) from 0
+IsDown-begin m residues from to steps count leads = record {
   below = omega arith;
   goes = record { long = refl; begins = refl; nearer = λ k h. absurd (omega (arith, h)) };
   last = refl;
@@ -74,7 +74,7 @@ down_begin m residues from to steps count leads = record {
 
 -- what is noted with the residue of some steps has steps
 steps_of : (o : Option ℕ) (n : ℕ) → residue_of o ≡ residue_of_steps n → (k : ℕ) × (o ≡ Some k) × (residue_of_steps k ≡ residue_of_steps n)
-steps_of None n e = absurd (reached_in n (sym e))
+steps_of None n e = absurd (residue_of_steps-reached n (sym e))
 steps_of (Some k) n e = (k, refl, e)
 
 module _ (m : Map) (residues : List Residue) (from to : Pos) (steps : List (Option ℕ)) (count : ℕ) (leads : LeadsDown m residues from to steps count) where
@@ -85,7 +85,7 @@ module _ (m : Map) (residues : List Residue) (from to : Pos) (steps : List (Opti
       let k = steps_of (steps_at m.size steps q) n (sym (leads.read q there) ∙ beside.noted) in
       let up = leads.close here q beside.neighbour (n + 1) k.0 noted k.1 in
       let down = leads.close q here (neighbour-sym m here q beside.neighbour) k.0 (n + 1) k.1 noted in
-      let same : k.0 ≡ n = same_steps k.0 n (omega (arith, down)) (omega (arith, up)) k.2 in
+      let same : k.0 ≡ n = residue_of_steps-same k.0 n (omega (arith, down)) (omega (arith, up)) k.2 in
       record { neighbour = beside.neighbour; noted = k.1 ∙ ap Some same }
 
   -- and the residue before where it has one step less
@@ -98,9 +98,9 @@ module _ (m : Map) (residues : List Residue) (from to : Pos) (steps : List (Opti
     first = λ r nearer. first.first r (beside_by_steps here r n nearer);
   }
 
-  pub down_more : (path : List Pos) (here next : Pos) (gone : ℕ) (residue : Residue) → Present m here → (here ≡ to → ⊥) → residue_after residue ≡ residue_at m.size residues here
+  pub IsDown-more : (path : List Pos) (here next : Pos) (gone : ℕ) (residue : Residue) → Present m here → (here ≡ to → ⊥) → residue_after residue ≡ residue_at m.size residues here
       → ((q : Pos) → IsBesideWith m residues residue here q → IsFirst m (IsBesideWith m residues residue here) next) → IsDown m from steps count path here gone → IsDown m from steps count (path ++ next ∷ []) next (gone + 1)
-  down_more path here next gone residue present not_end residue_is first d =
+  IsDown-more path here next gone residue present not_end residue_is first d =
       let below = d.below in
       let left : gone + 1 ≤ count = elim (cases_lt gone count) [
         | inl less ↦ omega (arith, less)
@@ -109,16 +109,16 @@ module _ (m : Map) (residues : List Residue) (from to : Pos) (steps : List (Opti
       let n : ℕ = count - (gone + 1) in
       let one : count - gone ≡ n + 1 = omega (arith, left) in
       let noted : steps_at m.size steps here ≡ Some (n + 1) = d.noted ∙ ap Some one in
-      let of_next : residue ≡ residue_of_steps n = same_before residue (residue_of_steps n) (residue_is ∙ leads.read here present.in_grid ∙ ap residue_of noted ∙ one_more n) in
+      let of_next : residue ≡ residue_of_steps n = residue_after-same residue (residue_of_steps n) (residue_is ∙ leads.read here present.in_grid ∙ ap residue_of noted ∙ residue_of_steps-more n) in
       let nearer = leads.falls here n (omega (arith, left)) present noted in
       let beside : IsBesideWith m residues residue here nearer.0 = subst (λ (r : Residue). IsBesideWith m residues r here nearer.0) (sym of_next) (beside_by_steps here nearer.0 n nearer.1) in
       let now : IsFirst m (IsNearer m steps n here) next = first_by_residue here next n noted (subst (λ (r : Residue). IsFirst m (IsBesideWith m residues r here) next) of_next (first nearer.0 beside)) in
-      let more = goes_more m steps from count gone path here next d.goes d.last now in
+      let more = GoesNearer-more m steps from count gone path here next d.goes d.last now in
       record { below = omega (arith, left); goes = more.0; last = more.1; noted = now.kind.noted }
 
   -- the path ends where the steps do
-  pub down_end : (path : List Pos) (here : Pos) (gone : ℕ) → here ≡ to → IsDown m from steps count path here gone → GoesNearer m steps from count path count
-  down_end path here gone is d =
+  pub IsDown-end : (path : List Pos) (here : Pos) (gone : ℕ) → here ≡ to → IsDown m from steps count path here gone → GoesNearer m steps from count path count
+  IsDown-end path here gone is d =
       let below = d.below in
       let both : Some (count - gone) ≡ Some 0 = sym d.noted ∙ ap (steps_at m.size steps) is ∙ leads.begun in
       let none : count - gone ≡ 0 = cc in
@@ -126,5 +126,5 @@ module _ (m : Map) (residues : List Residue) (from to : Pos) (steps : List (Opti
       subst (λ (n : ℕ). GoesNearer m steps from count path n) e d.goes
 
   -- which is before it has gone over all points
-  pub down_past : (path : List Pos) (here : Pos) (gone : ℕ) → cell_count m.size ≤ gone → IsDown m from steps count path here gone → ⊥
-  down_past path here gone past d = let below = d.below in let few = leads.few in omega (arith, past, below, few)
+  pub IsDown-past : (path : List Pos) (here : Pos) (gone : ℕ) → cell_count m.size ≤ gone → IsDown m from steps count path here gone → ⊥
+  IsDown-past path here gone past d = let below = d.below in let few = leads.few in omega (arith, past, below, few)

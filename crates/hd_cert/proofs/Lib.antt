@@ -3,8 +3,8 @@ mod Residues
 mod FirstNearer
 mod Listed
 mod Shown
-mod Sound
+mod IsRight
 mod RoutesAsPaths
 mod ReachedLow
 mod Determined
-mod Right
+mod ShownIsRight

@@ -59,8 +59,8 @@ listed_skip s Chosen index ps p there is passed l = record {
 }
 
 -- nothing is listed at first
-pub listed_none : (s : Size) (Chosen : Pos → Type 0) → AreListed s Chosen 0 []
-listed_none s Chosen = record {
+pub AreListed-none : (s : Size) (Chosen : Pos → Type 0) → AreListed s Chosen 0 []
+AreListed-none s Chosen = record {
   rises = λ k h. absurd (omega (arith, h));
   before = λ k h. absurd (omega (arith, h));
   inside = λ k h. absurd (omega (arith, h));
@@ -68,8 +68,8 @@ listed_none s Chosen = record {
   all = λ p there below some. absurd (omega (arith, below));
 }
 
-pub listed_more : (s : Size) (Chosen : Pos → Type 0) (index : ℕ) (ps ps' : List Pos) → Lists s Chosen index ps ps' → AreListed s Chosen index ps → AreListed s Chosen (index + 1) ps'
-listed_more s Chosen index ps ps' (p, there, is, which) l = elim which [
+pub AreListed-more : (s : Size) (Chosen : Pos → Type 0) (index : ℕ) (ps ps' : List Pos) → Lists s Chosen index ps ps' → AreListed s Chosen index ps → AreListed s Chosen (index + 1) ps'
+AreListed-more s Chosen index ps ps' (p, there, is, which) l = elim which [
   | inl chosen ↦ rw chosen.1 (listed_push s Chosen index ps p there is chosen.0 l)
   | inr passed ↦ rw passed.1 (listed_skip s Chosen index ps p there is passed.0 l)
 ]

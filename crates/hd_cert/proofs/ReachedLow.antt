@@ -53,12 +53,12 @@ module _ (m : Map) (side : SideName) where
       numbered there = rw place (number-of_point m side regions are (rank m p) (point_at m p there))
 
       -- what is reached is below the saddle
-      pub reached-lies : IsReachedLow m side saddle a p → LiesWithin m side saddle true p
-      reached-lies w = low_end m side saddle a w.0 p low w.1
+      pub LiesWithin-reached : IsReachedLow m side saddle a p → LiesWithin m side saddle true p
+      LiesWithin-reached w = low_end m side saddle a w.0 p low w.1
 
       -- where no point is present, none is reached
-      pub not_reached-none : number ≡ None → IsReachedLow m side saddle a p → ⊥
-      not_reached-none none w = let some : None ≡ Some (slice_index regions.numbers k) = sym none ∙ (numbered (reached-lies w).present).1 in cc
+      pub IsReachedLow-none : number ≡ None → IsReachedLow m side saddle a p → ⊥
+      IsReachedLow-none none w = let some : None ≡ Some (slice_index regions.numbers k) = sym none ∙ (numbered (LiesWithin-reached w).present).1 in cc
 
       module _ (n : ℕ) (is : number ≡ Some n) where
         numbered_by : Present m p → IsNumberOf m side regions.pits (rank m p) n
@@ -67,16 +67,16 @@ module _ (m : Map) (side : SideName) where
             subst (IsNumberOf m side regions.pits (rank m p)) (same_Some (slice_index regions.numbers k) n (sym so.1 ∙ is)) so.0
 
         -- the pit of a point that is reached is reached
-        pub pit-reached : IsReachedLow m side saddle a p → slice_index_or reached n false ≡ true
-        pit-reached w =
-            let lies = reached-lies w in
+        pub IsReachedLow-pit : IsReachedLow m side saddle a p → slice_index_or reached n false ≡ true
+        IsReachedLow-pit w =
+            let lies = LiesWithin-reached w in
             let so = numbered_by lies.present in
             let way = root_reached p so.root.0 (pit_at regions.pits n) lies so.root.1 in
             (known.each n so.inside).1 (subst (IsReachedBelow m side saddle (rank m a)) way.1 (reached-below m side saddle a way.0 low (low-trans m side saddle a p way.0 w way.2)))
 
         -- a point below the saddle is reached where its pit is
-        pub reached-by_pit : slice_index_or reached n false ≡ true → LiesWithin m side saddle true p → IsReachedLow m side saddle a p
-        reached-by_pit flag lies =
+        pub IsReachedLow-by_pit : slice_index_or reached n false ≡ true → LiesWithin m side saddle true p → IsReachedLow m side saddle a p
+        IsReachedLow-by_pit flag lies =
             let so = numbered_by lies.present in
             let way = root_reached p so.root.0 (pit_at regions.pits n) lies so.root.1 in
             let to = reached-low m side saddle a (pit_at regions.pits n) low.present ((known.each n so.inside).0 flag) in
@@ -84,9 +84,9 @@ module _ (m : Map) (side : SideName) where
             low-trans m side saddle a way.0 p (subst (IsReachedLow m side saddle a) same to.2) (low-sym m side saddle p way.0 way.2)
 
 -- the points that are reached, listed in position order, are the cut
-pub listed_cut : (m : Map) (side : SideName) (saddle : Option Rank) (a : Pos) (cut : List Pos) → LiesWithin m side saddle true a
+pub IsRouteCut-listed : (m : Map) (side : SideName) (saddle : Option Rank) (a : Pos) (cut : List Pos) → LiesWithin m side saddle true a
     → AreListed m.size (IsReachedLow m side saddle a) (cell_count m.size) cut → IsRouteCut m side saddle a cut
-listed_cut m side saddle a cut low listed = record {
+IsRouteCut-listed m side saddle a cut low listed = record {
   rises = listed.rises;
   low = low;
   all = λ p. (

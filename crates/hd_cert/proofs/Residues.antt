@@ -14,18 +14,18 @@ thrice One = refl
 thrice Two = refl
 
 -- so those with the same residue of one step more are the same
-pub same_before : (r s : Residue) → residue_after r ≡ residue_after s → r ≡ s
-same_before r s e = sym (thrice r) ∙ ap (λ t. residue_after (residue_after t)) e ∙ thrice s
+pub residue_after-same : (r s : Residue) → residue_after r ≡ residue_after s → r ≡ s
+residue_after-same r s e = sym (thrice r) ∙ ap (λ t. residue_after (residue_after t)) e ∙ thrice s
 
 -- what has steps is reached
-pub reached_in : (n : ℕ) → residue_of_steps n ≡ Unreached → ⊥
-reached_in zero e = cc
-reached_in (suc n) e = reached_in n (same_before (residue_of_steps n) Unreached e)
+pub residue_of_steps-reached : (n : ℕ) → residue_of_steps n ≡ Unreached → ⊥
+residue_of_steps-reached zero e = cc
+residue_of_steps-reached (suc n) e = residue_of_steps-reached n (residue_after-same (residue_of_steps n) Unreached e)
 
 -- what is reached has steps
-pub steps_noted : (o : Option ℕ) → (residue_of o ≡ Unreached → ⊥) → (n : ℕ) × (o ≡ Some n)
-steps_noted None h = absurd (h refl)
-steps_noted (Some n) h = (n, refl)
+pub residue_of-noted : (o : Option ℕ) → (residue_of o ≡ Unreached → ⊥) → (n : ℕ) × (o ≡ Some n)
+residue_of-noted None h = absurd (h refl)
+residue_of-noted (Some n) h = (n, refl)
 
 -- the mark of some steps is their residue
 marks-residues : (before : List Residue) (n : ℕ) → mark_in (marking Unreached residue_after Zero before) n ≡ residue_of_steps n
@@ -37,8 +37,8 @@ pub marked-residues : (before : List Residue) (r : Residue) (o : Option ℕ) →
 marked-residues before r None e = e
 marked-residues before r (Some n) e = marks-residues before n
 
-pub one_more : (n : ℕ) → residue_of_steps (n + 1) ≡ residue_after (residue_of_steps n)
-one_more n = let e : n + 1 ≡ suc n = omega arith in ap residue_of_steps e
+pub residue_of_steps-more : (n : ℕ) → residue_of_steps (n + 1) ≡ residue_after (residue_of_steps n)
+residue_of_steps-more n = let e : n + 1 ≡ suc n = omega arith in ap residue_of_steps e
 
 -- one step more, or two, have another residue
 other_after : (r : Residue) → residue_after r ≡ r → r ≡ Unreached
@@ -54,15 +54,15 @@ other_after_two One e = cc
 other_after_two Two e = cc
 
 -- of three numbers of steps in a row each has a residue of its own
-pub same_steps : (k n : ℕ) → n ≤ k → k ≤ n + 2 → residue_of_steps k ≡ residue_of_steps n → k ≡ n
-same_steps k n low high e = elim (cases_lt n k) [
+pub residue_of_steps-same : (k n : ℕ) → n ≤ k → k ≤ n + 2 → residue_of_steps k ≡ residue_of_steps n → k ≡ n
+residue_of_steps-same k n low high e = elim (cases_lt n k) [
   | inl more ↦ elim (cases_lt (n + 1) k) [
     | inl two ↦
         let is : k ≡ n + 1 + 1 = omega (arith, two, high) in
-        absurd (reached_in n (other_after_two (residue_of_steps n) (ap residue_after (sym (one_more n)) ∙ sym (one_more (n + 1)) ∙ ap residue_of_steps (sym is) ∙ e)))
+        absurd (residue_of_steps-reached n (other_after_two (residue_of_steps n) (ap residue_after (sym (residue_of_steps-more n)) ∙ sym (residue_of_steps-more (n + 1)) ∙ ap residue_of_steps (sym is) ∙ e)))
     | inr one ↦
         let is : k ≡ n + 1 = omega (arith, more, one) in
-        absurd (reached_in n (other_after (residue_of_steps n) (sym (one_more n) ∙ ap residue_of_steps (sym is) ∙ e)))
+        absurd (residue_of_steps-reached n (other_after (residue_of_steps n) (sym (residue_of_steps-more n) ∙ ap residue_of_steps (sym is) ∙ e)))
   ]
   | inr same ↦ omega (arith, low, same)
 ]

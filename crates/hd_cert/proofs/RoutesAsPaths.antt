@@ -21,16 +21,16 @@ use Rattle.hd_check.proofs.Searching.{place_at, Rises-far}
 use Rattle.hd_reach.proofs.ReachedBelow.{low_end, reached-below, reached-low}
 use Rattle.hd_cert.specs.Routes.{IsRouteOver, IsShownRoute, IsRouteCut, IsMade}
 use Rattle.hd_cert.specs.Shown.{AreTwoPits, IsPathAt, IsCutAt, IsShownCertificate}
-use Rattle.hd_cert.proofs.Sound.{route_present}
+use Rattle.hd_cert.proofs.IsRight.{Present-route}
 
 -- a path of ranks between two positions is one of positions
-pub route_of : (m : Map) (a : Pos) (xs : List Rank) (b : Pos) → Present m a → Present m b → Leads (Near m) (rank m a) xs (rank m b)
+pub Leads-route : (m : Map) (a : Pos) (xs : List Rank) (b : Pos) → Present m a → Present m b → Leads (Near m) (rank m a) xs (rank m b)
     → (ps : List Pos) × Leads (Neighbour m) a ps b × (map (rank m) ps ≡ xs)
-route_of m a [] b here there l = ([], same_point m a b here there l, refl)
-route_of m a (x ∷ xs) b here there l =
+Leads-route m a [] b here there l = ([], same_point m a b here there l, refl)
+Leads-route m a (x ∷ xs) b here there l =
     let near = l.0 in
     let same : near.from ≡ a = same_point m near.from a near.neighbour.from here (sym near.from_rank) in
-    let rest = route_of m near.to xs b near.neighbour.to there (subst (λ (r : Rank). Leads (Near m) r xs (rank m b)) near.to_rank l.1) in
+    let rest = Leads-route m near.to xs b near.neighbour.to there (subst (λ (r : Rank). Leads (Near m) r xs (rank m b)) near.to_rank l.1) in
     let is : map (rank m) rest.0 ≡ xs = rest.2 in
     (near.to ∷ rest.0, (subst (λ (p : Pos). Neighbour m p near.to) same near.neighbour, rest.1), ap (λ (r : Rank). r ∷ map (rank m) rest.0) (sym near.to_rank) ∙ ap (λ (ys : List Rank). x ∷ ys) is)
 
@@ -54,15 +54,15 @@ indexes_map m [] = refl
 indexes_map m (p ∷ ps) = ap (λ (is : List ℕ). place_of m.size p ∷ is) (indexes_map m ps)
 
 -- all of the positions are present
-pub all_present : (m : Map) (ps : List Pos) → ((k : ℕ) → k < length ps → Present m (point_of ps k)) → All (Present m) ps
-all_present m [] h = All-nil (Present m)
-all_present m (p ∷ ps) h = All-cons (Present m) p ps (h 0 (omega arith)) (all_present m ps (λ k inside. h (suc k) (omega (arith, inside))))
+pub Present-all : (m : Map) (ps : List Pos) → ((k : ℕ) → k < length ps → Present m (point_of ps k)) → All (Present m) ps
+Present-all m [] h = All-nil (Present m)
+Present-all m (p ∷ ps) h = All-cons (Present m) p ps (h 0 (omega arith)) (Present-all m ps (λ k inside. h (suc k) (omega (arith, inside))))
 
 module _ (m : Map) (side : SideName) (a b : Pos) (s : Rank) (here : Present m a) (there : Present m b) where
   -- a path of ranks over the saddle is a route over it
-  pub over_route : (ys : List Rank) → IsPathOver m side (rank m a) (rank m b) s ys → (qs : List Pos) × IsRouteOver m side a b s (a ∷ qs) × (map (rank m) qs ≡ ys)
-  over_route ys over =
-      let r = route_of m a ys b here there over.path.leads in
+  pub IsRouteOver-path : (ys : List Rank) → IsPathOver m side (rank m a) (rank m b) s ys → (qs : List Pos) × IsRouteOver m side a b s (a ∷ qs) × (map (rank m) qs ≡ ys)
+  IsRouteOver-path ys over =
+      let r = Leads-route m a ys b here there over.path.leads in
       let is : map (rank m) r.0 ≡ ys = r.2 in (
         r.0,
         record {
@@ -80,9 +80,9 @@ module _ (m : Map) (side : SideName) (a b : Pos) (s : Rank) (here : Present m a)
   after_same i j is js e h = elim h [ inl less ↦ absurd (omega (arith, less, e)) | inr rest ↦ rest.1 ]
 
   -- the shown route is the shown path
-  pub path_at : IsSaddle m side (rank m a) (rank m b) s → (path : List Pos) → IsShownRoute m side a b s path → IsPathAt m side a b s path
-  path_at saddle [] shown = let some = shown.over.some in absurd (omega (arith, some))
-  path_at saddle (p ∷ ps) shown =
+  pub IsPathAt-route : IsSaddle m side (rank m a) (rank m b) s → (path : List Pos) → IsShownRoute m side a b s path → IsPathAt m side a b s path
+  IsPathAt-route saddle [] shown = let some = shown.over.some in absurd (omega (arith, some))
+  IsPathAt-route saddle (p ∷ ps) shown =
       let begins : p ≡ a = shown.over.begins in
       let first : rank m p ≡ rank m a = ap (rank m) begins in
       let leads : Leads (Near m) (rank m a) (map (rank m) ps) (rank m b) =
@@ -97,14 +97,14 @@ module _ (m : Map) (side : SideName) (a b : Pos) (s : Rank) (here : Present m a)
             top = subst (λ (x : Rank). IsTop (below_by side) s (x ∷ map (rank m) ps)) first shown.over.top;
           };
           fewest = λ ys over.
-              (let q = over_route ys over in
+              (let q = IsRouteOver-path ys over in
               let few : length (p ∷ ps) ≤ length (a ∷ q.0) = shown.fewest (a ∷ q.0) q.1 in
               let l : length (map (rank m) ps) ≡ length ps = length-map ps (rank m) in
               let k : length (map (rank m) q.0) ≡ length q.0 = length-map q.0 (rank m) in
               let e : length (map (rank m) q.0) ≡ length ys = ap length q.2 in
               omega (arith, few, l, k, e));
           first = λ ys over same.
-              (let q = over_route ys over in
+              (let q = IsRouteOver-path ys over in
               let l : length (map (rank m) ps) ≡ length ps = length-map ps (rank m) in
               let k : length (map (rank m) q.0) ≡ length q.0 = length-map q.0 (rank m) in
               let e : length (map (rank m) q.0) ≡ length ys = ap length q.2 in
@@ -115,14 +115,14 @@ module _ (m : Map) (side : SideName) (a b : Pos) (s : Rank) (here : Present m a)
               (subst (λ (is : List ℕ). IsNotAfter is (indexes_of (map (rank m) q.0))) (sym (indexes_map m ps))
               (subst (λ (is : List ℕ). IsNotAfter (map (place_of m.size) ps) is) (sym (indexes_map m q.0)) rest)));
         };
-        stand = (all_present m (p ∷ ps) (route_present m side a b s (p ∷ ps) here shown.over), ap (λ (x : Rank). x ∷ map (rank m) ps) (sym first));
+        stand = (Present-all m (p ∷ ps) (Present-route m side a b s (p ∷ ps) here shown.over), ap (λ (x : Rank). x ∷ map (rank m) ps) (sym first));
       }
 
 -- the index of the rank at a place
-pub rank_place : (m : Map) (ps : List Pos) (k : ℕ) (d : Rank) → k < length ps → (get_or (map (rank m) ps) k d).index ≡ place_at m.size ps k
-rank_place m [] k d inside = absurd (omega (arith, inside))
-rank_place m (p ∷ ps) zero d inside = refl
-rank_place m (p ∷ ps) (suc k) d inside = rank_place m ps k d (omega (arith, inside))
+pub rank-place : (m : Map) (ps : List Pos) (k : ℕ) (d : Rank) → k < length ps → (get_or (map (rank m) ps) k d).index ≡ place_at m.size ps k
+rank-place m [] k d inside = absurd (omega (arith, inside))
+rank-place m (p ∷ ps) zero d inside = refl
+rank-place m (p ∷ ps) (suc k) d inside = rank-place m ps k d (omega (arith, inside))
 
 module _ (m : Map) (side : SideName) (a b : Pos) (saddle : Option Rank) (here : Present m a) (is : SaddleIs m side (rank m a) (rank m b) saddle) (cut : List Pos) (shown : IsRouteCut m side saddle a cut) where
   rises_more : (i j : ℕ) → i < j → j < length cut → place_at m.size cut i < place_at m.size cut j
@@ -142,36 +142,36 @@ module _ (m : Map) (side : SideName) (a b : Pos) (saddle : Option Rank) (here : 
   listed_of x r = let q = reached-low m side saddle a x here r in subst (Contains (map (rank m) cut)) q.1 (map-Contains (rank m) cut q.0 ((shown.all q.0).1 q.2))
 
   -- the cut by positions is the shown cut
-  pub cut_at : IsCutAt m side a b saddle cut
-  cut_at = record {
+  pub IsCutAt-route_cut : IsCutAt m side a b saddle cut
+  IsCutAt-route_cut = record {
     points = map (rank m) cut;
     shown = record {
       saddle_is = is;
       exactly = λ x. (route-reached_of x, listed_of x);
       in_order = λ i j d less inside.
           (let l : length (map (rank m) cut) ≡ length cut = length-map cut (rank m) in
-          let first = rank_place m cut i d (omega (arith, less, inside, l)) in
-          let second = rank_place m cut j d (omega (arith, inside, l)) in
+          let first = rank-place m cut i d (omega (arith, less, inside, l)) in
+          let second = rank-place m cut j d (omega (arith, inside, l)) in
           let up = rises_more i j less (omega (arith, inside, l)) in
           omega (arith, first, second, up));
     };
-    stand = (all_present m cut (λ k inside. (let w = (shown.all (point_of cut k)).0 (Contains-get_or cut k (record { x = 0; y = 0 }) inside) in (low_end m side saddle a w.0 (point_of cut k) shown.low w.1).present)), refl);
+    stand = (Present-all m cut (λ k inside. (let w = (shown.all (point_of cut k)).0 (Contains-get_or cut k (record { x = 0; y = 0 }) inside) in (low_end m side saddle a w.0 (point_of cut k) shown.low w.1).present)), refl);
   }
 
 path_made : (m : Map) (side : SideName) (a b : Pos) (saddle : Option Rank) (path : List Pos) → Present m a → Present m b → SaddleIs m side (rank m a) (rank m b) saddle
     → MatchOption saddle (path ≡ []) (λ s. IsShownRoute m side a b s path) → MatchOption saddle (path ≡ []) (λ s. IsPathAt m side a b s path)
 path_made m side a b None path here there is none = none
-path_made m side a b (Some s) path here there is shown = path_at m side a b s here there is path shown
+path_made m side a b (Some s) path here there is shown = IsPathAt-route m side a b s here there is path shown
 
 -- what is made by positions is the shown certificate
-pub made_shown : (m : Map) (side : SideName) (a b : Pos) (saddle : Option Rank) (c : Certificate) → AreTwoPits m side a b → SaddleIs m side (rank m a) (rank m b) saddle
+pub IsShownCertificate-made : (m : Map) (side : SideName) (a b : Pos) (saddle : Option Rank) (c : Certificate) → AreTwoPits m side a b → SaddleIs m side (rank m a) (rank m b) saddle
     → IsMade m side a b saddle c → IsShownCertificate m side a b saddle c
-made_shown m side a b saddle c pits is made = record {
+IsShownCertificate-made m side a b saddle c pits is made = record {
   side_is = made.side_is;
   setting_is = made.setting_is;
   from_is = made.from_is;
   to_is = made.to_is;
   saddle_is = made.saddle_is;
   path = path_made m side a b saddle c.path pits.here pits.there is made.path;
-  cut = cut_at m side a b saddle pits.here is c.cut made.cut;
+  cut = IsCutAt-route_cut m side a b saddle pits.here is c.cut made.cut;
 }

@@ -31,17 +31,17 @@ use Rattle.hd_cert.specs.Routes.{IsRouteOver, IsShownRoute, IsRouteCut}
 use Rattle.hd_map.specs.Shown.{IsNotAfter}
 use Rattle.hd_reach.proofs.Flooding.{noted_or_free}
 use Rattle.hd_reach.proofs.ReachedBelow.{low-steps, low_end, steps-low}
-use Rattle.hd_cert.proofs.Residues.{reached_in, steps_noted}
-use Rattle.hd_cert.proofs.Paths.{leads_of}
+use Rattle.hd_cert.proofs.Residues.{residue_of_steps-reached, residue_of-noted}
+use Rattle.hd_cert.proofs.Paths.{Leads-steps}
 
 -- a number that is noted twice is one
-pub same_some : (o : Option ℕ) (a b : ℕ) → o ≡ Some a → o ≡ Some b → a ≡ b
-same_some o a b e f = let g : Some a ≡ Some b = sym e ∙ f in cc
+pub Some-unique : (o : Option ℕ) (a b : ℕ) → o ≡ Some a → o ≡ Some b → a ≡ b
+Some-unique o a b e f = let g : Some a ≡ Some b = sym e ∙ f in cc
 
 -- what follows of a value follows of a result that has it
-pub if_ok_more : {T E : Type 0} (P Q : T → Type 0) (r : Result T E) → ((x : T) → P x → Q x) → IfOk r P → IfOk r Q
-if_ok_more P Q (Ok x) f h = f x h
-if_ok_more P Q (Err e) f h = tt
+pub IfOk-map : {T E : Type 0} (P Q : T → Type 0) (r : Result T E) → ((x : T) → P x → Q x) → IfOk r P → IfOk r Q
+IfOk-map P Q (Ok x) f h = f x h
+IfOk-map P Q (Err e) f h = tt
 
 not_true : (b : Bool) → not b ≡ true → b ≡ false
 not_true true h = absurd (false≢true h)
@@ -60,7 +60,7 @@ module _ (m : Map) (IsOpen : Pos → Type 0) (start : Pos) (goal : Option Pos) (
       let low' = r.1 in
       let long' = w.2 in
       let back = are.least p (q ∷ w.0) (s, w.1) (want (length (q ∷ w.0)) (omega (arith, low', long', e))) in
-      let same : n + 1 ≡ back.0 = same_some (steps_at m.size steps p) (n + 1) back.0 noted back.2 in
+      let same : n + 1 ≡ back.0 = Some-unique (steps_at m.size steps p) (n + 1) back.0 noted back.2 in
       let low = r.1 in
       let high = back.1 in
       let long = w.2 in
@@ -72,8 +72,8 @@ module _ (m : Map) (IsOpen : Pos → Type 0) (start : Pos) (goal : Option Pos) (
   next_nearer p n (q ∷ xs) want noted l e = (q, record { neighbour = l.0.neighbour; noted = step_falls p q n xs want l.0 l.1 (omega (arith, e)) noted })
 
   -- a point with steps left has a neighbour with one less
-  pub nearer_exists : (p : Pos) (n : ℕ) → AreWanted (n + 1) → Present m p → steps_at m.size steps p ≡ Some (n + 1) → (q : Pos) × IsNearer m steps n p q
-  nearer_exists p n want here noted = let w = are.reached p here.in_grid (n + 1) noted in next_nearer p n w.0 want noted w.1 w.2
+  pub IsNearer-exists : (p : Pos) (n : ℕ) → AreWanted (n + 1) → Present m p → steps_at m.size steps p ≡ Some (n + 1) → (q : Pos) × IsNearer m steps n p q
+  IsNearer-exists p n want here noted = let w = are.reached p here.in_grid (n + 1) noted in next_nearer p n w.0 want noted w.1 w.2
 
   walk_open : (p : Pos) (xs : List Pos) → IsOpen start → Leads (OpenStep m IsOpen) p xs start → IsOpen p
   walk_open p [] is_open l = subst (IsOpen) (sym l) is_open
@@ -127,8 +127,8 @@ module _ (m : Map) (IsOpen : Pos → Type 0) (start : Pos) (goal : Option Pos) (
       ]
 
 -- no listed rank is above
-pub none_above-at : (m : Map) (side : SideName) (t : Rank) (ps : List Pos) → NoneAbove (below_by side) t (map (rank m) ps) → (k : ℕ) → k < length ps → IsNotAbove (below_by side) (rank m (point_of ps k)) t
-none_above-at m side t ps n k inside =
+pub NoneAbove-at : (m : Map) (side : SideName) (t : Rank) (ps : List Pos) → NoneAbove (below_by side) t (map (rank m) ps) → (k : ℕ) → k < length ps → IsNotAbove (below_by side) (rank m (point_of ps k)) t
+NoneAbove-at m side t ps n k inside =
     let first : Pos = record { x = 0; y = 0 } in
     let read : get_or (map (rank m) ps) k (rank m first) ≡ rank m (point_of ps k) = get_or-map (rank m) ps k first (rank m first) inside in
     subst (λ (r : Rank). IsNotAbove (below_by side) r t) read (n k (rank m first) (rw (length-map ps (rank m)) inside))
@@ -145,15 +145,15 @@ module _ (m : Map) (side : SideName) (s : Rank) where
   low_of p is_open = not_true (below_by side s (rank m p)) is_open.low
 
   -- a path of ranks none of which is above the saddle is a path of open points
-  pub open_path : (a : Pos) (xs : List Rank) (b : Pos) → Present m a → Present m b → Leads (Near m) (rank m a) xs (rank m b) → NoneAbove (below_by side) s (rank m a ∷ xs)
+  pub OpenStep-path : (a : Pos) (xs : List Rank) (b : Pos) → Present m a → Present m b → Leads (Near m) (rank m a) xs (rank m b) → NoneAbove (below_by side) s (rank m a ∷ xs)
       → (ps : List Pos) × Leads (OpenStep m NotAbove) a ps b × NotAbove b
-  open_path a [] b here there l n = let e : a ≡ b = same_point m a b here there l in ([], e, subst (NotAbove) e (open_of a here (All-head (λ r. IsNotAbove (below_by side) r s) (rank m a) [] n)))
-  open_path a (x ∷ xs) b here there l n =
+  OpenStep-path a [] b here there l n = let e : a ≡ b = same_point m a b here there l in ([], e, subst (NotAbove) e (open_of a here (All-head (λ r. IsNotAbove (below_by side) r s) (rank m a) [] n)))
+  OpenStep-path a (x ∷ xs) b here there l n =
       let P : Rank → Type 0 = λ r. IsNotAbove (below_by side) r s in
       let near = l.0 in
       let same : near.from ≡ a = same_point m near.from a near.neighbour.from here (sym near.from_rank) in
       let low = subst (λ (r : Rank). NoneAbove (below_by side) s (r ∷ xs)) near.to_rank (All-tail P (rank m a) (x ∷ xs) n) in
-      let rest = open_path near.to xs b near.neighbour.to there (subst (λ (r : Rank). Leads (Near m) r xs (rank m b)) near.to_rank l.1) low in
+      let rest = OpenStep-path near.to xs b near.neighbour.to there (subst (λ (r : Rank). Leads (Near m) r xs (rank m b)) near.to_rank l.1) low in
       let step : OpenStep m NotAbove a near.to = record {
         neighbour = subst (λ (p : Pos). Neighbour m p near.to) same near.neighbour;
         from = open_of a here (All-head P (rank m a) (x ∷ xs) n);
@@ -169,10 +169,10 @@ module _ (m : Map) (side : SideName) (s : Rank) where
       let step : (k : ℕ) → k < length (p ∷ ps) - 1 → OpenStep m NotAbove (point_of (p ∷ ps) k) (point_of (p ∷ ps) (k + 1)) = λ k inside.
       (let near = over.steps k inside in record {
         neighbour = near;
-        from = open_of (point_of (p ∷ ps) k) near.from (none_above-at m side s (p ∷ ps) none k (omega (arith, inside)));
-        to = open_of (point_of (p ∷ ps) (k + 1)) near.to (none_above-at m side s (p ∷ ps) none (k + 1) (omega (arith, inside)));
+        from = open_of (point_of (p ∷ ps) k) near.from (NoneAbove-at m side s (p ∷ ps) none k (omega (arith, inside)));
+        to = open_of (point_of (p ∷ ps) (k + 1)) near.to (NoneAbove-at m side s (p ∷ ps) none (k + 1) (omega (arith, inside)));
       }) in
-      let leads = leads_of (OpenStep m NotAbove) p ps step in
+      let leads = Leads-steps (OpenStep m NotAbove) p ps step in
       (ps, ap (λ (q : Pos). q ∷ ps) over.begins, subst (λ (q : Pos). Leads (OpenStep m NotAbove) q ps b) over.begins (subst (λ (q : Pos). Leads (OpenStep m NotAbove) p ps q) over.ends leads))
 
   -- a path between two points none of whose points is above their saddle has it as its top
@@ -188,30 +188,30 @@ module _ (m : Map) (side : SideName) (s : Rank) where
 module _ (m : Map) (side : SideName) (s : Rank) (a b : Pos) (steps : List (Option ℕ)) (are : AreSteps m (NotAbove m side s) b (Some a) steps)
     (here : Present m a) (there : Present m b) (saddle : IsSaddle m side (rank m a) (rank m b) s) where
   -- the first point has steps
-  pub begin_noted : (n : ℕ) × (steps_at m.size steps a ≡ Some n)
-  begin_noted =
+  pub steps_at-begin : (n : ℕ) × (steps_at m.size steps a ≡ Some n)
+  steps_at-begin =
       let r = saddle.reached in
-      let w = open_path m side s a r.0 b here there r.1.leads r.2.none_above in
+      let w = OpenStep-path m side s a r.0 b here there r.1.leads r.2.none_above in
       elim (noted_or_free (steps_at m.size steps a)) [
         | inl noted ↦ noted
         | inr free ↦ (let l = are.least a w.0 w.1 (λ k e. absurd (let both : None ≡ Some k = sym free ∙ e in cc)) in (l.0, l.2))
       ]
 
   -- its steps lead down to the second
-  pub leads_down : (residues : List Residue) (count : ℕ) → ((p : Pos) → InGrid m.size p → residue_at m.size residues p ≡ residue_of (steps_at m.size steps p)) → steps_at m.size steps a ≡ Some count → LeadsDown m residues a b steps count
-  leads_down residues count read noted = record {
+  pub LeadsDown-goes_nearer : (residues : List Residue) (count : ℕ) → ((p : Pos) → InGrid m.size p → residue_at m.size residues p ≡ residue_of (steps_at m.size steps p)) → steps_at m.size steps a ≡ Some count → LeadsDown m residues a b steps count
+  LeadsDown-goes_nearer residues count read noted = record {
     read = read;
     noted = noted;
     few = are.few a here.in_grid count noted;
     begun = (let r = are.least b [] refl (λ k e. omega arith) in let none = r.1 in let zero' : r.0 ≡ 0 = omega (arith, none) in r.2 ∙ ap Some zero');
     ends = noted_zero m (NotAbove m side s) b (Some a) steps are;
     close = are.close;
-    falls = λ p n less there' noted'. nearer_exists m (NotAbove m side s) b (Some a) steps are p n (λ j le k e. (let same = same_some (steps_at m.size steps a) count k noted e in omega (arith, le, less, same))) there' noted';
+    falls = λ p n less there' noted'. IsNearer-exists m (NotAbove m side s) b (Some a) steps are p n (λ j le k e. (let same = Some-unique (steps_at m.size steps a) count k noted e in omega (arith, le, less, same))) there' noted';
   }
 
   module _ (path : List Pos) (count : ℕ) (noted : steps_at m.size steps a ≡ Some count) (goes : GoesNearer m steps a count path count) where
     is_open_end : NotAbove m side s b
-    is_open_end = (let r = saddle.reached in (open_path m side s a r.0 b here there r.1.leads r.2.none_above).2)
+    is_open_end = (let r = saddle.reached in (OpenStep-path m side s a r.0 b here there r.1.leads r.2.none_above).2)
 
     goes_noted : (k : ℕ) → k ≤ count → Present m (point_of path k) × (steps_at m.size steps (point_of path k) ≡ Some (count - k))
     goes_noted zero h = (subst (Present m) (sym goes.begins) here, ap (steps_at m.size steps) goes.begins ∙ noted ∙ ap Some (let e : count ≡ count - zero = omega arith in e))
@@ -264,11 +264,11 @@ module _ (m : Map) (side : SideName) (s : Rank) (a b : Pos) (steps : List (Optio
       (goes.nearer k (omega (arith, inside, short)))) in
       let noted' : steps_at m.size steps p ≡ Some (length ps) = ap (steps_at m.size steps) begins ∙ noted ∙ ap Some (sym short) in
       let leads : Leads (OpenStep m (NotAbove m side s)) p w.0 b = subst (λ (q : Pos). Leads (OpenStep m (NotAbove m side s)) q w.0 b) (sym begins) w.2 in
-      let first = not_after m (NotAbove m side s) b (Some a) steps are p ps w.0 (λ j le k e. (let eq = same_some (steps_at m.size steps a) count k noted e in omega (arith, le, eq, short))) takes noted' leads same' in
+      let first = not_after m (NotAbove m side s) b (Some a) steps are p ps w.0 (λ j le k e. (let eq = Some-unique (steps_at m.size steps a) count k noted e in omega (arith, le, eq, short))) takes noted' leads same' in
       subst (λ (qs : List Pos). IsNotAfter (map (place_of m.size) (p ∷ ps)) (map (place_of m.size) qs)) (sym w.1) (inr (ap (place_of m.size) begins, first))
 
-  pub path_shown : (path : List Pos) (count : ℕ) → steps_at m.size steps a ≡ Some count → GoesNearer m steps a count path count → IsShownRoute m side a b s path
-  path_shown path count noted goes =
+  pub IsShownRoute-path : (path : List Pos) (count : ℕ) → steps_at m.size steps a ≡ Some count → GoesNearer m steps a count path count → IsShownRoute m side a b s path
+  IsShownRoute-path path count noted goes =
       let long = goes.long in
       record {
         over = record {
@@ -284,8 +284,8 @@ module _ (m : Map) (side : SideName) (s : Rank) (a b : Pos) (steps : List (Optio
             elim (cases_lt count (length w.0)) [
               | inl less ↦ omega (arith, long, less, is)
               | inr more ↦
-                  let r = are.least a w.0 w.2 (λ k e. (let eq = same_some (steps_at m.size steps a) count k noted e in omega (arith, more, eq))) in
-                  let same : count ≡ r.0 = same_some (steps_at m.size steps a) count r.0 noted r.2 in
+                  let r = are.least a w.0 w.2 (λ k e. (let eq = Some-unique (steps_at m.size steps a) count k noted e in omega (arith, more, eq))) in
+                  let same : count ≡ r.0 = Some-unique (steps_at m.size steps a) count r.0 noted r.2 in
                   let le = r.1 in
                   omega (arith, long, same, le, is)
             ]);
@@ -293,20 +293,20 @@ module _ (m : Map) (side : SideName) (s : Rank) (a b : Pos) (steps : List (Optio
       }
 
 -- a pit is below each saddle to another point
-pub pit_below : (m : Map) (side : SideName) (a b : Pos) (s : Rank) → Present m a → Present m b → IsPit m side (rank m a) → (a ≡ b → ⊥) → IsSaddle m side (rank m a) (rank m b) s
+pub below_by-pit : (m : Map) (side : SideName) (a b : Pos) (s : Rank) → Present m a → Present m b → IsPit m side (rank m a) → (a ≡ b → ⊥) → IsSaddle m side (rank m a) (rank m b) s
     → below_by side (rank m a) s ≡ true
-pit_below m side a b s here there pit apart saddle = saddle-above_pit m side (rank m a) (rank m b) s pit (λ e. apart (same_point m a b here there e)) saddle
+below_by-pit m side a b s here there pit apart saddle = saddle-above_pit m side (rank m a) (rank m b) s pit (λ e. apart (same_point m a b here there e)) saddle
 
 -- the first of two joined pits lies within the level of its cut
-pub pit_within : (m : Map) (side : SideName) (a b : Pos) (saddle : Option Rank) → Present m a → Present m b → IsPit m side (rank m a) → (a ≡ b → ⊥) → SaddleIs m side (rank m a) (rank m b) saddle
+pub LiesWithin-pit : (m : Map) (side : SideName) (a b : Pos) (saddle : Option Rank) → Present m a → Present m b → IsPit m side (rank m a) → (a ≡ b → ⊥) → SaddleIs m side (rank m a) (rank m b) saddle
     → LiesWithin m side saddle true a
-pit_within m side a b (Some s) here there pit apart is = record { present = here; low = pit_below m side a b s here there pit apart is }
-pit_within m side a b None here there pit apart is = record { present = here; low = refl }
+LiesWithin-pit m side a b (Some s) here there pit apart is = record { present = here; low = below_by-pit m side a b s here there pit apart is }
+LiesWithin-pit m side a b None here there pit apart is = record { present = here; low = refl }
 
 -- the points that are reached are those that are joined below the saddle
-pub cut_shown : (m : Map) (side : SideName) (saddle : Option Rank) (a : Pos) (residues : List Residue) (cut : List Pos) → AreResidues m (LiesWithin m side saddle true) a None residues
+pub IsRouteCut-shown : (m : Map) (side : SideName) (saddle : Option Rank) (a : Pos) (residues : List Residue) (cut : List Pos) → AreResidues m (LiesWithin m side saddle true) a None residues
     → AreListed m.size (IsReached m.size residues) (cell_count m.size) cut → LiesWithin m side saddle true a → IsRouteCut m side saddle a cut
-cut_shown m side saddle a residues cut known listed low = record {
+IsRouteCut-shown m side saddle a residues cut known listed low = record {
   rises = listed.rises;
   low = low;
   all = λ p. (
@@ -314,18 +314,18 @@ cut_shown m side saddle a residues cut known listed low = record {
         (let f = Contains-place cut p c in
         let inside : InGrid m.size p = subst (InGrid m.size) f.2 (listed.inside f.0 f.1) in
         let reached : IsReached m.size residues p = subst (IsReached m.size residues) f.2 (listed.chosen f.0 f.1) in
-        let n = steps_noted (steps_at m.size known.steps p) (λ none. reached (known.read p inside ∙ none)) in
+        let n = residue_of-noted (steps_at m.size known.steps p) (λ none. reached (known.read p inside ∙ none)) in
         steps-low m side saddle a known.steps known.are p inside n.0 n.1),
     λ w.
         (let there = (low_end m side saddle a w.0 p low w.1).present in
         let n = low-steps m side saddle a known.steps known.are p w in
         let is : residue_at m.size residues p ≡ residue_of (Some n.0) = known.read p there.in_grid ∙ ap residue_of n.1 in
-        listed.all p there.in_grid (place_inside m.size p there.in_grid) (λ none. reached_in n.0 (sym is ∙ none))),
+        listed.all p there.in_grid (place_inside m.size p there.in_grid) (λ none. residue_of_steps-reached n.0 (sym is ∙ none))),
   );
 }
 
 -- the position of the index of a point is that point
-pub written_point : (m : Map) (s : Rank) (p : Pos) → IsPoint m s → InGrid m.size p → place_of m.size p ≡ s.index → Present m p × (rank m p ≡ s)
-written_point m s p point there is =
+pub rank-written : (m : Map) (s : Rank) (p : Pos) → IsPoint m s → InGrid m.size p → place_of m.size p ≡ s.index → Present m p × (rank m p ≡ s)
+rank-written m s p point there is =
     let e : point.at ≡ p = same_place m.size point.at p point.present.in_grid there (sym (is ∙ ap (λ (r : Rank). r.index) point.rank_is)) in
     (subst (Present m) e point.present, ap (rank m) (sym e) ∙ sym point.rank_is)

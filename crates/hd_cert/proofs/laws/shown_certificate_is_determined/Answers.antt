@@ -1,5 +1,5 @@
-use Rattle.hd_cert.proofs.Determined.{certificate_one}
+use Rattle.hd_cert.proofs.Determined.{IsShownCertificate-unique}
 use Rattle.hd_cert.proofs.laws.shown_certificate_is_determined.Goals as goal
 
 pub returns : goal.returns
-returns c = certificate_one
+returns c = IsShownCertificate-unique

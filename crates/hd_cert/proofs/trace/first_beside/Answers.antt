@@ -10,7 +10,7 @@ use Rattle.hd_check.proofs.Searching.{Contains-place}
 use Rattle.hd_check.proofs.Pits.{Neighbour-listed}
 use Rattle.hd_cert.specs.declared.residue.Residue.TheVariants.{Unreached}
 use Rattle.hd_cert.specs.FirstNearer.{IsBesideWith}
-use Rattle.hd_cert.proofs.FirstNearer.{first_of}
+use Rattle.hd_cert.proofs.FirstNearer.{place_of-first}
 use Rattle.hd_cert.proofs.trace.first_beside.Goals as goal
 
 pub index_of-requires-clause-in_grid : goal.index_of-requires-clause-in_grid
@@ -30,7 +30,7 @@ returns-then-eq-clause-first g c q found =
     let read : get_or c.args.residues.now c.index_of.result Unreached ≡ c.args.residue = search rules in
     record {
       kind = record { neighbour = Neighbour-listed m c.args.at round all k c.loop-k-test.true; noted = rw (← place) read };
-      first = λ r h. first_of m Kind round (rw c.as_slice-round.ensures c.neighbours-near.ensures.ordered) k c.loop-k.invariant r ((all r).1 h.neighbour) h;
+      first = λ r h. place_of-first m Kind round (rw c.as_slice-round.ensures c.neighbours-near.ensures.ordered) k c.loop-k.invariant r ((all r).1 h.neighbour) h;
     }
 
 pub returns-clause-first : goal.returns-clause-first

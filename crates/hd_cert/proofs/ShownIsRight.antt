@@ -19,19 +19,19 @@ use Rattle.hd_reach.specs.Within.{LiesWithin}
 use Rattle.hd_reach.proofs.ReachedBelow.{low_end, reached-below, reached-low}
 use Rattle.hd_cert.specs.Routes.{IsRouteOver, IsRouteCut}
 use Rattle.hd_cert.specs.Shown.{AreTwoPits, IsPathAt, IsCutAt, IsShownCertificate}
-use Rattle.hd_cert.proofs.Determined.{same_positions}
-use Rattle.hd_cert.proofs.RoutesAsPaths.{all_present, over_route, rank_place}
-use Rattle.hd_cert.proofs.Shown.{pit_within}
-use Rattle.hd_cert.proofs.Sound.{right_of, route_present}
+use Rattle.hd_cert.proofs.Determined.{rank-same_positions}
+use Rattle.hd_cert.proofs.RoutesAsPaths.{Present-all, IsRouteOver-path, rank-place}
+use Rattle.hd_cert.proofs.Shown.{LiesWithin-pit}
+use Rattle.hd_cert.proofs.IsRight.{IsRight-path_and_cut, Present-route}
 
 -- the shown path is a path of positions over the saddle
 path_over : (m : Map) (side : SideName) (a b : Pos) (s : Rank) (path : List Pos) → Present m a → Present m b → IsPathAt m side a b s path → IsRouteOver m side a b s path
 path_over m side a b s path here there at =
-    let route = over_route m side a b s here there at.points at.shown.over in
+    let route = IsRouteOver-path m side a b s here there at.points at.shown.over in
     let whole : List Pos = a ∷ route.0 in
-    let all = all_present m whole (route_present m side a b s whole here route.1) in
+    let all = Present-all m whole (Present-route m side a b s whole here route.1) in
     let ranks : map (rank m) whole ≡ map (rank m) path = ap (λ (xs : List Rank). rank m a ∷ xs) route.2 ∙ at.stand.1 in
-    subst (IsRouteOver m side a b s) (same_positions m whole path all at.stand.0 ranks) route.1
+    subst (IsRouteOver m side a b s) (rank-same_positions m whole path all at.stand.0 ranks) route.1
 
 path_or_none : (m : Map) (side : SideName) (a b : Pos) (saddle : Option Rank) (path : List Pos) → Present m a → Present m b → MatchOption saddle (path ≡ []) (λ s. IsPathAt m side a b s path)
     → MatchOption saddle (path ≡ []) (λ s. IsRouteOver m side a b s path)
@@ -62,8 +62,8 @@ module _ (m : Map) (side : SideName) (a b : Pos) (saddle : Option Rank) (cut : L
         (let ordered = subst (λ (xs : List Rank). AllPairs (λ p q. p.index < q.index) xs) at.stand.1 at.shown.in_order in
         let d : Rank = rank m a in
         let l : length (map (rank m) cut) ≡ length cut = length-map cut (rank m) in
-        let first = rank_place m cut k d (omega (arith, inside)) in
-        let second = rank_place m cut (k + 1) d (omega (arith, inside)) in
+        let first = rank-place m cut k d (omega (arith, inside)) in
+        let second = rank-place m cut (k + 1) d (omega (arith, inside)) in
         let up = ordered k (k + 1) d (omega arith) (omega (arith, inside, l)) in
         omega (arith, first, second, up));
     low = low;
@@ -71,14 +71,14 @@ module _ (m : Map) (side : SideName) (a b : Pos) (saddle : Option Rank) (cut : L
   }
 
 -- the certificate that is shown of two pits and their saddle is right
-pub shown_right : (m : Map) (side : SideName) (a b : Pos) (saddle : Option Rank) (c : Certificate) → AreTwoPits m side a b → IsShownCertificate m side a b saddle c → IsRight m c
-shown_right m side a b saddle c pits shown =
+pub IsRight-shown : (m : Map) (side : SideName) (a b : Pos) (saddle : Option Rank) (c : Certificate) → AreTwoPits m side a b → IsShownCertificate m side a b saddle c → IsRight m c
+IsRight-shown m side a b saddle c pits shown =
     let is = shown.cut.shown.saddle_is in
-    let low = pit_within m side a b saddle pits.here pits.there pits.pit pits.apart is in
+    let low = LiesWithin-pit m side a b saddle pits.here pits.there pits.pit pits.apart is in
     let path = path_or_none m side a b saddle c.path pits.here pits.there shown.path in
     let cut = cut_of m side a b saddle c.cut low shown.cut in
     let at : IsRight m (record { side = side; adjacency = m.adjacency; from = a; to = b; saddle = c.saddle; path = c.path; cut = c.cut }) =
-    right_of m side a b saddle c.saddle c.path c.cut pits.here pits.there pits.pit pits.other pits.apart is shown.saddle_is path cut in
+    IsRight-path_and_cut m side a b saddle c.saddle c.path c.cut pits.here pits.there pits.pit pits.other pits.apart is shown.saddle_is path cut in
     let with : SideName → Adjacency → Pos → Pos → Certificate = λ d y p q. record { side = d; adjacency = y; from = p; to = q; saddle = c.saddle; path = c.path; cut = c.cut } in
     subst (λ (d : SideName). IsRight m (with d c.adjacency c.from c.to)) (sym shown.side_is)
     (subst (λ (y : Adjacency). IsRight m (with side y c.from c.to)) (sym shown.setting_is)

@@ -24,7 +24,7 @@ use Rattle.hd_reach.specs.Within.{LiesWithin, within}
 use Rattle.hd_reach.proofs.ReachedBelow.{low-trans, low_end, reached-below}
 use Rattle.hd_cert.specs.Routes.{IsRouteOver, IsRouteCut}
 use Rattle.hd_cert.specs.Shown.{IsWritten}
-use Rattle.hd_cert.proofs.Shown.{none_above-at}
+use Rattle.hd_cert.proofs.Shown.{NoneAbove-at}
 
 -- no low path joins two points with this saddle
 not_joined : (m : Map) (side : SideName) (a b : Pos) (saddle : Option Rank) → SaddleIs m side (rank m a) (rank m b) saddle → LiesWithin m side saddle true a → IsReachedLow m side saddle a b → ⊥
@@ -84,17 +84,17 @@ module _ (m : Map) (side : SideName) (a b : Pos) (saddle : Option Rank) (written
       leak.outside ((shown.all q).1 (low-trans m side saddle a (point_of cut k) q (joined k inside) (q ∷ [], (step, refl))))
 
 -- the points of a path are present
-pub route_present : (m : Map) (side : SideName) (a b : Pos) (s : Rank) (path : List Pos) → Present m a → IsRouteOver m side a b s path → (k : ℕ) → k < length path → Present m (point_of path k)
-route_present m side a b s path here over zero inside = subst (Present m) (sym over.begins) here
-route_present m side a b s path here over (suc j) inside =
+pub Present-route : (m : Map) (side : SideName) (a b : Pos) (s : Rank) (path : List Pos) → Present m a → IsRouteOver m side a b s path → (k : ℕ) → k < length path → Present m (point_of path k)
+Present-route m side a b s path here over zero inside = subst (Present m) (sym over.begins) here
+Present-route m side a b s path here over (suc j) inside =
     let e : j + 1 ≡ suc j = omega arith in
     subst (λ (k : ℕ). Present m (point_of path k)) e (over.steps j (omega (arith, inside))).to
 
 -- where a path goes over the saddle, and a cut is the points reached below it, all rules hold
-pub right_of : (m : Map) (side : SideName) (a b : Pos) (saddle : Option Rank) (written : Option (Pos × ℤ)) (path cut : List Pos) → Present m a → Present m b → IsPit m side (rank m a) → IsPit m side (rank m b) → (a ≡ b → ⊥)
+pub IsRight-path_and_cut : (m : Map) (side : SideName) (a b : Pos) (saddle : Option Rank) (written : Option (Pos × ℤ)) (path cut : List Pos) → Present m a → Present m b → IsPit m side (rank m a) → IsPit m side (rank m b) → (a ≡ b → ⊥)
     → SaddleIs m side (rank m a) (rank m b) saddle → IsWritten m saddle written → MatchOption saddle (path ≡ []) (λ s. IsRouteOver m side a b s path) → IsRouteCut m side saddle a cut
     → IsRight m (record { side = side; adjacency = m.adjacency; from = a; to = b; saddle = written; path = path; cut = cut })
-right_of m side a b None None path cut here there pit pit' apart is w none shown =
+IsRight-path_and_cut m side a b None None path cut here there pit pit' apart is w none shown =
     let empty : length path ≡ 0 = ap length none in (
       (here, (there, (tt, ((λ k inside. absurd (omega (arith, inside, empty))), cut_present m side a b None None cut w shown)))),
       (
@@ -123,8 +123,8 @@ right_of m side a b None None path cut here there pit pit' apart is w none shown
         ),
       ),
     )
-right_of m side a b (Some s) (Some (p, h)) path cut here there pit pit' apart is w over shown =
-    let present = route_present m side a b s path here over in
+IsRight-path_and_cut m side a b (Some s) (Some (p, h)) path cut here there pit pit' apart is w over shown =
+    let present = Present-route m side a b s path here over in
     let on = subst (Contains (map (rank m) path)) (sym w.1) over.top.one_of in
     let none = subst (λ (t : Rank). NoneAbove (below_by side) t (map (rank m) path)) (sym w.1) over.top.none_above in (
       (here, (there, (w.0, (present, cut_present m side a b (Some s) (Some (p, h)) cut w shown)))),
@@ -139,7 +139,7 @@ right_of m side a b (Some s) (Some (p, h)) path cut here there pit pit' apart is
               (
                 listed_rank m p path w.0 present on,
                 (
-                  none_above-at m side (rank m p) path none,
+                  NoneAbove-at m side (rank m p) path none,
                   (
                     shown.rises,
                     (
@@ -154,5 +154,5 @@ right_of m side a b (Some s) (Some (p, h)) path cut here there pit pit' apart is
         ),
       ),
     )
-right_of m side a b None (Some x) path cut here there pit pit' apart is w none shown = absurd w
-right_of m side a b (Some s) None path cut here there pit pit' apart is w none shown = absurd w
+IsRight-path_and_cut m side a b None (Some x) path cut here there pit pit' apart is w none shown = absurd w
+IsRight-path_and_cut m side a b (Some s) None path cut here there pit pit' apart is w none shown = absurd w
