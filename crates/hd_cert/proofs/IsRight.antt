@@ -21,16 +21,16 @@ use Rattle.hd_map.specs.Saddle.{SaddleIs}
 use Rattle.hd_map.specs.Shown.{IsBelowSaddle}
 use Rattle.hd_reach.specs.Reached.{IsLowStep, IsReachedLow}
 use Rattle.hd_reach.specs.Within.{LiesWithin, within}
-use Rattle.hd_reach.proofs.ReachedBelow.{low-trans, low_end, reached-below}
+use Rattle.hd_reach.proofs.ReachedBelow.{IsReachedLow-trans, IsLow-end, IsReachedBelow-low}
 use Rattle.hd_cert.specs.Routes.{IsRouteOver, IsRouteCut}
 use Rattle.hd_cert.specs.Shown.{IsWritten}
 use Rattle.hd_cert.proofs.Shown.{NoneAbove-at}
 
 -- no low path joins two points with this saddle
 not_joined : (m : Map) (side : SideName) (a b : Pos) (saddle : Option Rank) → SaddleIs m side (rank m a) (rank m b) saddle → LiesWithin m side saddle true a → IsReachedLow m side saddle a b → ⊥
-not_joined m side a b None is low w = let r = reached-below m side None a b low w in is r.points r.path
+not_joined m side a b None is low w = let r = IsReachedBelow-low m side None a b low w in is r.points r.path
 not_joined m side a b (Some s) is low w =
-    let r = reached-below m side (Some s) a b low w in
+    let r = IsReachedBelow-low m side (Some s) a b low w in
     let t = top_of (below_by side) (below_by-order side) (rank m a) r.points in
     let down : below_by side t.0 s ≡ true = All-contains (IsBelowSaddle side (Some s)) (rank m a ∷ r.points) t.0 r.below t.1.one_of in
     false≢true (sym (is.least r.points t.0 r.path t.1) ∙ down)
@@ -60,7 +60,7 @@ module _ (m : Map) (side : SideName) (a b : Pos) (saddle : Option Rank) (written
   joined k inside = (shown.all (point_of cut k)).0 (Contains-get_or cut k (record { x = 0; y = 0 }) inside)
 
   joined_low : (k : ℕ) → k < length cut → LiesWithin m side saddle true (point_of cut k)
-  joined_low k inside = let w = joined k inside in low_end m side saddle a w.0 (point_of cut k) shown.low w.1
+  joined_low k inside = let w = joined k inside in IsLow-end m side saddle a w.0 (point_of cut k) shown.low w.1
 
   cut_present : (k : ℕ) → k < length cut → Present m (point_of cut k)
   cut_present k inside = (joined_low k inside).present
@@ -81,7 +81,7 @@ module _ (m : Map) (side : SideName) (a b : Pos) (saddle : Option Rank) (written
         from = joined_low k inside;
         to = record { present = leak.neighbour.to; low = level_back m side saddle written q is_written leak.below };
       } in
-      leak.outside ((shown.all q).1 (low-trans m side saddle a (point_of cut k) q (joined k inside) (q ∷ [], (step, refl))))
+      leak.outside ((shown.all q).1 (IsReachedLow-trans m side saddle a (point_of cut k) q (joined k inside) (q ∷ [], (step, refl))))
 
 -- the points of a path are present
 pub Present-route : (m : Map) (side : SideName) (a b : Pos) (s : Rank) (path : List Pos) → Present m a → IsRouteOver m side a b s path → (k : ℕ) → k < length path → Present m (point_of path k)

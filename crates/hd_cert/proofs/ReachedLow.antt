@@ -21,7 +21,7 @@ use Rattle.hd_cert.specs.Listed.{AreListed}
 use Rattle.hd_cert.specs.Routes.{IsRouteCut}
 use Rattle.hd_reach.specs.Reached.{IsLowStep, IsReachedLow}
 use Rattle.hd_reach.specs.Within.{LiesWithin, within}
-use Rattle.hd_reach.proofs.ReachedBelow.{low-sym, low-trans, low_end, reached-below, reached-low}
+use Rattle.hd_reach.proofs.ReachedBelow.{IsReachedLow-sym, IsReachedLow-trans, IsLow-end, IsReachedBelow-low, IsReachedLow-below}
 
 module _ (m : Map) (side : SideName) where
   -- what is below a point below the saddle is below it too
@@ -54,7 +54,7 @@ module _ (m : Map) (side : SideName) where
 
       -- what is reached is below the saddle
       pub LiesWithin-reached : IsReachedLow m side saddle a p → LiesWithin m side saddle true p
-      LiesWithin-reached w = low_end m side saddle a w.0 p low w.1
+      LiesWithin-reached w = IsLow-end m side saddle a w.0 p low w.1
 
       -- where no point is present, none is reached
       pub IsReachedLow-none : number ≡ None → IsReachedLow m side saddle a p → ⊥
@@ -72,16 +72,16 @@ module _ (m : Map) (side : SideName) where
             let lies = LiesWithin-reached w in
             let so = numbered_by lies.present in
             let way = root_reached p so.root.0 (pit_at regions.pits n) lies so.root.1 in
-            (known.each n so.inside).1 (subst (IsReachedBelow m side saddle (rank m a)) way.1 (reached-below m side saddle a way.0 low (low-trans m side saddle a p way.0 w way.2)))
+            (known.each n so.inside).1 (subst (IsReachedBelow m side saddle (rank m a)) way.1 (IsReachedBelow-low m side saddle a way.0 low (IsReachedLow-trans m side saddle a p way.0 w way.2)))
 
         -- a point below the saddle is reached where its pit is
         pub IsReachedLow-by_pit : slice_index_or reached n false ≡ true → LiesWithin m side saddle true p → IsReachedLow m side saddle a p
         IsReachedLow-by_pit flag lies =
             let so = numbered_by lies.present in
             let way = root_reached p so.root.0 (pit_at regions.pits n) lies so.root.1 in
-            let to = reached-low m side saddle a (pit_at regions.pits n) low.present ((known.each n so.inside).0 flag) in
-            let same : to.0 ≡ way.0 = same_point m to.0 way.0 (low_end m side saddle a (to.2).0 to.0 low (to.2).1).present (low_end m side saddle p (way.2).0 way.0 lies (way.2).1).present (to.1 ∙ sym way.1) in
-            low-trans m side saddle a way.0 p (subst (IsReachedLow m side saddle a) same to.2) (low-sym m side saddle p way.0 way.2)
+            let to = IsReachedLow-below m side saddle a (pit_at regions.pits n) low.present ((known.each n so.inside).0 flag) in
+            let same : to.0 ≡ way.0 = same_point m to.0 way.0 (IsLow-end m side saddle a (to.2).0 to.0 low (to.2).1).present (IsLow-end m side saddle p (way.2).0 way.0 lies (way.2).1).present (to.1 ∙ sym way.1) in
+            IsReachedLow-trans m side saddle a way.0 p (subst (IsReachedLow m side saddle a) same to.2) (IsReachedLow-sym m side saddle p way.0 way.2)
 
 -- the points that are reached, listed in position order, are the cut
 pub IsRouteCut-listed : (m : Map) (side : SideName) (saddle : Option Rank) (a : Pos) (cut : List Pos) → LiesWithin m side saddle true a
@@ -91,6 +91,6 @@ IsRouteCut-listed m side saddle a cut low listed = record {
   low = low;
   all = λ p. (
     λ c. (let f = Contains-place cut p c in subst (IsReachedLow m side saddle a) f.2 (listed.chosen f.0 f.1)),
-    λ w. (let there = (low_end m side saddle a w.0 p low w.1).present in listed.all p there.in_grid (place_inside m.size p there.in_grid) w),
+    λ w. (let there = (IsLow-end m side saddle a w.0 p low w.1).present in listed.all p there.in_grid (place_inside m.size p there.in_grid) w),
   );
 }

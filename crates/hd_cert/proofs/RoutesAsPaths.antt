@@ -18,7 +18,7 @@ use Rattle.hd_check.specs.declared.types.Certificate.{Certificate}
 use Rattle.hd_check.specs.Rules.{point_of}
 use Rattle.hd_check.proofs.Paths.{Leads-path}
 use Rattle.hd_check.proofs.Searching.{place_at, Rises-far}
-use Rattle.hd_reach.proofs.ReachedBelow.{low_end, reached-below, reached-low}
+use Rattle.hd_reach.proofs.ReachedBelow.{IsLow-end, IsReachedBelow-low, IsReachedLow-below}
 use Rattle.hd_cert.specs.Routes.{IsRouteOver, IsShownRoute, IsRouteCut, IsMade}
 use Rattle.hd_cert.specs.Shown.{AreTwoPits, IsPathAt, IsCutAt, IsShownCertificate}
 use Rattle.hd_cert.proofs.IsRight.{Present-route}
@@ -135,11 +135,11 @@ module _ (m : Map) (side : SideName) (a b : Pos) (saddle : Option Rank) (here : 
   route-reached_of : (x : Rank) → Contains (map (rank m) cut) x → IsReachedBelow m side saddle (rank m a) x
   route-reached_of x c =
       let q = Contains-map (rank m) cut x c in
-      subst (λ (r : Rank). IsReachedBelow m side saddle (rank m a) r) q.2 (reached-below m side saddle a q.0 shown.low ((shown.all q.0).0 q.1))
+      subst (λ (r : Rank). IsReachedBelow m side saddle (rank m a) r) q.2 (IsReachedBelow-low m side saddle a q.0 shown.low ((shown.all q.0).0 q.1))
 
   -- what is reached is listed
   listed_of : (x : Rank) → IsReachedBelow m side saddle (rank m a) x → Contains (map (rank m) cut) x
-  listed_of x r = let q = reached-low m side saddle a x here r in subst (Contains (map (rank m) cut)) q.1 (map-Contains (rank m) cut q.0 ((shown.all q.0).1 q.2))
+  listed_of x r = let q = IsReachedLow-below m side saddle a x here r in subst (Contains (map (rank m) cut)) q.1 (map-Contains (rank m) cut q.0 ((shown.all q.0).1 q.2))
 
   -- the cut by positions is the shown cut
   pub IsCutAt-route_cut : IsCutAt m side a b saddle cut
@@ -155,7 +155,7 @@ module _ (m : Map) (side : SideName) (a b : Pos) (saddle : Option Rank) (here : 
           let up = rises_more i j less (omega (arith, inside, l)) in
           omega (arith, first, second, up));
     };
-    stand = (Present-all m cut (λ k inside. (let w = (shown.all (point_of cut k)).0 (Contains-get_or cut k (record { x = 0; y = 0 }) inside) in (low_end m side saddle a w.0 (point_of cut k) shown.low w.1).present)), refl);
+    stand = (Present-all m cut (λ k inside. (let w = (shown.all (point_of cut k)).0 (Contains-get_or cut k (record { x = 0; y = 0 }) inside) in (IsLow-end m side saddle a w.0 (point_of cut k) shown.low w.1).present)), refl);
   }
 
 path_made : (m : Map) (side : SideName) (a b : Pos) (saddle : Option Rank) (path : List Pos) → Present m a → Present m b → SaddleIs m side (rank m a) (rank m b) saddle

@@ -29,8 +29,8 @@ use Rattle.hd_cert.specs.FirstNearer.{IsNearer, IsFirst, GoesNearer, LeadsDown}
 use Rattle.hd_cert.specs.Listed.{AreListed}
 use Rattle.hd_cert.specs.Routes.{IsRouteOver, IsShownRoute, IsRouteCut}
 use Rattle.hd_map.specs.Shown.{IsNotAfter}
-use Rattle.hd_reach.proofs.Flooding.{noted_or_free}
-use Rattle.hd_reach.proofs.ReachedBelow.{low-steps, low_end, steps-low}
+use Rattle.hd_reach.proofs.Flooding.{Option-some_or_none}
+use Rattle.hd_reach.proofs.ReachedBelow.{steps_at-low, IsLow-end, IsReachedLow-steps}
 use Rattle.hd_cert.proofs.Residues.{residue_of_steps-reached, residue_of-noted}
 use Rattle.hd_cert.proofs.Paths.{Leads-steps}
 
@@ -192,7 +192,7 @@ module _ (m : Map) (side : SideName) (s : Rank) (a b : Pos) (steps : List (Optio
   steps_at-begin =
       let r = saddle.reached in
       let w = OpenStep-path m side s a r.0 b here there r.1.leads r.2.none_above in
-      elim (noted_or_free (steps_at m.size steps a)) [
+      elim (Option-some_or_none (steps_at m.size steps a)) [
         | inl noted ↦ noted
         | inr free ↦ (let l = are.least a w.0 w.1 (λ k e. absurd (let both : None ≡ Some k = sym free ∙ e in cc)) in (l.0, l.2))
       ]
@@ -315,10 +315,10 @@ IsRouteCut-shown m side saddle a residues cut known listed low = record {
         let inside : InGrid m.size p = subst (InGrid m.size) f.2 (listed.inside f.0 f.1) in
         let reached : IsReached m.size residues p = subst (IsReached m.size residues) f.2 (listed.chosen f.0 f.1) in
         let n = residue_of-noted (steps_at m.size known.steps p) (λ none. reached (known.read p inside ∙ none)) in
-        steps-low m side saddle a known.steps known.are p inside n.0 n.1),
+        IsReachedLow-steps m side saddle a known.steps known.are p inside n.0 n.1),
     λ w.
-        (let there = (low_end m side saddle a w.0 p low w.1).present in
-        let n = low-steps m side saddle a known.steps known.are p w in
+        (let there = (IsLow-end m side saddle a w.0 p low w.1).present in
+        let n = steps_at-low m side saddle a known.steps known.are p w in
         let is : residue_at m.size residues p ≡ residue_of (Some n.0) = known.read p there.in_grid ∙ ap residue_of n.1 in
         listed.all p there.in_grid (place_inside m.size p there.in_grid) (λ none. residue_of_steps-reached n.0 (sym is ∙ none))),
   );

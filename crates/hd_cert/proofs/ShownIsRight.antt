@@ -16,7 +16,7 @@ use Rattle.hd_check.specs.Rules.{IsRight}
 use Rattle.hd_check.proofs.Searching.{Contains-place}
 use Rattle.hd_reach.specs.Reached.{IsReachedLow}
 use Rattle.hd_reach.specs.Within.{LiesWithin}
-use Rattle.hd_reach.proofs.ReachedBelow.{low_end, reached-below, reached-low}
+use Rattle.hd_reach.proofs.ReachedBelow.{IsLow-end, IsReachedBelow-low, IsReachedLow-below}
 use Rattle.hd_cert.specs.Routes.{IsRouteOver, IsRouteCut}
 use Rattle.hd_cert.specs.Shown.{AreTwoPits, IsPathAt, IsCutAt, IsShownCertificate}
 use Rattle.hd_cert.proofs.Determined.{rank-same_positions}
@@ -46,14 +46,14 @@ module _ (m : Map) (side : SideName) (a b : Pos) (saddle : Option Rank) (cut : L
   listed_reached : (p : Pos) → Contains cut p → IsReachedLow m side saddle a p
   listed_reached p c =
       let reached = (at.shown.exactly (rank m p)).0 (subst (λ (xs : List Rank). Contains xs (rank m p)) (sym at.stand.1) (map-Contains (rank m) cut p c)) in
-      let q = reached-low m side saddle a (rank m p) low.present reached in
-      subst (IsReachedLow m side saddle a) (same_point m q.0 p (low_end m side saddle a (q.2).0 q.0 low (q.2).1).present (listed_present p c) q.1) q.2
+      let q = IsReachedLow-below m side saddle a (rank m p) low.present reached in
+      subst (IsReachedLow m side saddle a) (same_point m q.0 p (IsLow-end m side saddle a (q.2).0 q.0 low (q.2).1).present (listed_present p c) q.1) q.2
 
   -- what is reached is listed
   reached_listed : (p : Pos) → IsReachedLow m side saddle a p → Contains cut p
   reached_listed p w =
-      let q = Contains-map (rank m) cut (rank m p) (subst (λ (xs : List Rank). Contains xs (rank m p)) at.stand.1 ((at.shown.exactly (rank m p)).1 (reached-below m side saddle a p low w))) in
-      subst (Contains cut) (same_point m q.0 p (listed_present q.0 q.1) (low_end m side saddle a w.0 p low w.1).present q.2) q.1
+      let q = Contains-map (rank m) cut (rank m p) (subst (λ (xs : List Rank). Contains xs (rank m p)) at.stand.1 ((at.shown.exactly (rank m p)).1 (IsReachedBelow-low m side saddle a p low w))) in
+      subst (Contains cut) (same_point m q.0 p (listed_present q.0 q.1) (IsLow-end m side saddle a w.0 p low w.1).present q.2) q.1
 
   -- the shown cut is the points that are reached below the saddle, by positions
   cut_of : IsRouteCut m side saddle a cut

@@ -17,23 +17,23 @@ use Rattle.hd_reach.specs.Steps.{IsWanted, OpenStep, steps_at, AreSteps}
 use Rattle.hd_reach.specs.Flood.{Reached, no_entry, entry_of, is_free, HasStepsWithin, IsEntry, IsFlood, IsFlooding, IsMarking, IsAtHead, Reaches, ReachesAt}
 
 -- where one thing stands everywhere it is read everywhere
-pub blank-all : {V : Type 0} (x : V) (n k : ℕ) → get_or (replicate n x) k x ≡ x
-blank-all x zero k = refl
-blank-all x (suc n) zero = refl
-blank-all x (suc n) (suc k) = blank-all x n k
+pub replicate-all : {V : Type 0} (x : V) (n k : ℕ) → get_or (replicate n x) k x ≡ x
+replicate-all x zero k = refl
+replicate-all x (suc n) zero = refl
+replicate-all x (suc n) (suc k) = replicate-all x n k
 
 -- a number is noted, or none
-pub noted_or_free : (o : Option ℕ) → ((n : ℕ) × (o ≡ Some n)) ⊎ (o ≡ None)
-noted_or_free (Some n) = inl (n, refl)
-noted_or_free None = inr refl
+pub Option-some_or_none : (o : Option ℕ) → ((n : ℕ) × (o ≡ Some n)) ⊎ (o ≡ None)
+Option-some_or_none (Some n) = inl (n, refl)
+Option-some_or_none None = inr refl
 
 -- a step from a neighbour
 pub OpenStep-turned : (m : Map) (IsOpen : Pos → Type 0) (p q : Pos) → OpenStep m IsOpen p q → OpenStep m IsOpen q p
 OpenStep-turned m IsOpen p q s = record { neighbour = neighbour-sym m p q s.neighbour; from = s.to; to = s.from }
 
 -- the point behind those that are passed is at the head
-pub head_behind : (s : Size) (here : Pos) (passed left : List ℕ) → InGrid s here → IsAtHead s ((passed ++ place_of s here ∷ []) ++ left) (length passed) here
-head_behind s here passed left in_grid =
+pub IsAtHead-behind : (s : Size) (here : Pos) (passed left : List ℕ) → InGrid s here → IsAtHead s ((passed ++ place_of s here ∷ []) ++ left) (length passed) here
+IsAtHead-behind s here passed left in_grid =
     let front : List ℕ = passed ++ place_of s here ∷ [] in
     let within : length passed < length front = (let longer = length_push passed (place_of s here) in omega (arith, longer)) in
     record {
@@ -43,9 +43,9 @@ head_behind s here passed left in_grid =
     }
 
 -- what is reached behind those that are passed is reached in the whole queue
-pub reaches_behind : {V : Type 0} (m : Map) (IsOpen : Pos → Type 0) (blank : V) (at : Pos) (x y : ℕ) (mark : V) (marks marks' : List V) (front places places' : List ℕ)
+pub ReachesAt-behind : {V : Type 0} (m : Map) (IsOpen : Pos → Type 0) (blank : V) (at : Pos) (x y : ℕ) (mark : V) (marks marks' : List V) (front places places' : List ℕ)
     → ReachesAt m IsOpen blank at x y mark marks places marks' places' → ReachesAt m IsOpen blank at x y mark marks (front ++ places) marks' (front ++ places')
-reaches_behind m IsOpen blank at x y mark marks marks' front places places' reaches = elim reaches [
+ReachesAt-behind m IsOpen blank at x y mark marks marks' front places places' reaches = elim reaches [
   | inl some ↦ inl (
     some.0,
     some.1,
@@ -333,13 +333,13 @@ module _ (m : Map) (IsOpen : Pos → Type 0) (start : Pos) where
     }
 
     -- the middle of the nine is the point itself
-    pub round_centre : (here : Pos) (n : ℕ) (marks : List V) (places : List ℕ) (head step : ℕ) → step ≡ 4 → IsRound here n marks places head step → IsRound here n marks places head (step + 1)
-    round_centre here n marks places head step centre =
+    pub IsRound-centre : (here : Pos) (n : ℕ) (marks : List V) (places : List ℕ) (head step : ℕ) → step ≡ 4 → IsRound here n marks places head step → IsRound here n marks places head (step + 1)
+    IsRound-centre here n marks places head step centre =
         round_past here n marks places head step (omega (arith, centre)) (λ q near at. (let x = at.0 in let y = at.1 in near.different (same_pos here q (omega (arith, x, centre)) (omega (arith, y, centre)))))
 
     -- all steps were made
-    pub round_end : (here : Pos) (n : ℕ) (marks : List V) (places : List ℕ) (head step : ℕ) → 9 ≤ step → IsRound here n marks places head step → IsFlooding m IsOpen start how marks places (head + 1)
-    round_end here n marks places head step done r =
+    pub IsRound-end : (here : Pos) (n : ℕ) (marks : List V) (places : List ℕ) (head step : ℕ) → 9 ≤ step → IsRound here n marks places head step → IsFlooding m IsOpen start how marks places (head + 1)
+    IsRound-end here n marks places head step done r =
         let f = r.flooding.flood in
         let steps = r.flooding.steps in
         let queue = r.flooding.queue in
@@ -387,9 +387,9 @@ module _ (m : Map) (IsOpen : Pos → Type 0) (start : Pos) where
         (begun, same_place m.size (entry_of f.queue head).at here (f.flood.entries head begun).present.in_grid at.in_grid (sym (queue_read marks places head f head begun) ∙ at.place))
 
     -- the round begins
-    pub round_begin : (here : Pos) (marks : List V) (places : List ℕ) (head : ℕ) → IsFlooding m IsOpen start how marks places head → IsAtHead m.size places head here
+    pub IsRound-begin : (here : Pos) (marks : List V) (places : List ℕ) (head : ℕ) → IsFlooding m IsOpen start how marks places head → IsAtHead m.size places head here
         → (n : ℕ) × (how.after (mark_at how.blank m.size marks here) ≡ mark_in how (n + 1)) × IsRound here n marks places head 0
-    round_begin here marks places head f at =
+    IsRound-begin here marks places head f at =
         let first = head_entry marks places head f here at in
         let entry = entry_of f.queue head in
         let noted : steps_at m.size f.steps here ≡ Some entry.steps = subst (λ (p : Pos). steps_at m.size f.steps p ≡ Some entry.steps) first.1 (f.flood.entries head first.0).noted in
@@ -405,8 +405,8 @@ module _ (m : Map) (IsOpen : Pos → Type 0) (start : Pos) where
         )
 
     -- the start is marked and queued
-    pub flooding_begin : (marks : List V) → marks ≡ how.before → length marks ≡ cell_count m.size → Present m start → IsOpen start → IsFlooding m IsOpen start how (set marks (place_of m.size start) how.first) (place_of m.size start ∷ []) 0
-    flooding_begin marks same whole present is_open =
+    pub IsFlooding-begin : (marks : List V) → marks ≡ how.before → length marks ≡ cell_count m.size → Present m start → IsOpen start → IsFlooding m IsOpen start how (set marks (place_of m.size start) how.first) (place_of m.size start ∷ []) 0
+    IsFlooding-begin marks same whole present is_open =
         let none : List (Option ℕ) = replicate (cell_count m.size) None in
         let unnoted : (p : Pos) → InGrid m.size p → steps_at m.size none p ≡ None = λ p there. get_or-replicate (cell_count m.size) (place_of m.size p) None None (place_inside m.size p there) in
         record {
@@ -420,15 +420,15 @@ module _ (m : Map) (IsOpen : Pos → Type 0) (start : Pos) where
         }
 
     -- the marks, where all entries were at the head
-    pub flooding_end : (marks : List V) (places : List ℕ) (head : ℕ) → IsFlooding m IsOpen start how marks places head → length places ≤ head → (goal : Option Pos) → AreMarked m IsOpen start goal how marks
-    flooding_end marks places head f done goal =
+    pub IsFlooding-end : (marks : List V) (places : List ℕ) (head : ℕ) → IsFlooding m IsOpen start how marks places head → length places ≤ head → (goal : Option Pos) → AreMarked m IsOpen start goal how marks
+    IsFlooding-end marks places head f done goal =
         let long = queue_long marks places head f in
         record { steps = f.steps; are = flood_end f.steps f.queue head goal f.flood (λ n want k inside few. omega (arith, inside, done, long)); whole = f.whole; read = f.read }
 
     -- and where the goal is at the head
-    pub flooding_stop : (marks : List V) (places : List ℕ) (head : ℕ) → IsFlooding m IsOpen start how marks places head → (here : Pos) → IsAtHead m.size places head here → (goal : Option Pos) → goal ≡ Some here
+    pub IsFlooding-stop : (marks : List V) (places : List ℕ) (head : ℕ) → IsFlooding m IsOpen start how marks places head → (here : Pos) → IsAtHead m.size places head here → (goal : Option Pos) → goal ≡ Some here
         → AreMarked m IsOpen start goal how marks
-    flooding_stop marks places head f here at goal is =
+    IsFlooding-stop marks places head f here at goal is =
         let first = head_entry marks places head f here at in
         let entry = entry_of f.queue head in
         let goal_is : goal ≡ Some entry.at = is ∙ ap Some (sym first.1) in
@@ -446,31 +446,31 @@ module _ (m : Map) (IsOpen : Pos → Type 0) (start : Pos) where
         }
 
     -- all points fit in the queue
-    pub flooding_room : (marks : List V) (places : List ℕ) (head : ℕ) → IsFlooding m IsOpen start how marks places head → length places ≤ cell_count m.size
-    flooding_room marks places head f = let long = queue_long marks places head f in let room = f.flood.room in omega (arith, long, room)
+    pub IsFlooding-room : (marks : List V) (places : List ℕ) (head : ℕ) → IsFlooding m IsOpen start how marks places head → length places ≤ cell_count m.size
+    IsFlooding-room marks places head f = let long = queue_long marks places head f in let room = f.flood.room in omega (arith, long, room)
 
     -- each index in the queue is of a point
-    pub flooding_index : (marks : List V) (places : List ℕ) (head : ℕ) → IsFlooding m IsOpen start how marks places head → (k : ℕ) → k < length places → get_or places k 0 < cell_count m.size
-    flooding_index marks places head f k inside =
+    pub IsFlooding-index : (marks : List V) (places : List ℕ) (head : ℕ) → IsFlooding m IsOpen start how marks places head → (k : ℕ) → k < length places → get_or places k 0 < cell_count m.size
+    IsFlooding-index marks places head f k inside =
         let long = queue_long marks places head f in
         let inside' : k < length f.queue = omega (arith, inside, long) in
         rw (queue_read marks places head f k inside') (place_inside m.size (entry_of f.queue k).at (f.flood.entries k inside').present.in_grid)
 
     -- the index at the head of what is left is in the grid
-    pub flooding_next : (marks : List V) (passed left rest : List ℕ) (index : ℕ) → left ≡ index ∷ rest → IsFlooding m IsOpen start how marks (passed ++ left) (length passed) → index < cell_count m.size
-    flooding_next marks passed left rest index is f =
+    pub IsFlooding-next : (marks : List V) (passed left rest : List ℕ) (index : ℕ) → left ≡ index ∷ rest → IsFlooding m IsOpen start how marks (passed ++ left) (length passed) → index < cell_count m.size
+    IsFlooding-next marks passed left rest index is f =
         let front : List ℕ = passed ++ index ∷ [] in
         let same : passed ++ left ≡ front ++ rest = ap (λ xs. passed ++ xs) is ∙ sym (append_assoc passed (index ∷ []) rest) in
         let within : length passed < length front = (let longer = length_push passed index in omega (arith, longer)) in
         let inside : length passed < length (front ++ rest) = (let more = length-append front rest in omega (arith, within, more)) in
-        let below = flooding_index marks (front ++ rest) (length passed) (subst (λ xs. IsFlooding m IsOpen start how marks xs (length passed)) same f) (length passed) inside in
+        let below = IsFlooding-index marks (front ++ rest) (length passed) (subst (λ xs. IsFlooding m IsOpen start how marks xs (length passed)) same f) (length passed) inside in
         let read : get_or (front ++ rest) (length passed) 0 ≡ index = get_or_append_left front rest 0 (length passed) within ∙ get_or_push passed index 0 (length passed) refl in
         subst (λ n. n < cell_count m.size) read below
 
     -- the point at the head of what is left is passed
-    pub flooding_pass : (marks : List V) (here : Pos) (passed left rest : List ℕ) → left ≡ place_of m.size here ∷ rest → IsFlooding m IsOpen start how marks (passed ++ left) (length passed)
+    pub IsFlooding-pass : (marks : List V) (here : Pos) (passed left rest : List ℕ) → left ≡ place_of m.size here ∷ rest → IsFlooding m IsOpen start how marks (passed ++ left) (length passed)
         → IsFlooding m IsOpen start how marks ((passed ++ place_of m.size here ∷ []) ++ rest) (length passed)
-    flooding_pass marks here passed left rest is f =
+    IsFlooding-pass marks here passed left rest is f =
         subst (λ xs. IsFlooding m IsOpen start how marks xs (length passed)) (ap (λ xs. passed ++ xs) is ∙ sym (append_assoc passed (place_of m.size here ∷ []) rest)) f
 
   module _ {V : Type 0} (how : Marking V) (w : IsMarking m IsOpen start how) where
@@ -481,7 +481,7 @@ module _ (m : Map) (IsOpen : Pos → Type 0) (start : Pos) where
 
     -- what is reached, and has no mark of another flood, has steps
     free_at : (marks : List V) (places : List ℕ) (head : ℕ) (at : Pos) (f : IsFlooding m IsOpen start how marks places head) → InGrid m.size at → mark_at how.blank m.size marks at ≡ how.blank → steps_at m.size f.steps at ≡ None
-    free_at marks places head at f there blank = elim (noted_or_free (steps_at m.size f.steps at)) [
+    free_at marks places head at f there blank = elim (Option-some_or_none (steps_at m.size f.steps at)) [
       | inl some ↦ absurd (mark_none some.0 (sym (f.read at there ∙ ap (marked how (mark_at how.blank m.size how.before at)) some.1) ∙ blank))
       | inr none ↦ none
     ]
@@ -495,7 +495,7 @@ module _ (m : Map) (IsOpen : Pos → Type 0) (start : Pos) where
       begun = begun;
       same = refl;
       kept = λ p j there noted. noted;
-      found = λ is_open. elim (noted_or_free (steps_at m.size f.steps at)) [
+      found = λ is_open. elim (Option-some_or_none (steps_at m.size f.steps at)) [
         | inl some ↦
             let h = f.flood.queued at inside some.0 some.1 in
             let low = f.flood.narrow h.place h.inside begun in
@@ -542,9 +542,9 @@ module _ (m : Map) (IsOpen : Pos → Type 0) (start : Pos) where
           rw (new.2, new.3, mark_is) (goes_on_push marks places head at n f begun (beside new.0 free) count new.0 free)
     ]
 
-    pub round_more : ((p : Pos) → IsOpen p → Present m p) → (here : Pos) (n : ℕ) (mark : V) {marks : List V} {places : List ℕ} {head : ℕ} (step : ℕ) (marks' : List V) (places' : List ℕ)
+    pub IsRound-more : ((p : Pos) → IsOpen p → Present m p) → (here : Pos) (n : ℕ) (mark : V) {marks : List V} {places : List ℕ} {head : ℕ} (step : ℕ) (marks' : List V) (places' : List ℕ)
         → mark ≡ mark_in how (n + 1) → step < 9 → ReachesAt m IsOpen how.blank here (step % 3) (step / 3) mark marks places marks' places' → IsRound how here n marks places head step → IsRound how here n marks' places' head (step + 1)
-    round_more open_present here n mark {marks} {places} {head} step marks' places' mark_is below reaches r = elim reaches [
+    IsRound-more open_present here n mark {marks} {places} {head} step marks' places' mark_is below reaches r = elim reaches [
       | inl (p, x, y, there, beside, one) ↦
           let queue = r.flooding.queue in
           let at : IsAtStep here step p = (x, y) in

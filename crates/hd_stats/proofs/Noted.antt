@@ -16,10 +16,10 @@ use Rattle.hd_reach.specs.Marks.{AreBlank, AreMarked, mark_in, marked, marking}
 use Rattle.hd_reach.specs.Reached.{IsReachedLow}
 use Rattle.hd_reach.specs.Steps.{steps_at}
 use Rattle.hd_reach.specs.Within.{LiesWithin}
-use Rattle.hd_reach.proofs.Flooding.{blank-all, noted_or_free}
-use Rattle.hd_reach.proofs.ReachedBelow.{low-steps, low-sym, low_end, reached-below as low-reached, reached-low, steps-low}
+use Rattle.hd_reach.proofs.Flooding.{replicate-all, Option-some_or_none}
+use Rattle.hd_reach.proofs.ReachedBelow.{steps_at-low, IsReachedLow-sym, IsLow-end, IsReachedBelow-low as low-reached, IsReachedLow-below, IsReachedLow-steps}
 use Rattle.hd_stats.specs.Volumes.{AreReached, IsReachedBy}
-use Rattle.hd_stats.proofs.ReachedBelow.{AreNearest, kept-apart, nearest-at, pit-listed, pit-read, reached-below, reached-point}
+use Rattle.hd_stats.proofs.ReachedBelow.{AreNearest, kept-apart, nearest-at, pit-listed, pit-read, IsReachedBelow-low, reached-point}
 
 -- what is noted stands inside the list
 noted-inside : (reached : List (Option ℕ)) (k n : ℕ) → get_or reached k None ≡ Some n → k < length reached
@@ -36,7 +36,7 @@ same-mark n old (suc j) = same-mark n old j
 pub noted-none : (m : Map) (side : SideName) (kept : List Kept) → AreReached m side kept 0 (replicate (cell_count m.size) None)
 noted-none m side kept = record {
   whole = length-replicate (cell_count m.size) None;
-  exactly = λ k n. ((λ e. absurd (let both : None ≡ Some n = sym (blank-all None (cell_count m.size) k) ∙ e in cc)), (λ x. absurd (let less = x.1 in omega (arith, less))));
+  exactly = λ k n. ((λ e. absurd (let both : None ≡ Some n = sym (replicate-all None (cell_count m.size) k) ∙ e in cc)), (λ x. absurd (let less = x.1 in omega (arith, less))));
 }
 
 -- a kept pit lies below its nearest saddle
@@ -74,7 +74,7 @@ module _ (m : Map) (side : SideName) (whole : IsMap m) (kept : List Kept) (w : A
     reached-by p r = record { one = k; is_one = is; saddle = s; nearest = e; below = subst (λ (a : Rank). IsReachedBelow m side (Some s) a (rank m p)) pit (low-reached m side (Some s) from p low r) }
 
     present : (p : Pos) → IsReachedLow m side (Some s) from p → Present m p
-    present p r = (low_end m side (Some s) from r.0 p low r.1).present
+    present p r = (IsLow-end m side (Some s) from r.0 p low r.1).present
 
     -- what is noted of another it does not reach
     not-reached : (p : Pos) (i : ℕ) → get_or old (place_of m.size p) None ≡ Some i → IsReachedLow m side (Some s) from p → ⊥
@@ -87,8 +87,8 @@ module _ (m : Map) (side : SideName) (whole : IsMap m) (kept : List Kept) (w : A
         omega (arith, less, same)
 
     pub noted-blank : AreBlank m (LiesWithin m side (Some s) true) from None old
-    noted-blank p xs l = elim (noted_or_free (get_or old (place_of m.size p) None)) [
-      | inl some ↦ absurd (not-reached p some.0 some.1 (low-sym m side (Some s) p from (xs, l)))
+    noted-blank p xs l = elim (Option-some_or_none (get_or old (place_of m.size p) None)) [
+      | inl some ↦ absurd (not-reached p some.0 some.1 (IsReachedLow-sym m side (Some s) p from (xs, l)))
       | inr none ↦ none
     ]
 
@@ -101,10 +101,10 @@ module _ (m : Map) (side : SideName) (whole : IsMap m) (kept : List Kept) (w : A
       noted-before p there none = known.read p there ∙ ap (marked (marking None (λ x. x) (Some n) old) (get_or old (place_of m.size p) None)) none
 
       noted-at : (p : Pos) (i : ℕ) → InGrid m.size p → get_or new (place_of m.size p) None ≡ Some i → (x : Rank) × (i < n + 1) × (x.index ≡ place_of m.size p) × IsReachedBy m side kept i x
-      noted-at p i there noted = elim (noted_or_free (steps_at m.size known.steps p)) [
+      noted-at p i there noted = elim (Option-some_or_none (steps_at m.size known.steps p)) [
         | inl some ↦
             let same : n ≡ i = same_Some n i (sym (noted-steps p there some.0 some.1) ∙ noted) in
-            (rank m p, omega (arith, same), refl, subst (λ j. IsReachedBy m side kept j (rank m p)) same (reached-by p (steps-low m side (Some s) from known.steps known.are p there some.0 some.1)))
+            (rank m p, omega (arith, same), refl, subst (λ j. IsReachedBy m side kept j (rank m p)) same (reached-by p (IsReachedLow-steps m side (Some s) from known.steps known.are p there some.0 some.1)))
         | inr none ↦
             let x = (are.exactly (place_of m.size p) i).0 (sym (noted-before p there none) ∙ noted) in
             let less = x.1 in
@@ -121,16 +121,16 @@ module _ (m : Map) (side : SideName) (whole : IsMap m) (kept : List Kept) (w : A
           ap (λ l. get_or new l None) place ∙ (elim (cases_lt i n) [
             | inl less ↦
                 let before : get_or old (place_of m.size p) None ≡ Some i = (are.exactly (place_of m.size p) i).1 (x, less, place, by) in
-                elim (noted_or_free (steps_at m.size known.steps p)) [
-                  | inl some ↦ absurd (not-reached p i before (steps-low m side (Some s) from known.steps known.are p there some.0 some.1))
+                elim (Option-some_or_none (steps_at m.size known.steps p)) [
+                  | inl some ↦ absurd (not-reached p i before (IsReachedLow-steps m side (Some s) from known.steps known.are p there some.0 some.1))
                   | inr none ↦ noted-before p there none ∙ before
                 ]
             | inr more ↦
                 let last : i ≡ n = omega (arith, below, more) in
-                let r = reached-below m side kept w n k s is e x (subst (λ j. IsReachedBy m side kept j x) last by) in
-                let q = reached-low m side (Some s) from x low.present (subst (λ (a : Rank). IsReachedBelow m side (Some s) a x) (sym pit) r) in
+                let r = IsReachedBelow-low m side kept w n k s is e x (subst (λ j. IsReachedBy m side kept j x) last by) in
+                let q = IsReachedLow-below m side (Some s) from x low.present (subst (λ (a : Rank). IsReachedBelow m side (Some s) a x) (sym pit) r) in
                 let same : q.0 ≡ p = same_point m q.0 p (present q.0 q.2) point.present (q.1 ∙ point.rank_is) in
-                let steps = low-steps m side (Some s) from known.steps known.are p (subst (IsReachedLow m side (Some s) from) same q.2) in
+                let steps = steps_at-low m side (Some s) from known.steps known.are p (subst (IsReachedLow m side (Some s) from) same q.2) in
                 noted-steps p there steps.0 steps.1 ∙ ap Some (sym last)
           ])
 

@@ -5,7 +5,7 @@ use Rattle.hd_map.specs.Map.{InGrid, place_of, cell_count}
 use Rattle.hd_reach.specs.Flood.{IsFlooding, IsMarking}
 use Rattle.hd_reach.specs.Marks.{marking}
 use Rattle.hd_reach.specs.Within.{LiesWithin}
-use Rattle.hd_reach.proofs.Flooding.{flooding_begin, flooding_end, flooding_next, flooding_pass, flooding_room, flooding_stop, head_behind}
+use Rattle.hd_reach.proofs.Flooding.{IsFlooding-begin, IsFlooding-end, IsFlooding-next, IsFlooding-pass, IsFlooding-room, IsFlooding-stop, IsAtHead-behind}
 use Rattle.hd_reach.proofs.breadth.flood.Given.{Over}
 use Rattle.hd_reach.proofs.breadth.flood.Goals as goal
 use Rattle.hd_reach.proofs.breadth.flood.Goals.{After-position_of-here}
@@ -18,7 +18,7 @@ loop-passed-init g c =
     record {
       passed = [];
       count = refl;
-      flooding = rw (queue, place) (flooding_begin m (LiesWithin m g.S.Side.NAME c.args.bound.level c.args.bound.strict) c.args.start
+      flooding = rw (queue, place) (IsFlooding-begin m (LiesWithin m g.S.Side.NAME c.args.bound.level c.args.bound.strict) c.args.start
           (marking g.M.Mark.blank g.M.Mark.after c.args.first c.args.marks.now.items) c.args.marks.now.items refl c.requires.whole c.requires.start.present c.requires.start);
     }
 
@@ -28,7 +28,7 @@ returns-in_default g c =
     let so = c.loop-passed.invariant in
     let none : length c.loop-passed.queue.items ≡ 0 = search rules in
     let more = length-append so.passed c.loop-passed.queue.items in
-    flooding_end m (LiesWithin m g.S.Side.NAME c.args.bound.level c.args.bound.strict) c.args.start (marking g.M.Mark.blank g.M.Mark.after c.args.first c.args.marks.now.items) c.loop-passed.marks.items
+    IsFlooding-end m (LiesWithin m g.S.Side.NAME c.args.bound.level c.args.bound.strict) c.args.start (marking g.M.Mark.blank g.M.Mark.after c.args.first c.args.marks.now.items) c.loop-passed.marks.items
     (so.passed ++ c.loop-passed.queue.items) c.loop-passed._passed so.flooding (omega (arith, more, none, so.count)) c.args.goal
 
 pub position_of-here-requires : goal.position_of-here-requires
@@ -37,7 +37,7 @@ position_of-here-requires g c =
     let so = c.loop-passed.invariant in
     let IsOpen = LiesWithin m g.S.Side.NAME c.args.bound.level c.args.bound.strict in
     let how = marking g.M.Mark.blank g.M.Mark.after c.args.first c.args.marks.now.items in
-    let below = flooding_next m IsOpen c.args.start how c.loop-passed.marks.items so.passed c.loop-passed.queue.items c.pop_front.new.self.items c.in-Some.index c.in-Some.ensures.items
+    let below = IsFlooding-next m IsOpen c.args.start how c.loop-passed.marks.items so.passed c.loop-passed.queue.items c.pop_front.new.self.items c.in-Some.index c.in-Some.ensures.items
     (subst (IsFlooding m IsOpen c.args.start how c.loop-passed.marks.items (so.passed ++ c.loop-passed.queue.items)) (sym so.count) so.flooding) in
     rw c.size-size.ensures below
 
@@ -57,7 +57,7 @@ one_more g c =
     let so = c.loop-passed.invariant in
     let IsOpen = LiesWithin m g.S.Side.NAME c.args.bound.level c.args.bound.strict in
     let how = marking g.M.Mark.blank g.M.Mark.after c.args.first c.args.marks.now.items in
-    flooding_pass m IsOpen c.args.start how c.loop-passed.marks.items here so.passed c.loop-passed.queue.items rest left
+    IsFlooding-pass m IsOpen c.args.start how c.loop-passed.marks.items here so.passed c.loop-passed.queue.items rest left
     (subst (IsFlooding m IsOpen c.args.start how c.loop-passed.marks.items (so.passed ++ c.loop-passed.queue.items)) (sym so.count) so.flooding)
 
 pub returns-then-eq : goal.returns-then-eq
@@ -68,8 +68,8 @@ returns-then-eq g c =
     let passed = c.loop-passed.invariant.passed in
     let is : c.args.goal ≡ Some here = search rules in
     let at = goal.at.returns-then-eq g c in
-    flooding_stop m (LiesWithin m g.S.Side.NAME c.args.bound.level c.args.bound.strict) c.args.start (marking g.M.Mark.blank g.M.Mark.after c.args.first c.args.marks.now.items) c.loop-passed.marks.items
-    ((passed ++ place_of m.size here ∷ []) ++ rest) (length passed) (one_more g at.After-position_of-here) here (head_behind m.size here passed rest (passed_inside g at.After-position_of-here)) c.args.goal is
+    IsFlooding-stop m (LiesWithin m g.S.Side.NAME c.args.bound.level c.args.bound.strict) c.args.start (marking g.M.Mark.blank g.M.Mark.after c.args.first c.args.marks.now.items) c.loop-passed.marks.items
+    ((passed ++ place_of m.size here ∷ []) ++ rest) (length passed) (one_more g at.After-position_of-here) here (IsAtHead-behind m.size here passed rest (passed_inside g at.After-position_of-here)) c.args.goal is
 
 pub reach_round-requires-clause-whole : goal.reach_round-requires-clause-whole
 reach_round-requires-clause-whole g c = c.loop-passed.invariant.flooding.whole
@@ -97,6 +97,6 @@ returns g c =
     let how = marking g.M.Mark.blank g.M.Mark.after c.args.first c.args.marks.now.items in
     let so = c.loop-passed.invariant in
     let whole = so.passed ++ c.loop-passed.queue.items in
-    let room = flooding_room m IsOpen c.args.start how c.loop-passed.marks.items whole c.loop-passed._passed so.flooding in
+    let room = IsFlooding-room m IsOpen c.args.start how c.loop-passed.marks.items whole c.loop-passed._passed so.flooding in
     let past : cell_count m.size ≤ c.loop-passed._passed = subst (λ (s : Size). cell_count s ≤ c.loop-passed._passed) c.size-size.ensures c.loop-passed-test.false in
-    flooding_end m IsOpen c.args.start how c.loop-passed.marks.items whole c.loop-passed._passed so.flooding (omega (arith, room, past)) c.args.goal
+    IsFlooding-end m IsOpen c.args.start how c.loop-passed.marks.items whole c.loop-passed._passed so.flooding (omega (arith, room, past)) c.args.goal
