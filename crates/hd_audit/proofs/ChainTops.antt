@@ -29,7 +29,7 @@ use Rattle.hd_audit.specs.declared.types.AuditLine.{AuditLine}
 use Rattle.hd_audit.specs.Chains.{AreTopHeights, IsChainTop, IsTopHeight, higher_height}
 use Rattle.hd_audit.specs.Lines.{line_at, rank_at, AreParents, IsLineOf, SaysKept}
 use Rattle.hd_audit.specs.Rules.{IsChainWithin, IsNewPoint, IsWithin, rise_over}
-use Rattle.hd_audit.proofs.Lines.{line_present, one_line}
+use Rattle.hd_audit.proofs.Lines.{Present-line, IsLineOf-unique}
 
 -- the height of the higher of two points is that of their heights
 top_height-higher : (side : SideName) (a b : Rank) → (higher_by side a b).height ≡ higher_height side a.height b.height
@@ -48,13 +48,13 @@ module _ (m : Map) (side : SideName) (thousandths : ℕ) (sz : ℤ) (lines : Lis
     pub right : (k : ℕ) → k < n → IsRightAt k
 
   -- none at first
-  pub chains_none : (heights : List ℤ) → length heights ≡ cell_count m.size → AreChainsTo heights 0
-  chains_none heights whole = record { whole = whole; are_tops = λ k below. absurd (omega arith); right = λ k below. absurd (omega arith) }
+  pub AreChainsTo-none : (heights : List ℤ) → length heights ≡ cell_count m.size → AreChainsTo heights 0
+  AreChainsTo-none heights whole = record { whole = whole; are_tops = λ k below. absurd (omega arith); right = λ k below. absurd (omega arith) }
 
   -- one more
-  pub chains_more : (heights : List ℤ) (n : ℕ) (height : ℤ) → ((k : ℕ) → k < n → (line_at lines k).index ≡ (line_at lines n).index → ⊥) → (line_at lines n).index < cell_count m.size
+  pub AreChainsTo-more : (heights : List ℤ) (n : ℕ) (height : ℤ) → ((k : ℕ) → k < n → (line_at lines k).index ≡ (line_at lines n).index → ⊥) → (line_at lines n).index < cell_count m.size
       → AreChainsTo heights n → IsTopHeight m side lines (line_at lines n).index height → IsRightAt n → AreChainsTo (set heights (line_at lines n).index height) (n + 1)
-  chains_more heights n height apart inside before is right =
+  AreChainsTo-more heights n height apart inside before is right =
       let i : ℕ = (line_at lines n).index in
       let whole = before.whole in
       record {
@@ -73,31 +73,31 @@ module _ (m : Map) (side : SideName) (thousandths : ℕ) (sz : ℤ) (lines : Lis
       }
 
   -- a chain with its highest point
-  pub chain_within : (i : ℕ) (top : Rank) → IsChainTop m side lines i top → IsWithin side thousandths sz (rank_at m i) top → IsChainWithin m side thousandths sz lines i
-  chain_within i top is within = record { chain = is.chain; are_parents = is.are_parents; top = top; is_top = is.is_top; within = within }
+  pub IsChainWithin-top : (i : ℕ) (top : Rank) → IsChainTop m side lines i top → IsWithin side thousandths sz (rank_at m i) top → IsChainWithin m side thousandths sz lines i
+  IsChainWithin-top i top is within = record { chain = is.chain; are_parents = is.are_parents; top = top; is_top = is.is_top; within = within }
 
   -- the chain of a line that is not far is right
-  pub right_where : (n : ℕ) (top : Rank) → IsChainTop m side lines (line_at lines n).index top
+  pub IsRightAt-where : (n : ℕ) (top : Rank) → IsChainTop m side lines (line_at lines n).index top
       → (((line_at lines n).parent ≡ None → ⊥) × IsPit m side (rank_at m (line_at lines n).index) × (IsWithin side thousandths sz (rank_at m (line_at lines n).index) top → ⊥) → ⊥) → IsRightAt n
-  right_where n top is near = λ parent pit.
+  IsRightAt-where n top is near = λ parent pit.
       (let own : Rank = rank_at m (line_at lines n).index in
       elim (is_percent_less (rise_over side own top) thousandths sz) as (λ (b : Bool). is_percent_less (rise_over side own top) thousandths sz ≡ b → IsChainWithin m side thousandths sz lines (line_at lines n).index) [
-        | true ↦ λ e. chain_within (line_at lines n).index top is e
+        | true ↦ λ e. IsChainWithin-top (line_at lines n).index top is e
         | false ↦ λ e. absurd (near (parent, pit, λ w. false≢true (sym e ∙ w)))
       ] refl)
 
 module _ (m : Map) (side : SideName) (lines : List AuditLine) where
   -- a line without a parent is a chain of its own
-  pub top_alone : (i : ℕ) → SaysKept lines i → IsChainTop m side lines i (rank_at m i)
-  top_alone i kept = record {
+  pub IsChainTop-alone : (i : ℕ) → SaysKept lines i → IsChainTop m side lines i (rank_at m i)
+  IsChainTop-alone i kept = record {
     chain = [];
     are_parents = kept;
     is_top = record { one_of = Contains-head (rank_at m i) []; none_above = All-cons (λ x. IsNotAbove (below_by side) x (rank_at m i)) (rank_at m i) [] (not_above-refl (below_by side) (below_by-order side) (rank_at m i)) (All-nil (λ x. IsNotAbove (below_by side) x (rank_at m i))) };
   }
 
   -- a point before a chain
-  pub top_higher : (i p : ℕ) (x : AuditLine) (top : Rank) → IsLineOf lines i x → x.parent ≡ Some p → IsChainTop m side lines p top → IsChainTop m side lines i (higher_by side (rank_at m i) top)
-  top_higher i p x top is parent up =
+  pub IsChainTop-higher : (i p : ℕ) (x : AuditLine) (top : Rank) → IsLineOf lines i x → x.parent ≡ Some p → IsChainTop m side lines p top → IsChainTop m side lines i (higher_by side (rank_at m i) top)
+  IsChainTop-higher i p x top is parent up =
       let own : Rank = rank_at m i in
       let ranks : List Rank = map (rank_at m) (p ∷ up.chain) in
       record {
@@ -116,54 +116,54 @@ module _ (m : Map) (side : SideName) (lines : List AuditLine) where
       }
 
   -- their heights alone
-  pub height_alone : (i : ℕ) → SaysKept lines i → IsTopHeight m side lines i (rank_at m i).height
-  height_alone i kept = record { top = rank_at m i; is_top = top_alone i kept; height_is = refl }
+  pub IsTopHeight-alone : (i : ℕ) → SaysKept lines i → IsTopHeight m side lines i (rank_at m i).height
+  IsTopHeight-alone i kept = record { top = rank_at m i; is_top = IsChainTop-alone i kept; height_is = refl }
 
-  pub height_higher : (i p : ℕ) (x : AuditLine) (height : ℤ) → IsLineOf lines i x → x.parent ≡ Some p → IsTopHeight m side lines p height → IsTopHeight m side lines i (higher_height side (rank_at m i).height height)
-  height_higher i p x height is parent up = record {
+  pub IsTopHeight-higher : (i p : ℕ) (x : AuditLine) (height : ℤ) → IsLineOf lines i x → x.parent ≡ Some p → IsTopHeight m side lines p height → IsTopHeight m side lines i (higher_height side (rank_at m i).height height)
+  IsTopHeight-higher i p x height is parent up = record {
     top = higher_by side (rank_at m i) up.top;
-    is_top = top_higher i p x up.top is parent up.is_top;
+    is_top = IsChainTop-higher i p x up.top is parent up.is_top;
     height_is = top_height-higher side (rank_at m i) up.top ∙ ap (higher_height side (rank_at m i).height) up.height_is;
   }
 
   module _ (new : (k : ℕ) → k < length lines → IsNewPoint m lines k) where
     -- each point of a chain is present
-    pub chain_points : (i : ℕ) (chain : List ℕ) → AreParents lines i chain → (r : Rank) → Contains (map (rank_at m) (i ∷ chain)) r → IsPoint m r
-    chain_points i [] kept r at = elim (Contains-cases (rank_at m i) r [] at) [
-      | inl same ↦ subst (IsPoint m) (sym same) (point_at m (position_at m.size i) (line_present m lines new i kept.0 kept.1))
+    pub IsChainTop-points : (i : ℕ) (chain : List ℕ) → AreParents lines i chain → (r : Rank) → Contains (map (rank_at m) (i ∷ chain)) r → IsPoint m r
+    IsChainTop-points i [] kept r at = elim (Contains-cases (rank_at m i) r [] at) [
+      | inl same ↦ subst (IsPoint m) (sym same) (point_at m (position_at m.size i) (Present-line m lines new i kept.0 kept.1))
       | inr later ↦ absurd (Contains-none r later)
     ]
-    chain_points i (p ∷ ps) up r at = elim (Contains-cases (rank_at m i) r (map (rank_at m) (p ∷ ps)) at) [
-      | inl same ↦ subst (IsPoint m) (sym same) (point_at m (position_at m.size i) (line_present m lines new i up.0 up.1))
-      | inr later ↦ chain_points p ps up.3 r later
+    IsChainTop-points i (p ∷ ps) up r at = elim (Contains-cases (rank_at m i) r (map (rank_at m) (p ∷ ps)) at) [
+      | inl same ↦ subst (IsPoint m) (sym same) (point_at m (position_at m.size i) (Present-line m lines new i up.0 up.1))
+      | inr later ↦ IsChainTop-points p ps up.3 r later
     ]
 
-    pub top_point : (i : ℕ) (top : Rank) → IsChainTop m side lines i top → IsPoint m top
-    top_point i top is = chain_points i is.chain is.are_parents top is.is_top.one_of
+    pub IsChainTop-point : (i : ℕ) (top : Rank) → IsChainTop m side lines i top → IsPoint m top
+    IsChainTop-point i top is = IsChainTop-points i is.chain is.are_parents top is.is_top.one_of
 
     -- the highest point of a chain has a height of the map
-    pub top_fits : IsMap m → (i : ℕ) (height : ℤ) → IsTopHeight m side lines i height → IsHeight height
-    top_fits whole i height up = subst IsHeight up.height_is (point_height m up.top whole (top_point i up.top up.is_top))
+    pub IsTopHeight-fits : IsMap m → (i : ℕ) (height : ℤ) → IsTopHeight m side lines i height → IsHeight height
+    IsTopHeight-fits whole i height up = subst IsHeight up.height_is (point_height m up.top whole (IsChainTop-point i up.top up.is_top))
 
     -- a point has one chain
     one_chain : (i : ℕ) (ps qs : List ℕ) → AreParents lines i ps → AreParents lines i qs → ps ≡ qs
     one_chain i [] [] a b = refl
-    one_chain i [] (q ∷ qs) a b = absurd (none-some q (sym a.2 ∙ ap (λ (z : AuditLine). z.parent) (one_line m lines new i a.0 b.0 a.1 b.1) ∙ b.2))
-    one_chain i (p ∷ ps) [] a b = absurd (none-some p (sym b.2 ∙ ap (λ (z : AuditLine). z.parent) (one_line m lines new i b.0 a.0 b.1 a.1) ∙ a.2))
+    one_chain i [] (q ∷ qs) a b = absurd (none-some q (sym a.2 ∙ ap (λ (z : AuditLine). z.parent) (IsLineOf-unique m lines new i a.0 b.0 a.1 b.1) ∙ b.2))
+    one_chain i (p ∷ ps) [] a b = absurd (none-some p (sym b.2 ∙ ap (λ (z : AuditLine). z.parent) (IsLineOf-unique m lines new i b.0 a.0 b.1 a.1) ∙ a.2))
     one_chain i (p ∷ ps) (q ∷ qs) a b =
-        let same : p ≡ q = same_Some p q (sym a.2 ∙ ap (λ (z : AuditLine). z.parent) (one_line m lines new i a.0 b.0 a.1 b.1) ∙ b.2) in
+        let same : p ≡ q = same_Some p q (sym a.2 ∙ ap (λ (z : AuditLine). z.parent) (IsLineOf-unique m lines new i a.0 b.0 a.1 b.1) ∙ b.2) in
         ap₂ (λ (x : ℕ) (xs : List ℕ). x ∷ xs) same (one_chain q ps qs (subst (λ (j : ℕ). AreParents lines j ps) same a.3) b.3)
 
     one_top : (t u : Rank) (xs : List Rank) → IsTop (below_by side) t xs → IsTop (below_by side) u xs → t ≡ u
     one_top t u xs a b = (below_by-order side).total t u (top-not_above (below_by side) (below_by-order side) u t xs b a.none_above) (top-not_above (below_by side) (below_by-order side) t u xs a b.none_above)
 
     -- and one highest point on it
-    pub top_unique : (i : ℕ) (t u : Rank) → IsChainTop m side lines i t → IsChainTop m side lines i u → t ≡ u
-    top_unique i t u a b =
+    pub IsChainTop-unique : (i : ℕ) (t u : Rank) → IsChainTop m side lines i t → IsChainTop m side lines i u → t ≡ u
+    IsChainTop-unique i t u a b =
         let same = one_chain i a.chain b.chain a.are_parents b.are_parents in
         one_top t u (map (rank_at m) (i ∷ b.chain)) (subst (λ (ps : List ℕ). IsTop (below_by side) t (map (rank_at m) (i ∷ ps))) same a.is_top) b.is_top
 
     -- the chain is not within its point where the highest point is not
-    pub not_within : (thousandths : ℕ) (sz : ℤ) (i : ℕ) (top : Rank) → IsChainTop m side lines i top → (IsWithin side thousandths sz (rank_at m i) top → ⊥) → IsChainWithin m side thousandths sz lines i → ⊥
-    not_within thousandths sz i top is far chain =
-        far (subst (IsWithin side thousandths sz (rank_at m i)) (top_unique i chain.top top (record { chain = chain.chain; are_parents = chain.are_parents; is_top = chain.is_top }) is) chain.within)
+    pub IsChainWithin-not : (thousandths : ℕ) (sz : ℤ) (i : ℕ) (top : Rank) → IsChainTop m side lines i top → (IsWithin side thousandths sz (rank_at m i) top → ⊥) → IsChainWithin m side thousandths sz lines i → ⊥
+    IsChainWithin-not thousandths sz i top is far chain =
+        far (subst (IsWithin side thousandths sz (rank_at m i)) (IsChainTop-unique i chain.top top (record { chain = chain.chain; are_parents = chain.are_parents; is_top = chain.is_top }) is) chain.within)

@@ -20,30 +20,30 @@ use Rattle.hd_audit.specs.Listing.{AreShownTo}
 use Rattle.hd_audit.specs.Rules.{IsWithin}
 use Rattle.hd_audit.specs.Shown.{CutIs, IsUnlisted}
 use Rattle.hd_audit.proofs.Within.{within-lower, ReachesWithin, reach-from_reached, reached-from_reach, reach-more, reach-last}
-use Rattle.hd_audit.proofs.Firm.{AreFirm, pit-below, reached-apart}
-use Rattle.hd_audit.proofs.ShownLines.{IsAmong, IsLineAt, rank_of_index, reached-line_at, kept-line_at, kept-line_rank, kept-among, front-within}
+use Rattle.hd_audit.proofs.AreFirm.{AreFirm, below_by-pit, reached-apart}
+use Rattle.hd_audit.proofs.ShownLines.{IsAmong, IsLineAt, rank_at-index, reached-line_at, kept-line_at, kept-line_rank, kept-among, front-within}
 
 -- a rank for places past the end
-abbrev pub no_rank : Rank
-no_rank = record { height = pos 0; index = 0 }
+abbrev pub rank-none : Rank
+rank-none = record { height = pos 0; index = 0 }
 
 same_number : (a b : ℕ) → a ≡ b → ◌≡◌ {A = Option ℕ} (Some a) (Some b)
 same_number a b e = ap Some e
 
 module _ (m : Map) (whole : IsMap m) (side : SideName) (thousandths : ℕ) (sz : ℤ) (kept : List Rank) (firm : AreFirm m side thousandths sz kept) where
-  pub kept-pit : (k : ℕ) → k < length kept → IsPit m side (get_or kept k no_rank)
-  kept-pit k less = ((firm (get_or kept k no_rank)).0 (Contains-get_or kept k no_rank less)).0
+  pub IsPit-kept : (k : ℕ) → k < length kept → IsPit m side (get_or kept k rank-none)
+  IsPit-kept k less = ((firm (get_or kept k rank-none)).0 (Contains-get_or kept k rank-none less)).0
 
   -- a kept pit is the point of its index
-  pub kept-rank : (c : ℕ) (r : Rank) → Contains kept r → r.index ≡ c → rank_at m c ≡ r
-  kept-rank c r at e = ap (rank_at m) (sym e) ∙ rank_of_index m r ((firm r).0 at).0.point
+  pub rank_at-kept : (c : ℕ) (r : Rank) → Contains kept r → r.index ≡ c → rank_at m c ≡ r
+  rank_at-kept c r at e = ap (rank_at m) (sym e) ∙ rank_at-index m r ((firm r).0 at).0.point
 
   -- a point has one cut
-  pub cut-unique : (x : Rank) (a b : Option ℕ) → CutIs m side thousandths sz kept x a → CutIs m side thousandths sz kept x b → a ≡ b
-  cut-unique x None None h k = refl
-  cut-unique x None (Some d) h k = absurd (h k.0 k.1 k.3)
-  cut-unique x (Some c) None h k = absurd (k h.0 h.1 h.3)
-  cut-unique x (Some c) (Some d) h k =
+  pub CutIs-unique : (x : Rank) (a b : Option ℕ) → CutIs m side thousandths sz kept x a → CutIs m side thousandths sz kept x b → a ≡ b
+  CutIs-unique x None None h k = refl
+  CutIs-unique x None (Some d) h k = absurd (h k.0 k.1 k.3)
+  CutIs-unique x (Some c) None h k = absurd (k h.0 h.1 h.3)
+  CutIs-unique x (Some c) (Some d) h k =
       let same : h.0 ≡ k.0 = reached-apart m side thousandths sz whole kept firm h.0 k.0 x h.1 k.1 (reach-from_reached m side thousandths sz h.0 x h.3) (reach-from_reached m side thousandths sz k.0 x k.3) in
       same_number c d (sym h.2 ∙ ap (λ (r : Rank). r.index) same ∙ k.2)
 
@@ -51,7 +51,7 @@ module _ (m : Map) (whole : IsMap m) (side : SideName) (thousandths : ℕ) (sz :
     -- each of the lines is that of a present point
     pub listed-at : (k : ℕ) → k < n → (p : Pos) × IsLineAt m lines k p
     listed-at k inside = elim (cases_lt k (length kept)) [
-      | inl less ↦ (let point = (kept-pit k less).point in (point.at, kept-line_at m side thousandths sz kept lines k no_rank (so.pits k less) point))
+      | inl less ↦ (let point = (IsPit-kept k less).point in (point.at, kept-line_at m side thousandths sz kept lines k rank-none (so.pits k less) point))
       | inr more ↦ (let line = so.others k more inside in (line.point, reached-line_at m side thousandths sz kept lines k line))
     ]
 
@@ -70,9 +70,9 @@ module _ (m : Map) (whole : IsMap m) (side : SideName) (thousandths : ℕ) (sz :
           let y : Rank = rank_at m (line_at lines j).index in
           let w : IsWithin side thousandths sz c y = elim (cases_lt j (length kept)) [
             | inl less ↦
-                let pit = kept-pit j less in
-                let is : y ≡ get_or kept j no_rank = kept-line_rank m side thousandths sz kept lines j no_rank (so.pits j less) pit.point in
-                let up = pit-below m side y (rank m x) (subst (IsPit m side) (sym is) pit) (near-sym m (rank m x) y near-parent) in
+                let pit = IsPit-kept j less in
+                let is : y ≡ get_or kept j rank-none = kept-line_rank m side thousandths sz kept lines j rank-none (so.pits j less) pit.point in
+                let up = below_by-pit m side y (rank m x) (subst (IsPit m side) (sym is) pit) (near-sym m (rank m x) y near-parent) in
                 within-lower side thousandths sz c (rank m x) y (below-not_above (below_by side) (below_by-order side) y (rank m x) up) within
             | inr more ↦ front-within m side thousandths sz kept lines c c (rank m x) j (so.others j more before) reach (kept-among m side thousandths sz kept lines j more so.pits c at)
                 (λ h. unlisted h.0 (let less = h.1 in omega arith) h.2)
@@ -80,22 +80,22 @@ module _ (m : Map) (whole : IsMap m) (side : SideName) (thousandths : ℕ) (sz :
           (within, reach-more m side thousandths sz c c (rank m x) y reach near-parent w)
 
       -- within the cut of the line it is in that cut
-      pub cut-same : (c : ℕ) → CutIs m side thousandths sz kept (rank_at m (line_at lines j).index) (Some c) → IsWithin side thousandths sz (rank_at m c) (rank m x) → CutIs m side thousandths sz kept (rank m x) (Some c)
-      cut-same c h within =
+      pub CutIs-same : (c : ℕ) → CutIs m side thousandths sz kept (rank_at m (line_at lines j).index) (Some c) → IsWithin side thousandths sz (rank_at m c) (rank m x) → CutIs m side thousandths sz kept (rank m x) (Some c)
+      CutIs-same c h within =
           let y : Rank = rank_at m (line_at lines j).index in
-          let w = subst (λ (r : Rank). IsWithin side thousandths sz r (rank m x)) (kept-rank c h.0 h.1 h.2) within in
+          let w = subst (λ (r : Rank). IsWithin side thousandths sz r (rank m x)) (rank_at-kept c h.0 h.1 h.2) within in
           (h.0, h.1, h.2, reached-from_reach m side thousandths sz h.0 (rank m x) (reach-more m side thousandths sz h.0 h.0 y (rank m x) (reach-from_reached m side thousandths sz h.0 y h.3) (near-sym m (rank m x) y near-parent) w))
 
       -- else it is in none
-      pub cut-left : (c : ℕ) → CutIs m side thousandths sz kept (rank_at m (line_at lines j).index) (Some c) → (IsWithin side thousandths sz (rank_at m c) (rank m x) → ⊥) → CutIs m side thousandths sz kept (rank m x) None
-      cut-left c h outside = λ r at reached.
+      pub CutIs-left : (c : ℕ) → CutIs m side thousandths sz kept (rank_at m (line_at lines j).index) (Some c) → (IsWithin side thousandths sz (rank_at m c) (rank m x) → ⊥) → CutIs m side thousandths sz kept (rank m x) None
+      CutIs-left c h outside = λ r at reached.
           let y : Rank = rank_at m (line_at lines j).index in
           let back = cut-back r at (reach-from_reached m side thousandths sz r (rank m x) reached) in
           let same : h.0 ≡ r = reached-apart m side thousandths sz whole kept firm h.0 r y h.1 at (reach-from_reached m side thousandths sz h.0 y h.3) back.1 in
-          outside (subst (λ (r : Rank). IsWithin side thousandths sz r (rank m x)) (sym (kept-rank c h.0 h.1 h.2 ∙ same)) back.0)
+          outside (subst (λ (r : Rank). IsWithin side thousandths sz r (rank m x)) (sym (rank_at-kept c h.0 h.1 h.2 ∙ same)) back.0)
 
-      pub cut-none : CutIs m side thousandths sz kept (rank_at m (line_at lines j).index) None → CutIs m side thousandths sz kept (rank m x) None
-      cut-none h = λ r at reached.
+      pub CutIs-none : CutIs m side thousandths sz kept (rank_at m (line_at lines j).index) None → CutIs m side thousandths sz kept (rank m x) None
+      CutIs-none h = λ r at reached.
           let y : Rank = rank_at m (line_at lines j).index in
           let back = cut-back r at (reach-from_reached m side thousandths sz r (rank m x) reached) in
           h r at (reached-from_reach m side thousandths sz r y back.1)

@@ -34,8 +34,8 @@ rules_one : (m : Map) (side : SideName) (thousandths : ℕ) (sz : ℤ) (lines : 
 rules_one m side thousandths sz lines =
     (AsksEach-one _ _ _, (AsksEach-one _ _ _, (AsksEach-one _ _ _, (AsksEach-one _ _ _, (AsksEach-one _ _ _, (closed_one m side thousandths sz lines, (AsksEach-one _ _ _, tt)))))))
 
-pub verdict_one : (m : Map) (a : Audit) (v w : Verdict) → IsVerdict m a v → IsVerdict m a w → v ≡ w
-verdict_one m a v w h k =
+pub IsVerdict-unique : (m : Map) (a : Audit) (v w : Verdict) → IsVerdict m a v → IsVerdict m a w → v ≡ w
+IsVerdict-unique m a v w h k =
     let same = sz-unique (under a.adjacency m) k.sz h.sz k.sz_is h.sz_is in
     TriedFrom-unique 12 (all_rules (under a.adjacency m) h.sz a) (rules_one (under a.adjacency m) a.side a.percent.thousandths h.sz a.lines) v w h.tried
     (subst (λ (sz : ℤ). TriedFrom 12 (all_rules (under a.adjacency m) sz a) w) same k.tried)

@@ -33,20 +33,20 @@ without_empty_last-append (p ∷ []) [] some = absurd (omega (arith, some))
 without_empty_last-append (p ∷ []) (q ∷ qs) some = refl
 without_empty_last-append (p ∷ o ∷ ps) qs some = ap (λ (rest : List (List ℕ)). p ∷ rest) (without_empty_last-append (o ∷ ps) qs some)
 
-pub lines_joined : (front more : List ℕ) → lines_of (front ++ 10 ∷ more) ≡ slice_split is_line_feed front ++ lines_of more
-lines_joined front more =
+pub lines_of-joined : (front more : List ℕ) → lines_of (front ++ 10 ∷ more) ≡ slice_split is_line_feed front ++ lines_of more
+lines_of-joined front more =
     ap without_empty_last (pieces_joined front more)
     ∙ without_empty_last-append (slice_split is_line_feed front) (slice_split is_line_feed more) (omega (arith, length-slice_split is_line_feed more))
 
 -- a text that ends with a line feed
 EndsLine-feed : (front : List ℕ) → EndsLine (front ++ 10 ∷ [])
 EndsLine-feed front = λ more.
-    ap lines_of (append_assoc front (10 ∷ []) more) ∙ lines_joined front more
-    ∙ ap (λ (ls : List (List ℕ)). ls ++ lines_of more) (sym (lines_joined front [] ∙ append-nil (slice_split is_line_feed front)))
+    ap lines_of (append_assoc front (10 ∷ []) more) ∙ lines_of-joined front more
+    ∙ ap (λ (ls : List (List ℕ)). ls ++ lines_of more) (sym (lines_of-joined front [] ∙ append-nil (slice_split is_line_feed front)))
 
 -- a text is cut behind a line feed
-pub cut_after_line : (text first rest : List ℕ) (place : ℕ) → place < length text → get_or text place 0 ≡ 10 → first ≡ take (place + 1) text → rest ≡ drop (place + 1) text → IsCutAfterLine text first rest
-cut_after_line text first rest place inside feed is_first is_rest = record {
+pub IsCutAfterLine-found : (text first rest : List ℕ) (place : ℕ) → place < length text → get_or text place 0 ≡ 10 → first ≡ take (place + 1) text → rest ≡ drop (place + 1) text → IsCutAfterLine text first rest
+IsCutAfterLine-found text first rest place inside feed is_first is_rest = record {
   whole = sym (ap₂ (λ (xs ys : List ℕ). xs ++ ys) is_first is_rest ∙ take-append-drop (place + 1) text);
   ends = λ front. subst EndsLine (append_assoc front (take place text) (10 ∷ []) ∙ ap (λ (xs : List ℕ). front ++ xs) (sym first_ends)) (EndsLine-feed (front ++ take place text));
 }

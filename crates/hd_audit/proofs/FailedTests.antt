@@ -14,8 +14,8 @@ pub test-holds : {P : Type 0} (b : Bool) → b ≡ true → IsTrue b ↔ P → P
 test-holds b passed is = is.0 passed
 
 -- what holds of each below k and of k holds of each below the next
-pub up_to : (P : ℕ → Type 0) (k : ℕ) → ((i : ℕ) → i < k → P i) → P k → (i : ℕ) → i < k + 1 → P i
-up_to P k before here i below = elim (cases_lt i k) [
+pub below-more : (P : ℕ → Type 0) (k : ℕ) → ((i : ℕ) → i < k → P i) → P k → (i : ℕ) → i < k + 1 → P i
+below-more P k before here i below = elim (cases_lt i k) [
   | inl old ↦ before i old
   | inr last ↦ (let same : k ≡ i = omega (arith, below, last) in subst P same here)
 ]
@@ -26,10 +26,10 @@ test-negated true is = (λ e. absurd (false≢true e), λ none. absurd (none (is
 test-negated false is = (λ e p. false≢true (is.1 p), λ none. refl)
 
 -- the one is, and the other
-pub both_ways : {P Q : Type 0} (b : Bool) → IsTrue b ↔ P → (P → Q) → (Q → P) → IsTrue b ↔ Q
-both_ways b is there back = (λ t. there (is.0 t), λ q. is.1 (back q))
+pub test-turned : {P Q : Type 0} (b : Bool) → IsTrue b ↔ P → (P → Q) → (Q → P) → IsTrue b ↔ Q
+test-turned b is there back = (λ t. there (is.0 t), λ q. is.1 (back q))
 
 -- whether an option is this number
-pub is_some_of : (o : Option ℕ) (c : ℕ) → (option_eq eqb o (Some c) ≡ true) ↔ (o ≡ Some c)
-is_some_of (Some a) c = (λ e. ap Some (eqb-true a c e), λ e. eq-eqb a c (same_Some a c e))
-is_some_of None c = (λ e. absurd (false≢true e), λ e. absurd (none-some c e))
+pub option_eq-some : (o : Option ℕ) (c : ℕ) → (option_eq eqb o (Some c) ≡ true) ↔ (o ≡ Some c)
+option_eq-some (Some a) c = (λ e. ap Some (eqb-true a c e), λ e. eq-eqb a c (same_Some a c e))
+option_eq-some None c = (λ e. absurd (false≢true e), λ e. absurd (none-some c e))

@@ -17,9 +17,9 @@ use Rattle.hd_audit.specs.declared.types.AuditLine.{AuditLine}
 use Rattle.hd_audit.specs.declared.waiting.Waiting.{Waiting}
 use Rattle.hd_audit.specs.Flooding.{Adds, IsFlooding, IsWaiting, rank_of_waiting, seen_at, waits_at}
 use Rattle.hd_audit.specs.Lines.{line_at, point_at}
-use Rattle.hd_audit.proofs.WaitsAt.{waits-one, waits-none, waits-few, waits-cons, some-wait, none-wait}
+use Rattle.hd_audit.proofs.WaitsAt.{waits_at-one, waits_at-none, waits_at-few, waits_at-cons, waits_at-some, waits_at-nobody}
 use Rattle.hd_audit.proofs.Lines.{line_at-push_old, line_at-push_new}
-use Rattle.hd_audit.proofs.SeenAt.{seen-here, seen-kept, seen-cases, unseen-less}
+use Rattle.hd_audit.proofs.SeenAt.{seen_at-here, seen_at-kept, seen_at-cases, seen_at-fewer_unseen}
 
 module _ {S : Type 0} (m : Map) where
   -- the index of a waiting point
@@ -28,9 +28,9 @@ module _ {S : Type 0} (m : Map) where
 
   module _ (lines : List AuditLine) (from : ℕ) (inside : from < length lines) (at : Pos) (is_at : point_at m lines from ≡ at) where
     -- an unseen neighbour waits
-    pub flood-add : (seen : List Bool) (heap heap' : List (Waiting S)) (q : Pos) → Neighbour m at q → seen_at seen (place_of m.size q) ≡ false → Adds m q from heap heap' → IsFlooding m lines seen heap from
+    pub IsFlooding-add : (seen : List Bool) (heap heap' : List (Waiting S)) (q : Pos) → Neighbour m at q → seen_at seen (place_of m.size q) ≡ false → Adds m q from heap heap' → IsFlooding m lines seen heap from
         → IsFlooding m lines (set seen (place_of m.size q) true) heap' from
-    flood-add seen heap heap' q near free adds f =
+    IsFlooding-add seen heap heap' q near free adds f =
         let w : Waiting S = adds.added in
         let i : ℕ = place_of m.size q in
         let whole = f.whole in
@@ -41,12 +41,12 @@ module _ {S : Type 0} (m : Map) where
         let new : Contains heap' w = Contains-permutation (w ∷ heap) heap' w adds.moved (Contains-head w heap) in
         let cases : (v : Waiting S) → Contains heap' v → (v ≡ w) ⊎ Contains heap v = λ v h. Contains-cases w v heap (Contains-permutation heap' (w ∷ heap) v (IsPermutation-sym (w ∷ heap) heap' adds.moved) h) in
         let longer = length_permutation (w ∷ heap) heap' adds.moved in
-        let less = unseen-less seen i cell free in
+        let less = seen_at-fewer_unseen seen i cell free in
         record {
           whole = length-set seen i true ∙ whole;
           room = omega (arith, room, longer, less);
-          listed = λ k before. seen-kept seen i cell (line_at lines k).index (f.listed k before);
-          found = λ k h. elim (seen-cases seen i cell k h) [
+          listed = λ k before. seen_at-kept seen i cell (line_at lines k).index (f.listed k before);
+          found = λ k h. elim (seen_at-cases seen i cell k h) [
             | inl here ↦ inr (w, new, index ∙ sym here)
             | inr was ↦ elim (f.found k was) [ inl l ↦ inl l | inr v ↦ inr (v.0, old v.0 v.1, v.2) ]
           ];
@@ -65,26 +65,26 @@ module _ {S : Type 0} (m : Map) where
               (let sum = sum_by-IsPermutation (waits_at j) (w ∷ heap) heap' adds.moved in
               elim (cases_eq w.index j) [
                 | inl same ↦
-                    let none = none-wait heap j (λ v h e. false≢true (sym free ∙ subst (λ l. seen_at seen l ≡ true) (e ∙ sym same ∙ index) (f.waits_seen v h))) in
-                    let few = waits-few w j in
-                    let cons = waits-cons w heap j in
+                    let none = waits_at-nobody heap j (λ v h e. false≢true (sym free ∙ subst (λ l. seen_at seen l ≡ true) (e ∙ sym same ∙ index) (f.waits_seen v h))) in
+                    let few = waits_at-few w j in
+                    let cons = waits_at-cons w heap j in
                     omega (arith, sum, none, few, cons)
                 | inr other ↦
                     let few = f.once j in
-                    let zero = waits-none w j other in
-                    let cons = waits-cons w heap j in
+                    let zero = waits_at-none w j other in
+                    let cons = waits_at-cons w heap j in
                     omega (arith, sum, few, zero, cons)
               ]);
           waits_seen = λ v h. elim (cases v h) [
-            | inl same ↦ subst (λ (z : Waiting S). seen_at (set seen i true) z.index ≡ true) (sym same) (subst (λ j. seen_at (set seen i true) j ≡ true) (sym index) (seen-here seen i cell))
-            | inr was ↦ seen-kept seen i cell v.index (f.waits_seen v was)
+            | inl same ↦ subst (λ (z : Waiting S). seen_at (set seen i true) z.index ≡ true) (sym same) (subst (λ j. seen_at (set seen i true) j ≡ true) (sym index) (seen_at-here seen i cell))
+            | inr was ↦ seen_at-kept seen i cell v.index (f.waits_seen v was)
           ];
-          closed = λ k before p n. seen-kept seen i cell (place_of m.size p) (f.closed k before p n);
+          closed = λ k before p n. seen_at-kept seen i cell (place_of m.size p) (f.closed k before p n);
         }
 
     -- all neighbours are seen
-    pub flood-on : (seen : List Bool) (heap : List (Waiting S)) → ((q : Pos) → Neighbour m at q → seen_at seen (place_of m.size q) ≡ true) → IsFlooding m lines seen heap from → IsFlooding m lines seen heap (from + 1)
-    flood-on seen heap all f =
+    pub IsFlooding-on : (seen : List Bool) (heap : List (Waiting S)) → ((q : Pos) → Neighbour m at q → seen_at seen (place_of m.size q) ≡ true) → IsFlooding m lines seen heap from → IsFlooding m lines seen heap (from + 1)
+    IsFlooding-on seen heap all f =
         record {
           whole = f.whole;
           room = f.room;
@@ -106,14 +106,14 @@ module _ {S : Type 0} (m : Map) where
     rest-in : (v : Waiting S) → Contains rest v → Contains heap v
     rest-in v h = Contains-permutation (w ∷ rest) heap v (IsPermutation-sym heap (w ∷ rest) popped) (Contains-tail w v rest h)
 
-    pub popped-in : Contains heap w
-    popped-in = Contains-permutation (w ∷ rest) heap w (IsPermutation-sym heap (w ∷ rest) popped) (Contains-head w rest)
+    pub heap-popped : Contains heap w
+    heap-popped = Contains-permutation (w ∷ rest) heap w (IsPermutation-sym heap (w ∷ rest) popped) (Contains-head w rest)
 
     place-old : (k : ℕ) → k < length lines → point_at m (lines ++ x ∷ []) k ≡ point_at m lines k
     place-old k inside = ap (λ (y : AuditLine). position_at m.size y.index) (line_at-push_old lines x k inside)
 
-    pub flood-list : IsFlooding m (lines ++ x ∷ []) seen rest (length lines)
-    flood-list =
+    pub IsFlooding-list : IsFlooding m (lines ++ x ∷ []) seen rest (length lines)
+    IsFlooding-list =
         let room = f.room in
         let longer = length_push lines x in
         let shorter = length_permutation heap (w ∷ rest) popped in
@@ -122,7 +122,7 @@ module _ {S : Type 0} (m : Map) where
           room = omega (arith, room, longer, shorter);
           listed = λ k before. elim (cases_lt k (length lines)) [
             | inl old ↦ subst (λ (y : AuditLine). seen_at seen y.index ≡ true) (sym (line_at-push_old lines x k old)) (f.listed k old)
-            | inr last ↦ subst (λ (y : AuditLine). seen_at seen y.index ≡ true) (sym (line_at-push_new lines x k (omega (arith, before, last, longer)))) (subst (λ i. seen_at seen i ≡ true) (sym index) (f.waits_seen w popped-in))
+            | inr last ↦ subst (λ (y : AuditLine). seen_at seen y.index ≡ true) (sym (line_at-push_new lines x k (omega (arith, before, last, longer)))) (subst (λ i. seen_at seen i ≡ true) (sym index) (f.waits_seen w heap-popped))
           ];
           found = λ i h. elim (f.found i h) [
             | inl l ↦ inl (l.0, (let less = l.1 in omega (arith, less, longer)), ap (λ (y : AuditLine). y.index) (line_at-push_old lines x l.0 l.1) ∙ l.2)
@@ -143,16 +143,16 @@ module _ {S : Type 0} (m : Map) where
                       let same : w.index ≡ v.index = sym index ∙ ap (λ (y : AuditLine). y.index) (sym (line_at-push_new lines x k (omega (arith, less, last, longer)))) ∙ e in
                       let sum = sum_by-IsPermutation (waits_at v.index) heap (w ∷ rest) popped in
                       let few = f.once v.index in
-                      let one = waits-one w v.index same in
-                      let other = some-wait rest v v.index h refl in
-                      let cons = waits-cons w rest v.index in
+                      let one = waits_at-one w v.index same in
+                      let other = waits_at-some rest v v.index h refl in
+                      let cons = waits_at-cons w rest v.index in
                       omega (arith, sum, few, one, other, cons)
                 ];
                 before = omega (arith, before, longer);
                 neighbour = subst (λ (p : Pos). Neighbour m t.point p) (sym (place-old v.from before)) t.neighbour;
                 first = λ k less n. t.first k less (subst (λ (p : Pos). Neighbour m t.point p) (place-old k (omega (arith, less, before))) n);
               });
-          once = λ i. (let sum = sum_by-IsPermutation (waits_at i) heap (w ∷ rest) popped in let few = f.once i in let cons = waits-cons w rest i in omega (arith, sum, few, cons));
+          once = λ i. (let sum = sum_by-IsPermutation (waits_at i) heap (w ∷ rest) popped in let few = f.once i in let cons = waits_at-cons w rest i in omega (arith, sum, few, cons));
           waits_seen = λ v h. f.waits_seen v (rest-in v h);
           closed = λ k less q n. f.closed k less q (subst (λ (p : Pos). Neighbour m p q) (place-old k less) n);
         }

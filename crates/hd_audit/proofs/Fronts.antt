@@ -22,8 +22,8 @@ use Rattle.hd_audit.specs.declared.types.AuditLine.{AuditLine}
 use Rattle.hd_audit.specs.declared.waiting.Waiting.{Waiting}
 use Rattle.hd_audit.specs.Flooding.{Adds, IsFront, IsOver, IsSpreading, Offers, OffersAt, ahead_at, is_under, rank_of_waiting, seen_at}
 use Rattle.hd_audit.specs.Lines.{point_at}
-use Rattle.hd_audit.proofs.Flooding.{flood-add, flood-on}
-use Rattle.hd_audit.proofs.SeenAt.{seen-here, seen-kept}
+use Rattle.hd_audit.proofs.Flooding.{IsFlooding-add, IsFlooding-on}
+use Rattle.hd_audit.proofs.SeenAt.{seen_at-here, seen_at-kept}
 
 -- what is not below the level, and is not its point, is above it
 over-unless_under : (side : SideName) (level : Option Rank) (x : Rank) → ((l : Rank) → level ≡ Some l → x ≡ l → ⊥) → is_under (below_by side) level x ≡ false → IsOver (below_by side) level x
@@ -38,8 +38,8 @@ over-unless_under side (Some l) x apart h = elim (compare (below_by side) (below
 
 module _ {S : Type 0} (m : Map) (side : SideName) (lines : List AuditLine) (level : Option Rank) where
   module _ (from : ℕ) (inside : from < length lines) (at : Pos) (is_at : point_at m lines from ≡ at) where
-    pub spread-begin : (seen : List Bool) (ahead : List (Option ℕ)) (low : List (Waiting S)) → IsFront m side lines level seen ahead low from → IsSpreading m side lines level seen ahead low from []
-    spread-begin seen ahead low f = record { front = f; all_seen = λ q h. absurd (let none : h.0 < 0 = h.1 in omega arith) }
+    pub IsSpreading-begin : (seen : List Bool) (ahead : List (Option ℕ)) (low : List (Waiting S)) → IsFront m side lines level seen ahead low from → IsSpreading m side lines level seen ahead low from []
+    IsSpreading-begin seen ahead low f = record { front = f; all_seen = λ q h. absurd (let none : h.0 < 0 = h.1 in omega arith) }
 
     -- an unseen neighbour below the level is put into the heap
     front-low : (seen : List Bool) (ahead : List (Option ℕ)) (low low' : List (Waiting S)) (q : Pos) → Neighbour m at q → seen_at seen (place_of m.size q) ≡ false → is_under (below_by side) level (rank m q) ≡ true → Adds m q from low low'
@@ -49,7 +49,7 @@ module _ {S : Type 0} (m : Map) (side : SideName) (lines : List AuditLine) (leve
         let cell : place_of m.size q < length seen = (let cells = place_inside m.size q near.to.in_grid in let whole = f.flooding.whole in omega (arith, cells, whole)) in
         record {
           high = f.high;
-          flooding = flood-add m lines from inside at is_at seen (low ++ f.high) (low' ++ f.high) q near free
+          flooding = IsFlooding-add m lines from inside at is_at seen (low ++ f.high) (low' ++ f.high) q near free
               (record { added = w; rank_is = adds.rank_is; from_is = adds.from_is; moved = IsPermutation-append_left f.high (w ∷ low) low' adds.moved }) f.flooding;
           whole = f.whole;
           noted = f.noted;
@@ -59,7 +59,7 @@ module _ {S : Type 0} (m : Map) (side : SideName) (lines : List AuditLine) (leve
             | inr old ↦ f.under v old
           ];
           over = f.over;
-          level_seen = λ l e. seen-kept seen (place_of m.size q) cell l.index (f.level_seen l e);
+          level_seen = λ l e. seen_at-kept seen (place_of m.size q) cell l.index (f.level_seen l e);
         }
 
     -- another is noted
@@ -74,7 +74,7 @@ module _ {S : Type 0} (m : Map) (side : SideName) (lines : List AuditLine) (leve
         let unseen : (v : Waiting S) → Contains f.high v → v.index ≡ i → ⊥ = λ v h e. false≢true (sym free ∙ subst (λ j. seen_at seen j ≡ true) e (f.flooding.waits_seen v (Contains-append_right low f.high v h))) in
         record {
           high = w ∷ f.high;
-          flooding = flood-add m lines from inside at is_at seen (low ++ f.high) (low ++ w ∷ f.high) q near free
+          flooding = IsFlooding-add m lines from inside at is_at seen (low ++ f.high) (low ++ w ∷ f.high) q near free
               (record { added = w; rank_is = refl; from_is = refl; moved = IsPermutation-sym (low ++ w ∷ f.high) (w ∷ (low ++ f.high)) (IsPermutation-middle low w f.high) }) f.flooding;
           whole = length-set ahead i (Some from) ∙ f.whole;
           noted = λ v h. elim (Contains-cases w v f.high h) [
@@ -91,13 +91,13 @@ module _ {S : Type 0} (m : Map) (side : SideName) (lines : List AuditLine) (leve
                 (over-unless_under side level (rank m q) (λ l e x. false≢true (sym free ∙ subst (λ (r : Rank). seen_at seen r.index ≡ true) (sym x) (f.level_seen l e))) above)
             | inr old ↦ f.over v old
           ];
-          level_seen = λ l e. seen-kept seen i cell l.index (f.level_seen l e);
+          level_seen = λ l e. seen_at-kept seen i cell l.index (f.level_seen l e);
         }
 
     -- one more neighbour is offered
-    pub spread-more : (seen : List Bool) (ahead : List (Option ℕ)) (low : List (Waiting S)) (seen' : List Bool) (ahead' : List (Option ℕ)) (low' : List (Waiting S)) (done : List Pos) (q : Pos) → Neighbour m at q
+    pub IsSpreading-more : (seen : List Bool) (ahead : List (Option ℕ)) (low : List (Waiting S)) (seen' : List Bool) (ahead' : List (Option ℕ)) (low' : List (Waiting S)) (done : List Pos) (q : Pos) → Neighbour m at q
         → Offers m side q from level seen ahead low seen' ahead' low' → IsSpreading m side lines level seen ahead low from done → IsSpreading m side lines level seen' ahead' low' from (done ++ q ∷ [])
-    spread-more seen ahead low seen' ahead' low' done q near offers s = elim offers [
+    IsSpreading-more seen ahead low seen' ahead' low' done q near offers s = elim offers [
       | inl left ↦ rw (left.1, left.2, left.3) (record {
         front = s.front;
         all_seen = λ p h. elim (Contains-push_cases done q p h) [
@@ -109,8 +109,8 @@ module _ {S : Type 0} (m : Map) (side : SideName) (lines : List AuditLine) (leve
           let whole = s.front.flooding.whole in
           let cell : place_of m.size q < length seen = (let cells = place_inside m.size q near.to.in_grid in omega (arith, cells, whole)) in
           let all : (p : Pos) → Contains (done ++ q ∷ []) p → seen_at (set seen (place_of m.size q) true) (place_of m.size p) ≡ true = λ p h. elim (Contains-push_cases done q p h) [
-            | inl old ↦ seen-kept seen (place_of m.size q) cell (place_of m.size p) (s.all_seen p old)
-            | inr same ↦ subst (λ (z : Pos). seen_at (set seen (place_of m.size q) true) (place_of m.size z) ≡ true) same (seen-here seen (place_of m.size q) cell)
+            | inl old ↦ seen_at-kept seen (place_of m.size q) cell (place_of m.size p) (s.all_seen p old)
+            | inr same ↦ subst (λ (z : Pos). seen_at (set seen (place_of m.size q) true) (place_of m.size z) ≡ true) same (seen_at-here seen (place_of m.size q) cell)
           ] in
           elim new.2 [
             | inl under ↦ rw (new.1, under.1) (record { front = front-low seen ahead low low' q near new.0 under.0 under.2 s.front; all_seen = all })
@@ -123,24 +123,24 @@ module _ {S : Type 0} (m : Map) (side : SideName) (lines : List AuditLine) (leve
       pub front : IsFront m side lines level seen ahead low from
       pub covered : (q : Pos) → Neighbour m at q → 3 * q.y + q.x + 4 < 3 * at.y + at.x + step → seen_at seen (place_of m.size q) ≡ true
 
-    pub round-begin : (seen : List Bool) (ahead : List (Option ℕ)) (low : List (Waiting S)) → IsFront m side lines level seen ahead low from → IsRound 0 seen ahead low
-    round-begin seen ahead low f = record { front = f; covered = λ q n before. absurd (omega (arith, n.columns, n.rows, before)) }
+    pub IsRound-begin : (seen : List Bool) (ahead : List (Option ℕ)) (low : List (Waiting S)) → IsFront m side lines level seen ahead low from → IsRound 0 seen ahead low
+    IsRound-begin seen ahead low f = record { front = f; covered = λ q n before. absurd (omega (arith, n.columns, n.rows, before)) }
 
     -- one more position is offered
-    pub round-more : Present m at → (step : ℕ) (seen : List Bool) (ahead : List (Option ℕ)) (low : List (Waiting S)) (seen' : List Bool) (ahead' : List (Option ℕ)) (low' : List (Waiting S)) → step < 9 → (step ≡ 4 → ⊥)
+    pub IsRound-more : Present m at → (step : ℕ) (seen : List Bool) (ahead : List (Option ℕ)) (low : List (Waiting S)) (seen' : List Bool) (ahead' : List (Option ℕ)) (low' : List (Waiting S)) → step < 9 → (step ≡ 4 → ⊥)
         → OffersAt m side at (step % 3) (step / 3) from level seen ahead low seen' ahead' low' → IsRound step seen ahead low → IsRound (step + 1) seen' ahead' low'
-    round-more here step seen ahead low seen' ahead' low' below apart offers r = elim offers [
+    IsRound-more here step seen ahead low seen' ahead' low' below apart offers r = elim offers [
       | inl one ↦
           let q : Pos = one.0 in
           let near : Neighbour m at q = step_neighbour m at q step here one.3 one.4 below apart one.1 one.2 in
-          let more : (p : Pos) → seen_at seen (place_of m.size p) ≡ true → IsSpreading m side lines level seen' ahead' low' from (p ∷ q ∷ []) = λ p old. spread-more seen ahead low seen' ahead' low' (p ∷ []) q near one.5 (record {
+          let more : (p : Pos) → seen_at seen (place_of m.size p) ≡ true → IsSpreading m side lines level seen' ahead' low' from (p ∷ q ∷ []) = λ p old. IsSpreading-more seen ahead low seen' ahead' low' (p ∷ []) q near one.5 (record {
             front = r.front;
             all_seen = λ z h. elim (Contains-cases p z [] h) [
               | inl same ↦ subst (λ (x : Pos). seen_at seen (place_of m.size x) ≡ true) (sym same) old
               | inr none ↦ absurd (Contains-none z none)
             ];
           }) in
-          let last = spread-more seen ahead low seen' ahead' low' [] q near one.5 (spread-begin seen ahead low r.front) in
+          let last = IsSpreading-more seen ahead low seen' ahead' low' [] q near one.5 (IsSpreading-begin seen ahead low r.front) in
           record {
             front = last.front;
             covered = λ p n before. elim (cases_lt (3 * p.y + p.x + 4) (3 * at.y + at.x + step)) [
@@ -159,8 +159,8 @@ module _ {S : Type 0} (m : Map) (side : SideName) (lines : List AuditLine) (leve
     ]
 
     -- the point itself is passed over
-    pub round-centre : (step : ℕ) (seen : List Bool) (ahead : List (Option ℕ)) (low : List (Waiting S)) → step ≡ 4 → IsRound step seen ahead low → IsRound (step + 1) seen ahead low
-    round-centre step seen ahead low centre r = record {
+    pub IsRound-centre : (step : ℕ) (seen : List Bool) (ahead : List (Option ℕ)) (low : List (Waiting S)) → step ≡ 4 → IsRound step seen ahead low → IsRound (step + 1) seen ahead low
+    IsRound-centre step seen ahead low centre r = record {
       front = r.front;
       covered = λ p n before. elim (cases_lt (3 * p.y + p.x + 4) (3 * at.y + at.x + step)) [
         | inl old ↦ r.covered p n old
@@ -169,10 +169,10 @@ module _ {S : Type 0} (m : Map) (side : SideName) (lines : List AuditLine) (leve
     }
 
     -- where all neighbours are seen the front has gone on
-    pub round-end : (seen : List Bool) (ahead : List (Option ℕ)) (low : List (Waiting S)) → ((q : Pos) → Neighbour m at q → seen_at seen (place_of m.size q) ≡ true) → IsFront m side lines level seen ahead low from → IsFront m side lines level seen ahead low (from + 1)
-    round-end seen ahead low all f = record {
+    pub IsRound-end : (seen : List Bool) (ahead : List (Option ℕ)) (low : List (Waiting S)) → ((q : Pos) → Neighbour m at q → seen_at seen (place_of m.size q) ≡ true) → IsFront m side lines level seen ahead low from → IsFront m side lines level seen ahead low (from + 1)
+    IsRound-end seen ahead low all f = record {
       high = f.high;
-      flooding = flood-on m lines from inside at is_at seen (low ++ f.high) all f.flooding;
+      flooding = IsFlooding-on m lines from inside at is_at seen (low ++ f.high) all f.flooding;
       whole = f.whole;
       noted = f.noted;
       only = f.only;
@@ -181,5 +181,5 @@ module _ {S : Type 0} (m : Map) (side : SideName) (lines : List AuditLine) (leve
       level_seen = f.level_seen;
     }
 
-    pub round-all : (step : ℕ) (seen : List Bool) (ahead : List (Option ℕ)) (low : List (Waiting S)) → 9 ≤ step → IsRound step seen ahead low → IsFront m side lines level seen ahead low (from + 1)
-    round-all step seen ahead low end r = round-end seen ahead low (λ q n. r.covered q n (omega (arith, n.columns, n.rows, end))) r.front
+    pub IsRound-all : (step : ℕ) (seen : List Bool) (ahead : List (Option ℕ)) (low : List (Waiting S)) → 9 ≤ step → IsRound step seen ahead low → IsFront m side lines level seen ahead low (from + 1)
+    IsRound-all step seen ahead low end r = IsRound-end seen ahead low (λ q n. r.covered q n (omega (arith, n.columns, n.rows, end))) r.front

@@ -28,8 +28,8 @@ use Rattle.hd_audit.specs.LowestFirst.{lowest_first}
 use Rattle.hd_audit.specs.Orders.{AreInOrder}
 use Rattle.hd_audit.specs.Shown.{AreShownLines}
 use Rattle.hd_audit.proofs.AreBegun.{begun-flooding}
-use Rattle.hd_audit.proofs.Firm.{AreFirm}
-use Rattle.hd_audit.proofs.Flooding.{flood-list}
+use Rattle.hd_audit.proofs.AreFirm.{AreFirm}
+use Rattle.hd_audit.proofs.Flooding.{IsFlooding-list}
 use Rattle.hd_audit.proofs.Lines.{line_at-push_new}
 use Rattle.hd_audit.proofs.NextLines.{all-shown, cut-point, shown-more, top-lowest}
 
@@ -49,9 +49,9 @@ waiting-point : {S : Type 0} (m : Map) (lines : List AuditLine) (w : Waiting S) 
 waiting-point m lines w t = record { at = t.point; present = t.neighbour.from; rank_is = t.rank_is }
 
 -- none waits at the beginning
-pub front-begin : {S : Type 0} (m : Map) (side : SideName) (kept : List Kept) (n : ℕ) (seen : List Bool) (lines : List AuditLine) (ahead : List (Option ℕ)) (low : List (Waiting S)) → ahead ≡ replicate (cell_count m.size) None → length low ≡ 0 → AreBegun m kept n seen lines
+pub IsFront-begin : {S : Type 0} (m : Map) (side : SideName) (kept : List Kept) (n : ℕ) (seen : List Bool) (lines : List AuditLine) (ahead : List (Option ℕ)) (low : List (Waiting S)) → ahead ≡ replicate (cell_count m.size) None → length low ≡ 0 → AreBegun m kept n seen lines
     → IsFront m side lines None seen ahead low 0
-front-begin m side kept n seen lines ahead [] blank empty b = record {
+IsFront-begin m side kept n seen lines ahead [] blank empty b = record {
   high = [];
   flooding = begun-flooding m kept n seen lines [] refl b;
   whole = ap length blank ∙ length-replicate {A = Option ℕ} (cell_count m.size) None;
@@ -61,15 +61,15 @@ front-begin m side kept n seen lines ahead [] blank empty b = record {
   over = λ w h. tt;
   level_seen = λ l e. absurd (let f = e in cc);
 }
-front-begin m side kept n seen lines ahead (w ∷ low) blank empty b = absurd (omega (arith, empty))
+IsFront-begin m side kept n seen lines ahead (w ∷ low) blank empty b = absurd (omega (arith, empty))
 
 no_low : {S : Type 0} (low : List (Waiting S)) → ((w : Waiting S) → Contains low w → false ≡ true) → length low ≡ 0
 no_low [] h = refl
 no_low (w ∷ low) h = absurd (false≢true (h w (Contains-head w low)))
 
 -- without a level none waits in the heap
-pub front-at : {S : Type 0} (m : Map) (side : SideName) (lines : List AuditLine) (seen : List Bool) (ahead : List (Option ℕ)) (low : List (Waiting S)) → IsFront m side lines None seen ahead low (length lines) → IsFrontAt m side lines seen ahead low
-front-at m side lines seen ahead low f = record { level = None; front = f; empty = no_low low f.under }
+pub IsFrontAt-level : {S : Type 0} (m : Map) (side : SideName) (lines : List AuditLine) (seen : List Bool) (ahead : List (Option ℕ)) (low : List (Waiting S)) → IsFront m side lines None seen ahead low (length lines) → IsFrontAt m side lines seen ahead low
+IsFrontAt-level m side lines seen ahead low f = record { level = None; front = f; empty = no_low low f.under }
 
 module _ {S : Type 0} (m : Map) (whole : IsMap m) (side : SideName) (thousandths : ℕ) (sz : ℤ) (kept : List Rank) (firm : AreFirm m side thousandths sz kept)
     (lines : List AuditLine) (seen : List Bool) (ahead : List (Option ℕ)) (so : AreShownTo m side thousandths sz kept lines (length lines)) where
@@ -87,9 +87,9 @@ module _ {S : Type 0} (m : Map) (whole : IsMap m) (side : SideName) (thousandths
   few-listed heap w rest f popped = let room = f.room in let long = length_permutation heap (w ∷ rest) popped in omega (arith, room, long)
 
   -- the top of the heap is listed
-  pub list-low : (level : Rank) (low rest : List (Waiting S)) (w : Waiting S) → IsFront m side lines (Some level) seen ahead low (length lines) → IsPermutation low (w ∷ rest)
+  pub IsListed-low : (level : Rank) (low rest : List (Waiting S)) (w : Waiting S) → IsFront m side lines (Some level) seen ahead low (length lines) → IsPermutation low (w ∷ rest)
       → IsUpperBound (λ (x : Waiting S) (y : Waiting S). lowest_first (below_by side) (rank_of_waiting x) (rank_of_waiting y)) w low → IsListed level ahead rest w.from (rank_of_waiting w)
-  list-low level low rest w f popped upper =
+  IsListed-low level low rest w f popped upper =
       let heap : List (Waiting S) = low ++ f.high in
       let more : IsPermutation heap (w ∷ (rest ++ f.high)) = IsPermutation-append_left f.high low (w ∷ rest) popped in
       let in_low : Contains low w = Contains-permutation (w ∷ rest) low w (IsPermutation-sym low (w ∷ rest) popped) (Contains-head w rest) in
@@ -107,7 +107,7 @@ module _ {S : Type 0} (m : Map) (whole : IsMap m) (side : SideName) (thousandths
         shown = shown-more m whole side thousandths sz kept firm lines seen heap f.flooding so w (rest ++ f.high) more least;
         front = record {
           high = f.high;
-          flooding = flood-list m lines seen heap (rest ++ f.high) w line f.flooding more refl;
+          flooding = IsFlooding-list m lines seen heap (rest ++ f.high) w line f.flooding more refl;
           whole = f.whole;
           noted = f.noted;
           only = f.only;
@@ -130,7 +130,7 @@ module _ {S : Type 0} (m : Map) (whole : IsMap m) (side : SideName) (thousandths
       let bound : (v : Waiting S) → Contains high v → IsNotAbove (below_by side) point (rank_of_waiting v) = λ v h. lowest (rank_of_waiting v) v.from (waiting-point m lines v (flooding.waiting v h)) (noted v h) in
       let least : (v : Waiting S) → Contains high v → IsNotAbove (below_by side) (rank_of_waiting w) (rank_of_waiting v) = λ v h. subst (λ (r : Rank). IsNotAbove (below_by side) r (rank_of_waiting v)) (sym ranks) (bound v h) in
       let line : AuditLine = next_line m side thousandths sz (line_at lines w.from) (rank_of_waiting w) in
-      let listed-so : IsFlooding m (lines ++ line ∷ []) seen rest (length lines) = flood-list m lines seen high rest w line flooding popped refl in
+      let listed-so : IsFlooding m (lines ++ line ∷ []) seen rest (length lines) = IsFlooding-list m lines seen high rest w line flooding popped refl in
       let in_high : (v : Waiting S) → Contains rest v → Contains high v = λ v h. Contains-permutation (w ∷ rest) high v (IsPermutation-sym high (w ∷ rest) popped) (Contains-tail w v rest h) in
       let longer = length_push lines line in
       let other : (v : Waiting S) → Contains rest v → v.index ≡ point.index → ⊥ = λ v h e. (listed-so.waiting v h).unlisted (length lines) (omega (arith, longer)) (ap (λ (x : AuditLine). x.index) (line_at-push_new lines line (length lines) refl) ∙ index ∙ sym e) in
@@ -169,17 +169,17 @@ module _ {S : Type 0} (m : Map) (whole : IsMap m) (side : SideName) (thousandths
         front = front;
       }))
 
-  pub list-level : (low : List (Waiting S)) (point : Rank) (from : ℕ) → IsFrontAt m side lines seen ahead low → IsPoint m point → AreNotBelow m side ahead point → ahead_at ahead point.index ≡ Some from → IsListed point (set ahead point.index None) low from point
-  list-level [] point from at is_point lowest e =
+  pub IsListed-level : (low : List (Waiting S)) (point : Rank) (from : ℕ) → IsFrontAt m side lines seen ahead low → IsPoint m point → AreNotBelow m side ahead point → ahead_at ahead point.index ≡ Some from → IsListed point (set ahead point.index None) low from point
+  IsListed-level [] point from at is_point lowest e =
       let f = at.front in
       let v = f.only point.index from e in
       let w : Waiting S = v.0 in
       take-high at.level point from w f.high (remove f.high v.1.0) f refl is_point lowest v.1 (IsPermutation-remove f.high v.1.0 w v.1.1 (sym v.1.2)) v.2 v.3
-  list-level (x ∷ low) point from at is_point lowest e = absurd (let empty = at.empty in omega (arith, empty))
+  IsListed-level (x ∷ low) point from at is_point lowest e = absurd (let empty = at.empty in omega (arith, empty))
 
   -- where the points up to the last are passed, all are listed
-  pub all-passed : (low : List (Waiting S)) (points : List Rank) → IsFrontAt m side lines seen ahead low → AreInOrder m side points → ((j : ℕ) (d : Rank) → j < length points → ArePassed m side ahead (get_or points j d)) → AreShownLines m side thousandths sz kept lines
-  all-passed low points at order passed = all-shown m whole side thousandths sz kept firm lines seen (low ++ at.front.high) at.front.flooding so (λ w h. elim (Contains-append_cases low at.front.high w h) [
+  pub ArePassed-all : (low : List (Waiting S)) (points : List Rank) → IsFrontAt m side lines seen ahead low → AreInOrder m side points → ((j : ℕ) (d : Rank) → j < length points → ArePassed m side ahead (get_or points j d)) → AreShownLines m side thousandths sz kept lines
+  ArePassed-all low points at order passed = all-shown m whole side thousandths sz kept firm lines seen (low ++ at.front.high) at.front.flooding so (λ w h. elim (Contains-append_cases low at.front.high w h) [
     | inl inside ↦ nothing low w at.empty inside
     | inr high ↦
         let point = waiting-point m lines w (at.front.flooding.waiting w h) in
@@ -190,8 +190,8 @@ module _ {S : Type 0} (m : Map) (whole : IsMap m) (side : SideName) (thousandths
   ])
 
 -- the next of the points is not above those that are noted
-pub next-lowest : (m : Map) (side : SideName) (ahead : List (Option ℕ)) (points : List Rank) (i : ℕ) (d : Rank) → AreInOrder m side points → i < length points → ((j : ℕ) (d : Rank) → j < i → ArePassed m side ahead (get_or points j d)) → AreNotBelow m side ahead (get_or points i d)
-next-lowest m side ahead points i d order inside passed x p point e =
+pub ArePassed-next : (m : Map) (side : SideName) (ahead : List (Option ℕ)) (points : List Rank) (i : ℕ) (d : Rank) → AreInOrder m side points → i < length points → ((j : ℕ) (d : Rank) → j < i → ArePassed m side ahead (get_or points j d)) → AreNotBelow m side ahead (get_or points i d)
+ArePassed-next m side ahead points i d order inside passed x p point e =
     let c = order.all x point in
     elim (cases_lt c.0 i) [
       | inl before ↦ absurd (below-apart (below_by side) (below_by-order side) (get_or points c.0 x) x (passed c.0 x before x p point e) c.2)
@@ -204,8 +204,8 @@ next-lowest m side ahead points i d order inside passed x p point e =
     ]
 
 -- what passes a point passes those before it
-pub passed-more : (m : Map) (side : SideName) (ahead : List (Option ℕ)) (points : List Rank) (i : ℕ) (e : Rank) → AreInOrder m side points → i < length points → ArePassed m side ahead (get_or points i e) → (j : ℕ) (d : Rank) → j < i + 1 → ArePassed m side ahead (get_or points j d)
-passed-more m side ahead points i e order inside passed j d less x p point n =
+pub ArePassed-more : (m : Map) (side : SideName) (ahead : List (Option ℕ)) (points : List Rank) (i : ℕ) (e : Rank) → AreInOrder m side points → i < length points → ArePassed m side ahead (get_or points i e) → (j : ℕ) (d : Rank) → j < i + 1 → ArePassed m side ahead (get_or points j d)
+ArePassed-more m side ahead points i e order inside passed j d less x p point n =
     let at : get_or points i d ≡ get_or points i e = get_or_default points i d e inside in
     let below : below_by side (get_or points i d) x ≡ true = subst (λ (r : Rank). below_by side r x ≡ true) (sym at) (passed x p point n) in
     elim (cases_eq j i) [
@@ -214,8 +214,8 @@ passed-more m side ahead points i e order inside passed j d less x p point n =
     ]
 
 -- at the level all below it are passed
-pub passed-level : {S : Type 0} (m : Map) (side : SideName) (lines : List AuditLine) (point : Rank) (seen : List Bool) (ahead : List (Option ℕ)) (low : List (Waiting S)) (n : ℕ) → IsFront m side lines (Some point) seen ahead low n → ArePassed m side ahead point
-passed-level m side lines point seen ahead low n f x p at e =
+pub ArePassed-level : {S : Type 0} (m : Map) (side : SideName) (lines : List AuditLine) (point : Rank) (seen : List Bool) (ahead : List (Option ℕ)) (low : List (Waiting S)) (n : ℕ) → IsFront m side lines (Some point) seen ahead low n → ArePassed m side ahead point
+ArePassed-level m side lines point seen ahead low n f x p at e =
     let v = f.only x.index p e in
     let same : rank_of_waiting v.0 ≡ x = same_index m (rank_of_waiting v.0) x (waiting-point m lines v.0 (f.flooding.waiting v.0 (Contains-append_right low f.high v.0 v.1))) at v.2 in
     subst (λ (r : Rank). below_by side point r ≡ true) same (f.over v.0 v.1)

@@ -15,7 +15,7 @@ use Rattle.hd_prune.specs.Staying.{AreKeptAlone}
 use Rattle.hd_prune.proofs.Nested.{keeps-undercut}
 use Rattle.hd_audit.specs.declared.types.Audit.{Audit}
 use Rattle.hd_audit.specs.Shown.{AreShownLines, IsShown}
-use Rattle.hd_audit.proofs.Firm.{AreFirm}
+use Rattle.hd_audit.proofs.AreFirm.{AreFirm}
 use Rattle.hd_audit.proofs.ShownRight.{kept-in_order}
 
 module _ (m : Map) (whole : IsMap m) (side : SideName) (thousandths : ℕ) (sz : ℤ) (is : SzIs m sz) (kept : List Kept) (alone : AreKeptAlone m side thousandths kept) where
@@ -40,9 +40,9 @@ module _ (m : Map) (whole : IsMap m) (side : SideName) (thousandths : ℕ) (sz :
       subst (λ (a : Rank). a.index < (get_or kept j d).pit.index) (pit-of i d (omega (arith, less, inside))) (subst (λ (b : Rank). (get_or (pits_kept kept) i d.pit).index < b.index) (pit-of j d inside) r)
 
 -- a certificate of shown lines is shown
-pub shown-of : (m : Map) (side : SideName) (percent : Percent) (sz : ℤ) (kept : List Kept) (a : Audit) → SzIs m sz → AreKeptAlone m side percent.thousandths kept → a.side ≡ side → a.percent ≡ percent → a.adjacency ≡ m.adjacency
+pub IsShown-alone : (m : Map) (side : SideName) (percent : Percent) (sz : ℤ) (kept : List Kept) (a : Audit) → SzIs m sz → AreKeptAlone m side percent.thousandths kept → a.side ≡ side → a.percent ≡ percent → a.adjacency ≡ m.adjacency
     → AreShownLines m side percent.thousandths sz (pits_kept kept) a.lines → IsShown m side percent a
-shown-of m side percent sz kept a is alone side_is percent_is adjacency_is lines =
+IsShown-alone m side percent sz kept a is alone side_is percent_is adjacency_is lines =
     let same : sz ≡ alone.pruning.sz = sz-unique m sz alone.pruning.sz is alone.pruning.sz_is in
     record {
       side_is = side_is;

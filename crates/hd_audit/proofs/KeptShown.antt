@@ -23,9 +23,9 @@ use Rattle.hd_audit.specs.declared.types.AuditLine.{AuditLine}
 use Rattle.hd_audit.specs.Lines.{line_at, point_at, rank_at, IsLineOf, IsListed, HasCut, AreParents}
 use Rattle.hd_audit.specs.Rules.{rules_of, IsWithin, IsEarlierNeighbour, IsKeptPit, IsCutOf, IsChainWithin}
 use Rattle.hd_audit.proofs.Within.{within-lower, ReachesWithin, reach-back, reach-higher, reach-point}
-use Rattle.hd_audit.proofs.Firm.{AreFirm, undercuts-from_reach}
-use Rattle.hd_audit.proofs.ShownLines.{rank_of_index}
-use Rattle.hd_audit.proofs.PointAt.{point-indexed}
+use Rattle.hd_audit.proofs.AreFirm.{AreFirm, undercuts-from_reach}
+use Rattle.hd_audit.proofs.ShownLines.{rank_at-index}
+use Rattle.hd_audit.proofs.IsPointAt.{IsPointAt-point}
 use Rattle.hd_audit.proofs.ShownChains.{undercut-within}
 
 -- the place of a line in the list
@@ -98,7 +98,7 @@ module _ (m : Map) (whole : IsMap m) (side : SideName) (thousandths : ℕ) (sz :
       let point = reach-point m side thousandths sz root own.pit.point reach in
       elim (below_by side q root) as (λ v. below_by side q root ≡ v → v ≡ false) [
         | true ↦ λ e. absurd (cut-along x.index reach has (λ h.
-            let low : below_by side q root ≡ false = subst (λ (z : Rank). IsNotAbove (below_by side) root z) (rank_of_index m q point) (cut-not_below q.index x.index h) in
+            let low : below_by side q root ≡ false = subst (λ (z : Rank). IsNotAbove (below_by side) root z) (rank_at-index m q point) (cut-not_below q.index x.index h) in
             false≢true (sym low ∙ e)))
         | false ↦ λ e. refl
       ] refl
@@ -178,8 +178,8 @@ module _ (m : Map) (whole : IsMap m) (side : SideName) (thousandths : ℕ) (sz :
     kept-shown : (p : Rank) → Contains kept p → (x : AuditLine) × Contains lines x × (x.parent ≡ None) × (p ≡ rank_at m x.index)
     kept-shown p at =
         let point = ((firm p).0 at).0.point in
-        let back : rank_at m p.index ≡ p = rank_of_index m p point in
-        let here = point-indexed m p point in
+        let back : rank_at m p.index ≡ p = rank_at-index m p point in
+        let here = IsPointAt-point m p point in
         let h : IsListed lines p.index = rules.1.0 p.index here.inside here.present in
         (h.0, h.1.listed, kept-root p.index h.0 h.1 (subst (Contains kept) (sym back) at), sym back ∙ ap (rank_at m) (sym h.1.index))
 

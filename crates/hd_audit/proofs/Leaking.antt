@@ -18,11 +18,11 @@ use Rattle.hd_audit.specs.Rules.{FirstLeak}
 
 module _ (m : Map) (side : SideName) (thousandths : ℕ) (sz : ℤ) (lines : List AuditLine) where
   -- the first of all neighbours that the cut leaks to
-  pub round_leak : (cut : ℕ) (at : Pos) (round : List Pos) → ((q : Pos) → Contains round q ↔ Neighbour m at q) → AllPairs (λ a b. place_of m.size a < place_of m.size b) round
+  pub FirstLeakRound-leak : (cut : ℕ) (at : Pos) (round : List Pos) → ((q : Pos) → Contains round q ↔ Neighbour m at q) → AllPairs (λ a b. place_of m.size a < place_of m.size b) round
       → (o : Option Pos) → FirstLeaking m side thousandths sz lines cut round o → FirstLeakRound m side thousandths sz lines cut at o
-  round_leak cut at round all ordered None none = λ q near leak.
+  FirstLeakRound-leak cut at round all ordered None none = λ q near leak.
       (let f = Contains-place round q ((all q).1 near) in none f.0 f.1 (subst (LeaksTo m side thousandths sz lines cut) (sym f.2) leak))
-  round_leak cut at round all ordered (Some q) (j, inside, before, leak, is) = (
+  FirstLeakRound-leak cut at round all ordered (Some q) (j, inside, before, leak, is) = (
     subst (Neighbour m at) (sym is) (Neighbour-listed m at round all j inside),
     leak,
     λ r near leak'. (
@@ -42,11 +42,11 @@ module _ (m : Map) (side : SideName) (thousandths : ℕ) (sz : ℤ) (lines : Lis
   )
 
   -- a line with a cut leaks where its cut does
-  pub line_leak : (k cut : ℕ) → (line_at lines k).cut ≡ Some cut → (o : Option Pos) → FirstLeakRound m side thousandths sz lines cut (point_at m lines k) o → FirstLeak m side thousandths sz lines k o
-  line_leak k cut is None none = λ q leak.
+  pub FirstLeak-line : (k cut : ℕ) → (line_at lines k).cut ≡ Some cut → (o : Option Pos) → FirstLeakRound m side thousandths sz lines cut (point_at m lines k) o → FirstLeak m side thousandths sz lines k o
+  FirstLeak-line k cut is None none = λ q leak.
       (let same : leak.cut ≡ cut = same_Some leak.cut cut (sym leak.cut_is ∙ is) in
       none q leak.neighbour (subst (λ (c : ℕ). LeaksTo m side thousandths sz lines c q) same (record { within = leak.within; outside = leak.outside })))
-  line_leak k cut is (Some q) (near, leak, first) = (
+  FirstLeak-line k cut is (Some q) (near, leak, first) = (
     record { cut = cut; cut_is = is; neighbour = near; within = leak.within; outside = leak.outside },
     λ r other.
         (let same : other.cut ≡ cut = same_Some other.cut cut (sym other.cut_is ∙ is) in

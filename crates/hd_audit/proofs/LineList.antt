@@ -21,15 +21,15 @@ module _ (numbers : List Numbers) (named : List Named) (paired : length numbers 
   length_kept = length-zip2 line_kept numbers named paired
 
   -- so are the lines that are seen
-  pub length_seen : (lines : List AuditLine) → lines_kept numbers named ≡ lines → length numbers ≡ length lines
-  length_seen lines is = sym length_kept ∙ ap length is
+  pub lines_kept-length : (lines : List AuditLine) → lines_kept numbers named ≡ lines → length numbers ≡ length lines
+  lines_kept-length lines is = sym length_kept ∙ ap length is
 
   -- the line at a place is that of what is kept there
-  pub line_at_kept : (k : ℕ) (n : Numbers) (which : Named) → k < length numbers → n ≡ get_or numbers k n → which ≡ get_or named k which → line_at (lines_kept numbers named) k ≡ line_kept n which
-  line_at_kept k n which inside n_is which_is =
+  pub lines_kept-line_at : (k : ℕ) (n : Numbers) (which : Named) → k < length numbers → n ≡ get_or numbers k n → which ≡ get_or named k which → line_at (lines_kept numbers named) k ≡ line_kept n which
+  lines_kept-line_at k n which inside n_is which_is =
       get_or-zip2 line_kept numbers named k n which _ inside (let e = paired in omega (arith, inside, e)) ∙ sym (rw (← n_is, ← which_is) refl)
 
   module _ (n : Numbers) (which : Named) where
     -- is one more line
-    pub lines_push : lines_kept (numbers ++ n ∷ []) (named ++ which ∷ []) ≡ lines_kept numbers named ++ line_kept n which ∷ []
-    lines_push = zip2-push line_kept numbers named n which paired
+    pub lines_kept-push : lines_kept (numbers ++ n ∷ []) (named ++ which ∷ []) ≡ lines_kept numbers named ++ line_kept n which ∷ []
+    lines_kept-push = zip2-push line_kept numbers named n which paired

@@ -13,20 +13,20 @@ use Rattle.hd_audit.specs.Rules.{IsEarlierNeighbour, IsNewPoint, ParentsEarlier}
 
 module _ (m : Map) (lines : List AuditLine) where
   -- a parent stands on an earlier line
-  pub earlier_parent : (k p : ℕ) → k < length lines → (line_at lines k).parent ≡ Some p → ParentsEarlier m lines None → IsEarlierNeighbour m lines k p
-  earlier_parent k p inside is parents = subst (λ (o : Option ℕ). MatchOption o (Unit {0}) (IsEarlierNeighbour m lines k)) is (parents k inside)
+  pub IsEarlierNeighbour-parent : (k p : ℕ) → k < length lines → (line_at lines k).parent ≡ Some p → ParentsEarlier m lines None → IsEarlierNeighbour m lines k p
+  IsEarlierNeighbour-parent k p inside is parents = subst (λ (o : Option ℕ). MatchOption o (Unit {0}) (IsEarlierNeighbour m lines k)) is (parents k inside)
 
   module _ (new : (k : ℕ) → k < length lines → IsNewPoint m lines k) where
     -- the point of a line is present
-    pub line_present : (i : ℕ) (x : AuditLine) → IsLineOf lines i x → Present m (position_at m.size i)
-    line_present i x is =
+    pub Present-line : (i : ℕ) (x : AuditLine) → IsLineOf lines i x → Present m (position_at m.size i)
+    Present-line i x is =
         let at = is.listed in
         let same : line_at lines at.0 ≡ x = get_or_default lines at.0 (record { index = 0; parent = None; cut = None }) x at.1 ∙ at.2 in
         subst (λ (j : ℕ). Present m (position_at m.size j)) (ap (λ (y : AuditLine). y.index) same ∙ is.index) (new at.0 at.1).present
 
     -- a point has one line
-    pub one_line : (i : ℕ) (x y : AuditLine) → IsLineOf lines i x → IsLineOf lines i y → x ≡ y
-    one_line i x y is is' =
+    pub IsLineOf-unique : (i : ℕ) (x y : AuditLine) → IsLineOf lines i x → IsLineOf lines i y → x ≡ y
+    IsLineOf-unique i x y is is' =
         let at = is.listed in
         let at' = is'.listed in
         let d : AuditLine = record { index = 0; parent = None; cut = None } in
@@ -42,8 +42,8 @@ module _ (m : Map) (lines : List AuditLine) where
         ]
 
     -- the point of a line has a height of the map
-    pub line_fits : IsMap m → (k : ℕ) → k < length lines → IsHeight (rank_at m (line_at lines k).index).height
-    line_fits whole k inside = point_height m (rank_at m (line_at lines k).index) whole (point_at m (position_at m.size (line_at lines k).index) (new k inside).present)
+    pub line_at-fits : IsMap m → (k : ℕ) → k < length lines → IsHeight (rank_at m (line_at lines k).index).height
+    line_at-fits whole k inside = point_height m (rank_at m (line_at lines k).index) whole (point_at m (position_at m.size (line_at lines k).index) (new k inside).present)
 
 module _ (lines : List AuditLine) (x : AuditLine) where
   pub line_at-push_old : (k : ℕ) → k < length lines → line_at (lines ++ x ∷ []) k ≡ line_at lines k

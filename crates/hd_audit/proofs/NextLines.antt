@@ -25,12 +25,12 @@ use Rattle.hd_audit.specs.Listing.{AreShownTo}
 use Rattle.hd_audit.specs.LowestFirst.{lowest_first}
 use Rattle.hd_audit.specs.Rules.{IsWithin, rise_over}
 use Rattle.hd_audit.specs.Shown.{AreShownLines, CutIs, IsNextTo, IsReachedLine}
-use Rattle.hd_audit.proofs.Firm.{AreFirm}
-use Rattle.hd_audit.proofs.Flooding.{popped-in}
-use Rattle.hd_audit.proofs.ShownLines.{kept-moved, next_to-moved, rank_of_index, reached-moved}
+use Rattle.hd_audit.proofs.AreFirm.{AreFirm}
+use Rattle.hd_audit.proofs.Flooding.{heap-popped}
+use Rattle.hd_audit.proofs.ShownLines.{kept-moved, next_to-moved, rank_at-index, reached-moved}
 use Rattle.hd_audit.proofs.Lines.{line_at-push_old, line_at-push_new}
-use Rattle.hd_audit.proofs.CutIs.{cut-same, cut-left, cut-none}
-use Rattle.hd_audit.proofs.PointAt.{point-indexed}
+use Rattle.hd_audit.proofs.CutIs.{CutIs-same, CutIs-left, CutIs-none}
+use Rattle.hd_audit.proofs.IsPointAt.{IsPointAt-point}
 
 not_lower : (a b : Bool) → is_lt (cond a Less (cond b Greater Equal)) ≡ false → a ≡ false
 not_lower true b e = cc
@@ -56,7 +56,7 @@ module _ {S : Type 0} (m : Map) (whole : IsMap m) (side : SideName) (thousandths
   pub cut-point : (j c : ℕ) → j < length lines → (line_at lines j).cut ≡ Some c → IsPointAt m c
   cut-point j c before e =
       let h : CutIs m side thousandths sz kept (rank_at m (line_at lines j).index) (Some c) = subst (λ o. CutIs m side thousandths sz kept (rank_at m (line_at lines j).index) o) e (so.cuts j before) in
-      subst (IsPointAt m) h.2 (point-indexed m h.0 ((firm h.0).0 h.1).0.point)
+      subst (IsPointAt m) h.2 (IsPointAt-point m h.0 ((firm h.0).0 h.1).0.point)
 
   -- where none waits all is listed
   pub all-shown : ((w : Waiting S) → Contains heap w → ⊥) → AreShownLines m side thousandths sz kept lines
@@ -77,7 +77,7 @@ module _ {S : Type 0} (m : Map) (whole : IsMap m) (side : SideName) (thousandths
     line = next_line m side thousandths sz (line_at lines w.from) (rank_of_waiting w)
 
     pub top-waits : IsWaiting m lines w
-    top-waits = f.waiting w (popped-in m lines seen heap rest w line f popped refl)
+    top-waits = f.waiting w (heap-popped m lines seen heap rest w line f popped refl)
 
     pub top-point : IsPoint m (rank_of_waiting w)
     top-point = let t = top-waits in record { at = t.point; present = t.neighbour.from; rank_is = t.rank_is }
@@ -123,13 +123,13 @@ module _ {S : Type 0} (m : Map) (whole : IsMap m) (side : SideName) (thousandths
 
     -- its cut is right
     cut-right : (t : IsWaiting m lines w) (o : Option ℕ) → CutIs m side thousandths sz kept (rank_at m (line_at lines w.from).index) o → CutIs m side thousandths sz kept (rank m t.point) (next_cut m side thousandths sz o (rank m t.point))
-    cut-right t None h = cut-none m whole side thousandths sz kept firm lines (length lines) so t.point w.from t.before t.neighbour
+    cut-right t None h = CutIs-none m whole side thousandths sz kept firm lines (length lines) so t.point w.from t.before t.neighbour
         (λ i less e. t.unlisted i less (e ∙ ap (λ (r : Rank). r.index) (sym t.rank_is))) h
     cut-right t (Some c) h =
         let unlisted : (i : ℕ) → i < length lines → (line_at lines i).index ≡ place_of m.size t.point → ⊥ = λ i less e. t.unlisted i less (e ∙ ap (λ (r : Rank). r.index) (sym t.rank_is)) in
         next_cut-cases m side thousandths sz kept (rank m t.point) c (is_percent_less (rise_over side (rank_at m c) (rank m t.point)) thousandths sz) refl
-        (cut-same m whole side thousandths sz kept firm lines (length lines) so t.point w.from t.before t.neighbour unlisted c h)
-        (cut-left m whole side thousandths sz kept firm lines (length lines) so t.point w.from t.before t.neighbour unlisted c h)
+        (CutIs-same m whole side thousandths sz kept firm lines (length lines) so t.point w.from t.before t.neighbour unlisted c h)
+        (CutIs-left m whole side thousandths sz kept firm lines (length lines) so t.point w.from t.before t.neighbour unlisted c h)
 
     -- with its line the lines are as they are shown
     pub shown-more : AreShownTo m side thousandths sz kept (lines ++ line ∷ []) (length (lines ++ line ∷ []))
@@ -151,7 +151,7 @@ module _ {S : Type 0} (m : Map) (whole : IsMap m) (side : SideName) (thousandths
                 let e : length lines ≡ k = omega (arith, less, last, longer) in
                 let cut = cut-right t (line_at lines w.from).cut (so.cuts w.from t.before) in
                 let own : CutIs m side thousandths sz kept (rank_of_waiting w) line.cut = subst (λ (r : Rank). CutIs m side thousandths sz kept r (next_cut m side thousandths sz (line_at lines w.from).cut r)) (sym t.rank_is) cut in
-                let there : CutIs m side thousandths sz kept (rank_at m line.index) line.cut = subst (λ (r : Rank). CutIs m side thousandths sz kept r line.cut) (sym (rank_of_index m (rank_of_waiting w) top-point)) own in
+                let there : CutIs m side thousandths sz kept (rank_at m line.index) line.cut = subst (λ (r : Rank). CutIs m side thousandths sz kept r line.cut) (sym (rank_at-index m (rank_of_waiting w) top-point)) own in
                 subst (λ (x : AuditLine). CutIs m side thousandths sz kept (rank_at m x.index) x.cut) (sym (ap (line_at (lines ++ line ∷ [])) (sym e) ∙ here)) there
           ];
         }

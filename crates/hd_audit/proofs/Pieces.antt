@@ -19,27 +19,27 @@ words_joined : (front more : List ℕ) → EndsLine front → words_in (front ++
 words_joined front more ends = ap (map words_of) (ends more) ∙ map-append words_of (lines_of front) (lines_of more)
 
 -- the first line of a piece is whole with what had come of it
-pub first_joined : (rest first others piece line : List ℕ) → line ≡ rest ++ first → IsCutAfterLine piece first others → (more : List ℕ) → words_in (rest ++ (piece ++ more)) ≡ words_in line ++ words_in (others ++ more)
-first_joined rest first others piece line is cut more =
+pub words_in-first : (rest first others piece line : List ℕ) → line ≡ rest ++ first → IsCutAfterLine piece first others → (more : List ℕ) → words_in (rest ++ (piece ++ more)) ≡ words_in line ++ words_in (others ++ more)
+words_in-first rest first others piece line is cut more =
     ap words_in (ap (λ (xs : List ℕ). rest ++ (xs ++ more)) cut.whole ∙ ap (λ (xs : List ℕ). rest ++ xs) (append_assoc first others more) ∙ sym (append_assoc rest first (others ++ more)))
     ∙ words_joined (rest ++ first) (others ++ more) (cut.ends rest) ∙ ap (λ (xs : List ℕ). words_in xs ++ words_in (others ++ more)) (sym is)
 
 -- then come its other lines
-pub others_joined : (others lines end : List ℕ) → others ≡ lines ++ end → EndsLine lines → (more : List ℕ) → words_in (others ++ more) ≡ words_in lines ++ words_in (end ++ more)
-others_joined others lines end whole ends more =
+pub words_in-others : (others lines end : List ℕ) → others ≡ lines ++ end → EndsLine lines → (more : List ℕ) → words_in (others ++ more) ≡ words_in lines ++ words_in (end ++ more)
+words_in-others others lines end whole ends more =
     ap (λ (xs : List ℕ). words_in (xs ++ more)) whole ∙ ap words_in (append_assoc lines end more) ∙ words_joined lines (end ++ more) ends
 
 -- the lines at the front are read on, or refused
 module _ (stage : Stage) (number : ℕ) (lines front back : List (List (List ℕ))) (joined : lines ≡ front ++ back) where
-  pub front_led : (new : Stage) (next : ℕ) → Leads stage number front new next → go_on stage (numbered number lines) ≡ go_on new (numbered next back)
-  front_led new next leads = ap (λ (ls : List (List (List ℕ))). go_on stage (numbered number ls)) joined ∙ leads back
+  pub go_on-front : (new : Stage) (next : ℕ) → Leads stage number front new next → go_on stage (numbered number lines) ≡ go_on new (numbered next back)
+  go_on-front new next leads = ap (λ (ls : List (List (List ℕ))). go_on stage (numbered number ls)) joined ∙ leads back
 
-  pub front_refused : (e : CertificateError) → ((more : List (List (List ℕ))) → go_on stage (numbered number (front ++ more)) ≡ Err e) → go_on stage (numbered number lines) ≡ Err e
-  front_refused e refuses = ap (λ (ls : List (List (List ℕ))). go_on stage (numbered number ls)) joined ∙ refuses back
+  pub go_on-refused : (e : CertificateError) → ((more : List (List (List ℕ))) → go_on stage (numbered number (front ++ more)) ≡ Err e) → go_on stage (numbered number lines) ≡ Err e
+  go_on-refused e refuses = ap (λ (ls : List (List (List ℕ))). go_on stage (numbered number ls)) joined ∙ refuses back
 
 -- the last line of a text
-pub last_joined : (rest line : List ℕ) → line ≡ rest → words_in (rest ++ []) ≡ words_in line ++ []
-last_joined rest line is = ap words_in (append-nil rest ∙ sym is) ∙ sym (append-nil (words_in line))
+pub words_in-last : (rest line : List ℕ) → line ≡ rest → words_in (rest ++ []) ≡ words_in line ++ []
+words_in-last rest line is = ap words_in (append-nil rest ∙ sym is) ∙ sym (append-nil (words_in line))
 
 -- no point is read where no line is left
 no_points : (head : words.Head) (lines : List AuditLine) (left number : ℕ) → value_of (points_on head lines left (numbered number [])) ≡ Err (BadLine number)
@@ -47,8 +47,8 @@ no_points head lines zero number = refl
 no_points head lines (suc left) number = refl
 
 -- a certificate whose last line is not read ends too early
-pub ends_early : (stage : Stage) (number : ℕ) → ((audit : Audit) → stage ≡ End audit → ⊥) → value_of (go_on stage (numbered number [])) ≡ Err (BadLine number)
-ends_early Nothing number early = refl
-ends_early (Head head) number early = refl
-ends_early (Points p) number early = no_points p.head p.lines p.left number
-ends_early (End audit) number early = absurd (early audit refl)
+pub go_on-ends_early : (stage : Stage) (number : ℕ) → ((audit : Audit) → stage ≡ End audit → ⊥) → value_of (go_on stage (numbered number [])) ≡ Err (BadLine number)
+go_on-ends_early Nothing number early = refl
+go_on-ends_early (Head head) number early = refl
+go_on-ends_early (Points p) number early = no_points p.head p.lines p.left number
+go_on-ends_early (End audit) number early = absurd (early audit refl)

@@ -28,8 +28,8 @@ module _ (m : Map) (lines : List AuditLine) (places : List (Option ℕ)) (n : �
   fresh none i below same = none-some i (sym (ap (place_at places) same ∙ none) ∙ before.noted.each i below)
 
   -- one more is noted
-  pub placed_more : index_of n < cell_count m.size → Present m (point_at m lines n) → place_at places (index_of n) ≡ None → ArePlacedBefore m lines (set places (index_of n) (Some n)) (n + 1)
-  placed_more inside present none =
+  pub ArePlacedBefore-more : index_of n < cell_count m.size → Present m (point_at m lines n) → place_at places (index_of n) ≡ None → ArePlacedBefore m lines (set places (index_of n) (Some n)) (n + 1)
+  ArePlacedBefore-more inside present none =
       let within : index_of n < length places = omega (arith, inside, before.whole) in
       record {
         whole = length-set places (index_of n) (Some n) ∙ before.whole;
@@ -56,33 +56,33 @@ module _ (m : Map) (lines : List AuditLine) (places : List (Option ℕ)) (n : �
       }
 
   -- a new point is one at which no line is noted
-  pub none_at_new : IsNewPoint m lines n → place_at places (index_of n) ≡ None
-  none_at_new new = elim (place_at places (index_of n)) as (λ (o : Option ℕ). place_at places (index_of n) ≡ o → o ≡ None) [
+  pub place_at-new : IsNewPoint m lines n → place_at places (index_of n) ≡ None
+  place_at-new new = elim (place_at places (index_of n)) as (λ (o : Option ℕ). place_at places (index_of n) ≡ o → o ≡ None) [
     | None ↦ λ e. refl
     | Some k ↦ λ e. absurd (let at = before.noted.only (index_of n) k e in new.new k at.0 at.1)
   ] refl
 
 -- all lines are noted at the end
-pub placed_all : (m : Map) (lines : List AuditLine) (places : List (Option ℕ)) (n : ℕ) → length lines ≤ n → n ≤ length lines → ArePlacedBefore m lines places n → AreAllPlaces m lines places
-placed_all m lines places n done inside before =
+pub AreAllPlaces-all : (m : Map) (lines : List AuditLine) (places : List (Option ℕ)) (n : ℕ) → length lines ≤ n → n ≤ length lines → ArePlacedBefore m lines places n → AreAllPlaces m lines places
+AreAllPlaces-all m lines places n done inside before =
     let same : n ≡ length lines = omega (arith, done, inside) in
     record { whole = before.whole; noted = subst (λ (k : ℕ). ArePlaces lines k places) same before.noted }
 
 module _ (m : Map) (lines : List AuditLine) (places : List (Option ℕ)) (are : AreAllPlaces m lines places) where
   -- a noted line is one of the point of its index
-  pub line_of_place : (i k : ℕ) → place_at places i ≡ Some k → IsLineOf lines i (line_at lines k)
-  line_of_place i k at = let found = are.noted.only i k at in record { listed = Contains-get_or lines k (record { index = 0; parent = None; cut = None }) found.0; index = found.1 }
+  pub IsLineOf-place : (i k : ℕ) → place_at places i ≡ Some k → IsLineOf lines i (line_at lines k)
+  IsLineOf-place i k at = let found = are.noted.only i k at in record { listed = Contains-get_or lines k (record { index = 0; parent = None; cut = None }) found.0; index = found.1 }
 
   -- each line is noted
-  pub place_of_line : (i : ℕ) (x : AuditLine) → IsLineOf lines i x → (k : ℕ) × (k < length lines) × (line_at lines k ≡ x) × (place_at places i ≡ Some k)
-  place_of_line i x is =
+  pub place_at-line : (i : ℕ) (x : AuditLine) → IsLineOf lines i x → (k : ℕ) × (k < length lines) × (line_at lines k ≡ x) × (place_at places i ≡ Some k)
+  place_at-line i x is =
       let at = is.listed in
       let same : line_at lines at.0 ≡ x = get_or_default lines at.0 (record { index = 0; parent = None; cut = None }) x at.1 ∙ at.2 in
       (at.0, at.1, same, subst (λ (j : ℕ). place_at places j ≡ Some at.0) (ap (λ (y : AuditLine). y.index) same ∙ is.index) (are.noted.each at.0 at.1))
 
   -- the point of an index is on a line where one is noted
-  pub listed_at : (i k : ℕ) → place_at places i ≡ Some k → IsListed lines i
-  listed_at i k at = (line_at lines k, line_of_place i k at)
+  pub place_at-listed : (i k : ℕ) → place_at places i ≡ Some k → IsListed lines i
+  place_at-listed i k at = (line_at lines k, IsLineOf-place i k at)
 
-  pub unlisted_at : (i : ℕ) → place_at places i ≡ None → IsListed lines i → ⊥
-  unlisted_at i none listed = let found = place_of_line i listed.0 listed.1 in none-some found.0 (sym none ∙ found.3)
+  pub place_at-unlisted : (i : ℕ) → place_at places i ≡ None → IsListed lines i → ⊥
+  place_at-unlisted i none listed = let found = place_at-line i listed.0 listed.1 in none-some found.0 (sym none ∙ found.3)

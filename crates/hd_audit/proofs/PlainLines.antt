@@ -36,9 +36,9 @@ count_or_none_is_word w o read = by_test (bytes_eq w (codes "-")) refl read
     by_test false b e = is_given (count_of w) refl e
 
 -- so many digits at the front of a text are a count, and the others follow
-pub digits_before : (text rest : List ℕ) (d n : ℕ) → d ≢ 0 → d ≤ length text → list_all is_ascii_digit (take d text) ≡ true → n ≡ digits_value 10 (take d text) → n < 2 ^ 32 → rest ≡ drop d text
+pub BeginsWith-digits : (text rest : List ℕ) (d n : ℕ) → d ≢ 0 → d ≤ length text → list_all is_ascii_digit (take d text) ≡ true → n ≡ digits_value 10 (take d text) → n < 2 ^ 32 → rest ≡ drop d text
     → BeginsWith count_of text n rest
-digits_before text rest d n some within digits value small is_rest = record {
+BeginsWith-digits text rest d n some within digits value small is_rest = record {
   word = take d text;
   whole = sym (ap (λ (t : List ℕ). take d text ++ t) is_rest ∙ take-append-drop d text);
   reads = rw (← value) (ap (λ (b : Bool). if b && nat_lt n (2 ^ 32) then Some n else None) numeral ∙ ap (λ (b : Bool). if b then Some n else None) (lt-ltb n (2 ^ 32) small));
@@ -48,8 +48,8 @@ digits_before text rest d n some within digits value small is_rest = record {
     numeral = and_from _ _ (IsWord-filled (take d text) (let long = length-take d text in omega (arith, long, some, within))) digits
 
 -- a count is read as a count or none
-pub count_given : (w : List ℕ) (n : ℕ) → count_of w ≡ Some n → count_or_none w ≡ Some (Some n)
-count_given w n read = by_test (bytes_eq w (codes "-")) refl
+pub count_or_none-given : (w : List ℕ) (n : ℕ) → count_of w ≡ Some n → count_or_none w ≡ Some (Some n)
+count_or_none-given w n read = by_test (bytes_eq w (codes "-")) refl
   where
     by_test : (b : Bool) → bytes_eq w (codes "-") ≡ b → (if b then Some None else given (count_of w)) ≡ Some (Some n)
     by_test true b = absurd (let e : count_of (codes "-") ≡ Some n = rw ((bytes_eq-Decides w (codes "-")).0 b) at read in cc)
@@ -70,8 +70,8 @@ module _ (text rest a b c d e : List ℕ) (index : ℕ) (parent cut : Option ℕ
   plain_line-first : text ≡ line_text words ++ rest
   plain_line-first = first.whole ∙ ap (λ (t : List ℕ). first.word ++ t) (space ∙ ap (λ (t : List ℕ). 32 ∷ t) plain_line-last_words) ∙ sym (append_assoc first.word (32 ∷ (second.word ++ 32 ∷ (third.word ++ 10 ∷ []))) rest)
 
-  pub plain_first : BeginsWithLine text (record { index = index; parent = parent; cut = cut }) rest
-  plain_first = record {
+  pub BeginsWithLine-plain : BeginsWithLine text (record { index = index; parent = parent; cut = cut }) rest
+  BeginsWithLine-plain = record {
     words = words;
     lines = ap (λ (t : List ℕ). map words_of (lines_of t)) plain_line-first
         ∙ lines_of-first first.word (second.word ∷ third.word ∷ []) rest (count_is_word first.word index first.reads, (count_or_none_is_word second.word parent second.reads, (count_or_none_is_word third.word cut third.reads, tt)));

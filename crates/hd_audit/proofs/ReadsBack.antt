@@ -116,8 +116,8 @@ all_clear a is = (
 )
 
 -- the text of a pruning certificate is read as this certificate
-pub text_back : (a : Audit) → IsWritable a → audit_of (audit_text a) ≡ Ok a
-text_back a is =
+pub audit_of-audit_text : (a : Audit) → IsWritable a → audit_of (audit_text a) ≡ Ok a
+audit_of-audit_text a is =
     let head : Head = record { side = a.side; percent = a.percent; adjacency = a.adjacency } in
     let more = count_form-counted point_words point_form IsWritableLine line_back (codes "points") refl a.lines 2 ((codes "end" ∷ []) ∷ []) is.few is.each in
     ap (λ (lines : List (List (List ℕ))). value_of (and_then (line_as head_form (numbered-from_line 1 lines)) after_head)) (lines_of-line_text (audit_lines a) (all_clear a is))

@@ -20,10 +20,10 @@ use Rattle.hd_audit.specs.Lines.{line_at, point_at, rank_at, AreParents}
 use Rattle.hd_audit.specs.Rules.{IsWithin, IsChainWithin}
 use Rattle.hd_audit.specs.Shown.{AreShownLines}
 use Rattle.hd_audit.proofs.Within.{within-lower, within-higher, goes-within, within-not_above, within_or_not, StepsWithin, ReachesWithin, reach-from_points, reach-back}
-use Rattle.hd_audit.proofs.Firm.{AreFirm, pit-below, no_pit}
-use Rattle.hd_audit.proofs.ShownLines.{IsAmong, line-rank, kept-line_rank, kept-among, reached-line_at, front-within}
-use Rattle.hd_audit.proofs.CutIs.{no_rank, kept-pit}
-use Rattle.hd_audit.proofs.ShownRules.{line-listed, line-is_at, new_point}
+use Rattle.hd_audit.proofs.AreFirm.{AreFirm, below_by-pit, undercuts-none}
+use Rattle.hd_audit.proofs.ShownLines.{IsAmong, IsLineAt-rank, kept-line_rank, kept-among, reached-line_at, front-within}
+use Rattle.hd_audit.proofs.CutIs.{rank-none, IsPit-kept}
+use Rattle.hd_audit.proofs.ShownRules.{line-listed, line-is_at, IsNewPoint-shown}
 
 module _ (m : Map) (whole : IsMap m) (side : SideName) (thousandths : ℕ) (sz : ℤ) (kept : List Rank) (firm : AreFirm m side thousandths sz kept) where
   -- the path from a pit to one that undercuts it is within each pit that is not below it
@@ -43,7 +43,7 @@ module _ (m : Map) (whole : IsMap m) (side : SideName) (thousandths : ℕ) (sz :
     pit,
     λ q under.
         let itself = within-not_above side thousandths sz _ p p under.goes_away (not_above-refl (below_by side) (below_by-order side) p) in
-        no_pit m side thousandths sz whole kept firm (λ q. IsNotAbove (below_by side) q p × ReachesWithin m side thousandths sz p p q)
+        undercuts-none m side thousandths sz whole kept firm (λ q. IsNotAbove (below_by side) q p × ReachesWithin m side thousandths sz p p q)
         (λ q u pit' h under'. (
           not_above-trans (below_by side) (below_by-order side) u q p (below-not_above (below_by side) (below_by-order side) u q under'.lower) h.0,
           reach-trans (StepsWithin m side thousandths sz p) h.1 (undercut-within p q u h.0 under'),
@@ -60,11 +60,11 @@ module _ (m : Map) (whole : IsMap m) (side : SideName) (thousandths : ℕ) (sz :
       start-index : (rank_at m (line_at lines k).index).index ≡ (line_at lines k).index
       start-index =
           let at = line-is_at m whole side thousandths sz kept firm in_order lines shown k inside in
-          ap (λ (r : Rank). r.index) (line-rank m lines k at.0 at.1) ∙ sym at.1.index
+          ap (λ (r : Rank). r.index) (IsLineAt-rank m lines k at.0 at.1) ∙ sym at.1.index
 
       -- none of the lines before is that of the pit
       not_before : (j : ℕ) → j ≤ k → IsAmong lines j start.index → ⊥
-      not_before j le h = (new_point m whole side thousandths sz kept firm in_order lines shown k inside).new h.0 (let less = h.1 in omega arith) (h.2 ∙ start-index)
+      not_before j le h = (IsNewPoint-shown m whole side thousandths sz kept firm in_order lines shown k inside).new h.0 (let less = h.1 in omega arith) (h.2 ∙ start-index)
 
       not_kept : Contains kept start → ⊥
       not_kept at = not_before k (omega arith) (kept-among m side thousandths sz kept lines k later shown.pits start at)
@@ -102,13 +102,13 @@ module _ (m : Map) (whole : IsMap m) (side : SideName) (thousandths : ℕ) (sz :
             let l : ℕ = line.next_to.listed in
             let before : l < j = line.next_to.before in
             let y : Rank = rank_at m (line_at lines l).index in
-            let is : rank_at m (line_at lines j).index ≡ rank m line.point = line-rank m lines j line.point (reached-line_at m side thousandths sz kept lines j line) in
+            let is : rank_at m (line_at lines j).index ≡ rank m line.point = IsLineAt-rank m lines j line.point (reached-line_at m side thousandths sz kept lines j line) in
             let within : IsWithin side thousandths sz start y = elim (cases_lt l (length kept)) [
               | inl first ↦
-                  let bottom = kept-pit m whole side thousandths sz kept firm l first in
-                  let at : y ≡ get_or kept l no_rank = kept-line_rank m side thousandths sz kept lines l no_rank (shown.pits l first) bottom.point in
+                  let bottom = IsPit-kept m whole side thousandths sz kept firm l first in
+                  let at : y ≡ get_or kept l rank-none = kept-line_rank m side thousandths sz kept lines l rank-none (shown.pits l first) bottom.point in
                   let near : Near m y (rank m line.point) = near-sym m (rank m line.point) y (Near-at m line.point (point_at m lines l) line.next_to.neighbour) in
-                  let up = pit-below m side y (rank m line.point) (subst (IsPit m side) (sym at) bottom) near in
+                  let up = below_by-pit m side y (rank m line.point) (subst (IsPit m side) (sym at) bottom) near in
                   within-lower side thousandths sz start (rank m line.point) y (below-not_above (below_by side) (below_by-order side) y (rank m line.point) up) (subst (IsWithin side thousandths sz start) is w)
               | inr further ↦ reached-within l further (omega arith)
             ] in

@@ -20,9 +20,9 @@ module _ (lines : List AuditLine) where
   abbrev pub IsAmong : ℕ → ℕ → Type 0
   IsAmong n i = (k : ℕ) × (k < n) × ((line_at lines k).index ≡ i)
 
-  pub among_or_not : (n i : ℕ) → IsAmong n i ⊎ (IsAmong n i → ⊥)
-  among_or_not zero i = inr (λ h. (let less = h.1 in omega arith))
-  among_or_not (suc n) i = elim (among_or_not n i) [
+  pub IsAmong-or_not : (n i : ℕ) → IsAmong n i ⊎ (IsAmong n i → ⊥)
+  IsAmong-or_not zero i = inr (λ h. (let less = h.1 in omega arith))
+  IsAmong-or_not (suc n) i = elim (IsAmong-or_not n i) [
     | inl h ↦ inl (h.0, (let less = h.1 in omega arith), h.2)
     | inr none ↦ elim (cases_eq (line_at lines n).index i) [
       | inl e ↦ inl (n, omega arith, e)
@@ -34,8 +34,8 @@ module _ (lines : List AuditLine) where
   ]
 
 -- the rank of the index of a point is that point's
-pub rank_of_index : (m : Map) (r : Rank) → IsPoint m r → rank_at m r.index ≡ r
-rank_of_index m r point = ap (rank m) (rank_position m r point.at point.present point.rank_is) ∙ sym point.rank_is
+pub rank_at-index : (m : Map) (r : Rank) → IsPoint m r → rank_at m r.index ≡ r
+rank_at-index m r point = ap (rank m) (rank_position m r point.at point.present point.rank_is) ∙ sym point.rank_is
 
 -- the line at place k is that of the present point at p
 pub record IsLineAt (m : Map) (lines : List AuditLine) (k : ℕ) (p : Pos) : Type 0 where
@@ -43,11 +43,11 @@ pub record IsLineAt (m : Map) (lines : List AuditLine) (k : ℕ) (p : Pos) : Typ
   pub index : (line_at lines k).index ≡ place_of m.size p
 
 module _ (m : Map) (lines : List AuditLine) (k : ℕ) (p : Pos) (line : IsLineAt m lines k p) where
-  pub line-position : point_at m lines k ≡ p
-  line-position = ap (position_at m.size) line.index ∙ position_at-of m.size p line.present.in_grid
+  pub IsLineAt-position : point_at m lines k ≡ p
+  IsLineAt-position = ap (position_at m.size) line.index ∙ position_at-of m.size p line.present.in_grid
 
-  pub line-rank : rank_at m (line_at lines k).index ≡ rank m p
-  line-rank = ap (rank m) line-position
+  pub IsLineAt-rank : rank_at m (line_at lines k).index ≡ rank m p
+  IsLineAt-rank = ap (rank m) IsLineAt-position
 
 module _ (m : Map) (side : SideName) (thousandths : ℕ) (sz : ℤ) (kept : List Rank) where
   module _ (lines : List AuditLine) where
@@ -59,7 +59,7 @@ module _ (m : Map) (side : SideName) (thousandths : ℕ) (sz : ℤ) (kept : List
 
     -- a kept pit is the point of its line
     pub kept-line_rank : (k : ℕ) (d : Rank) → IsKeptLine m side thousandths sz kept lines k → IsPoint m (get_or kept k d) → rank_at m (line_at lines k).index ≡ get_or kept k d
-    kept-line_rank k d line point = ap (rank_at m) (line.index d) ∙ rank_of_index m (get_or kept k d) point
+    kept-line_rank k d line point = ap (rank_at m) (line.index d) ∙ rank_at-index m (get_or kept k d) point
 
     -- a kept pit is among the first lines
     pub kept-among : (n : ℕ) → length kept ≤ n → ((k : ℕ) → k < length kept → IsKeptLine m side thousandths sz kept lines k) → (c : Rank) → Contains kept c → IsAmong lines n c.index
@@ -69,7 +69,7 @@ module _ (m : Map) (side : SideName) (thousandths : ℕ) (sz : ℤ) (kept : List
     pub front-within : (c a b : Rank) (j : ℕ) → IsReachedLine m side thousandths sz kept lines j → ReachesWithin m side thousandths sz c a b → IsAmong lines j a.index → (IsAmong lines j b.index → ⊥)
         → IsWithin side thousandths sz c (rank_at m (line_at lines j).index)
     front-within c a b j line reach has not =
-        let s = Reach-crosses (λ (r : Rank). IsAmong lines j r.index) (λ r. among_or_not lines j r.index) reach has not in
+        let s = Reach-crosses (λ (r : Rank). IsAmong lines j r.index) (λ r. IsAmong-or_not lines j r.index) reach has not in
         let u : Rank = s.0 in
         let k : ℕ = s.2.0 in
         let n : Near m u s.1 = s.4.0 in
@@ -81,7 +81,7 @@ module _ (m : Map) (side : SideName) (thousandths : ℕ) (sz : ℤ) (kept : List
           neighbour = subst (λ (p : Pos). Neighbour m n.to p) (sym place) (neighbour-sym m n.from n.to n.neighbour);
         } in
         let w = within-lower side thousandths sz c (rank m n.to) (rank m line.point) (line.lowest n.to next) (subst (IsWithin side thousandths sz c) n.to_rank s.4.1) in
-        subst (IsWithin side thousandths sz c) (sym (line-rank m lines j line.point (reached-line_at j line))) w
+        subst (IsWithin side thousandths sz c) (sym (IsLineAt-rank m lines j line.point (reached-line_at j line))) w
 
   module _ (lines more : List AuditLine) (n : ℕ) (same : (i : ℕ) → i < n → line_at more i ≡ line_at lines i) where
     index-same : (i : ℕ) → i < n → (line_at more i).index ≡ (line_at lines i).index

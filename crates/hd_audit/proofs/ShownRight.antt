@@ -24,10 +24,10 @@ use Rattle.hd_audit.specs.declared.types.AuditLine.{AuditLine}
 use Rattle.hd_audit.specs.Lines.{line_at, point_at, rank_at}
 use Rattle.hd_audit.specs.Rules.{IsTried, IsRight}
 use Rattle.hd_audit.specs.Shown.{AreShownLines, CutIs, IsShown}
-use Rattle.hd_audit.proofs.Firm.{AreFirm}
+use Rattle.hd_audit.proofs.AreFirm.{AreFirm}
 use Rattle.hd_audit.proofs.ShownLines.{next_to-moved}
-use Rattle.hd_audit.proofs.CutIs.{no_rank, cut-unique}
-use Rattle.hd_audit.proofs.ShownRules.{new_point, index-listed, parent-earlier, kept-is_pit, cut-of_kept, no_leak}
+use Rattle.hd_audit.proofs.CutIs.{rank-none, CutIs-unique}
+use Rattle.hd_audit.proofs.ShownRules.{IsNewPoint-shown, index-listed, parent-earlier, kept-is_pit, cut-of_kept, IsLeak-none}
 use Rattle.hd_audit.proofs.ShownChains.{chains-within}
 
 -- what is left keeps the order of the pits
@@ -55,7 +55,7 @@ rules m a whole h =
       sz = sz;
       sz_is = h.pruning.sz_is;
       tried = (
-        new_point m whole a.side t sz h.last firm rises a.lines h.lines,
+        IsNewPoint-shown m whole a.side t sz h.last firm rises a.lines h.lines,
         (
           index-listed m whole a.side t sz h.last firm rises a.lines h.lines,
           (
@@ -65,7 +65,7 @@ rules m a whole h =
               (
                 cut-of_kept m whole a.side t sz h.last firm rises a.lines h.lines,
                 (
-                  no_leak m whole a.side t sz h.last firm rises a.lines h.lines,
+                  IsLeak-none m whole a.side t sz h.last firm rises a.lines h.lines,
                   (chains-within m whole a.side t sz h.last firm rises a.lines h.lines, tt),
                 ),
               ),
@@ -95,7 +95,7 @@ module _ (m : Map) (whole : IsMap m) (side : SideName) (thousandths : ℕ) (sz :
     -- where the lines before agree, so do the indexes and the parents
     heads-same : (k : ℕ) → k < length xs → k < length ys → AgreeTo k → ((line_at ys k).index ≡ (line_at xs k).index) × ((line_at ys k).parent ≡ (line_at xs k).parent)
     heads-same k in_xs in_ys same = elim (cases_lt k (length kept)) [
-      | inl less ↦ ((other.pits k less).index no_rank ∙ sym ((one.pits k less).index no_rank), (other.pits k less).parent ∙ sym (one.pits k less).parent)
+      | inl less ↦ ((other.pits k less).index rank-none ∙ sym ((one.pits k less).index rank-none), (other.pits k less).parent ∙ sym (one.pits k less).parent)
       | inr more ↦
           let a = one.others k more in_xs in
           let b = other.others k more in_ys in
@@ -123,7 +123,7 @@ module _ (m : Map) (whole : IsMap m) (side : SideName) (thousandths : ℕ) (sz :
     line-same : (k : ℕ) → k < length xs → k < length ys → AgreeTo k → line_at ys k ≡ line_at xs k
     line-same k in_xs in_ys same =
         let heads = heads-same k in_xs in_ys same in
-        let cuts = cut-unique m whole side thousandths sz kept firm (rank_at m (line_at xs k).index) (line_at ys k).cut (line_at xs k).cut
+        let cuts = CutIs-unique m whole side thousandths sz kept firm (rank_at m (line_at xs k).index) (line_at ys k).cut (line_at xs k).cut
         (subst (λ i. CutIs m side thousandths sz kept (rank_at m i) (line_at ys k).cut) heads.0 (other.cuts k in_ys)) (one.cuts k in_xs) in
         same_line (line_at ys k) (line_at xs k) heads.0 heads.1 cuts
 

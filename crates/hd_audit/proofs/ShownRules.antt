@@ -20,9 +20,9 @@ use Rattle.hd_audit.specs.Listing.{AreShownTo}
 use Rattle.hd_audit.specs.Rules.{IsWithin, IsNewPoint, IsEarlierNeighbour, IsKeptPit, IsCutOf, IsLeak}
 use Rattle.hd_audit.specs.Shown.{AreShownLines, CutIs, IsReachedWithin}
 use Rattle.hd_audit.proofs.Within.{reach-from_reached, reached-from_reach, reach-more}
-use Rattle.hd_audit.proofs.Firm.{AreFirm, no_point, no_pit, reached-not_below}
-use Rattle.hd_audit.proofs.ShownLines.{IsAmong, IsLineAt, among_or_not, rank_of_index, line-position, kept-line_rank, kept-among, reached-line_at}
-use Rattle.hd_audit.proofs.CutIs.{no_rank, kept-pit, kept-rank, cut-unique, listed-at}
+use Rattle.hd_audit.proofs.AreFirm.{AreFirm, lower_neighbours-none, undercuts-none, reached-not_below}
+use Rattle.hd_audit.proofs.ShownLines.{IsAmong, IsLineAt, IsAmong-or_not, rank_at-index, IsLineAt-position, kept-line_rank, kept-among, reached-line_at}
+use Rattle.hd_audit.proofs.CutIs.{rank-none, IsPit-kept, rank_at-kept, CutIs-unique, listed-at}
 
 -- the line at a place is one of the lines
 pub line-listed : (lines : List AuditLine) (k i : ℕ) → k < length lines → (line_at lines k).index ≡ i → IsLineOf lines i (line_at lines k)
@@ -37,18 +37,18 @@ module _ (m : Map) (whole : IsMap m) (side : SideName) (thousandths : ℕ) (sz :
   line-is_at k inside = listed-at m whole side thousandths sz kept firm lines (length lines) shown-to k inside
 
   -- 12
-  pub new_point : (k : ℕ) → k < length lines → IsNewPoint m lines k
-  new_point k inside =
+  pub IsNewPoint-shown : (k : ℕ) → k < length lines → IsNewPoint m lines k
+  IsNewPoint-shown k inside =
       let at = line-is_at k inside in
       let line = at.1 in
       record {
         inside = subst (λ i. i < cell_count m.size) (sym line.index) (place_inside m.size at.0 line.present.in_grid);
-        present = subst (Present m) (sym (line-position m lines k at.0 line)) line.present;
+        present = subst (Present m) (sym (IsLineAt-position m lines k at.0 line)) line.present;
         new = λ i before e. elim (cases_lt k (length kept)) [
           | inl less ↦
-              let one = (shown.pits i (omega arith)).index no_rank in
-              let other = (shown.pits k less).index no_rank in
-              let rises = in_order i k no_rank before less in
+              let one = (shown.pits i (omega arith)).index rank-none in
+              let other = (shown.pits k less).index rank-none in
+              let rises = in_order i k rank-none before less in
               omega (arith, one, other, rises, e)
           | inr more ↦
               let reached = shown.others k more inside in
@@ -72,11 +72,11 @@ module _ (m : Map) (whole : IsMap m) (side : SideName) (thousandths : ℕ) (sz :
   not-along a (x ∷ xs) b l not = not-along x xs b l.1 (λ at. closed a x l.0 at not)
 
   -- each point is listed
-  pub all-listed : (x : Rank) → IsPoint m x → IsAmong lines (length lines) x.index
-  all-listed x point = elim (among_or_not lines (length lines) x.index) [
+  pub IsAmong-all : (x : Rank) → IsPoint m x → IsAmong lines (length lines) x.index
+  IsAmong-all x point = elim (IsAmong-or_not lines (length lines) x.index) [
     | inl at ↦ at
-    | inr not ↦ absurd (no_point m side whole (λ y. IsAmong lines (length lines) y.index → ⊥) (λ y z q l at. closed y z l.near at q)
-        (λ p pit q. no_pit m side thousandths sz whole kept firm (λ y. IsAmong lines (length lines) y.index → ⊥)
+    | inr not ↦ absurd (lower_neighbours-none m side whole (λ y. IsAmong lines (length lines) y.index → ⊥) (λ y z q l at. closed y z l.near at q)
+        (λ p pit q. undercuts-none m side thousandths sz whole kept firm (λ y. IsAmong lines (length lines) y.index → ⊥)
         (λ p u pit no under. not-along p under.is_saddle.reached.0 u under.is_saddle.reached.1.leads no)
         (λ r in_kept no. no (kept-among m side thousandths sz kept lines (length lines) shown.enough shown.pits r in_kept)) p pit q)
         x point not)
@@ -85,7 +85,7 @@ module _ (m : Map) (whole : IsMap m) (side : SideName) (thousandths : ℕ) (sz :
   -- 13
   pub index-listed : (i : ℕ) → i < cell_count m.size → Present m (position_at m.size i) → IsListed lines i
   index-listed i inside here =
-      let at = all-listed (rank m (position_at m.size i)) (point_of m (position_at m.size i) here) in
+      let at = IsAmong-all (rank m (position_at m.size i)) (point_of m (position_at m.size i) here) in
       (line_at lines at.0, line-listed lines at.0 i at.1 (at.2 ∙ position_at-place m.size i whole.size.some_points))
 
   -- 14
@@ -95,7 +95,7 @@ module _ (m : Map) (whole : IsMap m) (side : SideName) (thousandths : ℕ) (sz :
     | inr more ↦
         let reached = shown.others k more inside in
         let l = reached.next_to.listed in
-        let place = line-position m lines k reached.point (reached-line_at m side thousandths sz kept lines k reached) in
+        let place = IsLineAt-position m lines k reached.point (reached-line_at m side thousandths sz kept lines k reached) in
         subst (λ o. MatchOption o (Unit {0}) (IsEarlierNeighbour m lines k)) (sym reached.parent) (record {
           earlier = l;
           before = reached.next_to.before;
@@ -108,15 +108,15 @@ module _ (m : Map) (whole : IsMap m) (side : SideName) (thousandths : ℕ) (sz :
   pub kept-is_pit : (k : ℕ) → k < length lines → (line_at lines k).parent ≡ None → IsKeptPit m side (line_at lines k)
   kept-is_pit k inside none = elim (cases_lt k (length kept)) [
     | inl less ↦
-        let r : Rank = get_or kept k no_rank in
-        let pit = kept-pit m whole side thousandths sz kept firm k less in
+        let r : Rank = get_or kept k rank-none in
+        let pit = IsPit-kept m whole side thousandths sz kept firm k less in
         let x : Rank = rank_at m (line_at lines k).index in
-        let is : x ≡ r = kept-line_rank m side thousandths sz kept lines k no_rank (shown.pits k less) pit.point in
+        let is : x ≡ r = kept-line_rank m side thousandths sz kept lines k rank-none (shown.pits k less) pit.point in
         let own : CutIs m side thousandths sz kept x (Some (line_at lines k).index) =
-        (r, Contains-get_or kept k no_rank less, sym ((shown.pits k less).index no_rank), record { points = []; leads = sym is; within = All-nil (IsWithin side thousandths sz r) }) in
+        (r, Contains-get_or kept k rank-none less, sym ((shown.pits k less).index rank-none), record { points = []; leads = sym is; within = All-nil (IsWithin side thousandths sz r) }) in
         record {
           pit = subst (IsPit m side) (sym is) pit;
-          own = cut-unique m whole side thousandths sz kept firm x (line_at lines k).cut (Some (line_at lines k).index) (shown.cuts k inside) own;
+          own = CutIs-unique m whole side thousandths sz kept firm x (line_at lines k).cut (Some (line_at lines k).index) (shown.cuts k inside) own;
         }
     | inr more ↦ absurd (let reached = shown.others k more inside in none-some (line_at lines reached.next_to.listed).index (sym none ∙ reached.parent))
   ]
@@ -133,7 +133,7 @@ module _ (m : Map) (whole : IsMap m) (side : SideName) (thousandths : ℕ) (sz :
       let index : (line_at lines i).index ≡ c = line.index r ∙ ap (λ (r : Rank). r.index) h.1.2 ∙ h.2 in
       record {
         kept = (line_at lines i, line-listed lines i c inside index, line.parent);
-        not_below = subst (λ (z : Rank). IsNotAbove (below_by side) z (rank_at m x.index)) (sym (kept-rank m whole side thousandths sz kept firm c r h.1 h.2))
+        not_below = subst (λ (z : Rank). IsNotAbove (below_by side) z (rank_at m x.index)) (sym (rank_at-kept m whole side thousandths sz kept firm c r h.1 h.2))
             (reached-not_below m side thousandths sz whole kept firm r (rank_at m x.index) h.1 (reach-from_reached m side thousandths sz r (rank_at m x.index) h.3));
       }
 
@@ -142,22 +142,22 @@ module _ (m : Map) (whole : IsMap m) (side : SideName) (thousandths : ℕ) (sz :
   cut-of_kept k inside = cut_of (line_at lines k) (line_at lines k).cut (shown.cuts k inside)
 
   -- 17
-  pub no_leak : (k : ℕ) → k < length lines → (q : Pos) → IsLeak m side thousandths sz lines k q → ⊥
-  no_leak k inside q leak =
+  pub IsLeak-none : (k : ℕ) → k < length lines → (q : Pos) → IsLeak m side thousandths sz lines k q → ⊥
+  IsLeak-none k inside q leak =
       let c : ℕ = leak.cut in
       let x : Rank = rank_at m (line_at lines k).index in
       let y : Rank = rank m q in
       let h : CutIs m side thousandths sz kept x (Some c) = subst (λ o. CutIs m side thousandths sz kept x o) leak.cut_is (shown.cuts k inside) in
       let r : Rank = h.0 in
-      let w = subst (λ (z : Rank). IsWithin side thousandths sz z y) (kept-rank m whole side thousandths sz kept firm c r h.1 h.2) leak.within in
+      let w = subst (λ (z : Rank). IsWithin side thousandths sz z y) (rank_at-kept m whole side thousandths sz kept firm c r h.1 h.2) leak.within in
       let reached : IsReachedWithin m side thousandths sz r y = reached-from_reach m side thousandths sz r y
       (reach-more m side thousandths sz r r x y (reach-from_reached m side thousandths sz r x h.3) (Near-at m (point_at m lines k) q leak.neighbour) w) in
       let point = point_of m q leak.neighbour.to in
-      let at = all-listed y point in
-      let is : rank_at m (line_at lines at.0).index ≡ y = ap (rank_at m) at.2 ∙ rank_of_index m y point in
+      let at = IsAmong-all y point in
+      let is : rank_at m (line_at lines at.0).index ≡ y = ap (rank_at m) at.2 ∙ rank_at-index m y point in
       let there : CutIs m side thousandths sz kept (rank_at m (line_at lines at.0).index) (Some c) = subst (λ (z : Rank). CutIs m side thousandths sz kept z (Some c)) (sym is) (r, h.1, h.2, reached) in
       leak.outside (
         line_at lines at.0,
         line-listed lines at.0 (place_of m.size q) at.1 at.2,
-        cut-unique m whole side thousandths sz kept firm (rank_at m (line_at lines at.0).index) (line_at lines at.0).cut (Some c) (shown.cuts at.0 at.1) there,
+        CutIs-unique m whole side thousandths sz kept firm (rank_at m (line_at lines at.0).index) (line_at lines at.0).cut (Some c) (shown.cuts at.0 at.1) there,
       )

@@ -33,23 +33,23 @@ module _ (head : words.Head) (lines : List AuditLine) where
         ap (λ (n : ℕ). points_on head lines n (numbered number (words ∷ more))) step
         ∙ ap (λ (o : Option AuditLine). and_then (and_then (line_gives number more o) (λ x rest. and_then (points_in (left - 1) rest) (λ xs rest. Ok (x ∷ xs, rest)))) (λ more rest. after_points head (lines ++ more) rest)) form
 
-    pub point_read : (x : AuditLine) → point_form words ≡ Some x → points_on head lines left (numbered number (words ∷ more)) ≡ points_on head (lines ++ x ∷ []) (left - 1) (numbered (number + 1) more)
-    point_read x form = point_by (Some x) form ∙ one_more x (points_in (left - 1) (numbered (number + 1) more))
+    pub points_on-read : (x : AuditLine) → point_form words ≡ Some x → points_on head lines left (numbered number (words ∷ more)) ≡ points_on head (lines ++ x ∷ []) (left - 1) (numbered (number + 1) more)
+    points_on-read x form = point_by (Some x) form ∙ one_more x (points_in (left - 1) (numbered (number + 1) more))
 
-    pub point_unread : point_form words ≡ None → points_on head lines left (numbered number (words ∷ more)) ≡ Err (BadLine number)
-    point_unread form = point_by None form
+    pub points_on-unread : point_form words ≡ None → points_on head lines left (numbered number (words ∷ more)) ≡ Err (BadLine number)
+    points_on-unread form = point_by None form
 
   -- the first line of a text is that of the next point
-  pub point_plain : (left number : ℕ) (text rest : List ℕ) (x : AuditLine) → left ≢ 0 → BeginsWithLine text x rest → (more : List (List (List ℕ)))
+  pub points_on-plain : (left number : ℕ) (text rest : List ℕ) (x : AuditLine) → left ≢ 0 → BeginsWithLine text x rest → (more : List (List (List ℕ)))
       → points_on head lines left (numbered number (words_in text ++ more)) ≡ points_on head (lines ++ x ∷ []) (left - 1) (numbered (number + 1) (words_in rest ++ more))
-  point_plain left number text rest x some begins more =
-      ap (λ (ls : List (List (List ℕ))). points_on head lines left (numbered number (ls ++ more))) begins.lines ∙ point_read left number some begins.words (words_in rest ++ more) x begins.form
+  points_on-plain left number text rest x some begins more =
+      ap (λ (ls : List (List (List ℕ))). points_on head lines left (numbered number (ls ++ more))) begins.lines ∙ points_on-read left number some begins.words (words_in rest ++ more) x begins.form
 
 -- fewer bytes are left behind it
-pub fewer_behind : (text rest : List ℕ) (x : AuditLine) → BeginsWithLine text x rest → length rest < length text
-fewer_behind text rest x begins = let some = begins.some in omega (arith, some, ap length begins.whole, length-append begins.front rest)
+pub BeginsWithLine-shorter : (text rest : List ℕ) (x : AuditLine) → BeginsWithLine text x rest → length rest < length text
+BeginsWithLine-shorter text rest x begins = let some = begins.some in omega (arith, some, ap length begins.whole, length-append begins.front rest)
 
 module _ (old : Stage) (number : ℕ) (text line rest : List ℕ) (first : lines_of text ≡ line ∷ lines_of rest) (more : List (List (List ℕ))) where
   -- the first line of a text is read
-  pub line_read : (new : Stage) → Leads old number (words_of line ∷ []) new (number + 1) → go_on old (numbered number (words_in text ++ more)) ≡ go_on new (numbered (number + 1) (words_in rest ++ more))
-  line_read new leads = ap (λ (ls : List (List ℕ)). go_on old (numbered number (map words_of ls ++ more))) first ∙ leads (words_in rest ++ more)
+  pub go_on-line : (new : Stage) → Leads old number (words_of line ∷ []) new (number + 1) → go_on old (numbered number (words_in text ++ more)) ≡ go_on new (numbered (number + 1) (words_in rest ++ more))
+  go_on-line new leads = ap (λ (ls : List (List ℕ)). go_on old (numbered number (map words_of ls ++ more))) first ∙ leads (words_in rest ++ more)

@@ -7,5 +7,5 @@ use Rattle.hd_audit.specs.Reader.{StandsFor}
 use Rattle.hd_audit.specs.Reading.{audit_of}
 
 -- the certificate of all bytes is that of its state
-pub audit-ended : (reader : AuditReader) (state : State) (bytes : List ℕ) → reader.state ≡ state → StandsFor reader bytes → audit_of bytes ≡ continued state []
-audit-ended reader state bytes is stands = ap audit_of (sym (append-nil bytes)) ∙ stands [] ∙ ap (λ (s : State). continued s []) is
+pub audit_of-ended : (reader : AuditReader) (state : State) (bytes : List ℕ) → reader.state ≡ state → StandsFor reader bytes → audit_of bytes ≡ continued state []
+audit_of-ended reader state bytes is stands = ap audit_of (sym (append-nil bytes)) ∙ stands [] ∙ ap (λ (s : State). continued s []) is

@@ -89,9 +89,9 @@ module _ (side : SideName) (thousandths : ℕ) (sz : ℤ) where
       true_or_not false = inr (λ e. cc)
 
 -- the first step of a way
-pub first_step : {V : Type 0} {R : V → V → Type 0} {a b : V} → Reach R a b → (a ≡ b) ⊎ ((z : V) × R a z)
-first_step here = inl refl
-first_step (step {a} {b} {c} s r) = inr (b, s)
+pub Reach-first_step : {V : Type 0} {R : V → V → Type 0} {a b : V} → Reach R a b → (a ≡ b) ⊎ ((z : V) × R a z)
+Reach-first_step here = inl refl
+Reach-first_step (step {a} {b} {c} s r) = inr (b, s)
 
 -- on a way from what has to what has not there is a step from what has to what has not
 pub Reach-crosses : {V : Type 0} {R : V → V → Type 0} (D : V → Type 0) → ((x : V) → D x ⊎ (D x → ⊥)) → {a b : V} → Reach R a b → D a → (D b → ⊥) → (x : V) × (y : V) × D x × (D y → ⊥) × R x y

@@ -3,7 +3,7 @@ use Rattle.std.proofs.Common.{◌≡◌, ◌<◌, ◌+◌, ℕ, Bool, List, [], 
 use Rattle.std.specs.List.{slice_split}
 use Rattle.std.proofs.lemmas.List.{drop_more, take-append-drop}
 use Rattle.std.proofs.lemmas.List.Splits.{length-slice_split}
-use Rattle.hd_audit.proofs.EndsLine.{lines_joined}
+use Rattle.hd_audit.proofs.EndsLine.{lines_of-joined}
 use Rattle.hd_num.specs.Lines.{is_line_feed, lines_of}
 use Rattle.hd_run.specs.CertificateReader.{IsOfKind}
 use Rattle.hd_check.specs.declared.types.CertificateError.{CertificateError}
@@ -23,9 +23,9 @@ kind-first (line ∷ lines) more other some = refl
 -- behind a line feed it stays what it is
 IsOfKind-line : (before after : List ℕ) → IsOfKind (begins_pruning (lines_of (before ++ 10 ∷ after))) (before ++ 10 ∷ after)
 IsOfKind-line before after = λ more.
-    ap (λ (xs : List ℕ). begins_pruning (lines_of xs)) (append_assoc before (10 ∷ after) more) ∙ ap begins_pruning (lines_joined before (after ++ more))
+    ap (λ (xs : List ℕ). begins_pruning (lines_of xs)) (append_assoc before (10 ∷ after) more) ∙ ap begins_pruning (lines_of-joined before (after ++ more))
     ∙ kind-first (slice_split is_line_feed before) (lines_of (after ++ more)) (lines_of after) (omega (arith, length-slice_split is_line_feed before))
-    ∙ sym (ap begins_pruning (lines_joined before after))
+    ∙ sym (ap begins_pruning (lines_of-joined before after))
 
 -- a piece has a line feed
 pub IsOfKind-piece : (text piece whole : List ℕ) (place : ℕ) → place < length piece → get_or piece place 0 ≡ 10 → whole ≡ text ++ piece → IsOfKind (begins_pruning (lines_of whole)) whole

@@ -9,7 +9,7 @@ use Rattle.hd_audit.specs.Flooding.{IsFront, next_line, rank_of_waiting}
 use Rattle.hd_audit.specs.Lines.{IsPointAt, line_at}
 use Rattle.hd_audit.specs.Listing.{AreShownTo}
 use Rattle.hd_audit.specs.Standings.{seen_of}
-use Rattle.hd_audit.proofs.FrontsAtLevel.{IsListed, list-level, passed-level}
+use Rattle.hd_audit.proofs.FrontsAtLevel.{IsListed, IsListed-level, ArePassed-level}
 use Rattle.hd_audit.proofs.listing.list_from.Given.{Over}
 use Rattle.hd_audit.proofs.listing.list_from.Goals as goal
 use Rattle.hd_audit.proofs.listing.list_from.Goals.{In-Some, In_ok-list_point}
@@ -18,7 +18,7 @@ use Rattle.hd_audit.proofs.listing.list_from.Goals.{In-Some, In_ok-list_point}
 listed : (g : Over) (c : In-Some g) → IsListed (g.G.Heights.map c.args.grid.now) (g.met.G.Heights.whole c.args.grid.now) g.S.Side.NAME c.args.limit.now.percent.thousandths c.args.limit.now.sz (pits_kept c.args.kept.now) c.requires.firm
     c.args.lines.now (seen_of c.args.front.now.standing.items) c.args.front.now.ahead c.requires.shown c.args.point (set c.args.front.now.ahead c.args.point.index None) (heap_items c.args.front.now.low) c.in-Some.from c.args.point
 listed g c =
-    list-level (g.G.Heights.map c.args.grid.now) (g.met.G.Heights.whole c.args.grid.now) g.S.Side.NAME c.args.limit.now.percent.thousandths c.args.limit.now.sz (pits_kept c.args.kept.now) c.requires.firm
+    IsListed-level (g.G.Heights.map c.args.grid.now) (g.met.G.Heights.whole c.args.grid.now) g.S.Side.NAME c.args.limit.now.percent.thousandths c.args.limit.now.sz (pits_kept c.args.kept.now) c.requires.firm
     c.args.lines.now (seen_of c.args.front.now.standing.items) c.args.front.now.ahead c.requires.shown (heap_items c.args.front.now.low) c.args.point c.in-Some.from c.requires.front c.requires.point c.requires.lowest (sym c.place_at.ensures ∙ c.in-Some.is)
 
 -- the lines with that of the point
@@ -68,4 +68,4 @@ list_low-requires-clause-front g c =
 pub returns-clause-passed : goal.returns-clause-passed
 returns-clause-passed g c =
     let new = c.list_low.new.front in
-    passed-level (g.G.Heights.map c.args.grid.now) g.S.Side.NAME c.list_low.new.lines c.args.point (seen_of new.standing.items) new.ahead (heap_items new.low) (length c.list_low.new.lines) c.in_ok-list_low.ensures.front
+    ArePassed-level (g.G.Heights.map c.args.grid.now) g.S.Side.NAME c.list_low.new.lines c.args.point (seen_of new.standing.items) new.ahead (heap_items new.low) (length c.list_low.new.lines) c.in_ok-list_low.ensures.front

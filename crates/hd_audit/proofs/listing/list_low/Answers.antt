@@ -11,7 +11,7 @@ use Rattle.hd_audit.specs.Flooding.{IsFront, next_line, rank_of_waiting}
 use Rattle.hd_audit.specs.Lines.{line_at}
 use Rattle.hd_audit.specs.Listing.{AreShownTo}
 use Rattle.hd_audit.specs.Standings.{seen_of}
-use Rattle.hd_audit.proofs.FrontsAtLevel.{IsListed, list-low}
+use Rattle.hd_audit.proofs.FrontsAtLevel.{IsListed, IsListed-low}
 use Rattle.hd_audit.proofs.listing.list_low.Given.{Over}
 use Rattle.hd_audit.proofs.listing.list_low.Goals as goal
 use Rattle.hd_audit.proofs.listing.list_low.Goals.{After-position_of-at, In-Some}
@@ -20,7 +20,7 @@ use Rattle.hd_audit.proofs.listing.list_low.Goals.{After-position_of-at, In-Some
 listed : (g : Over) (c : In-Some g) → IsListed (g.G.Heights.map c.args.grid.now) (g.met.G.Heights.whole c.args.grid.now) g.S.Side.NAME c.args.limit.now.percent.thousandths c.args.limit.now.sz (pits_kept c.args.kept.now) c.requires.firm
     c.loop-next.lines (seen_of c.loop-next.front.standing.items) c.loop-next.front.ahead c.loop-next.invariant.shown c.args.level c.loop-next.front.ahead (heap_items c.pop.new.self) c.in-Some.next.from (rank_of_waiting c.in-Some.next)
 listed g c =
-    list-low (g.G.Heights.map c.args.grid.now) (g.met.G.Heights.whole c.args.grid.now) g.S.Side.NAME c.args.limit.now.percent.thousandths c.args.limit.now.sz (pits_kept c.args.kept.now) c.requires.firm
+    IsListed-low (g.G.Heights.map c.args.grid.now) (g.met.G.Heights.whole c.args.grid.now) g.S.Side.NAME c.args.limit.now.percent.thousandths c.args.limit.now.sz (pits_kept c.args.kept.now) c.requires.firm
     c.loop-next.lines (seen_of c.loop-next.front.standing.items) c.loop-next.front.ahead c.loop-next.invariant.shown c.args.level (heap_items c.loop-next.front.low) (heap_items c.pop.new.self) c.in-Some.next
     c.loop-next.invariant.front c.in-Some.ensures.permutation (c.in-Some.ensures.heap_order c.loop-next.invariant.heap).1
 

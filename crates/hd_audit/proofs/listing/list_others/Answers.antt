@@ -10,7 +10,7 @@ use Rattle.hd_audit.specs.Flooding.{AreNotBelow, ArePassed, IsFrontAt}
 use Rattle.hd_audit.specs.Lines.{rank_at}
 use Rattle.hd_audit.specs.Placed.{IsPlaced}
 use Rattle.hd_audit.specs.Standings.{AreStanding, passed, seen_of, standing_at}
-use Rattle.hd_audit.proofs.FrontsAtLevel.{all-passed, next-lowest, passed-more}
+use Rattle.hd_audit.proofs.FrontsAtLevel.{ArePassed-all, ArePassed-next, ArePassed-more}
 use Rattle.hd_audit.proofs.Placed.{placed-rank}
 use Rattle.hd_audit.proofs.Standings.{pass-seen, standing-first, standing-next}
 use Rattle.hd_audit.proofs.listing.list_others.Goals as goal
@@ -25,7 +25,7 @@ list_from-requires-clause-lowest g c =
     let placed : IsPlaced m points place p = subst (λ o. MatchOption o (length points ≤ place) (IsPlaced m points place)) c.in-Some.is c.loop-place.invariant.next in
     let within : place < length ranks = (let long = length-map points (rank_at m) in let inside = placed.inside in omega (arith, long, inside)) in
     subst (λ (r : Rank). AreNotBelow m g.S.Side.NAME c.loop-place.front.ahead r) (sym (placed-rank m points place p placed p.rank))
-    (next-lowest m g.S.Side.NAME c.loop-place.front.ahead ranks place p.rank c.in_ok-points.ensures within c.loop-place.invariant.passed)
+    (ArePassed-next m g.S.Side.NAME c.loop-place.front.ahead ranks place p.rank c.in_ok-points.ensures within c.loop-place.invariant.passed)
 
 pub list_from-requires-clause-standing : goal.list_from-requires-clause-standing
 list_from-requires-clause-standing g c =
@@ -70,7 +70,7 @@ loop-place-preserved g c =
       next = subst (λ (xs : List ℕ). MatchOption c.placed_at-next-in-loop-place.result (length xs ≤ place + 1) (IsPlaced m xs (place + 1))) c.as_slice-in-loop-place.ensures.value c.placed_at-next-in-loop-place.ensures;
       shown = c.in_ok-list_from.ensures.shown;
       front = subst (λ (seen : List Bool). IsFrontAt m side c.list_from.new.lines seen new.ahead (heap_items new.low)) (sym same) c.in_ok-list_from.ensures.front;
-      passed = passed-more m side new.ahead ranks place p.rank c.in_ok-points.ensures within (subst (λ (r : Rank). ArePassed m side new.ahead r) (placed-rank m points place p placed p.rank) c.in_ok-list_from.ensures.passed);
+      passed = ArePassed-more m side new.ahead ranks place p.rank c.in_ok-points.ensures within (subst (λ (r : Rank). ArePassed m side new.ahead r) (placed-rank m points place p placed p.rank) c.in_ok-list_from.ensures.passed);
       standing = λ d more.
           let point : p.rank ≡ get_or ranks place d = placed-rank m points place p placed d in
           subst (λ (xs : List Standing). AreStanding m side (Some (get_or ranks (place + 1) d)) xs) (sym moved)
@@ -82,6 +82,6 @@ pub returns : goal.returns
 returns g c =
     let m = g.G.Heights.map c.args.grid.now in
     let points : List ℕ = c.in_ok-points.points.items in
-    all-passed m (g.met.G.Heights.whole c.args.grid.now) g.S.Side.NAME c.args.limit.now.percent.thousandths c.args.limit.now.sz (pits_kept c.args.kept.now) c.requires.firm c.loop-place.lines (seen_of c.loop-place.front.standing.items) c.loop-place.front.ahead
+    ArePassed-all m (g.met.G.Heights.whole c.args.grid.now) g.S.Side.NAME c.args.limit.now.percent.thousandths c.args.limit.now.sz (pits_kept c.args.kept.now) c.requires.firm c.loop-place.lines (seen_of c.loop-place.front.standing.items) c.loop-place.front.ahead
     c.loop-place.invariant.shown (heap_items c.loop-place.front.low) (map (rank_at m) points) c.loop-place.invariant.front c.in_ok-points.ensures
     (λ j d less. c.loop-place.invariant.passed j d (let past = c.loop-place-test.false in let is = c.len-place-end.ensures in let long = length-map points (rank_at m) in omega (arith, less, past, is, long, c.in_ok-points.points.ok.0)))

@@ -3,7 +3,7 @@ use Rattle.std.proofs.Common.{◌≡◌, None, ap, length, replicate, rules}
 use Rattle.hd_map.specs.Map.{cell_count}
 use Rattle.std.specs.BinaryHeap.{heap_items}
 use Rattle.hd_audit.specs.Standings.{seen_of}
-use Rattle.hd_audit.proofs.FrontsAtLevel.{front-begin, front-at}
+use Rattle.hd_audit.proofs.FrontsAtLevel.{IsFront-begin, IsFrontAt-level}
 use Rattle.hd_audit.proofs.KeptAlone.{alone-firm, alone-points, alone-in_order}
 use Rattle.hd_audit.proofs.listing.shown_lines.Goals as goal
 
@@ -29,7 +29,7 @@ spread_kept-requires-clause-front g c =
     let m = g.G.Heights.map c.args.grid.now in
     let blank : c.in_ok-new.field-0 ≡ replicate (cell_count m.size) None = search rules in
     let empty : length (heap_items c.new-2.result) ≡ 0 = ap length c.new-2.ensures.items in
-    front-begin m g.S.Side.NAME c.args.kept.now (length c.args.kept.now) (seen_of c.list_kept.new.standing.items) c.list_kept.new.lines c.in_ok-new.field-0 (heap_items c.new-2.result) blank empty c.in_ok-list_kept.ensures.begun
+    IsFront-begin m g.S.Side.NAME c.args.kept.now (length c.args.kept.now) (seen_of c.list_kept.new.standing.items) c.list_kept.new.lines c.in_ok-new.field-0 (heap_items c.new-2.result) blank empty c.in_ok-list_kept.ensures.begun
 
 pub spread_kept-requires-clause-points : goal.spread_kept-requires-clause-points
 spread_kept-requires-clause-points g c =
@@ -40,4 +40,4 @@ pub list_others-requires-clause-front : goal.list_others-requires-clause-front
 list_others-requires-clause-front g c =
     let m = g.G.Heights.map c.args.grid.now in
     let new = c.spread_kept.new.front in
-    front-at m g.S.Side.NAME c.list_kept.new.lines (seen_of new.standing.items) new.ahead (heap_items new.low) c.in_ok-spread_kept.ensures.front
+    IsFrontAt-level m g.S.Side.NAME c.list_kept.new.lines (seen_of new.standing.items) new.ahead (heap_items new.low) c.in_ok-spread_kept.ensures.front

@@ -6,7 +6,7 @@ use Rattle.hd_prune.specs.declared.step.Kept.{Kept}
 use Rattle.hd_prune.specs.Kept.{pits_kept}
 use Rattle.hd_audit.specs.declared.types.Audit.{Audit}
 use Rattle.hd_audit.specs.Shown.{AreShownLines}
-use Rattle.hd_audit.proofs.KeptAlone.{shown-of}
+use Rattle.hd_audit.proofs.KeptAlone.{IsShown-alone}
 use Rattle.hd_audit.proofs.ShownRight.{right-from_shown}
 use Rattle.hd_audit.proofs.making.make_audit.Goals as goal
 
@@ -28,7 +28,7 @@ returns-clause-shown g c =
     let a : Audit = record { side = c.NAME-2.result; percent = c.args.percent; adjacency = c.adjacency.result; lines = c.in_ok-lines.lines } in
     let lines : AreShownLines m side c.args.percent.thousandths sz (pits_kept c.args.kept.now) c.in_ok-lines.lines =
     subst (λ (ks : List Kept). AreShownLines m side c.args.percent.thousandths sz (pits_kept ks) c.in_ok-lines.lines) c.as_slice.ensures c.in_ok-lines.ensures in
-    shown-of m side c.args.percent sz c.args.kept.now a sz_is c.requires c.NAME-2.ensures refl c.adjacency.ensures lines
+    IsShown-alone m side c.args.percent sz c.args.kept.now a sz_is c.requires c.NAME-2.ensures refl c.adjacency.ensures lines
 
 pub returns-clause-right : goal.returns-clause-right
 returns-clause-right g c =

@@ -3,13 +3,13 @@ use Rattle.std.proofs.Common.{◌≡◌, ◌∙◌, None, ap, subst}
 use Rattle.hd_audit.specs.declared.types.AuditLine.{AuditLine}
 use Rattle.hd_audit.specs.Lines.{line_at}
 use Rattle.hd_audit.specs.Rules.{IsKeptPit}
-use Rattle.hd_audit.proofs.FailedTests.{test-fails, test-holds, up_to}
+use Rattle.hd_audit.proofs.FailedTests.{test-fails, test-holds, below-more}
 use Rattle.hd_audit.proofs.parents.first_no_pit.Goals as goal
 
 pub loop-k-preserved : goal.loop-k-preserved
 loop-k-preserved g c =
     let m = g.G.Heights.map c.args.surface.now in
-    up_to (λ i. (line_at c.args.lines.now i).parent ≡ None → IsKeptPit m c.args.side (line_at c.args.lines.now i)) c.loop-k.k c.loop-k.invariant
+    below-more (λ i. (line_at c.args.lines.now i).parent ≡ None → IsKeptPit m c.args.side (line_at c.args.lines.now i)) c.loop-k.k c.loop-k.invariant
     (subst (λ (x : AuditLine). x.parent ≡ None → IsKeptPit m c.args.side x) c.at-line.ensures (test-holds c.is_right_without_parent.result c.if-not-is_right_without_parent.false c.is_right_without_parent.ensures))
 
 pub returns-then-not-is_right_without_parent : goal.returns-then-not-is_right_without_parent

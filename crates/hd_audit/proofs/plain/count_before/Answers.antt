@@ -1,6 +1,6 @@
 use Rattle.std.proofs.Common.{◌≡◌, ◌<◌, ◌^◌, ◌∙◌, rules}
 use Rattle.std.proofs.lemmas.List.{take_rest}
-use Rattle.hd_audit.proofs.PlainLines.{digits_before}
+use Rattle.hd_audit.proofs.PlainLines.{BeginsWith-digits}
 use Rattle.hd_audit.proofs.plain.count_before.Goals as goal
 
 pub returns : goal.returns
@@ -10,4 +10,4 @@ returns c =
     let found = c.leading_digits-digits.ensures in
     let same : c.in_ok-count.count ≡ c.leading_digits-digits.result.1 = search rules in
     let small : c.in_ok-count.count < 2 ^ 32 = search rules in
-    digits_before text _ digits c.in_ok-count.count c.if-digits-eq0.false found.within found.digits (same ∙ found.value) small (take_rest text digits)
+    BeginsWith-digits text _ digits c.in_ok-count.count c.if-digits-eq0.false found.within found.digits (same ∙ found.value) small (take_rest text digits)

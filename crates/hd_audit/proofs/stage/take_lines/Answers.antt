@@ -2,7 +2,7 @@ use Rattle.std.proofs.Common.{◌+◌, ◌∙◌, ◌++◌, ℕ, List, length, d
 use Rattle.std.proofs.lemmas.List.{take_rest}
 use Rattle.hd_num.specs.Span.{text_at}
 use Rattle.hd_audit.specs.Stages.{go_on, numbered, words_in}
-use Rattle.hd_audit.proofs.Stages.{line_read}
+use Rattle.hd_audit.proofs.Stages.{go_on-line}
 use Rattle.hd_audit.proofs.stage.take_lines.Goals as goal
 
 pub lines-smaller : goal.lines-smaller
@@ -28,7 +28,7 @@ lines-preserved c =
     record {
       same = λ more.
           c.lines.invariant.same more
-          ∙ line_read c.lines.stage c.lines.number rest (text_at rest c.in-Some.span) (drop next rest) at.lines more c.in_ok-taken.taken (rw (sym c.part.ensures) c.in_ok-taken.ensures)
+          ∙ go_on-line c.lines.stage c.lines.number rest (text_at rest c.in-Some.span) (drop next rest) at.lines more c.in_ok-taken.taken (rw (sym c.part.ensures) c.in_ok-taken.ensures)
           ∙ ap (λ (xs : List ℕ). go_on c.in_ok-taken.taken (numbered (c.lines.number + 1) (words_in xs ++ more))) (sym behind) ∙ c.in-Ok.ensures.same more;
       counted = omega (arith, onward, within, counted, after, ap length behind, length-drop next rest);
     }

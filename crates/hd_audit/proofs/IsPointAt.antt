@@ -6,5 +6,5 @@ use Rattle.hd_map.specs.Rank.{IsPoint}
 use Rattle.hd_map.proofs.Points.{rank_position, point_inside}
 use Rattle.hd_audit.specs.Lines.{IsPointAt}
 
-pub point-indexed : (m : Map) (r : Rank) → IsPoint m r → IsPointAt m r.index
-point-indexed m r point = record { inside = point_inside m r point; present = subst (Present m) (sym (rank_position m r point.at point.present point.rank_is)) point.present }
+pub IsPointAt-point : (m : Map) (r : Rank) → IsPoint m r → IsPointAt m r.index
+IsPointAt-point m r point = record { inside = point_inside m r point; present = subst (Present m) (sym (rank_position m r point.at point.present point.rank_is)) point.present }

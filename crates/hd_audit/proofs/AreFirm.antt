@@ -20,7 +20,7 @@ use Rattle.hd_map.proofs.Points.{Near-to, Near-apart}
 use Rattle.hd_map.proofs.Saddles.{saddle-exists, saddle-above_pit}
 use Rattle.hd_map.proofs.Order.{compare, below-apart, below-not_above}
 use Rattle.hd_audit.specs.Rules.{IsWithin}
-use Rattle.hd_audit.proofs.Within.{within-lower, within-higher, within-goes, first_step, StepsWithin, ReachesWithin, points-from_reach, reach-more, reach-last, reach-point, reach-back, reach-higher}
+use Rattle.hd_audit.proofs.Within.{within-lower, within-higher, within-goes, Reach-first_step, StepsWithin, ReachesWithin, points-from_reach, reach-more, reach-last, reach-point, reach-back, reach-higher}
 
 -- the pits that no pit undercuts
 abbrev pub AreFirm : Map → SideName → ℕ → ℤ → List Rank → Type 0
@@ -28,8 +28,8 @@ AreFirm m side thousandths sz kept = (p : Rank) → Contains kept p ↔ (IsPit m
 
 module _ (m : Map) (side : SideName) where
   -- a pit is below what is near it
-  pub pit-below : (p z : Rank) → IsPit m side p → Near m p z → below_by side p z ≡ true
-  pit-below p z pit near = elim (compare (below_by side) (below_by-order side) p z) [
+  pub below_by-pit : (p z : Rank) → IsPit m side p → Near m p z → below_by side p z ≡ true
+  below_by-pit p z pit near = elim (compare (below_by side) (below_by-order side) p z) [
     | inl up ↦ up
     | inr r ↦ elim r [
       | inl down ↦ absurd (pit.alone z (record { near = near; below = down }))
@@ -49,8 +49,8 @@ module _ (m : Map) (side : SideName) where
           falls Q go stop n y at (omega (arith, less, less')) (go x y q l);
     }) q
 
-    pub no_point : (Q : Rank → Type 0) → ((x y : Rank) → Q x → LowerNeighbour m side x y → Q y) → ((q : Rank) → IsPit m side q → Q q → ⊥) → (x : Rank) → IsPoint m x → Q x → ⊥
-    no_point Q go stop x point q = falls Q go stop (suc (depth_by side x)) x point (omega arith) q
+    pub lower_neighbours-none : (Q : Rank → Type 0) → ((x y : Rank) → Q x → LowerNeighbour m side x y → Q y) → ((q : Rank) → IsPit m side q → Q q → ⊥) → (x : Rank) → IsPoint m x → Q x → ⊥
+    lower_neighbours-none Q go stop x point q = falls Q go stop (suc (depth_by side x)) x point (omega arith) q
 
 module _ (m : Map) (side : SideName) (thousandths : ℕ) (sz : ℤ) where
   -- a pit undercuts a higher one that reaches it within its threshold
@@ -76,7 +76,7 @@ module _ (m : Map) (side : SideName) (thousandths : ℕ) (sz : ℤ) where
 
   -- where a higher pit reaches what a lower one reaches, the lower one is within the higher
   pit-within : (r q x : Rank) → IsPit m side q → below_by side q r ≡ true → ReachesWithin m side thousandths sz r r x → ReachesWithin m side thousandths sz q q x → IsWithin side thousandths sz r q
-  pit-within r q x pit lower mine yours = elim (first_step yours) [
+  pit-within r q x pit lower mine yours = elim (Reach-first_step yours) [
     | inl e ↦ elim (reach-last m side thousandths sz r mine) [
       | inl same ↦ absurd (below-apart (below_by side) (below_by-order side) q r lower (e ∙ sym same))
       | inr w ↦ subst (IsWithin side thousandths sz r) (sym e) w
@@ -84,7 +84,7 @@ module _ (m : Map) (side : SideName) (thousandths : ℕ) (sz : ℤ) where
     | inr s ↦
         let z : Rank = s.0 in
         let w : IsWithin side thousandths sz r z = within-higher side thousandths sz q r z (below-not_above (below_by side) (below_by-order side) q r lower) s.1.1 in
-        within-lower side thousandths sz r z q (below-not_above (below_by side) (below_by-order side) q z (pit-below m side q z pit s.1.0)) w
+        within-lower side thousandths sz r z q (below-not_above (below_by side) (below_by-order side) q z (below_by-pit m side q z pit s.1.0)) w
   ]
 
   -- and undercuts it
@@ -117,7 +117,7 @@ module _ (m : Map) (side : SideName) (thousandths : ℕ) (sz : ℤ) where
             | inl same ↦ absurd (below-apart (below_by side) (below_by-order side) x r e (sym same))
             | inr w ↦ w
           ] in
-          no_point m side whole (λ y. ReachesWithin m side thousandths sz r r y × (below_by side y r ≡ true) × IsWithin side thousandths sz r y)
+          lower_neighbours-none m side whole (λ y. ReachesWithin m side thousandths sz r r y × (below_by side y r ≡ true) × IsWithin side thousandths sz r y)
           (λ y z q l.
           let low = within-lower side thousandths sz r y z (below-not_above (below_by side) (below_by-order side) z y l.below) q.2 in
           (reach-more m side thousandths sz r r y z q.0 l.near low, (below_by-order side).transitive z y r l.below q.1, low))
@@ -136,5 +136,5 @@ module _ (m : Map) (side : SideName) (thousandths : ℕ) (sz : ℤ) where
     )) q
 
     -- what each pit hands on to those that undercut it, and holds of no kept pit, holds of no pit
-    pub no_pit : (Q : Rank → Type 0) → ((p q : Rank) → IsPit m side p → Q p → Undercuts m side thousandths sz q p → Q q) → ((r : Rank) → Contains kept r → Q r → ⊥) → (p : Rank) → IsPit m side p → Q p → ⊥
-    no_pit Q go stop p pit q = digs Q go stop (suc (depth_by side p)) p pit (omega arith) q
+    pub undercuts-none : (Q : Rank → Type 0) → ((p q : Rank) → IsPit m side p → Q p → Undercuts m side thousandths sz q p → Q q) → ((r : Rank) → Contains kept r → Q r → ⊥) → (p : Rank) → IsPit m side p → Q p → ⊥
+    undercuts-none Q go stop p pit q = digs Q go stop (suc (depth_by side p)) p pit (omega arith) q

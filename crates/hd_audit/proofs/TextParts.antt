@@ -13,10 +13,10 @@ use Rattle.hd_audit.specs.declared.types.AuditLine.{AuditLine}
 use Rattle.hd_audit.specs.Text.{audit_text, point_line, point_words}
 
 -- the first line
-pub head_parts : (side : SideName) (percent setting : List ℕ) → line_text (codes "pruning" ∷ side_word side ∷ percent ∷ setting ∷ [])
+pub audit_text-head : (side : SideName) (percent setting : List ℕ) → line_text (codes "pruning" ∷ side_word side ∷ percent ∷ setting ∷ [])
     ≡ codes "pruning " ++ ((side_word side ++ codes " ") ++ (percent ++ (codes " " ++ (setting ++ 10 ∷ []))))
-head_parts Dales percent setting = refl
-head_parts Hills percent setting = refl
+audit_text-head Dales percent setting = refl
+audit_text-head Hills percent setting = refl
 
 -- the number of points, and their lines
 abbrev pub points_text : List AuditLine → List ℕ
@@ -26,9 +26,9 @@ abbrev points_lines : List AuditLine → List (List (List ℕ))
 points_lines points = (codes "points" ∷ decimal (length points) ∷ []) ∷ map point_words points
 
 -- the whole text
-pub audit_parts : (a : Audit) (points : List AuditLine) → points ≡ a.lines → audit_text a
+pub audit_text-parts : (a : Audit) (points : List AuditLine) → points ≡ a.lines → audit_text a
     ≡ line_text (codes "pruning" ∷ side_word a.side ∷ percent_text a.percent.thousandths ∷ adjacency_word a.adjacency ∷ []) ++ (points_text points ++ (codes "end" ++ 10 ∷ []))
-audit_parts a points e =
+audit_text-parts a points e =
     let head : List ℕ = line_text (codes "pruning" ∷ side_word a.side ∷ percent_text a.percent.thousandths ∷ adjacency_word a.adjacency ∷ []) in
     rw e (ap (λ (t : List ℕ). head ++ t)
     (flat_map-append line_text (points_lines a.lines) ((codes "end" ∷ []) ∷ []) ∙ ap (λ (t : List ℕ). t ++ (codes "end" ++ 10 ∷ [])) (line_text-counted point_words (codes "points") (decimal (length a.lines)) a.lines)))
