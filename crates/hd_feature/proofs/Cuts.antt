@@ -76,9 +76,9 @@ count_places r (x ∷ xs) = sum_by-cons _ (place_of x) (map place_of xs) ∙ ap 
 
 -- a region is among the first exactly where the last of them, around which the places are split, is not
 -- ahead of its own
-pub among_first : (regions : List Region) (front : List Place) (last : Place) (back : List Place) (n : ℕ) (r : Region) → IsPermutation (map place_of regions) (front ++ last ∷ back) → IsSplitAroundBy is_ahead front last back → n ≡ length front + 1
+pub is_among-first : (regions : List Region) (front : List Place) (last : Place) (back : List Place) (n : ℕ) (r : Region) → IsPermutation (map place_of regions) (front ++ last ∷ back) → IsSplitAroundBy is_ahead front last back → n ≡ length front + 1
     → is_among regions n r ≡ (nat_lt 0 n && is_within (place_of r) (Some last))
-among_first regions front last back n r permuted split count =
+is_among-first regions front last back n r permuted split count =
     ap (λ x. nat_lt x n) (sym (count_places r regions) ∙ sym (sum_by-IsPermutation _ (map place_of regions) (front ++ last ∷ back) permuted))
     ∙ ap (nat_lt (count_by (λ a. is_ahead a (place_of r)) (front ++ last ∷ back))) count
     ∙ among_split front last back (place_of r) split

@@ -31,8 +31,8 @@ parts_followed : (word : List ℕ) → parts_of (word ++ codes ";Sum") ≡ follo
 parts_followed [] = refl
 parts_followed (x ∷ xs) = split_followed (is_separator x) x (parts_of xs) (parts_of (xs ++ codes ";Sum")) (let n = length-slice_split is_separator xs in omega (arith, n)) (parts_followed xs)
 
-pub notation_followed : (word : List ℕ) → notation_of (word ++ codes ";Sum") ≡ notation_of_parts (followed (parts_of word))
-notation_followed word = ap notation_of_parts (parts_followed word)
+pub notation_of-followed : (word : List ℕ) → notation_of (word ++ codes ";Sum") ≡ notation_of_parts (followed (parts_of word))
+notation_of-followed word = ap notation_of_parts (parts_followed word)
 
 -- a part that is not the one after is read where it stands, or is missing
 part-followed : {A B : Type 0} (number : ℕ) (form : List ℕ → Option A) → form sum_part ≡ None → (parts : List (List ℕ)) (make : A → List (List ℕ) → Result B NotationError)
@@ -40,15 +40,15 @@ part-followed : {A B : Type 0} (number : ℕ) (form : List ℕ → Option A) →
 part-followed number form none [] make = ap (λ o. and_then (read_or_bad number o) (λ x. make x [])) none
 part-followed number form none (text ∷ more) make = refl
 
-pub reads-followed : {A : Type 0} (number : ℕ) (form : List ℕ → Option A) (parts : List (List ℕ)) (result : Result (A × Option (Bor (List ℕ))) NotationError) → form sum_part ≡ None → Reads number form parts result
+pub part-read_followed : {A : Type 0} (number : ℕ) (form : List ℕ → Option A) (parts : List (List ℕ)) (result : Result (A × Option (Bor (List ℕ))) NotationError) → form sum_part ≡ None → Reads number form parts result
     → (make : A → List (List ℕ) → Result Notation NotationError) → part number form (followed parts) make ≡ and_then result (λ p. make p.0 (followed (parts_left p.1)))
-reads-followed number form parts result none reads make = part-followed number form none parts make ∙ reads (λ x more. make x (followed more))
+part-read_followed number form parts result none reads make = part-followed number form none parts make ∙ reads (λ x more. make x (followed more))
 
 -- where no part is left, that one is read as part 6
-pub sum_alone : (rest : Option (Bor (List ℕ))) (make : Statistic → List (List ℕ) → Result Notation NotationError) → is_some rest ≡ false
+pub statistic-sum_alone : (rest : Option (Bor (List ℕ))) (make : Statistic → List (List ℕ) → Result Notation NotationError) → is_some rest ≡ false
     → part 6 statistic_of (followed (parts_left rest)) make ≡ make Sum []
-sum_alone None make h = refl
-sum_alone (Some text) make h = absurd (true≢false h)
+statistic-sum_alone None make h = refl
+statistic-sum_alone (Some text) make h = absurd (true≢false h)
 
 after_all : (more : List (List ℕ)) (made : Result Notation NotationError) → no_part 7 (followed more) made ≡ Err (BadPart 7)
 after_all [] made = refl
@@ -65,8 +65,8 @@ sixth_then [] made some = absurd (omega arith)
 sixth_then (text ∷ more) made some = read_then (read_or_bad 6 (statistic_of text)) more made
 
 -- where one is left, part 6 is read of it, and that one is too many
-pub sum_seventh : (rest : Option (Bor (List ℕ))) (result : Result (Statistic × Option (Bor (List ℕ))) NotationError) (made : Statistic → Result Notation NotationError) → is_some rest ≡ true
+pub statistic-sum_seventh : (rest : Option (Bor (List ℕ))) (result : Result (Statistic × Option (Bor (List ℕ))) NotationError) (made : Statistic → Result Notation NotationError) → is_some rest ≡ true
     → Reads 6 statistic_of (parts_left rest) result → part 6 statistic_of (followed (parts_left rest)) (λ s more. no_part 7 more (made s)) ≡ and_then result (λ p. Err (BadPart 7))
-sum_seventh None result made h reads = absurd (true≢false (sym h))
-sum_seventh (Some text) result made h reads =
+statistic-sum_seventh None result made h reads = absurd (true≢false (sym h))
+statistic-sum_seventh (Some text) result made h reads =
     sixth_then (parts_of text.now) made (let n = length-slice_split is_separator text.now in omega (arith, n)) ∙ reads (λ s more. Err (BadPart 7))

@@ -27,24 +27,24 @@ total_from a (x ∷ xs) m all =
     omega (arith, rest, first, sum, more)
 
 -- the regions that are kept are no more than all
-pub kept_few : (p : Region → Bool) (f : Region → ℤ) (rs : List Region) → length (map f (filter p rs)) ≤ length rs
-kept_few p f rs = (let mapped = length-map (filter p rs) f in let kept = length-filter p rs in let most = count_by-le-length p rs in omega (arith, mapped, kept, most))
+pub filter-few : (p : Region → Bool) (f : Region → ℤ) (rs : List Region) → length (map f (filter p rs)) ≤ length rs
+filter-few p f rs = (let mapped = length-map (filter p rs) f in let kept = length-filter p rs in let most = count_by-le-length p rs in omega (arith, mapped, kept, most))
 
 -- the sum of the local heights of those that are kept
-pub kept_small : (p : Region → Bool) (f : Region → ℤ) (rs : List Region) (m : ℕ) → All (λ r. unsigned_abs (f r) ≤ m) rs → unsigned_abs (total (map f (filter p rs))) ≤ length rs * m
-kept_small p f rs m all =
+pub total-small : (p : Region → Bool) (f : Region → ℤ) (rs : List Region) (m : ℕ) → All (λ r. unsigned_abs (f r) ≤ m) rs → unsigned_abs (total (map f (filter p rs))) ≤ length rs * m
+total-small p f rs m all =
     let each = All-map (λ x. unsigned_abs x ≤ m) f (filter p rs) (All-filter p (λ r. unsigned_abs (f r) ≤ m) rs all) in
     let sum = total_from (pos 0) (map f (filter p rs)) m each in
-    le_trans (subst (λ n. unsigned_abs (total (map f (filter p rs))) ≤ n) (zero_more (length (map f (filter p rs)) * m)) sum) (mul-le-mul_right m (kept_few p f rs))
+    le_trans (subst (λ n. unsigned_abs (total (map f (filter p rs))) ≤ n) (zero_more (length (map f (filter p rs)) * m)) sum) (mul-le-mul_right m (filter-few p f rs))
   where
     zero_more : (n : ℕ) → 0 + n ≡ n
     zero_more n = omega arith
 
 -- the mean of their local heights
-pub mean_small : ((n : ℤ) (d : ℕ) (a : ℤ) (b : ℕ) → 0 < d → IsFraction n d a b → (unsigned_abs a ≤ unsigned_abs n) × (b ≤ d))
+pub IsStatistic-small : ((n : ℤ) (d : ℕ) (a : ℤ) (b : ℕ) → 0 < d → IsFraction n d a b → (unsigned_abs a ≤ unsigned_abs n) × (b ≤ d))
     → (p : Region → Bool) (rs : List Region) (area m : ℕ) (f : Frac) (a : Attribute) (s : Statistic) → a ≡ Lpvh → s ≡ Mean → All (λ r. unsigned_abs r.lpvh ≤ m) rs
     → IsStatistic s (map (attribute a) (filter p rs)) area f → (unsigned_abs f.num ≤ length rs * m) × (f.den ≤ length rs)
-mean_small law p rs area m f a s lpvh mean all value =
+IsStatistic-small law p rs area m f a s lpvh mean all value =
     let mean_value = subst₂ (λ t u. IsStatistic u (map (attribute t) (filter p rs)) area f) lpvh mean value in
     let small = law _ _ f.num f.den mean_value.values_some mean_value.fraction in
-    (le_trans small.0 (kept_small p (attribute Lpvh) rs m all), le_trans small.1 (kept_few p (attribute Lpvh) rs))
+    (le_trans small.0 (total-small p (attribute Lpvh) rs m all), le_trans small.1 (filter-few p (attribute Lpvh) rs))

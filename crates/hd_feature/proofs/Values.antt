@@ -12,18 +12,18 @@ use Rattle.hd_feature.specs.declared.region.Region.{Region}
 use Rattle.hd_feature.specs.Value.{AreSameValues, IsValue, attributes, over, under}
 
 -- a list without elements
-pub values-nothing : {X : Type 0} (xs : List X) → length xs ≡ 0 → xs ≡ []
-values-nothing [] e = refl
-values-nothing (x ∷ xs) e = absurd (omega (arith, e))
+pub length-none : {X : Type 0} (xs : List X) → length xs ≡ 0 → xs ≡ []
+length-none [] e = refl
+length-none (x ∷ xs) e = absurd (omega (arith, e))
 
 map_one : (f : Region → ℤ) (b : Bool) (x : Region) → map f (cond b (x ∷ []) []) ≡ cond b (f x ∷ []) []
 map_one f true x = refl
 map_one f false x = refl
 
 -- the attributes with one region more
-pub attributes_more : (p : Region → Bool) (f : Region → ℤ) (rs : List Region) (i : ℕ) (d : Region) (vs ws : List ℤ) → i < length rs
+pub attributes-more : (p : Region → Bool) (f : Region → ℤ) (rs : List Region) (i : ℕ) (d : Region) (vs ws : List ℤ) → i < length rs
     → vs ≡ map f (filter p (take i rs)) → ws ≡ vs ++ cond (p (get_or rs i d)) (f (get_or rs i d) ∷ []) [] → ws ≡ map f (filter p (take (i + 1) rs))
-attributes_more p f rs i d vs ws lt so_far e =
+attributes-more p f rs i d vs ws lt so_far e =
     e ∙ ap₂ (λ a b. a ++ b) so_far (sym (map_one f (p (get_or rs i d)) (get_or rs i d)))
     ∙ sym (map-append f (filter p (take i rs)) (cond (p (get_or rs i d)) (get_or rs i d ∷ []) [])) ∙ ap (map f) (sym (filter_more p rs i d lt))
 
@@ -40,10 +40,10 @@ no_value values area some known (inl none) = let e : length values ≡ 0 = ap le
 no_value values area some known (inr none) = omega arith
 
 -- a notation has one value on some regions
-pub value-one : (n : Notation) (features : List Region) (area : ℕ) (a b : Option Frac) → IsValue n features area a → IsValue n features area b → AreSameValues a b
-value-one n features area (Some f) (Some g) x y =
+pub IsValue-unique : (n : Notation) (features : List Region) (area : ℕ) (a b : Option Frac) → IsValue n features area a → IsValue n features area b → AreSameValues a b
+IsValue-unique n features area (Some f) (Some g) x y =
     let values = attributes n features in
     IsFraction-determined (over n.statistic values) (under n.statistic values area) f.num f.den g.num g.den (under-some n.statistic values area x.values_some x.area_some) x.fraction y.fraction
-value-one n features area (Some f) None x y = no_value (attributes n features) area x.values_some x.area_some y
-value-one n features area None (Some g) x y = no_value (attributes n features) area y.values_some y.area_some x
-value-one n features area None None x y = tt
+IsValue-unique n features area (Some f) None x y = no_value (attributes n features) area x.values_some x.area_some y
+IsValue-unique n features area None (Some g) x y = no_value (attributes n features) area y.values_some y.area_some x
+IsValue-unique n features area None None x y = tt

@@ -9,14 +9,14 @@ use Rattle.hd_feature.specs.declared.notation.NotationError.TheVariants.{BadPart
 use Rattle.hd_feature.specs.Parts.{is_separator, parts_left, no_part}
 
 -- a text without the byte is one part
-pub one_part : (test : ℕ → Bool) (xs : List ℕ) → ((k : ℕ) → k < length xs → test (get_or xs k 0) ≡ false) → slice_split test xs ≡ xs ∷ []
-one_part test [] none = refl
-one_part test (x ∷ xs) none = slice_split-cons_no test x xs (none 0 (omega arith)) ∙ ap (onto_first x) (one_part test xs (λ k lt. none (suc k) (omega arith)))
+pub slice_split-one : (test : ℕ → Bool) (xs : List ℕ) → ((k : ℕ) → k < length xs → test (get_or xs k 0) ≡ false) → slice_split test xs ≡ xs ∷ []
+slice_split-one test [] none = refl
+slice_split-one test (x ∷ xs) none = slice_split-cons_no test x xs (none 0 (omega arith)) ∙ ap (onto_first x) (slice_split-one test xs (λ k lt. none (suc k) (omega arith)))
 
 -- a text has a part, which is one too many
-pub one_too_many : (number : ℕ) (rest : Option (Bor (List ℕ))) (made : Result Notation NotationError) → true ≡ is_some rest → no_part number (parts_left rest) made ≡ Err (BadPart number)
-one_too_many number None made h = absurd (true≢false h)
-one_too_many number (Some text) made h = filled (slice_split is_separator text.now) (let n = length-slice_split is_separator text.now in omega (arith, n))
+pub no_part-left : (number : ℕ) (rest : Option (Bor (List ℕ))) (made : Result Notation NotationError) → true ≡ is_some rest → no_part number (parts_left rest) made ≡ Err (BadPart number)
+no_part-left number None made h = absurd (true≢false h)
+no_part-left number (Some text) made h = filled (slice_split is_separator text.now) (let n = length-slice_split is_separator text.now in omega (arith, n))
   where
     filled : (parts : List (List ℕ)) → 0 < length parts → no_part number parts made ≡ Err (BadPart number)
     filled [] some = absurd (omega arith)

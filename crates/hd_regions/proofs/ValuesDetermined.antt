@@ -6,7 +6,7 @@ use Rattle.hd_feature.specs.declared.notation.Parameter.{Parameter}
 use Rattle.hd_feature.specs.declared.notation.Parameter.TheVariants.{One, Sum}
 use Rattle.hd_feature.specs.declared.region.Region.{Region}
 use Rattle.hd_feature.specs.Value.{AreSameValues, IsValue}
-use Rattle.hd_feature.proofs.Values.{value-one}
+use Rattle.hd_feature.proofs.Values.{IsValue-unique}
 use Rattle.hd_map.specs.declared.types.Rank.{Rank}
 use Rattle.hd_map.specs.declared.types.SideName.{SideName}
 use Rattle.hd_map.specs.Map.{Map, IsMap}
@@ -102,7 +102,7 @@ module _ (laws : ValueLaws) where
     pub notation_value-one : (n : Notation) (a b : Option Frac) → IsNotationValue m n a → IsNotationValue m n b → AreSameValues a b
     notation_value-one n a b x y =
         let same : y.features ≡ x.features = features-one laws.regions laws.prunings m (side_of n.kind) n.percent.thousandths y.features x.features whole y.are x.are in
-        value-one n x.features (length (present_heights m)) a b x.is (subst (λ (rs : List Region). IsValue n rs (length (present_heights m)) b) same y.is)
+        IsValue-unique n x.features (length (present_heights m)) a b x.is (subst (λ (rs : List Region). IsValue n rs (length (present_heights m)) b) same y.is)
 
     none_same : (c d : Option Frac) → c ≡ None → d ≡ None → AreSameValues c d
     none_same (Some c) d x y = absurd (some_none c x)

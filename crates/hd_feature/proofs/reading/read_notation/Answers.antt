@@ -8,7 +8,7 @@ use Rattle.hd_feature.specs.declared.notation.Significance.{Significance}
 use Rattle.hd_feature.specs.declared.notation.Statistic.{Statistic}
 use Rattle.hd_feature.specs.Notation.{attribute_of, kind_of, paired, pruning_of, significance_of, statistic_of}
 use Rattle.hd_feature.specs.Parts.{and_then, parts_left, no_part, part}
-use Rattle.hd_feature.proofs.WordParts.{one_too_many}
+use Rattle.hd_feature.proofs.WordParts.{no_part-left}
 use Rattle.hd_feature.proofs.reading.read_notation.Goals as goal
 
 -- what the parts give after the first six, five, four, three, two and one
@@ -38,4 +38,4 @@ returns-then-is_some c = sym (c.read_part.ensures (λ _. after_one) ∙ ap (λ r
     ∙ c.read_part-5.ensures (after_five c.in_ok-kind.kind c.in_ok-percent.percent c.in_ok-significance.significance) ∙ ap (λ r. and_then r (λ q. after_five c.in_ok-kind.kind c.in_ok-percent.percent c.in_ok-significance.significance q.0 (parts_left q.1))) c.in_ok-attribute.was
     ∙ c.read_part-6.ensures (after_six c.in_ok-kind.kind c.in_ok-percent.percent c.in_ok-significance.significance c.in_ok-attribute.attribute)
     ∙ ap (λ r. and_then r (λ q. after_six c.in_ok-kind.kind c.in_ok-percent.percent c.in_ok-significance.significance c.in_ok-attribute.attribute q.0 (parts_left q.1))) c.in_ok-statistic.was
-    ∙ one_too_many 7 c.in_ok-statistic.rest _ c.if-is_some.ensures)
+    ∙ no_part-left 7 c.in_ok-statistic.rest _ c.if-is_some.ensures)

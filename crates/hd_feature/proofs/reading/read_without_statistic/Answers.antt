@@ -9,7 +9,7 @@ use Rattle.hd_feature.specs.declared.notation.Statistic.{Statistic}
 use Rattle.hd_feature.specs.Notation.{attribute_of, kind_of, paired, pruning_of, scope_of, significance_of, statistic_of}
 use Rattle.hd_feature.specs.declared.notation.NotationError.TheVariants.{BadPart}
 use Rattle.hd_feature.specs.Parts.{and_then, parts_left, no_part, part, parts_of}
-use Rattle.hd_feature.proofs.PartsWithSum.{followed, notation_followed, reads-followed, sum_alone, sum_seventh}
+use Rattle.hd_feature.proofs.PartsWithSum.{followed, notation_of-followed, part-read_followed, statistic-sum_alone, statistic-sum_seventh}
 use Rattle.hd_feature.proofs.reading.read_without_statistic.Goals as goal
 
 abbrev made : Kind → Percent → Significance → Attribute → Statistic → Result Notation NotationError
@@ -37,70 +37,70 @@ after_one parts = part 2 kind_of parts after_two
 pub returns-in_err-_scope : goal.returns-in_err-_scope
 returns-in_err-_scope c =
     let e : c.from_residual.result ≡ Err c.in_err-_scope.field-0.0 = search rules in
-    e ∙ sym (notation_followed c.args.word.now
-    ∙ reads-followed 1 scope_of (parts_of c.args.word.now) c.read_part.result refl c.read_part.ensures (λ _. after_one) ∙ ap (λ r. and_then r (λ q. after_one (followed (parts_left q.1)))) c.in_err-_scope.was)
+    e ∙ sym (notation_of-followed c.args.word.now
+    ∙ part-read_followed 1 scope_of (parts_of c.args.word.now) c.read_part.result refl c.read_part.ensures (λ _. after_one) ∙ ap (λ r. and_then r (λ q. after_one (followed (parts_left q.1)))) c.in_err-_scope.was)
 
 pub returns-in_err-kind : goal.returns-in_err-kind
 returns-in_err-kind c =
     let e : c.from_residual-in_err-kind.result ≡ Err c.in_err-kind.field-0.0 = search rules in
-    e ∙ sym (notation_followed c.args.word.now
-    ∙ reads-followed 1 scope_of (parts_of c.args.word.now) c.read_part.result refl c.read_part.ensures (λ _. after_one) ∙ ap (λ r. and_then r (λ q. after_one (followed (parts_left q.1)))) c.in_ok-_scope.was
-    ∙ reads-followed 2 kind_of (parts_left c.in_ok-_scope.rest) c.read_part-2.result refl c.read_part-2.ensures after_two ∙ ap (λ r. and_then r (λ q. after_two q.0 (followed (parts_left q.1)))) c.in_err-kind.was)
+    e ∙ sym (notation_of-followed c.args.word.now
+    ∙ part-read_followed 1 scope_of (parts_of c.args.word.now) c.read_part.result refl c.read_part.ensures (λ _. after_one) ∙ ap (λ r. and_then r (λ q. after_one (followed (parts_left q.1)))) c.in_ok-_scope.was
+    ∙ part-read_followed 2 kind_of (parts_left c.in_ok-_scope.rest) c.read_part-2.result refl c.read_part-2.ensures after_two ∙ ap (λ r. and_then r (λ q. after_two q.0 (followed (parts_left q.1)))) c.in_err-kind.was)
 
 pub returns-in_err-percent : goal.returns-in_err-percent
 returns-in_err-percent c =
     let e : c.from_residual-in_err-percent.result ≡ Err c.in_err-percent.field-0.0 = search rules in
-    e ∙ sym (notation_followed c.args.word.now
-    ∙ reads-followed 1 scope_of (parts_of c.args.word.now) c.read_part.result refl c.read_part.ensures (λ _. after_one) ∙ ap (λ r. and_then r (λ q. after_one (followed (parts_left q.1)))) c.in_ok-_scope.was
-    ∙ reads-followed 2 kind_of (parts_left c.in_ok-_scope.rest) c.read_part-2.result refl c.read_part-2.ensures after_two ∙ ap (λ r. and_then r (λ q. after_two q.0 (followed (parts_left q.1)))) c.in_ok-kind.was
-    ∙ reads-followed 3 pruning_of (parts_left c.in_ok-kind.rest) c.read_part-3.result refl c.read_part-3.ensures (after_three c.in_ok-kind.kind) ∙ ap (λ r. and_then r (λ q. after_three c.in_ok-kind.kind q.0 (followed (parts_left q.1)))) c.in_err-percent.was)
+    e ∙ sym (notation_of-followed c.args.word.now
+    ∙ part-read_followed 1 scope_of (parts_of c.args.word.now) c.read_part.result refl c.read_part.ensures (λ _. after_one) ∙ ap (λ r. and_then r (λ q. after_one (followed (parts_left q.1)))) c.in_ok-_scope.was
+    ∙ part-read_followed 2 kind_of (parts_left c.in_ok-_scope.rest) c.read_part-2.result refl c.read_part-2.ensures after_two ∙ ap (λ r. and_then r (λ q. after_two q.0 (followed (parts_left q.1)))) c.in_ok-kind.was
+    ∙ part-read_followed 3 pruning_of (parts_left c.in_ok-kind.rest) c.read_part-3.result refl c.read_part-3.ensures (after_three c.in_ok-kind.kind) ∙ ap (λ r. and_then r (λ q. after_three c.in_ok-kind.kind q.0 (followed (parts_left q.1)))) c.in_err-percent.was)
 
 pub returns-in_err-significance : goal.returns-in_err-significance
 returns-in_err-significance c =
     let e : c.from_residual-in_err-significance.result ≡ Err c.in_err-significance.field-0.0 = search rules in
-    e ∙ sym (notation_followed c.args.word.now
-    ∙ reads-followed 1 scope_of (parts_of c.args.word.now) c.read_part.result refl c.read_part.ensures (λ _. after_one) ∙ ap (λ r. and_then r (λ q. after_one (followed (parts_left q.1)))) c.in_ok-_scope.was
-    ∙ reads-followed 2 kind_of (parts_left c.in_ok-_scope.rest) c.read_part-2.result refl c.read_part-2.ensures after_two ∙ ap (λ r. and_then r (λ q. after_two q.0 (followed (parts_left q.1)))) c.in_ok-kind.was
-    ∙ reads-followed 3 pruning_of (parts_left c.in_ok-kind.rest) c.read_part-3.result refl c.read_part-3.ensures (after_three c.in_ok-kind.kind) ∙ ap (λ r. and_then r (λ q. after_three c.in_ok-kind.kind q.0 (followed (parts_left q.1)))) c.in_ok-percent.was
-    ∙ reads-followed 4 significance_of (parts_left c.in_ok-percent.rest) c.read_part-4.result refl c.read_part-4.ensures (after_four c.in_ok-kind.kind c.in_ok-percent.percent) ∙ ap (λ r. and_then r (λ q. after_four c.in_ok-kind.kind c.in_ok-percent.percent q.0 (followed (parts_left q.1)))) c.in_err-significance.was)
+    e ∙ sym (notation_of-followed c.args.word.now
+    ∙ part-read_followed 1 scope_of (parts_of c.args.word.now) c.read_part.result refl c.read_part.ensures (λ _. after_one) ∙ ap (λ r. and_then r (λ q. after_one (followed (parts_left q.1)))) c.in_ok-_scope.was
+    ∙ part-read_followed 2 kind_of (parts_left c.in_ok-_scope.rest) c.read_part-2.result refl c.read_part-2.ensures after_two ∙ ap (λ r. and_then r (λ q. after_two q.0 (followed (parts_left q.1)))) c.in_ok-kind.was
+    ∙ part-read_followed 3 pruning_of (parts_left c.in_ok-kind.rest) c.read_part-3.result refl c.read_part-3.ensures (after_three c.in_ok-kind.kind) ∙ ap (λ r. and_then r (λ q. after_three c.in_ok-kind.kind q.0 (followed (parts_left q.1)))) c.in_ok-percent.was
+    ∙ part-read_followed 4 significance_of (parts_left c.in_ok-percent.rest) c.read_part-4.result refl c.read_part-4.ensures (after_four c.in_ok-kind.kind c.in_ok-percent.percent) ∙ ap (λ r. and_then r (λ q. after_four c.in_ok-kind.kind c.in_ok-percent.percent q.0 (followed (parts_left q.1)))) c.in_err-significance.was)
 
 pub returns-in_err-attribute : goal.returns-in_err-attribute
 returns-in_err-attribute c =
     let e : c.from_residual-in_err-attribute.result ≡ Err c.in_err-attribute.field-0.0 = search rules in
-    e ∙ sym (notation_followed c.args.word.now
-    ∙ reads-followed 1 scope_of (parts_of c.args.word.now) c.read_part.result refl c.read_part.ensures (λ _. after_one) ∙ ap (λ r. and_then r (λ q. after_one (followed (parts_left q.1)))) c.in_ok-_scope.was
-    ∙ reads-followed 2 kind_of (parts_left c.in_ok-_scope.rest) c.read_part-2.result refl c.read_part-2.ensures after_two ∙ ap (λ r. and_then r (λ q. after_two q.0 (followed (parts_left q.1)))) c.in_ok-kind.was
-    ∙ reads-followed 3 pruning_of (parts_left c.in_ok-kind.rest) c.read_part-3.result refl c.read_part-3.ensures (after_three c.in_ok-kind.kind) ∙ ap (λ r. and_then r (λ q. after_three c.in_ok-kind.kind q.0 (followed (parts_left q.1)))) c.in_ok-percent.was
-    ∙ reads-followed 4 significance_of (parts_left c.in_ok-percent.rest) c.read_part-4.result refl c.read_part-4.ensures (after_four c.in_ok-kind.kind c.in_ok-percent.percent) ∙ ap (λ r. and_then r (λ q. after_four c.in_ok-kind.kind c.in_ok-percent.percent q.0 (followed (parts_left q.1)))) c.in_ok-significance.was
-    ∙ reads-followed 5 attribute_of (parts_left c.in_ok-significance.rest) c.read_part-5.result refl c.read_part-5.ensures (after_five c.in_ok-kind.kind c.in_ok-percent.percent c.in_ok-significance.significance) ∙ ap (λ r. and_then r (λ q. after_five c.in_ok-kind.kind c.in_ok-percent.percent c.in_ok-significance.significance q.0 (followed (parts_left q.1)))) c.in_err-attribute.was)
+    e ∙ sym (notation_of-followed c.args.word.now
+    ∙ part-read_followed 1 scope_of (parts_of c.args.word.now) c.read_part.result refl c.read_part.ensures (λ _. after_one) ∙ ap (λ r. and_then r (λ q. after_one (followed (parts_left q.1)))) c.in_ok-_scope.was
+    ∙ part-read_followed 2 kind_of (parts_left c.in_ok-_scope.rest) c.read_part-2.result refl c.read_part-2.ensures after_two ∙ ap (λ r. and_then r (λ q. after_two q.0 (followed (parts_left q.1)))) c.in_ok-kind.was
+    ∙ part-read_followed 3 pruning_of (parts_left c.in_ok-kind.rest) c.read_part-3.result refl c.read_part-3.ensures (after_three c.in_ok-kind.kind) ∙ ap (λ r. and_then r (λ q. after_three c.in_ok-kind.kind q.0 (followed (parts_left q.1)))) c.in_ok-percent.was
+    ∙ part-read_followed 4 significance_of (parts_left c.in_ok-percent.rest) c.read_part-4.result refl c.read_part-4.ensures (after_four c.in_ok-kind.kind c.in_ok-percent.percent) ∙ ap (λ r. and_then r (λ q. after_four c.in_ok-kind.kind c.in_ok-percent.percent q.0 (followed (parts_left q.1)))) c.in_ok-significance.was
+    ∙ part-read_followed 5 attribute_of (parts_left c.in_ok-significance.rest) c.read_part-5.result refl c.read_part-5.ensures (after_five c.in_ok-kind.kind c.in_ok-percent.percent c.in_ok-significance.significance) ∙ ap (λ r. and_then r (λ q. after_five c.in_ok-kind.kind c.in_ok-percent.percent c.in_ok-significance.significance q.0 (followed (parts_left q.1)))) c.in_err-attribute.was)
 
 pub returns-in_err-_statistic : goal.returns-in_err-_statistic
 returns-in_err-_statistic c =
     let e : c.from_residual-in_err-_statistic.result ≡ Err c.in_err-_statistic.field-0.0 = search rules in
-    e ∙ sym (notation_followed c.args.word.now
-    ∙ reads-followed 1 scope_of (parts_of c.args.word.now) c.read_part.result refl c.read_part.ensures (λ _. after_one) ∙ ap (λ r. and_then r (λ q. after_one (followed (parts_left q.1)))) c.in_ok-_scope.was
-    ∙ reads-followed 2 kind_of (parts_left c.in_ok-_scope.rest) c.read_part-2.result refl c.read_part-2.ensures after_two ∙ ap (λ r. and_then r (λ q. after_two q.0 (followed (parts_left q.1)))) c.in_ok-kind.was
-    ∙ reads-followed 3 pruning_of (parts_left c.in_ok-kind.rest) c.read_part-3.result refl c.read_part-3.ensures (after_three c.in_ok-kind.kind) ∙ ap (λ r. and_then r (λ q. after_three c.in_ok-kind.kind q.0 (followed (parts_left q.1)))) c.in_ok-percent.was
-    ∙ reads-followed 4 significance_of (parts_left c.in_ok-percent.rest) c.read_part-4.result refl c.read_part-4.ensures (after_four c.in_ok-kind.kind c.in_ok-percent.percent) ∙ ap (λ r. and_then r (λ q. after_four c.in_ok-kind.kind c.in_ok-percent.percent q.0 (followed (parts_left q.1)))) c.in_ok-significance.was
-    ∙ reads-followed 5 attribute_of (parts_left c.in_ok-significance.rest) c.read_part-5.result refl c.read_part-5.ensures (after_five c.in_ok-kind.kind c.in_ok-percent.percent c.in_ok-significance.significance) ∙ ap (λ r. and_then r (λ q. after_five c.in_ok-kind.kind c.in_ok-percent.percent c.in_ok-significance.significance q.0 (followed (parts_left q.1)))) c.in_ok-attribute.was
-    ∙ sum_seventh c.in_ok-attribute.rest c.read_part-6.result (made c.in_ok-kind.kind c.in_ok-percent.percent c.in_ok-significance.significance c.in_ok-attribute.attribute) c.if-is_none.ensures c.read_part-6.ensures
+    e ∙ sym (notation_of-followed c.args.word.now
+    ∙ part-read_followed 1 scope_of (parts_of c.args.word.now) c.read_part.result refl c.read_part.ensures (λ _. after_one) ∙ ap (λ r. and_then r (λ q. after_one (followed (parts_left q.1)))) c.in_ok-_scope.was
+    ∙ part-read_followed 2 kind_of (parts_left c.in_ok-_scope.rest) c.read_part-2.result refl c.read_part-2.ensures after_two ∙ ap (λ r. and_then r (λ q. after_two q.0 (followed (parts_left q.1)))) c.in_ok-kind.was
+    ∙ part-read_followed 3 pruning_of (parts_left c.in_ok-kind.rest) c.read_part-3.result refl c.read_part-3.ensures (after_three c.in_ok-kind.kind) ∙ ap (λ r. and_then r (λ q. after_three c.in_ok-kind.kind q.0 (followed (parts_left q.1)))) c.in_ok-percent.was
+    ∙ part-read_followed 4 significance_of (parts_left c.in_ok-percent.rest) c.read_part-4.result refl c.read_part-4.ensures (after_four c.in_ok-kind.kind c.in_ok-percent.percent) ∙ ap (λ r. and_then r (λ q. after_four c.in_ok-kind.kind c.in_ok-percent.percent q.0 (followed (parts_left q.1)))) c.in_ok-significance.was
+    ∙ part-read_followed 5 attribute_of (parts_left c.in_ok-significance.rest) c.read_part-5.result refl c.read_part-5.ensures (after_five c.in_ok-kind.kind c.in_ok-percent.percent c.in_ok-significance.significance) ∙ ap (λ r. and_then r (λ q. after_five c.in_ok-kind.kind c.in_ok-percent.percent c.in_ok-significance.significance q.0 (followed (parts_left q.1)))) c.in_ok-attribute.was
+    ∙ statistic-sum_seventh c.in_ok-attribute.rest c.read_part-6.result (made c.in_ok-kind.kind c.in_ok-percent.percent c.in_ok-significance.significance c.in_ok-attribute.attribute) c.if-is_none.ensures c.read_part-6.ensures
     ∙ ap (λ r. and_then r (λ p. Err (BadPart 7))) c.in_err-_statistic.was)
 
 pub returns : goal.returns
-returns c = sym (notation_followed c.args.word.now
-    ∙ reads-followed 1 scope_of (parts_of c.args.word.now) c.read_part.result refl c.read_part.ensures (λ _. after_one) ∙ ap (λ r. and_then r (λ q. after_one (followed (parts_left q.1)))) c.in_ok-_scope.was
-    ∙ reads-followed 2 kind_of (parts_left c.in_ok-_scope.rest) c.read_part-2.result refl c.read_part-2.ensures after_two ∙ ap (λ r. and_then r (λ q. after_two q.0 (followed (parts_left q.1)))) c.in_ok-kind.was
-    ∙ reads-followed 3 pruning_of (parts_left c.in_ok-kind.rest) c.read_part-3.result refl c.read_part-3.ensures (after_three c.in_ok-kind.kind) ∙ ap (λ r. and_then r (λ q. after_three c.in_ok-kind.kind q.0 (followed (parts_left q.1)))) c.in_ok-percent.was
-    ∙ reads-followed 4 significance_of (parts_left c.in_ok-percent.rest) c.read_part-4.result refl c.read_part-4.ensures (after_four c.in_ok-kind.kind c.in_ok-percent.percent) ∙ ap (λ r. and_then r (λ q. after_four c.in_ok-kind.kind c.in_ok-percent.percent q.0 (followed (parts_left q.1)))) c.in_ok-significance.was
-    ∙ reads-followed 5 attribute_of (parts_left c.in_ok-significance.rest) c.read_part-5.result refl c.read_part-5.ensures (after_five c.in_ok-kind.kind c.in_ok-percent.percent c.in_ok-significance.significance) ∙ ap (λ r. and_then r (λ q. after_five c.in_ok-kind.kind c.in_ok-percent.percent c.in_ok-significance.significance q.0 (followed (parts_left q.1)))) c.in_ok-attribute.was
-    ∙ sum_seventh c.in_ok-attribute.rest c.read_part-6.result (made c.in_ok-kind.kind c.in_ok-percent.percent c.in_ok-significance.significance c.in_ok-attribute.attribute) c.if-is_none.ensures c.read_part-6.ensures
+returns c = sym (notation_of-followed c.args.word.now
+    ∙ part-read_followed 1 scope_of (parts_of c.args.word.now) c.read_part.result refl c.read_part.ensures (λ _. after_one) ∙ ap (λ r. and_then r (λ q. after_one (followed (parts_left q.1)))) c.in_ok-_scope.was
+    ∙ part-read_followed 2 kind_of (parts_left c.in_ok-_scope.rest) c.read_part-2.result refl c.read_part-2.ensures after_two ∙ ap (λ r. and_then r (λ q. after_two q.0 (followed (parts_left q.1)))) c.in_ok-kind.was
+    ∙ part-read_followed 3 pruning_of (parts_left c.in_ok-kind.rest) c.read_part-3.result refl c.read_part-3.ensures (after_three c.in_ok-kind.kind) ∙ ap (λ r. and_then r (λ q. after_three c.in_ok-kind.kind q.0 (followed (parts_left q.1)))) c.in_ok-percent.was
+    ∙ part-read_followed 4 significance_of (parts_left c.in_ok-percent.rest) c.read_part-4.result refl c.read_part-4.ensures (after_four c.in_ok-kind.kind c.in_ok-percent.percent) ∙ ap (λ r. and_then r (λ q. after_four c.in_ok-kind.kind c.in_ok-percent.percent q.0 (followed (parts_left q.1)))) c.in_ok-significance.was
+    ∙ part-read_followed 5 attribute_of (parts_left c.in_ok-significance.rest) c.read_part-5.result refl c.read_part-5.ensures (after_five c.in_ok-kind.kind c.in_ok-percent.percent c.in_ok-significance.significance) ∙ ap (λ r. and_then r (λ q. after_five c.in_ok-kind.kind c.in_ok-percent.percent c.in_ok-significance.significance q.0 (followed (parts_left q.1)))) c.in_ok-attribute.was
+    ∙ statistic-sum_seventh c.in_ok-attribute.rest c.read_part-6.result (made c.in_ok-kind.kind c.in_ok-percent.percent c.in_ok-significance.significance c.in_ok-attribute.attribute) c.if-is_none.ensures c.read_part-6.ensures
     ∙ ap (λ r. and_then r (λ p. Err (BadPart 7))) c.in_ok-_statistic.was)
 
 pub returns-then-is_none : goal.returns-then-is_none
-returns-then-is_none c = sym (notation_followed c.args.word.now
-    ∙ reads-followed 1 scope_of (parts_of c.args.word.now) c.read_part.result refl c.read_part.ensures (λ _. after_one) ∙ ap (λ r. and_then r (λ q. after_one (followed (parts_left q.1)))) c.in_ok-_scope.was
-    ∙ reads-followed 2 kind_of (parts_left c.in_ok-_scope.rest) c.read_part-2.result refl c.read_part-2.ensures after_two ∙ ap (λ r. and_then r (λ q. after_two q.0 (followed (parts_left q.1)))) c.in_ok-kind.was
-    ∙ reads-followed 3 pruning_of (parts_left c.in_ok-kind.rest) c.read_part-3.result refl c.read_part-3.ensures (after_three c.in_ok-kind.kind) ∙ ap (λ r. and_then r (λ q. after_three c.in_ok-kind.kind q.0 (followed (parts_left q.1)))) c.in_ok-percent.was
-    ∙ reads-followed 4 significance_of (parts_left c.in_ok-percent.rest) c.read_part-4.result refl c.read_part-4.ensures (after_four c.in_ok-kind.kind c.in_ok-percent.percent) ∙ ap (λ r. and_then r (λ q. after_four c.in_ok-kind.kind c.in_ok-percent.percent q.0 (followed (parts_left q.1)))) c.in_ok-significance.was
-    ∙ reads-followed 5 attribute_of (parts_left c.in_ok-significance.rest) c.read_part-5.result refl c.read_part-5.ensures (after_five c.in_ok-kind.kind c.in_ok-percent.percent c.in_ok-significance.significance) ∙ ap (λ r. and_then r (λ q. after_five c.in_ok-kind.kind c.in_ok-percent.percent c.in_ok-significance.significance q.0 (followed (parts_left q.1)))) c.in_ok-attribute.was
-    ∙ sum_alone c.in_ok-attribute.rest (after_six c.in_ok-kind.kind c.in_ok-percent.percent c.in_ok-significance.significance c.in_ok-attribute.attribute) c.if-is_none.ensures ∙ sym c.paired.ensures)
+returns-then-is_none c = sym (notation_of-followed c.args.word.now
+    ∙ part-read_followed 1 scope_of (parts_of c.args.word.now) c.read_part.result refl c.read_part.ensures (λ _. after_one) ∙ ap (λ r. and_then r (λ q. after_one (followed (parts_left q.1)))) c.in_ok-_scope.was
+    ∙ part-read_followed 2 kind_of (parts_left c.in_ok-_scope.rest) c.read_part-2.result refl c.read_part-2.ensures after_two ∙ ap (λ r. and_then r (λ q. after_two q.0 (followed (parts_left q.1)))) c.in_ok-kind.was
+    ∙ part-read_followed 3 pruning_of (parts_left c.in_ok-kind.rest) c.read_part-3.result refl c.read_part-3.ensures (after_three c.in_ok-kind.kind) ∙ ap (λ r. and_then r (λ q. after_three c.in_ok-kind.kind q.0 (followed (parts_left q.1)))) c.in_ok-percent.was
+    ∙ part-read_followed 4 significance_of (parts_left c.in_ok-percent.rest) c.read_part-4.result refl c.read_part-4.ensures (after_four c.in_ok-kind.kind c.in_ok-percent.percent) ∙ ap (λ r. and_then r (λ q. after_four c.in_ok-kind.kind c.in_ok-percent.percent q.0 (followed (parts_left q.1)))) c.in_ok-significance.was
+    ∙ part-read_followed 5 attribute_of (parts_left c.in_ok-significance.rest) c.read_part-5.result refl c.read_part-5.ensures (after_five c.in_ok-kind.kind c.in_ok-percent.percent c.in_ok-significance.significance) ∙ ap (λ r. and_then r (λ q. after_five c.in_ok-kind.kind c.in_ok-percent.percent c.in_ok-significance.significance q.0 (followed (parts_left q.1)))) c.in_ok-attribute.was
+    ∙ statistic-sum_alone c.in_ok-attribute.rest (after_six c.in_ok-kind.kind c.in_ok-percent.percent c.in_ok-significance.significance c.in_ok-attribute.attribute) c.if-is_none.ensures ∙ sym c.paired.ensures)
