@@ -17,9 +17,9 @@ module _ (m : Map) (kept : List Kept) (reached : List (Option ℕ)) where
   at_index i k = added kept (get_or reached k None) (height_at m (position_at m.size k)) i
 
   -- one more point
-  pub volumes-more : (n : ℕ) (by : Option ℕ) (height : Option ℤ) (old new : List ℕ) → AreVolumes m kept reached n old → by ≡ get_or reached n None → height ≡ height_at m (position_at m.size n)
+  pub AreVolumes-more : (n : ℕ) (by : Option ℕ) (height : Option ℤ) (old new : List ℕ) → AreVolumes m kept reached n old → by ≡ get_or reached n None → height ≡ height_at m (position_at m.size n)
       → AddsPoint kept by height old new → AreVolumes m kept reached (n + 1) new
-  volumes-more n by height old new are is here adds = record {
+  AreVolumes-more n by height old new are is here adds = record {
     whole = adds.whole ∙ are.whole;
     each = λ i inside.
         adds.each i (let whole = are.whole in omega (arith, inside, whole)) ∙ ap₂ (λ a b. a + b) (are.each i inside) (ap₂ (λ b h. added kept b h i) is here)

@@ -16,11 +16,11 @@ use Rattle.hd_stats.specs.Distribution.{AreCounts, bin_of}
 abbrev pub one_at : ℕ → ℕ → ℕ
 one_at a k = cond (a == k) 1 0
 
-pub same_bin : (a k : ℕ) → a ≡ k → one_at a k ≡ 1
-same_bin a k e = grind (arith, nat_tests)
+pub one_at-same : (a k : ℕ) → a ≡ k → one_at a k ≡ 1
+one_at-same a k e = grind (arith, nat_tests)
 
-pub other_bin : (a k : ℕ) → (a ≡ k → ⊥) → one_at a k ≡ 0
-other_bin a k e = grind (arith, nat_tests)
+pub one_at-other : (a k : ℕ) → (a ≡ k → ⊥) → one_at a k ≡ 0
+one_at-other a k e = grind (arith, nat_tests)
 
 module _ (f : ℤ → ℕ) where
   -- one more value
@@ -35,14 +35,14 @@ module _ (f : ℤ → ℕ) where
       elim (cases_eq k b) [
         | inl same ↦
             let here = get_or-set_same counts b (get_or counts b 0 + 1) 0 (omega (arith, within, whole)) in
-            let one = same_bin b k (sym same) in
+            let one = one_at-same b k (sym same) in
             let was = each k below in
             let at : get_or counts b 0 ≡ get_or counts k 0 = ap (λ j. get_or counts j 0) (sym same) in
             let read : get_or (set counts b (get_or counts b 0 + 1)) k 0 ≡ get_or counts b 0 + 1 = ap (λ j. get_or (set counts b (get_or counts b 0 + 1)) j 0) same ∙ here in
             omega (arith, more, one, was, at, read)
         | inr other ↦
             let kept = get_or-set_other counts b k (get_or counts b 0 + 1) 0 other in
-            let none = other_bin b k (λ e. other (sym e)) in
+            let none = one_at-other b k (λ e. other (sym e)) in
             let was = each k below in
             omega (arith, more, none, was, kept)
       ]

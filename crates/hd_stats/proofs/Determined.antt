@@ -18,7 +18,7 @@ use Rattle.hd_stats.specs.declared.name.HeightName.TheVariants.{Sa, Smr, Sp, Sv}
 use Rattle.hd_stats.specs.Distribution.{AreCounts, IsShare, greater}
 use Rattle.hd_stats.specs.Fill.{AreFills, AreSameFills, IsFill, IsVolume}
 use Rattle.hd_stats.specs.Heights.{IsHeightParameter, over, under}
-use Rattle.hd_stats.proofs.Totals.{counts-listed}
+use Rattle.hd_stats.proofs.BinTotals.{counts-listed}
 
 empty : (values : List ℤ) → values ≡ [] → 0 < length values → ⊥
 empty values none some = (let e : length values ≡ 0 = ap length none in omega (arith, e, some))

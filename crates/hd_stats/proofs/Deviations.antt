@@ -12,19 +12,19 @@ size_of_fit (pos n) fits = omega (arith, fits.sfits)
 size_of_fit (negsuc n) fits = omega (arith, fits.sfits)
 
 -- a height, made longer
-pub height-read : (x h : ℤ) → FitsSigned w64 h → x ≡ to_z w64 (of_z w64 h) → to_z w128 (of_z w128 x) ≡ h
-height-read x h fits is =
+pub height-kept : (x h : ℤ) → FitsSigned w64 h → x ≡ to_z w64 (of_z w64 h) → to_z w128 (of_z w128 x) ≡ h
+height-kept x h fits is =
     let same : x ≡ h = is ∙ to_z-of_z w64 h fits in
     let size = size_of_fit h fits in
     to_z-of_z w128 x (subst (FitsSigned w128) (sym same) (fits_signed_from_abs w128 h (omega (arith, size)))) ∙ same
 
 -- a number of heights, made longer
-pub count-read : (x : ℤ) (n : ℕ) → n ≤ 4194304 → x ≡ pos n → to_z w128 (of_z w128 x) ≡ pos n
-count-read x n few is = to_z-of_z w128 x (subst (FitsSigned w128) (sym is) (fits_signed_from_abs w128 (pos n) (omega (arith, few)))) ∙ is
+pub count-kept : (x : ℤ) (n : ℕ) → n ≤ 4194304 → x ≡ pos n → to_z w128 (of_z w128 x) ≡ pos n
+count-kept x n few is = to_z-of_z w128 x (subst (FitsSigned w128) (sym is) (fits_signed_from_abs w128 (pos n) (omega (arith, few)))) ∙ is
 
 -- a sum of heights
-pub total-read : (x : ℤ) → unsigned_abs x ≤ 4194304 * 2 ^ 63 → to_z w128 (of_z w128 x) ≡ x
-total-read x small = to_z-of_z w128 x (fits_signed_from_abs w128 x (omega (arith, small)))
+pub total-kept : (x : ℤ) → unsigned_abs x ≤ 4194304 * 2 ^ 63 → to_z w128 (of_z w128 x) ≡ x
+total-kept x small = to_z-of_z w128 x (fits_signed_from_abs w128 x (omega (arith, small)))
 
 product : (h : ℤ) (n : ℕ) → unsigned_abs h ≤ 2 ^ 63 → n ≤ 4194304 → unsigned_abs (h *ℤ pos n) ≤ 2 ^ 63 * 4194304
 product h n size few = omega (arith, unsigned_abs-mul h (pos n), mul-le-mul size few)

@@ -24,7 +24,7 @@ use Rattle.hd_prune.proofs.Lists.{AllPairs-map, Contains-filter, Contains-map, f
 use Rattle.hd_prune.proofs.Ranges.{range-Contains, range-rises}
 use Rattle.hd_stats.specs.Fill.{AreFilled, AreFills, IsFill}
 use Rattle.hd_stats.specs.Volumes.{AreReached, AreValues, AreVolumes, IsReachedBy, IsValueOf, added, difference, is_number, nearest_of}
-use Rattle.hd_stats.proofs.ReachedBelow.{AreNearest, kept-listed, nearest-at, reached-below, reached-point}
+use Rattle.hd_stats.proofs.ReachedByKept.{AreNearest, kept-listed, nearest-at, reached-below, reached-point}
 
 -- the height of a present point
 shown : (c : Cell) (masked : Bool) → IsMeasured c → masked ≡ false → shown_height c masked ≡ Some (height_or_zero c)

@@ -1,9 +1,9 @@
 pub mod Gathering
 pub mod Bins
-pub mod ReachedBelow
-pub mod Noted
+pub mod ReachedByKept
+pub mod AreReached
 pub mod AddedVolumes
 pub mod Filled
-pub mod Totals
+pub mod BinTotals
 pub mod Determined
 pub mod Deviations

@@ -1,5 +1,5 @@
 use Rattle.hd_feature.specs.Value.{attributes}
-use Rattle.hd_stats.proofs.Totals.{counts-total}
+use Rattle.hd_stats.proofs.BinTotals.{counts-total}
 use Rattle.hd_stats.proofs.laws.counts_add_up.Goals as goal
 
 pub returns : goal.returns

@@ -1,7 +1,7 @@
 use Rattle.std.proofs.Common.{subst, Some}
 use Rattle.hd_map.specs.Shown.{IsReachedBelow}
 use Rattle.hd_lines.proofs.Owners.{owners-pruned}
-use Rattle.hd_stats.proofs.ReachedBelow.{reached-apart}
+use Rattle.hd_stats.proofs.ReachedByKept.{reached-apart}
 use Rattle.hd_stats.proofs.laws.filled_points_are_apart.Goals as goal
 
 pub returns : goal.returns

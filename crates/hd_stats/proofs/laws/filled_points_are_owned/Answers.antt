@@ -1,6 +1,6 @@
 use Rattle.hd_lines.proofs.Owners.{owners-pruned}
 use Rattle.hd_prune.proofs.Existing.{root_of}
-use Rattle.hd_stats.proofs.ReachedBelow.{owns-reached, reached-point}
+use Rattle.hd_stats.proofs.ReachedByKept.{owns-reached, reached-point}
 use Rattle.hd_stats.proofs.laws.filled_points_are_owned.Goals as goal
 
 pub returns : goal.returns

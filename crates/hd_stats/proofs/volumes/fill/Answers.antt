@@ -2,7 +2,7 @@ use Rattle.std.proofs.Common.{ℕ, List, Option, length, sym, subst}
 use Rattle.hd_prune.specs.declared.step.Kept.{Kept}
 use Rattle.hd_stats.specs.Fill.{AreFills}
 use Rattle.hd_stats.specs.Volumes.{AreReached, AreVolumes}
-use Rattle.hd_stats.proofs.ReachedBelow.{AreNearest, kept-nearest}
+use Rattle.hd_stats.proofs.ReachedByKept.{AreNearest, kept-nearest}
 use Rattle.hd_stats.proofs.Filled.{are-fills, numbers-few}
 use Rattle.hd_stats.proofs.volumes.fill.Goals as goal
 

@@ -4,8 +4,8 @@ use Rattle.hd_map.specs.declared.types.Size.{Size}
 use Rattle.hd_map.specs.Map.{InGrid, place_of}
 use Rattle.hd_map.proofs.Points.{point_inside}
 use Rattle.hd_prune.specs.declared.step.Kept.{Kept}
-use Rattle.hd_stats.proofs.Noted.{noted-blank, noted-more, noted-same, pit-low}
-use Rattle.hd_stats.proofs.ReachedBelow.{AreNearest, kept-few, kept-nearest, pit-listed, pit-read}
+use Rattle.hd_stats.proofs.AreReached.{noted-blank, noted-more, noted-same, pit-low}
+use Rattle.hd_stats.proofs.ReachedByKept.{AreNearest, kept-few, kept-nearest, pit-listed, pit-read}
 use Rattle.hd_stats.proofs.volumes.reach_below.Given.{Over}
 use Rattle.hd_stats.proofs.volumes.reach_below.Goals as goal
 use Rattle.hd_stats.proofs.volumes.reach_below.Goals.{Start}

@@ -1,7 +1,7 @@
 use Rattle.std.proofs.Common.{◌≡◌, ◌*◌, None, ap, replicate, rules, subst, arith, length}
 use Rattle.hd_map.specs.Map.{cell_count}
 use Rattle.hd_stats.specs.Volumes.{AreReached}
-use Rattle.hd_stats.proofs.Noted.{noted-none}
+use Rattle.hd_stats.proofs.AreReached.{noted-none}
 use Rattle.hd_stats.proofs.volumes.reached_below.Goals as goal
 
 pub kept-init : goal.kept-init

@@ -19,7 +19,7 @@ use Rattle.hd_reach.specs.Within.{LiesWithin}
 use Rattle.hd_reach.proofs.Flooding.{replicate-all, Option-some_or_none}
 use Rattle.hd_reach.proofs.ReachedBelow.{steps_at-low, IsReachedLow-sym, IsLow-end, IsReachedBelow-low as low-reached, IsReachedLow-below, IsReachedLow-steps}
 use Rattle.hd_stats.specs.Volumes.{AreReached, IsReachedBy}
-use Rattle.hd_stats.proofs.ReachedBelow.{AreNearest, kept-apart, nearest-at, pit-listed, pit-read, IsReachedBelow-low, reached-point}
+use Rattle.hd_stats.proofs.ReachedByKept.{AreNearest, kept-apart, nearest-at, pit-listed, pit-read, reached-below, reached-point}
 
 -- what is noted stands inside the list
 noted-inside : (reached : List (Option ℕ)) (k n : ℕ) → get_or reached k None ≡ Some n → k < length reached
@@ -127,7 +127,7 @@ module _ (m : Map) (side : SideName) (whole : IsMap m) (kept : List Kept) (w : A
                 ]
             | inr more ↦
                 let last : i ≡ n = omega (arith, below, more) in
-                let r = IsReachedBelow-low m side kept w n k s is e x (subst (λ j. IsReachedBy m side kept j x) last by) in
+                let r = reached-below m side kept w n k s is e x (subst (λ j. IsReachedBy m side kept j x) last by) in
                 let q = IsReachedLow-below m side (Some s) from x low.present (subst (λ (a : Rank). IsReachedBelow m side (Some s) a x) (sym pit) r) in
                 let same : q.0 ≡ p = same_point m q.0 p (present q.0 q.2) point.present (q.1 ∙ point.rank_is) in
                 let steps = steps_at-low m side (Some s) from known.steps known.are p (subst (IsReachedLow m side (Some s) from) same q.2) in

@@ -9,7 +9,7 @@ use Rattle.std.proofs.lemmas.Option.{get_or_from_slice_get}
 use Rattle.hd_feature.specs.Value.{greatest, least}
 use Rattle.hd_stats.specs.Distribution.{AreCounts, bin_of, counted_in}
 use Rattle.hd_stats.proofs.AddedVolumes.{range-push}
-use Rattle.hd_stats.proofs.Bins.{one_at, other_bin, same_bin}
+use Rattle.hd_stats.proofs.Bins.{one_at, one_at-other, one_at-same}
 
 -- the bins below n
 abbrev over_bins : (ℕ → ℕ) → ℕ → ℕ
@@ -24,14 +24,14 @@ bins-next g n = ap (over_bins g) (let same : suc n ≡ n + 1 = omega arith in sa
 -- a bin that is not among them
 none-at : (b n : ℕ) → n ≤ b → over_bins (one_at b) n ≡ 0
 none-at b zero past = refl
-none-at b (suc n) past = (let more = bins-next (one_at b) n in let rest = none-at b n (omega (arith, past)) in let here = other_bin b n (λ e. omega (arith, e, past)) in omega (arith, more, rest, here))
+none-at b (suc n) past = (let more = bins-next (one_at b) n in let rest = none-at b n (omega (arith, past)) in let here = one_at-other b n (λ e. omega (arith, e, past)) in omega (arith, more, rest, here))
 
 -- a bin among them is one of them
 one-among : (b n : ℕ) → b < n → over_bins (one_at b) n ≡ 1
 one-among b zero below = absurd (omega arith)
 one-among b (suc n) below = let more = bins-next (one_at b) n in elim (cases_lt b n) [
-  | inl less ↦ (let rest = one-among b n less in let here = other_bin b n (λ e. omega (arith, e, less)) in omega (arith, more, rest, here))
-  | inr last ↦ (let rest = none-at b n last in let here = same_bin b n (omega (arith, below, last)) in omega (arith, more, rest, here))
+  | inl less ↦ (let rest = one-among b n less in let here = one_at-other b n (λ e. omega (arith, e, less)) in omega (arith, more, rest, here))
+  | inr last ↦ (let rest = none-at b n last in let here = one_at-same b n (omega (arith, below, last)) in omega (arith, more, rest, here))
 ]
 
 sum-both : (g h : ℕ → ℕ) (ks : List ℕ) → sum_by (λ k. g k + h k) ks ≡ sum_by g ks + sum_by h ks
