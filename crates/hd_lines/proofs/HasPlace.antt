@@ -44,8 +44,8 @@ pub pit_at-is : (kept : List Kept) (i : ℕ) (k : Kept) → slice_get kept i ≡
 pit_at-is kept i k at = ap (λ (z : Kept). z.pit) (get_or_from_slice_get kept i k _ at)
 
 module _ (m : Map) (whole : IsMap m) (side : SideName) (thousandths : ℕ) (steps : List Step) (kept : List Kept) (owners : List Owned) (pruned : IsPruned m side thousandths steps kept owners) where
-  pub are_owners : AreOwners m side pruned.last pruned.owner
-  are_owners = owners-pruned m side thousandths (leavings_of steps) pruned.last pruned.owner pruned.pruning
+  pub AreOwners-pruned : AreOwners m side pruned.last pruned.owner
+  AreOwners-pruned = owners-pruned m side thousandths (leavings_of steps) pruned.last pruned.owner pruned.pruning
 
   -- the kept pits are those of the last set
   pub kept-last : (k : Kept) → Contains kept k → Contains pruned.last k.pit
@@ -58,13 +58,13 @@ module _ (m : Map) (whole : IsMap m) (side : SideName) (thousandths : ℕ) (step
       (i.0, k.0, i.1, k.2)
 
   kept-pit : (k : Kept) → Contains kept k → IsPit m side k.pit
-  kept-pit k at = are_owners.among k.pit (kept-last k at)
+  kept-pit k at = AreOwners-pruned.among k.pit (kept-last k at)
 
   -- they stand in position order
   pub kept-rises : AllPairs (λ a b. a.pit.index < b.pit.index) kept
   kept-rises i j d less inside =
       let pit : Kept → Rank = λ k. k.pit in
-      let ordered : AllPairs (λ (a : Rank) (b : Rank). a.index < b.index) (map pit kept) = subst (λ (ps : List Rank). AllPairs (λ (a : Rank) (b : Rank). a.index < b.index) ps) (sym pruned.are_kept.pits) are_owners.in_order in
+      let ordered : AllPairs (λ (a : Rank) (b : Rank). a.index < b.index) (map pit kept) = subst (λ (ps : List Rank). AllPairs (λ (a : Rank) (b : Rank). a.index < b.index) ps) (sym pruned.are_kept.pits) AreOwners-pruned.in_order in
       let read : (k : ℕ) → k < length kept → get_or (map pit kept) k d.pit ≡ (get_or kept k d).pit = λ k within. get_or-map pit kept k d d.pit within in
       let h = ordered i j d.pit less (subst (λ n. j < n) (sym (length-map kept pit)) inside) in
       subst (λ (a : Rank). a.index < (get_or kept j d).pit.index) (read i (omega arith)) (subst (λ (b : Rank). (get_or (map pit kept) i d.pit).index < b.index) (read j inside) h)
@@ -97,7 +97,7 @@ module _ (m : Map) (whole : IsMap m) (side : SideName) (thousandths : ℕ) (step
   owner-pit : (o : Owned) → Contains owners o → IsPit m side o.owner
   owner-pit o at =
       let p = Contains-map (λ (q : Rank). record { pit = q; owner = pruned.owner q }) pruned.pruning.pits o (subst (λ (os : List Owned). Contains os o) pruned.owned at) in
-      subst (λ (z : Owned). IsPit m side z.owner) p.2 (are_owners.among (pruned.owner p.0) (are_owners.kept_owner p.0 ((pruned.pruning.are_pits.exactly p.0).0 p.1)))
+      subst (λ (z : Owned). IsPit m side z.owner) p.2 (AreOwners-pruned.among (pruned.owner p.0) (AreOwners-pruned.kept_owner p.0 ((pruned.pruning.are_pits.exactly p.0).0 p.1)))
 
   module _ (regions : Numbering) (numbered : AreNumbered m side regions) where
     -- the pits of the regions stand with their owners, in the same order
@@ -150,14 +150,14 @@ module _ (m : Map) (whole : IsMap m) (side : SideName) (thousandths : ℕ) (step
       pub HasPlace-found : (x : Rank) → IsPoint m x → (i : ℕ) × HasPlace m places x i
       HasPlace-found x point =
           let found = pit_of_point m side regions numbered x point in
-          let k = last-kept (pruned.owner found.0) (are_owners.kept_owner found.0 (root-is_pit m side x found.0 found.1)) in
+          let k = last-kept (pruned.owner found.0) (AreOwners-pruned.kept_owner found.0 (root-is_pit m side x found.0 found.1)) in
           (k.0, place-is x found.0 k.0 k.1 point found.1 k.2 k.3)
 
       -- what has a place is owned by the kept pit there
       pub place-owner : (x : Rank) (i : ℕ) → HasPlace m places x i → (k : Kept) × (slice_get kept i ≡ Some k) × IsOwnedBy m side pruned.owner x k.pit
       place-owner x i h =
           let found = pit_of_point m side regions numbered x h.point in
-          let k = last-kept (pruned.owner found.0) (are_owners.kept_owner found.0 (root-is_pit m side x found.0 found.1)) in
+          let k = last-kept (pruned.owner found.0) (AreOwners-pruned.kept_owner found.0 (root-is_pit m side x found.0 found.1)) in
           let same : k.0 ≡ i = place-one m places x k.0 i (place-is x found.0 k.0 k.1 h.point found.1 k.2 k.3) h in
           (k.1, subst (λ j. slice_get kept j ≡ Some k.1) same k.2, record { root = found.0; is_root = found.1; owned = sym k.3 })
 
@@ -171,8 +171,8 @@ module _ (m : Map) (whole : IsMap m) (side : SideName) (thousandths : ℕ) (step
       pub own-place : (i : ℕ) (k : Kept) → slice_get kept i ≡ Some k → HasPlace m places k.pit i
       own-place i k at =
           let last = kept-last k (at_place kept i k at) in
-          let pit = are_owners.among k.pit last in
-          place-is k.pit k.pit i k pit.point (root-pit m side k.pit pit) at (sym (are_owners.own k.pit last))
+          let pit = AreOwners-pruned.among k.pit last in
+          place-is k.pit k.pit i k pit.point (root-pit m side k.pit pit) at (sym (AreOwners-pruned.own k.pit last))
 
       -- neighbours of two places join the pits there
       pub places-joined : (x y : Rank) (i j : ℕ) → Near m x y → HasPlace m places x i → HasPlace m places y j → i ≢ j → JoinedBy m side (higher_by side x y) (pit_at kept i) (pit_at kept j)
@@ -184,4 +184,4 @@ module _ (m : Map) (whole : IsMap m) (side : SideName) (thousandths : ℕ) (step
           let different : pruned.owner ra.root ≢ pruned.owner rb.root = λ e. apart (one_place (λ (z : Kept). z.pit.index) kept kept-once i j a.0 b.0 a.1 b.1 (ap (λ (z : Rank). z.index) (sym ra.owned ∙ e ∙ rb.owned))) in
           subst (λ (z : Rank). JoinedBy m side (higher_by side x y) z (pit_at kept j)) (ra.owned ∙ sym (pit_at-is kept i a.0 a.1))
           (subst (λ (z : Rank). JoinedBy m side (higher_by side x y) (pruned.owner ra.root) z) (rb.owned ∙ sym (pit_at-is kept j b.0 b.1))
-          (neighbours-joined m side pruned.last pruned.owner are_owners x y ra.root rb.root near ra.is_root rb.is_root different))
+          (neighbours-joined m side pruned.last pruned.owner AreOwners-pruned x y ra.root rb.root near ra.is_root rb.is_root different))

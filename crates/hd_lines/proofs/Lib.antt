@@ -1,4 +1,4 @@
-pub mod Written
+pub mod AreWritten
 pub mod NumberedBorders
 pub mod Owners
 pub mod FirstJoins

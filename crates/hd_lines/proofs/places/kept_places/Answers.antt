@@ -3,7 +3,7 @@ use Rattle.std.specs.Prelude.{pos, None}
 use Rattle.std.proofs.lemmas.List.{length-set}
 use Rattle.std.proofs.lemmas.List.Elements.{All-set}
 use Rattle.hd_prune.specs.declared.step.Kept.{Kept}
-use Rattle.hd_lines.proofs.Written.{written-more}
+use Rattle.hd_lines.proofs.AreWritten.{written-more}
 use Rattle.hd_lines.proofs.places.kept_places.Goals as goal
 
 abbrev none : Kept
