@@ -7,14 +7,14 @@ use Rattle.hd_script.specs.declared.command.LineError.TheVariants.{WordCount}
 use Rattle.hd_script.specs.CommandWords.{element_words}
 
 -- three words, one by one, and the others
-pub three_words : (line : List ℕ) (words : List Span) (d : Span) → 3 ≤ length words
+pub words-three : (line : List ℕ) (words : List Span) (d : Span) → 3 ≤ length words
     → map (text_at line) words ≡ text_at line (get_or words 0 d) ∷ text_at line (get_or words 1 d) ∷ text_at line (get_or words 2 d) ∷ map (text_at line) (take (length words - 3) (drop 3 words))
-three_words line (a ∷ b ∷ c ∷ words) d least = rw (take_rest (a ∷ b ∷ c ∷ words) 3) refl
-three_words line words d least = absurd (omega (arith, least))
+words-three line (a ∷ b ∷ c ∷ words) d least = rw (take_rest (a ∷ b ∷ c ∷ words) 3) refl
+words-three line words d least = absurd (omega (arith, least))
 
 -- fewer are too few
-pub fewer_words : (line : List ℕ) (words : List Span) → length words < 3 → element_words (map (text_at line) words) ≡ Err WordCount
-fewer_words line [] below = refl
-fewer_words line (a ∷ []) below = refl
-fewer_words line (a ∷ b ∷ []) below = refl
-fewer_words line (a ∷ b ∷ c ∷ words) below = absurd (omega (arith, below))
+pub element_words-fewer : (line : List ℕ) (words : List Span) → length words < 3 → element_words (map (text_at line) words) ≡ Err WordCount
+element_words-fewer line [] below = refl
+element_words-fewer line (a ∷ []) below = refl
+element_words-fewer line (a ∷ b ∷ []) below = refl
+element_words-fewer line (a ∷ b ∷ c ∷ words) below = absurd (omega (arith, below))

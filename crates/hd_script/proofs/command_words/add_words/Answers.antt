@@ -1,9 +1,9 @@
 use Rattle.std.proofs.Common.{◌∙◌, ap, sym}
 use Rattle.hd_script.specs.CommandWords.{add_words}
-use Rattle.hd_script.proofs.LongestRow.{five_words}
+use Rattle.hd_script.proofs.LongestRow.{words-five}
 use Rattle.hd_script.proofs.command_words.add_words.Goals as goal
 
 pub returns-clause-value : goal.returns-clause-value
 returns-clause-value c =
-    let five = five_words c.args.line.now c.args.words.now _ c.in-len5.len_at_least c.in-len5.len_below in
+    let five = words-five c.args.line.now c.args.words.now _ c.in-len5.len_at_least c.in-len5.len_below in
     c.add_command.ensures.value ∙ rw (c.text-x.ensures, c.text-y.ensures, c.text-other_x.ensures, c.text-other_y.ensures, c.text.ensures) (ap add_words (sym five))

@@ -3,7 +3,7 @@ use Rattle.std.proofs.lemmas.List.{take_rest}
 use Rattle.std.proofs.lemmas.List.Elements.{All-drop}
 use Rattle.hd_num.specs.Span.{IsPart, text_at}
 use Rattle.hd_script.specs.CommandWords.{element_words}
-use Rattle.hd_script.proofs.ElementWords.{three_words, fewer_words}
+use Rattle.hd_script.proofs.ElementWords.{words-three, element_words-fewer}
 use Rattle.hd_script.proofs.element.element_words.Goals as goal
 
 pub text-name-requires : goal.text-name-requires
@@ -19,13 +19,13 @@ pub element_command-requires-clause-parts : goal.element_command-requires-clause
 element_command-requires-clause-parts c = rw (take_rest c.args.words.now 3) (All-drop (IsPart c.args.line.now) 3 c.args.words.now c.requires.parts)
 
 pub returns-in_default-clause-value : goal.returns-in_default-clause-value
-returns-in_default-clause-value c = inr (sym (fewer_words c.args.line.now c.args.words.now c.in_default.len_below))
+returns-in_default-clause-value c = inr (sym (element_words-fewer c.args.line.now c.args.words.now c.in_default.len_below))
 
 pub returns-clause-value : goal.returns-clause-value
 returns-clause-value c =
     let line = c.args.line.now in
     let words = c.args.words.now in
-    let all = three_words line words (record { start = 0; end = 0 }) c.in-len3-up.len_at_least in
+    let all = words-three line words (record { start = 0; end = 0 }) c.in-len3-up.len_at_least in
     let same : c.text-name.result.now ∷ c.text-width.result.now ∷ c.text-height.result.now ∷ map (text_at line) (take (length words - 3) (drop 3 words)) ≡ map (text_at line) words = cc in
     elim c.element_command.ensures.value [
       | inl refused ↦ inl refused
