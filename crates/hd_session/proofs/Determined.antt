@@ -74,8 +74,8 @@ use Rattle.hd_session.specs.State.{State, IsState}
 use Rattle.hd_session.specs.Trees.{IsTreeAnswer}
 use Rattle.hd_session.specs.Values.{IsNamedAnswer, IsNotationAnswer}
 use Rattle.hd_session.specs.Volumes.{IsVolumesAnswer}
-use Rattle.hd_session.proofs.MadeElement.{made_once}
-use Rattle.hd_session.proofs.SaddleAnswers.{saddle-one}
+use Rattle.hd_session.proofs.MakesElement.{MakesElement-unique}
+use Rattle.hd_session.proofs.SaddleAnswers.{IsSaddleAnswer-unique}
 
 -- an answer is the reply, and the state after it
 abbrev Agrees : (a b : Reply) (s' s'' : State) → Type 0
@@ -178,7 +178,7 @@ module _ (one : Determine) (s : State) (number : ℕ) (a b : Reply) (s' s'' : St
 
   element-one : (table : ElementTable) → IsElementAnswer s number table a s' → IsElementAnswer s number table b s'' → Agrees a b s' s''
   element-one table x y =
-      let same = made_once table y.made x.made y.makes x.makes in
+      let same = MakesElement-unique table y.made x.made y.makes x.makes in
       made-one x.made x.answer (subst (λ made. IsMadeAnswer s number made b s'') same y.answer)
 
   tree-one : (side : SideName) → IsTreeAnswer s side a s' → IsTreeAnswer s side b s'' → Agrees a b s' s''
@@ -256,7 +256,7 @@ module _ (one : Determine) (s : State) (number : ℕ) (a b : Reply) (s' s'' : St
   command-one command.Dales x y = regions-one _ x y
   command-one command.Hills x y = regions-one _ x y
   command-one (command.Label side at) x y = label-one side at x y
-  command-one (command.Saddle side p q) x y = saddle-one (record { roots = one.roots; saddles = one.saddles; certificates = one.certificates }) s s' s'' number side p q a b x y
+  command-one (command.Saddle side p q) x y = IsSaddleAnswer-unique (record { roots = one.roots; saddles = one.saddles; certificates = one.certificates }) s s' s'' number side p q a b x y
   command-one (command.Tree side) x y = tree-one side x y
   command-one (command.Prune name percent) x y = prune-one name percent.thousandths x y
   command-one (command.Lines name percent) x y = borders-one name percent.thousandths x y
@@ -274,8 +274,8 @@ module _ (one : Determine) (s : State) (number : ℕ) (a b : Reply) (s' s'' : St
   read-one (Ok (Some asked)) x y = command-one asked x y
 
   -- a line has one answer on a state
-  pub answer-one : (line : List ℕ) → IsAnswer s number line a s' → IsAnswer s number line b s'' → Agrees a b s' s''
-  answer-one line x y = read-one (script_line line) x y
+  pub IsAnswer-unique : (line : List ℕ) → IsAnswer s number line a s' → IsAnswer s number line b s'' → Agrees a b s' s''
+  IsAnswer-unique line x y = read-one (script_line line) x y
 
 -- what is known of one line
 pub record OneLine : Type 0 where
@@ -283,12 +283,12 @@ pub record OneLine : Type 0 where
   pub keeps : (s : State) (number : ℕ) (line : List ℕ) (a : Reply) (s' : State) → IsState s → IsAnswer s number line a s' → IsState s'
 
 -- the lines of a script have one answer on a state
-pub answers-one : OneLine → (s : State) (number : ℕ) (lines : List (List ℕ)) (a b : Reply) (s' s'' : State) → IsState s → AreAnswers s number lines a s' → AreAnswers s number lines b s'' → Agrees a b s' s''
-answers-one known s number [] a b s' s'' whole x y = reports-one s s' s'' _ a b x y
-answers-one known s number (line ∷ lines) a b s' s'' whole (first, middle, others, is, are, reply) (first', middle', others', is', are', reply') =
+pub AreAnswers-unique : OneLine → (s : State) (number : ℕ) (lines : List (List ℕ)) (a b : Reply) (s' s'' : State) → IsState s → AreAnswers s number lines a s' → AreAnswers s number lines b s'' → Agrees a b s' s''
+AreAnswers-unique known s number [] a b s' s'' whole x y = reports-one s s' s'' _ a b x y
+AreAnswers-unique known s number (line ∷ lines) a b s' s'' whole (first, middle, others, is, are, reply) (first', middle', others', is', are', reply') =
     let same = known.one s number line first first' middle middle' whole is is' in
     let onward : AreAnswers middle (number + 1) lines others' s'' = subst (λ (t : State). AreAnswers t (number + 1) lines others' s'') (sym same.1) are' in
-    let rest = answers-one known middle (number + 1) lines others others' s' s'' (known.keeps s number line first middle whole is) are onward in
+    let rest = AreAnswers-unique known middle (number + 1) lines others others' s' s'' (known.keeps s number line first middle whole is) are onward in
     let join : Reply → Reply → Reply = λ r t. record { accepted = r.accepted && t.accepted; text = r.text ++ t.text } in (
       reply ∙ ap (λ r. join r others) same.0 ∙ ap (λ t. join first' t) rest.0 ∙ sym reply',
       rest.1,

@@ -111,5 +111,5 @@ module _ (keeps : KeepsMaps) (s : State) (number : ℕ) (reply : Reply) (after :
   read-keeps (Ok (Some asked)) is = command-keeps asked is
 
   -- a line leaves maps
-  pub answer-keeps : (line : List ℕ) → IsAnswer s number line reply after → IsState after
-  answer-keeps line is = read-keeps (script_line line) is
+  pub IsAnswer-keeps_state : (line : List ℕ) → IsAnswer s number line reply after → IsState after
+  IsAnswer-keeps_state line is = read-keeps (script_line line) is

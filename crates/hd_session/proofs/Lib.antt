@@ -1,4 +1,4 @@
 mod LeavesMaps
-mod MadeElement
+mod MakesElement
 mod SaddleAnswers
 pub mod Determined

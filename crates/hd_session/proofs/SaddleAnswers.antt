@@ -75,9 +75,9 @@ module _ (one : DetermineSaddles) (m : Map) (side : SideName) where
         (unless-one (Present m b) _ _ _ _ (r ≡ t) (λ x y. x ∙ sym y) pair-one)))
 
 -- and leaves one state
-pub saddle-one : DetermineSaddles → (s s' s'' : State) (number : ℕ) (side : SideName) (a b : Pos) (r t : Reply) → IsSaddleAnswer s number side a b r s' → IsSaddleAnswer s number side a b t s''
+pub IsSaddleAnswer-unique : DetermineSaddles → (s s' s'' : State) (number : ℕ) (side : SideName) (a b : Pos) (r t : Reply) → IsSaddleAnswer s number side a b r s' → IsSaddleAnswer s number side a b t s''
     → (r ≡ t) × (s' ≡ s'')
-saddle-one one s s' s'' number side a b r t x y = (reply-one one s.map side number a b r t x.told y.told, x.stays ∙ sym y.stays)
+IsSaddleAnswer-unique one s s' s'' number side a b r t x y = (reply-one one s.map side number a b r t x.told y.told, x.stays ∙ sym y.stays)
 
 -- the shown certificate of two pits is right
 abbrev pub IsShownRight : Type 0
@@ -105,9 +105,9 @@ module _ (law : IsShownRight) (m : Map) (number : ℕ) (side : SideName) (a b : 
   pair-right (inr x) = shows-right x
 
   -- an accepted line prints a right certificate
-  pub reply-right : IsSaddleReply m number side a b reply → PrintsRight m side a b reply
-  reply-right (inl x) = absurd (let refused = x.1 in cc)
-  reply-right (inr (there, inl x)) = absurd (let refused = x.1 in cc)
-  reply-right (inr (there, inr (there', inl x))) = absurd (let refused = x.1 in cc)
-  reply-right (inr (there, inr (there', inr (here, inl x)))) = absurd (let refused = x.1 in cc)
-  reply-right (inr (there, inr (there', inr (here, inr (here', x))))) = pair-right x
+  pub PrintsRight-reply : IsSaddleReply m number side a b reply → PrintsRight m side a b reply
+  PrintsRight-reply (inl x) = absurd (let refused = x.1 in cc)
+  PrintsRight-reply (inr (there, inl x)) = absurd (let refused = x.1 in cc)
+  PrintsRight-reply (inr (there, inr (there', inl x))) = absurd (let refused = x.1 in cc)
+  PrintsRight-reply (inr (there, inr (there', inr (here, inl x)))) = absurd (let refused = x.1 in cc)
+  PrintsRight-reply (inr (there, inr (there', inr (here, inr (here', x))))) = pair-right x

@@ -1,9 +1,9 @@
-use Rattle.hd_session.proofs.Determined.{answer-one}
+use Rattle.hd_session.proofs.Determined.{IsAnswer-unique}
 use Rattle.hd_session.proofs.laws.answer_is_determined.Goals as goal
 
 pub returns : goal.returns
 returns c = λ s number line a b s' s'' whole x y.
-    answer-one (record {
+    IsAnswer-unique (record {
       edits = c.edit_is_determined.ensures;
       regions = c.region_sizes_are_determined.ensures;
       trees = c.change_tree_is_determined.ensures;

@@ -29,8 +29,8 @@ module _ (e : ElementTable) where
   one_cause NoOrigin TooWide a b = absurd (a.1 b.1)
   one_cause NoOrigin NoOrigin a b = refl
 
-  pub made_once : (x y : Result ElementTable ElementError) → MakesElement e x → MakesElement e y → x ≡ y
-  made_once (Ok a) (Ok b) x y = ap Ok (x.0 ∙ sym y.0)
-  made_once (Ok a) (Err error) x y = absurd (not_refused (subst IsElement x.0 x.1) error y)
-  made_once (Err error) (Ok b) x y = absurd (not_refused (subst IsElement y.0 y.1) error x)
-  made_once (Err error) (Err other) x y = ap Err (one_cause error other x y)
+  pub MakesElement-unique : (x y : Result ElementTable ElementError) → MakesElement e x → MakesElement e y → x ≡ y
+  MakesElement-unique (Ok a) (Ok b) x y = ap Ok (x.0 ∙ sym y.0)
+  MakesElement-unique (Ok a) (Err error) x y = absurd (not_refused (subst IsElement x.0 x.1) error y)
+  MakesElement-unique (Err error) (Ok b) x y = absurd (not_refused (subst IsElement y.0 y.1) error x)
+  MakesElement-unique (Err error) (Err other) x y = ap Err (one_cause error other x y)
