@@ -16,15 +16,15 @@ use Rattle.hd_words.specs.declared.command_lines.CommandLine.TheVariants.{Dales,
 use Rattle.hd_words.specs.declared.demo.Demo.{Demo}
 use Rattle.hd_words.specs.declared.found.Stage.TheVariants.{Options}
 use Rattle.hd_words.proofs.ParsedWords.{ArePlain, Fits}
-use Rattle.hd_words.proofs.StartsWith.{same_byte}
+use Rattle.hd_words.proofs.StartsWith.{nat_eq-decides}
 
-pub then_some : {X Y : Type 0} (o : Option X) (f : X → Option Y) (y : Y) → option_and_then f o ≡ Some y → (x : X) × (o ≡ Some x) × (f x ≡ Some y)
-then_some None f y is = absurd (cc)
-then_some (Some x) f y is = (x, refl, is)
+pub option_and_then-some : {X Y : Type 0} (o : Option X) (f : X → Option Y) (y : Y) → option_and_then f o ≡ Some y → (x : X) × (o ≡ Some x) × (f x ≡ Some y)
+option_and_then-some None f y is = absurd (cc)
+option_and_then-some (Some x) f y is = (x, refl, is)
 
-pub mapped_some : {X Y : Type 0} (o : Option X) (f : X → Y) (y : Y) → option_map f o ≡ Some y → (x : X) × (o ≡ Some x) × (f x ≡ y)
-mapped_some None f y is = absurd (cc)
-mapped_some (Some x) f y is =
+pub option_map-some : {X Y : Type 0} (o : Option X) (f : X → Y) (y : Y) → option_map f o ≡ Some y → (x : X) × (o ≡ Some x) × (f x ≡ y)
+option_map-some None f y is = absurd (cc)
+option_map-some (Some x) f y is =
     let same : f x ≡ y = cc in
     (x, refl, same)
 
@@ -67,7 +67,7 @@ numeral_plain (byte ∷ bytes) is = go (nat_eq byte 45) refl
     go : (dash : Bool) → nat_eq byte 45 ≡ dash → nat_eq byte 45 ≡ false
     go false e = e
     go true e =
-        let wrong : false ≡ true = second_true _ _ (rw ((same_byte byte 45).0 e) at is) in
+        let wrong : false ≡ true = second_true _ _ (rw ((nat_eq-decides byte 45).0 e) at is) in
         absurd (cc)
 
 first_true : (a b c d : Bool) → (a && b && c && d) ≡ true → a ≡ true
@@ -84,10 +84,10 @@ pub record IsOne (values : List (List ℕ)) : Type 0 where
   pub plain : ArePlain values
   pub alone : values ≡ option_to_list (slice_get values 0)
 
-pub tile_given : (tiles : List (List ℕ)) (side : ℕ) → tile_of tiles ≡ Some side → IsOne tiles
-tile_given [] side is = record { few = omega arith; plain = tt; alone = refl }
-tile_given (value ∷ []) side is = record { few = omega arith; plain = (numeral_plain value (first_true _ _ _ _ (if_some _ _ side is)), tt); alone = refl }
-tile_given (value ∷ (other ∷ more)) side is = absurd (cc)
+pub tile_of-one : (tiles : List (List ℕ)) (side : ℕ) → tile_of tiles ≡ Some side → IsOne tiles
+tile_of-one [] side is = record { few = omega arith; plain = tt; alone = refl }
+tile_of-one (value ∷ []) side is = record { few = omega arith; plain = (numeral_plain value (first_true _ _ _ _ (if_some _ _ side is)), tt); alone = refl }
+tile_of-one (value ∷ (other ∷ more)) side is = absurd (cc)
 
 savable_is : (value name : List ℕ) → savable value ≡ Some name → (begins_with_dash value ≡ false) × (name ≡ value)
 savable_is value name is = go (begins_with_dash value) refl is
@@ -101,17 +101,17 @@ save_given [] save is =
     let none : save ≡ None = cc in
     (record { few = omega arith; plain = tt; alone = refl }, none)
 save_given (value ∷ []) save is =
-    let (name, found, same) = mapped_some (savable value) (λ name. Some name) save is in
+    let (name, found, same) = option_map-some (savable value) (λ name. Some name) save is in
     let (plain, name_is) = savable_is value name found in
     (record { few = omega arith; plain = (plain, tt); alone = refl }, sym same ∙ ap Some name_is)
 save_given (value ∷ (other ∷ more)) save is = absurd (cc)
 
-pub run_same : (a a' b b' : List ℕ) (side : ℕ) (s s' : Option (List ℕ)) → a ≡ a' → b ≡ b' → s ≡ s'
+pub RunOf-same : (a a' b b' : List ℕ) (side : ℕ) (s s' : Option (List ℕ)) → a ≡ a' → b ≡ b' → s ≡ s'
     → RunOf (record { surface = a; script = Some b; tile = side; save = s }) ≡ RunOf (record { surface = a'; script = Some b'; tile = side; save = s' })
-run_same a a' b b' side s s' p q r = rw (p, q, r) refl
+RunOf-same a a' b b' side s s' p q r = rw (p, q, r) refl
 
-pub check_same : (a a' b b' : List ℕ) → a ≡ a' → b ≡ b' → CheckOf (record { surface = a; certificate = b }) ≡ CheckOf (record { surface = a'; certificate = b' })
-check_same a a' b b' p q = rw (p, q) refl
+pub CheckOf-same : (a a' b b' : List ℕ) → a ≡ a' → b ≡ b' → CheckOf (record { surface = a; certificate = b }) ≡ CheckOf (record { surface = a'; certificate = b' })
+CheckOf-same a a' b b' p q = rw (p, q) refl
 
 -- the words of `dales` give one name
 pub record DalesFound (names tiles saves : List (List ℕ)) (request : Request) : Type 0 where
@@ -121,15 +121,15 @@ pub record DalesFound (names tiles saves : List (List ℕ)) (request : Request) 
   pub saves_are : saves ≡ []
   pub request_is : request ≡ RunOf (record { surface = surface; script = None; tile = usual_tile; save = None })
 
-pub dales_found : (names tiles saves : List (List ℕ)) (request : Request) → dales_form_by names tiles saves ≡ Some request → DalesFound names tiles saves request
-dales_found [] tiles saves request is = absurd (cc)
-dales_found (surface ∷ []) [] [] request is =
-    let (name, found, same) = mapped_some (filled surface) _ request is in
+pub DalesFound-form : (names tiles saves : List (List ℕ)) (request : Request) → dales_form_by names tiles saves ≡ Some request → DalesFound names tiles saves request
+DalesFound-form [] tiles saves request is = absurd (cc)
+DalesFound-form (surface ∷ []) [] [] request is =
+    let (name, found, same) = option_map-some (filled surface) _ request is in
     let name_is = filled_is surface name found in
     record { surface = surface; names_are = refl; tiles_are = refl; saves_are = refl; request_is = sym same ∙ ap (λ (n : List ℕ). RunOf (record { surface = n; script = None; tile = usual_tile; save = None })) name_is }
-dales_found (surface ∷ []) (tile ∷ tiles) saves request is = absurd (cc)
-dales_found (surface ∷ []) [] (save ∷ saves) request is = absurd (cc)
-dales_found (surface ∷ (other ∷ names)) tiles saves request is = absurd (cc)
+DalesFound-form (surface ∷ []) (tile ∷ tiles) saves request is = absurd (cc)
+DalesFound-form (surface ∷ []) [] (save ∷ saves) request is = absurd (cc)
+DalesFound-form (surface ∷ (other ∷ names)) tiles saves request is = absurd (cc)
 
 -- the words of `run` give two names, and at most one value of each option
 pub record RunFound (names tiles saves : List (List ℕ)) (request : Request) : Type 0 where
@@ -141,19 +141,19 @@ pub record RunFound (names tiles saves : List (List ℕ)) (request : Request) : 
   pub save_is : IsOne saves
   pub request_is : request ≡ RunOf (record { surface = surface; script = Some script; tile = side; save = slice_get saves 0 })
 
-pub run_found : (names tiles saves : List (List ℕ)) (request : Request) → run_form_by names tiles saves ≡ Some request → RunFound names tiles saves request
-run_found [] tiles saves request is = absurd (cc)
-run_found (surface ∷ []) tiles saves request is = absurd (cc)
-run_found (surface ∷ (script ∷ (other ∷ names))) tiles saves request is = absurd (cc)
-run_found (surface ∷ (script ∷ [])) tiles saves request is =
-    let (first, first_found, after_first) = then_some (filled surface) _ request is in
-    let (second, second_found, after_second) = then_some (filled script) _ request after_first in
-    let (side, side_found, after_side) = then_some (tile_of tiles) _ request after_second in
-    let (save, save_found, same) = mapped_some (save_of saves) _ request after_side in
+pub RunFound-form : (names tiles saves : List (List ℕ)) (request : Request) → run_form_by names tiles saves ≡ Some request → RunFound names tiles saves request
+RunFound-form [] tiles saves request is = absurd (cc)
+RunFound-form (surface ∷ []) tiles saves request is = absurd (cc)
+RunFound-form (surface ∷ (script ∷ (other ∷ names))) tiles saves request is = absurd (cc)
+RunFound-form (surface ∷ (script ∷ [])) tiles saves request is =
+    let (first, first_found, after_first) = option_and_then-some (filled surface) _ request is in
+    let (second, second_found, after_second) = option_and_then-some (filled script) _ request after_first in
+    let (side, side_found, after_side) = option_and_then-some (tile_of tiles) _ request after_second in
+    let (save, save_found, same) = option_map-some (save_of saves) _ request after_side in
     let (one, save_is) = save_given saves save save_found in
     let first_is = filled_is surface first first_found in
     let second_is = filled_is script second second_found in
-    let all = run_same first surface second script side save (slice_get saves 0) first_is second_is save_is in
+    let all = RunOf-same first surface second script side save (slice_get saves 0) first_is second_is save_is in
     record { surface = surface; script = script; side = side; names_are = refl; tile_is = side_found; save_is = one; request_is = sym same ∙ all }
 
 -- the words of `check` give two names
@@ -165,18 +165,18 @@ pub record CheckFound (names tiles saves : List (List ℕ)) (request : Request) 
   pub saves_are : saves ≡ []
   pub request_is : request ≡ CheckOf (record { surface = surface; certificate = certificate })
 
-pub check_found : (names tiles saves : List (List ℕ)) (request : Request) → check_form_by names tiles saves ≡ Some request → CheckFound names tiles saves request
-check_found [] tiles saves request is = absurd (cc)
-check_found (surface ∷ []) tiles saves request is = absurd (cc)
-check_found (surface ∷ (certificate ∷ (other ∷ names))) tiles saves request is = absurd (cc)
-check_found (surface ∷ (certificate ∷ [])) (tile ∷ tiles) saves request is = absurd (cc)
-check_found (surface ∷ (certificate ∷ [])) [] (save ∷ saves) request is = absurd (cc)
-check_found (surface ∷ (certificate ∷ [])) [] [] request is =
-    let (first, first_found, after_first) = then_some (filled surface) _ request is in
-    let (second, second_found, same) = mapped_some (filled certificate) _ request after_first in
+pub CheckFound-form : (names tiles saves : List (List ℕ)) (request : Request) → check_form_by names tiles saves ≡ Some request → CheckFound names tiles saves request
+CheckFound-form [] tiles saves request is = absurd (cc)
+CheckFound-form (surface ∷ []) tiles saves request is = absurd (cc)
+CheckFound-form (surface ∷ (certificate ∷ (other ∷ names))) tiles saves request is = absurd (cc)
+CheckFound-form (surface ∷ (certificate ∷ [])) (tile ∷ tiles) saves request is = absurd (cc)
+CheckFound-form (surface ∷ (certificate ∷ [])) [] (save ∷ saves) request is = absurd (cc)
+CheckFound-form (surface ∷ (certificate ∷ [])) [] [] request is =
+    let (first, first_found, after_first) = option_and_then-some (filled surface) _ request is in
+    let (second, second_found, same) = option_map-some (filled certificate) _ request after_first in
     let first_is = filled_is surface first first_found in
     let second_is = filled_is certificate second second_found in
-    let all = check_same first surface second certificate first_is second_is in
+    let all = CheckOf-same first surface second certificate first_is second_is in
     record { surface = surface; certificate = certificate; names_are = refl; tiles_are = refl; saves_are = refl; request_is = sym same ∙ all }
 
 -- the words of `demo` give four names, and at most one value of `--tile`
@@ -193,16 +193,16 @@ pub record DemoFound (names tiles saves : List (List ℕ)) (request : Request) :
   pub demo_is : demo_of points profiles number edits side ≡ Some demo
   pub request_is : request ≡ DemoOf demo
 
-pub demo_found : (names tiles saves : List (List ℕ)) (request : Request) → demo_form_by names tiles saves ≡ Some request → DemoFound names tiles saves request
-demo_found [] tiles saves request is = absurd (cc)
-demo_found (points ∷ []) tiles saves request is = absurd (cc)
-demo_found (points ∷ (profiles ∷ [])) tiles saves request is = absurd (cc)
-demo_found (points ∷ (profiles ∷ (number ∷ []))) tiles saves request is = absurd (cc)
-demo_found (points ∷ (profiles ∷ (number ∷ (edits ∷ (other ∷ names))))) tiles saves request is = absurd (cc)
-demo_found (points ∷ (profiles ∷ (number ∷ (edits ∷ [])))) tiles (save ∷ saves) request is = absurd (cc)
-demo_found (points ∷ (profiles ∷ (number ∷ (edits ∷ [])))) tiles [] request is =
-    let (side, side_found, after_side) = then_some (tile_of tiles) _ request is in
-    let (demo, found, same) = mapped_some (demo_of points profiles number edits side) _ request after_side in
+pub DemoFound-form : (names tiles saves : List (List ℕ)) (request : Request) → demo_form_by names tiles saves ≡ Some request → DemoFound names tiles saves request
+DemoFound-form [] tiles saves request is = absurd (cc)
+DemoFound-form (points ∷ []) tiles saves request is = absurd (cc)
+DemoFound-form (points ∷ (profiles ∷ [])) tiles saves request is = absurd (cc)
+DemoFound-form (points ∷ (profiles ∷ (number ∷ []))) tiles saves request is = absurd (cc)
+DemoFound-form (points ∷ (profiles ∷ (number ∷ (edits ∷ (other ∷ names))))) tiles saves request is = absurd (cc)
+DemoFound-form (points ∷ (profiles ∷ (number ∷ (edits ∷ [])))) tiles (save ∷ saves) request is = absurd (cc)
+DemoFound-form (points ∷ (profiles ∷ (number ∷ (edits ∷ [])))) tiles [] request is =
+    let (side, side_found, after_side) = option_and_then-some (tile_of tiles) _ request is in
+    let (demo, found, same) = option_map-some (demo_of points profiles number edits side) _ request after_side in
     record { points = points; profiles = profiles; number = number; edits = edits; side = side; demo = demo; names_are = refl; tile_is = side_found; saves_are = refl; demo_is = found; request_is = sym same }
 
 -- ---- how much is given
@@ -222,18 +222,18 @@ none_given [] is = (omega arith, tt)
 none_given (value ∷ values) is = absurd (cc)
 
 -- a command line's words give no more than it has arguments
-pub form_fits : (line : CommandLine) (given : Given) (request : Request) → form_by line given ≡ Some request → Fits (ids_of line) (tiles_of line) (saves_of line) given
-form_fits Dales given request is =
-    let found = dales_found given.names given.tiles given.saves request is in
+pub form_by-fits : (line : CommandLine) (given : Given) (request : Request) → form_by line given ≡ Some request → Fits (ids_of line) (tiles_of line) (saves_of line) given
+form_by-fits Dales given request is =
+    let found = DalesFound-form given.names given.tiles given.saves request is in
     let tiles = none_given given.tiles found.tiles_are in
     let saves = none_given given.saves found.saves_are in
     record { names = omega (arith, ap length found.names_are); tile_count = tiles.0; save_count = saves.0; tile_values = tiles.1; save_values = saves.1 }
-form_fits Run given request is =
-    let found = run_found given.names given.tiles given.saves request is in
-    let tiles = tile_given given.tiles found.side found.tile_is in
+form_by-fits Run given request is =
+    let found = RunFound-form given.names given.tiles given.saves request is in
+    let tiles = tile_of-one given.tiles found.side found.tile_is in
     record { names = omega (arith, ap length found.names_are); tile_count = tiles.few; save_count = found.save_is.few; tile_values = tiles.plain; save_values = found.save_is.plain }
-form_fits Check given request is =
-    let found = check_found given.names given.tiles given.saves request is in
+form_by-fits Check given request is =
+    let found = CheckFound-form given.names given.tiles given.saves request is in
     let tiles = none_given given.tiles found.tiles_are in
     let saves = none_given given.saves found.saves_are in
     record { names = omega (arith, ap length found.names_are); tile_count = tiles.0; save_count = saves.0; tile_values = tiles.1; save_values = saves.1 }

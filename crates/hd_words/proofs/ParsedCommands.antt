@@ -18,13 +18,13 @@ use Rattle.hd_words.specs.CommandLines.{HasForm, HasGiven, Holds, app_for, ids_o
 use Rattle.hd_words.specs.GivenWords.{Given}
 use Rattle.hd_words.specs.declared.command_lines.CommandLine.{CommandLine}
 use Rattle.hd_words.specs.declared.command_lines.CommandLine.TheVariants.{Dales, Run, Check}
-use Rattle.hd_words.proofs.Forms.{form_fits, saves_of, tiles_of}
+use Rattle.hd_words.proofs.Forms.{form_by-fits, saves_of, tiles_of}
 use Rattle.hd_words.proofs.ParsedKeys.{Key, Name, Save, Tile, id_of, said, taken, value_at}
-use Rattle.hd_words.proofs.ParsedWords.{Goes, Reads, all_walked}
+use Rattle.hd_words.proofs.ParsedWords.{Goes, Reads, Goes-all}
 
 -- one more argument
-pub with_rule-adds : (old new : Command) (a : Arg) (app : App) (rule : Rule) → AddsArg old a new → a.global ≡ false → app_of old ≡ app → rule_of a ≡ rule → app_of new ≡ with_rule app rule
-with_rule-adds old new a app rule more own is rule_is = more.shape own ∙ ap₂ with_rule is rule_is
+pub with_rule-added : (old new : Command) (a : Arg) (app : App) (rule : Rule) → AddsArg old a new → a.global ≡ false → app_of old ≡ app → rule_of a ≡ rule → app_of new ≡ with_rule app rule
+with_rule-added old new a app rule more own is rule_is = more.shape own ∙ ap₂ with_rule is rule_is
 
 abbrev option_rule_of : Text → Rule
 option_rule_of id = taken id (Some id) None
@@ -174,14 +174,14 @@ holds_all line words given m goes matches = record {
 
 walks_formed : (line : CommandLine) (words : List Text) (form : HasForm line words) → WalksAll line (drop 1 words) form.given
 walks_formed line words form =
-    all_walked (word_of line) (rules_for line) (ids_of line) (tiles_of line) (saves_of line) (reads line) (drop 1 words) form.given form.gives (form_fits line form.given form.request form.asks)
+    Goes-all (word_of line) (rules_for line) (ids_of line) (tiles_of line) (saves_of line) (reads line) (drop 1 words) form.given form.gives (form_by-fits line form.given form.request form.asks)
 
 -- words that have their form are taken, and the matches have what they give
-pub takes_formed : (line : CommandLine) (words : List Text) → HasForm line words → takes (app_for line) words ≡ true
-takes_formed line words form = takes_all line words form.given (walks_formed line words form)
+pub app_for-takes : (line : CommandLine) (words : List Text) → HasForm line words → takes (app_for line) words ≡ true
+app_for-takes line words form = takes_all line words form.given (walks_formed line words form)
 
-pub has_given : (line : CommandLine) (words : List Text) (m : ArgMatches) → HasForm line words → HasMatchesOf (app_for line) words m → HasGiven line words m
-has_given line words m form matches other other_is =
+pub HasGiven-parsed : (line : CommandLine) (words : List Text) (m : ArgMatches) → HasForm line words → HasMatchesOf (app_for line) words m → HasGiven line words m
+HasGiven-parsed line words m form matches other other_is =
     let all : Some form.given ≡ Some other = sym form.gives ∙ other_is in
     let same : form.given ≡ other = cc in
     subst (λ (g : Given). Holds (ids_of line) g m) same (holds_all line words form.given m (walks_formed line words form) matches)

@@ -13,7 +13,7 @@ use Rattle.clap.specs.declared.builder.action.ArgAction.TheVariants.{Set}
 use Rattle.clap.specs.declared.builder.value_parser.ValueParser.TheVariants as vp
 use Rattle.clap.specs.declared.parser.matches.ValueSource.TheVariants.{CommandLine}
 use Rattle.hd_words.specs.GivenWords.{Given}
-use Rattle.hd_words.proofs.ParsedRows.{row_at, found_last, found_before}
+use Rattle.hd_words.proofs.ParsedRows.{row_at, row_at-last, row_at-before}
 
 -- an argument that takes one text, as a parse reads it
 abbrev pub taken : Text → Option Text → Option ℕ → Rule
@@ -69,15 +69,15 @@ pub record Adds (k : Key) (text : Text) (g next : Given) : Type 0 where
 
 module _ (ids : List Text) (differ : AreDifferent ids) where
   -- an argument that is used for the first time gets its row
-  pub row_added : (rows : List Row) (g next : Given) (k : Key) (id text : Text) → id_of ids k ≡ Some id → Adds k text g next → HasRows ids rows g → HasRows ids (rows ++ (said id text ∷ [])) next
-  row_added rows g next k id text is adds holds j other at = go (bytes_eq id other) refl
+  pub HasRows-added : (rows : List Row) (g next : Given) (k : Key) (id text : Text) → id_of ids k ≡ Some id → Adds k text g next → HasRows ids rows g → HasRows ids (rows ++ (said id text ∷ [])) next
+  HasRows-added rows g next k id text is adds holds j other at = go (bytes_eq id other) refl
     where
       go : (b : Bool) → bytes_eq id other ≡ b → row_at other (rows ++ (said id text ∷ [])) ≡ option_map (said other) (value_at j next)
       go true same =
           let key : k ≡ j = differ k j id other is at same in
           let text_is : id ≡ other = (bytes_eq-Decides id other).0 same in
           let none : row_at other rows ≡ None = subst (λ (x : Text). row_at x rows ≡ None) text_is (holds k id is ∙ ap (option_map (said id)) adds.before) in
-          found_last other rows (said id text) none same
+          row_at-last other rows (said id text) none same
           ∙ ap (λ (x : Text). Some (said x text)) text_is
           ∙ sym (ap (option_map (said other)) (ap (λ (x : Key). value_at x next) (sym key) ∙ adds.after))
       go false not_same =
@@ -86,7 +86,7 @@ module _ (ids : List Text) (differ : AreDifferent ids) where
           let id_is : id ≡ other = cc in
           let same = (bytes_eq-Decides id other).1 id_is in
           cc in
-          found_before other rows (said id text) not_same ∙ holds j other at ∙ sym (ap (option_map (said other)) (adds.others j apart))
+          row_at-before other rows (said id text) not_same ∙ holds j other at ∙ sym (ap (option_map (said other)) (adds.others j apart))
 
 -- ---- what one more name, or one more value, adds
 
@@ -100,8 +100,8 @@ get_other [] x (suc i) apart = refl
 get_other (y ∷ xs) x zero apart = refl
 get_other (y ∷ xs) x (suc i) apart = get_other xs x i (λ e. apart (ap suc e))
 
-pub adds_name : (g : Given) (text : Text) → Adds (Name (length g.names)) text g (record { names = g.names ++ (text ∷ []); tiles = g.tiles; saves = g.saves })
-adds_name g text = record {
+pub Adds-name : (g : Given) (text : Text) → Adds (Name (length g.names)) text g (record { names = g.names ++ (text ∷ []); tiles = g.tiles; saves = g.saves })
+Adds-name g text = record {
   before = slice_get_past g.names (length g.names) (omega arith);
   after = get_last g.names text;
   others = others;
@@ -112,18 +112,18 @@ adds_name g text = record {
     others Tile apart = refl
     others Save apart = refl
 
-pub adds_tile : (names tiles saves : List Text) (text : Text) → length tiles ≤ 0 → Adds Tile text (record { names = names; tiles = tiles; saves = saves }) (record { names = names; tiles = tiles ++ (text ∷ []); saves = saves })
-adds_tile names (tile ∷ tiles) saves text none = absurd (omega arith)
-adds_tile names [] saves text none = record { before = refl; after = refl; others = others }
+pub Adds-tile : (names tiles saves : List Text) (text : Text) → length tiles ≤ 0 → Adds Tile text (record { names = names; tiles = tiles; saves = saves }) (record { names = names; tiles = tiles ++ (text ∷ []); saves = saves })
+Adds-tile names (tile ∷ tiles) saves text none = absurd (omega arith)
+Adds-tile names [] saves text none = record { before = refl; after = refl; others = others }
   where
     others : (j : Key) → (j ≡ Tile → ⊥) → value_at j (record { names = names; tiles = text ∷ []; saves = saves }) ≡ value_at j (record { names = names; tiles = []; saves = saves })
     others (Name i) apart = refl
     others Tile apart = absurd (apart refl)
     others Save apart = refl
 
-pub adds_save : (names tiles saves : List Text) (text : Text) → length saves ≤ 0 → Adds Save text (record { names = names; tiles = tiles; saves = saves }) (record { names = names; tiles = tiles; saves = saves ++ (text ∷ []) })
-adds_save names tiles (save ∷ saves) text none = absurd (omega arith)
-adds_save names tiles [] text none = record { before = refl; after = refl; others = others }
+pub Adds-save : (names tiles saves : List Text) (text : Text) → length saves ≤ 0 → Adds Save text (record { names = names; tiles = tiles; saves = saves }) (record { names = names; tiles = tiles; saves = saves ++ (text ∷ []) })
+Adds-save names tiles (save ∷ saves) text none = absurd (omega arith)
+Adds-save names tiles [] text none = record { before = refl; after = refl; others = others }
   where
     others : (j : Key) → (j ≡ Save → ⊥) → value_at j (record { names = names; tiles = tiles; saves = text ∷ [] }) ≡ value_at j (record { names = names; tiles = tiles; saves = [] })
     others (Name i) apart = refl

@@ -12,27 +12,27 @@ none≢some : {X : Type 0} {x : X} → Some x ≡ None → ⊥
 none≢some e = cc
 
 -- where an id has no row, its row joins at the end
-pub at_row-joins : (id : Text) (change : Row → List Row) (missing rows : List Row) → row_at id rows ≡ None → at_row id change missing rows ≡ rows ++ missing
-at_row-joins id change missing [] none = refl
-at_row-joins id change missing (r ∷ rows) none = go (bytes_eq r.id id) none (at_row-joins id change missing rows)
+pub at_row-joined : (id : Text) (change : Row → List Row) (missing rows : List Row) → row_at id rows ≡ None → at_row id change missing rows ≡ rows ++ missing
+at_row-joined id change missing [] none = refl
+at_row-joined id change missing (r ∷ rows) none = go (bytes_eq r.id id) none (at_row-joined id change missing rows)
   where
     go : (b : Bool) → cond b (Some r) (row_at id rows) ≡ None → (row_at id rows ≡ None → at_row id change missing rows ≡ rows ++ missing)
         → cond b (change r ++ rows) (r ∷ at_row id change missing rows) ≡ r ∷ (rows ++ missing)
     go true found rest = absurd (none≢some found)
     go false found rest = ap (λ more. r ∷ more) (rest found)
 
-pub has_row-lacks : (id : Text) (rows : List Row) → row_at id rows ≡ None → has_row id rows ≡ false
-has_row-lacks id [] none = refl
-has_row-lacks id (r ∷ rows) none = go (bytes_eq r.id id) none (has_row-lacks id rows)
+pub has_row-none : (id : Text) (rows : List Row) → row_at id rows ≡ None → has_row id rows ≡ false
+has_row-none id [] none = refl
+has_row-none id (r ∷ rows) none = go (bytes_eq r.id id) none (has_row-none id rows)
   where
     go : (b : Bool) → cond b (Some r) (row_at id rows) ≡ None → (row_at id rows ≡ None → has_row id rows ≡ false) → (b || has_row id rows) ≡ false
     go true found rest = absurd (none≢some found)
     go false found rest = rest found
 
 -- the last row is found where the id has no other
-pub found_last : (id : Text) (rows : List Row) (last : Row) → row_at id rows ≡ None → bytes_eq last.id id ≡ true → row_at id (rows ++ (last ∷ [])) ≡ Some last
-found_last id [] last none is = rw is refl
-found_last id (r ∷ rows) last none is = go (bytes_eq r.id id) none (λ h. found_last id rows last h is)
+pub row_at-last : (id : Text) (rows : List Row) (last : Row) → row_at id rows ≡ None → bytes_eq last.id id ≡ true → row_at id (rows ++ (last ∷ [])) ≡ Some last
+row_at-last id [] last none is = rw is refl
+row_at-last id (r ∷ rows) last none is = go (bytes_eq r.id id) none (λ h. row_at-last id rows last h is)
   where
     go : (b : Bool) → cond b (Some r) (row_at id rows) ≡ None → (row_at id rows ≡ None → row_at id (rows ++ (last ∷ [])) ≡ Some last)
         → cond b (Some r) (row_at id (rows ++ (last ∷ []))) ≡ Some last
@@ -40,9 +40,9 @@ found_last id (r ∷ rows) last none is = go (bytes_eq r.id id) none (λ h. foun
     go false found rest = rest found
 
 -- a row of another id changes nothing
-pub found_before : (id : Text) (rows : List Row) (last : Row) → bytes_eq last.id id ≡ false → row_at id (rows ++ (last ∷ [])) ≡ row_at id rows
-found_before id [] last is = rw is refl
-found_before id (r ∷ rows) last is = go (bytes_eq r.id id) (found_before id rows last is)
+pub row_at-before : (id : Text) (rows : List Row) (last : Row) → bytes_eq last.id id ≡ false → row_at id (rows ++ (last ∷ [])) ≡ row_at id rows
+row_at-before id [] last is = rw is refl
+row_at-before id (r ∷ rows) last is = go (bytes_eq r.id id) (row_at-before id rows last is)
   where
     go : (b : Bool) → row_at id (rows ++ (last ∷ [])) ≡ row_at id rows → cond b (Some r) (row_at id (rows ++ (last ∷ []))) ≡ cond b (Some r) (row_at id rows)
     go true rest = refl

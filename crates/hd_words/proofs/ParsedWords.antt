@@ -15,10 +15,10 @@ use Rattle.hd_words.specs.GivenWords.{Given, given_of, with_name, with_tile, wit
 use Rattle.hd_words.specs.WordSteps.{both_given, followed_by}
 use Rattle.hd_words.specs.declared.found.Stage.{Stage}
 use Rattle.hd_words.specs.declared.found.Stage.TheVariants.{Options, TileValue, SaveValue, Names}
-use Rattle.hd_words.proofs.StartsWith.{same_byte}
-use Rattle.hd_words.proofs.WordSteps.{one_name}
-use Rattle.hd_words.proofs.ParsedRows.{row_at, at_row-joins, has_row-lacks}
-use Rattle.hd_words.proofs.ParsedKeys.{Adds, AreDifferent, HasRows, Key, adds_name, adds_save, adds_tile, id_of, Name, row_added, said, Save, taken, Tile}
+use Rattle.hd_words.proofs.StartsWith.{nat_eq-decides}
+use Rattle.hd_words.proofs.WordSteps.{with_name-one}
+use Rattle.hd_words.proofs.ParsedRows.{row_at, at_row-joined, has_row-none}
+use Rattle.hd_words.proofs.ParsedKeys.{Adds, AreDifferent, HasRows, Key, Adds-name, Adds-save, Adds-tile, id_of, Name, HasRows-added, said, Save, taken, Tile}
 
 -- a command that is built, with neither help nor version
 abbrev pub built_shape : Text → List Rule → Shape
@@ -118,7 +118,7 @@ fits_before ids tiles saves before total later is fits =
 
 -- a word that begins with this text is the text and what follows it
 begins : (word front : Text) → starts_with nat_eq word front ≡ true → word ≡ front ++ drop (length front) word
-begins word front is = (starts_is same_byte word front (starts_with nat_eq word front) refl).0 is
+begins word front is = (starts_is nat_eq-decides word front (starts_with nat_eq word front) refl).0 is
 
 module _ (command : Text) (rules : List Rule) (ids : List Text) (tiles saves : ℕ) (reads : Reads rules ids tiles saves) where
   -- the shape of the command
@@ -133,9 +133,9 @@ module _ (command : Text) (rules : List Rule) (ids : List Text) (tiles saves : �
   first_use : (id text : Text) (long : Option Text) (index : Option ℕ) (rows : List Row) → row_at id rows ≡ None
       → (use_passes false (taken id long index) (text ∷ []) rows ≡ true) × (used (taken id long index) (text ∷ []) rows ≡ rows ++ (said id text ∷ []))
   first_use id text long index rows none =
-      let one : without id rows ≡ rows = at_row-joins id (λ _. []) [] rows none ∙ append-nil rows in
-      let lacking : has_row id rows ≡ false = has_row-lacks id rows none in
-      (rw lacking refl, rw one (at_row-joins id (more_values _ (text ∷ [])) _ rows none))
+      let one : without id rows ≡ rows = at_row-joined id (λ _. []) [] rows none ∙ append-nil rows in
+      let lacking : has_row id rows ≡ false = has_row-none id rows none in
+      (rw lacking refl, rw one (at_row-joined id (more_values _ (text ∷ [])) _ rows none))
 
   -- where the walk stands before a name or an option
   abbrev stands : Bool → Held → ℕ → Walk
@@ -157,7 +157,7 @@ module _ (command : Text) (rules : List Rule) (ids : List Text) (tiles saves : �
       let first = first_use id text long index rows none in
       record {
         passes = rw found first.0;
-        rows = subst (λ (rs : List Row). HasRows ids rs next) (sym (rw found first.1)) (row_added ids reads.differ rows g next k id text is adds holds);
+        rows = subst (λ (rs : List Row). HasRows ids rs next) (sym (rw found first.1)) (HasRows-added ids reads.differ rows g next k id text is adds holds);
       }
 
   -- the argument of the next name takes the word
@@ -285,7 +285,7 @@ module _ (command : Text) (rules : List Rule) (ids : List Text) (tiles saves : �
       let id = get_or ids given [] in
       let is : slice_get ids given ≡ Some id = slice_get-get_or ids given [] (omega (arith, longer, fits.names)) in
       let next = pends id word (settled rules h).rows h.skip in
-      let held : HoldsAll next (more_names g word) = holds_one g (more_names g word) (Name given) id word None (Some (suc given)) _ _ is (reads.named given id is).1 (adds_name g word) holds.rows in
+      let held : HoldsAll next (more_names g word) = holds_one g (more_names g word) (Name given) id word None (Some (suc given)) _ _ is (reads.named given id is).1 (Adds-name g word) holds.rows in
       let step = name_walked trailing h given word id plain is holds.passes in
       one_word w (stands trailing next (suc given)) word words total (rw at step) (subst (λ (n : ℕ). Goes (stands trailing next n) words total) longer (more next held))
 
@@ -296,7 +296,7 @@ module _ (command : Text) (rules : List Rule) (ids : List Text) (tiles saves : �
       let first : length g.tiles ≤ 0 = omega (arith, length-append g.tiles (text ∷ []), fits.tile_count, reads.few_tiles) in
       let next = pends (codes "tile") text rows skip in
       let found = (reads.tile_found some).1 in
-      let held : HoldsAll next (more_tiles g text) = holds_one g (more_tiles g text) Tile (codes "tile") text _ _ rows skip refl found (adds_tile g.names g.tiles g.saves text first) holds in
+      let held : HoldsAll next (more_tiles g text) = holds_one g (more_tiles g text) Tile (codes "tile") text _ _ rows skip refl found (Adds-tile g.names g.tiles g.saves text first) holds in
       let step = value_walked (codes "tile") text _ _ rows skip (length g.names) found (plain_last g.tiles text fits.tile_values) in
       one_word w (stands false next (length g.names)) text words total (rw at step) (more next held)
 
@@ -306,7 +306,7 @@ module _ (command : Text) (rules : List Rule) (ids : List Text) (tiles saves : �
       let first : length g.saves ≤ 0 = omega (arith, length-append g.saves (text ∷ []), fits.save_count, reads.few_saves) in
       let next = pends (codes "save") text rows skip in
       let found = (reads.save_found some).1 in
-      let held : HoldsAll next (more_saves g text) = holds_one g (more_saves g text) Save (codes "save") text _ _ rows skip refl found (adds_save g.names g.tiles g.saves text first) holds in
+      let held : HoldsAll next (more_saves g text) = holds_one g (more_saves g text) Save (codes "save") text _ _ rows skip refl found (Adds-save g.names g.tiles g.saves text first) holds in
       let step = value_walked (codes "save") text _ _ rows skip (length g.names) found (plain_last g.saves text fits.save_values) in
       one_word w (stands false next (length g.names)) text words total (rw at step) (more next held)
 
@@ -317,7 +317,7 @@ module _ (command : Text) (rules : List Rule) (ids : List Text) (tiles saves : �
       record {
         passes = refl;
         rows = subst (λ (rs : List Row). HasRows ids rs next) (sym (first_use id text long index (settled rules h).rows none).1)
-            (row_added ids reads.differ (settled rules h).rows g next k id text is adds holds.rows);
+            (HasRows-added ids reads.differ (settled rules h).rows g next k id text is adds holds.rows);
       }
 
   goes_joined_tile : (g total : Given) (w : Walk) (h : Held) (text : Text) (words : List Text) → w ≡ stands false h (length g.names) → HoldsAll h g
@@ -325,7 +325,7 @@ module _ (command : Text) (rules : List Rule) (ids : List Text) (tiles saves : �
   goes_joined_tile g total w h text words at holds fits more =
       let first : length g.tiles ≤ 0 = omega (arith, length-append g.tiles (text ∷ []), fits.tile_count, reads.few_tiles) in
       let some : 0 < tiles = omega (arith, length-append g.tiles (text ∷ []), fits.tile_count) in
-      let adds = adds_tile g.names g.tiles g.saves text first in
+      let adds = Adds-tile g.names g.tiles g.saves text first in
       let none : row_at (codes "tile") (settled rules h).rows ≡ None = holds.rows Tile (codes "tile") refl ∙ ap (option_map (said (codes "tile"))) adds.before in
       let step = joined_tile_walked h (length g.names) text some holds.passes none in
       one_word w (stands false (reacted rules (taken (codes "tile") (Some (codes "tile")) None) (text ∷ []) h) (length g.names)) (codes "--tile=" ++ text) words total (rw at step)
@@ -336,7 +336,7 @@ module _ (command : Text) (rules : List Rule) (ids : List Text) (tiles saves : �
   goes_joined_save g total w h text words at holds fits more =
       let first : length g.saves ≤ 0 = omega (arith, length-append g.saves (text ∷ []), fits.save_count, reads.few_saves) in
       let some : 0 < saves = omega (arith, length-append g.saves (text ∷ []), fits.save_count) in
-      let adds = adds_save g.names g.tiles g.saves text first in
+      let adds = Adds-save g.names g.tiles g.saves text first in
       let none : row_at (codes "save") (settled rules h).rows ≡ None = holds.rows Save (codes "save") refl ∙ ap (option_map (said (codes "save"))) adds.before in
       let step = joined_save_walked h (length g.names) text some holds.passes none in
       one_word w (stands false (reacted rules (taken (codes "save") (Some (codes "save")) None) (text ∷ []) h) (length g.names)) (codes "--save=" ++ text) words total (rw at step)
@@ -363,7 +363,7 @@ module _ (command : Text) (rules : List Rule) (ids : List Text) (tiles saves : �
         → ((next : Held) → HoldsAll next (more_names g word) → At stage (more_names g word) (stands trailing next (length (more_names g word).names)))
         → w ≡ stands trailing h (length g.names) → HoldsAll h g → followed_by g (with_name word (given_of stage words)) ≡ Some total → Goes w (word ∷ words) total
     from_name stage trailing word h plain stays at holds is =
-        let on = sym (one_name g word (given_of stage words)) ∙ is in
+        let on = sym (with_name-one g word (given_of stage words)) ∙ is in
         goes_name trailing g total h w word words plain at holds (fits_before ids tiles saves (more_names g word) total _ on fits)
         (λ next held. more stage (more_names g word) total _ (stays next held) on fits)
 
@@ -457,8 +457,8 @@ module _ (command : Text) (rules : List Rule) (ids : List Text) (tiles saves : �
   goes_all (word ∷ words) = goes_more word words (goes_all words)
 
   -- the walk passes all words that give what fits, and has the row of each name and value
-  pub all_walked : (words : List Text) (total : Given) → given_of Options words ≡ Some total → Fits ids tiles saves total → Goes (walk_from nothing_held) words total
-  all_walked words total is fits =
+  pub Goes-all : (words : List Text) (total : Given) → given_of Options words ≡ Some total → Fits ids tiles saves total → Goes (walk_from nothing_held) words total
+  Goes-all words total is fits =
       let none : Given = record { names = []; tiles = []; saves = [] } in
       goes_all words Options none total (walk_from nothing_held) (nothing_held, refl, record { passes = refl; rows = nothing_given }) (rw is refl) fits
     where

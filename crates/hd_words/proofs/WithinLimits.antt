@@ -12,7 +12,7 @@ use Rattle.hd_words.specs.GivenWords.{Given, given_of}
 use Rattle.hd_words.specs.Requests.{IsWithinLimits, Request}
 use Rattle.hd_words.specs.declared.demo.Demo.{Demo}
 use Rattle.hd_words.specs.declared.found.Stage.TheVariants.{Options}
-use Rattle.hd_words.proofs.Forms.{check_found, dales_found, demo_found, run_found, then_some}
+use Rattle.hd_words.proofs.Forms.{CheckFound-form, DalesFound-form, DemoFound-form, RunFound-form, option_and_then-some}
 
 both_true : (a b : Bool) → (a && b) ≡ true → (a ≡ true) × (b ≡ true)
 both_true true b e = (refl, e)
@@ -66,31 +66,31 @@ numbers_within d demo (least, most) is = go _ refl is
 
 demo_of_within : (points profiles number edits : List ℕ) (tile : ℕ) (demo : Demo) → (least_tile ≤ tile) × (tile ≤ greatest_tile) → demo_of points profiles number edits tile ≡ Some demo → IsDemo demo
 demo_of_within points profiles number edits tile demo bounds is =
-    let (w, _, after_points) = then_some (count_of points) _ demo is in
-    let (h, _, after_profiles) = then_some (count_of profiles) _ demo after_points in
-    let (n, _, after_number) = then_some (count_of number) _ demo after_profiles in
-    let (k, _, found) = then_some (count_of edits) _ demo after_number in
+    let (w, _, after_points) = option_and_then-some (count_of points) _ demo is in
+    let (h, _, after_profiles) = option_and_then-some (count_of profiles) _ demo after_points in
+    let (n, _, after_number) = option_and_then-some (count_of number) _ demo after_profiles in
+    let (k, _, found) = option_and_then-some (count_of edits) _ demo after_number in
     numbers_within (record { size = record { points = w; profiles = h }; number = n; edits = k; tile = tile }) demo bounds found
 
 -- what words ask for
-pub request_within : (words : List (List ℕ)) (request : Request) → form_of words ≡ Some request → IsWithinLimits request
-request_within [] request is = absurd (cc)
-request_within (name ∷ rest) request is =
-    let (given, _, asks) = then_some (given_of Options rest) (form_named name) request is in
+pub IsWithinLimits-request : (words : List (List ℕ)) (request : Request) → form_of words ≡ Some request → IsWithinLimits request
+IsWithinLimits-request [] request is = absurd (cc)
+IsWithinLimits-request (name ∷ rest) request is =
+    let (given, _, asks) = option_and_then-some (given_of Options rest) (form_named name) request is in
     go given (bytes_eq name (codes "dales")) (bytes_eq name (codes "run")) (bytes_eq name (codes "check")) (bytes_eq name (codes "demo")) asks
   where
     go : (given : Given) (dales run check demo : Bool)
         → (if dales then dales_form given else if run then run_form given else if check then check_form given else if demo then demo_form given else None) ≡ Some request → IsWithinLimits request
     go given true run check demo asks =
-        let found = dales_found given.names given.tiles given.saves request asks in
+        let found = DalesFound-form given.names given.tiles given.saves request asks in
         subst IsWithinLimits (sym found.request_is) (omega arith, omega arith)
     go given false true check demo asks =
-        let found = run_found given.names given.tiles given.saves request asks in
+        let found = RunFound-form given.names given.tiles given.saves request asks in
         subst IsWithinLimits (sym found.request_is) (tile_within given.tiles found.side found.tile_is)
     go given false false true demo asks =
-        let found = check_found given.names given.tiles given.saves request asks in
+        let found = CheckFound-form given.names given.tiles given.saves request asks in
         subst IsWithinLimits (sym found.request_is) tt
     go given false false false true asks =
-        let found = demo_found given.names given.tiles given.saves request asks in
+        let found = DemoFound-form given.names given.tiles given.saves request asks in
         subst IsWithinLimits (sym found.request_is) (demo_of_within found.points found.profiles found.number found.edits found.side found.demo (tile_within given.tiles found.side found.tile_is) found.demo_is)
     go given false false false false asks = absurd (cc)

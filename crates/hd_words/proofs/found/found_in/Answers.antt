@@ -2,14 +2,14 @@ use Rattle.std.proofs.Common.{◌≡◌, ◌<◌, ◌+◌, ◌∙◌, ℕ, List,
 use Rattle.hd_words.specs.GivenWords.{given_of}
 use Rattle.hd_words.specs.WordSteps.{given_after}
 use Rattle.hd_words.specs.declared.found.Stage.TheVariants.{Options}
-use Rattle.hd_words.proofs.WordSteps.{none_before}
+use Rattle.hd_words.proofs.WordSteps.{followed_by-nothing}
 use Rattle.hd_words.proofs.found.found_in.Goals as goal
 
 left_item : {X Y : Type 0} (f : X → Y) (xs : List X) (i : ℕ) (x : X) → x ≡ get_or xs i x → i < length xs → map f (drop i xs) ≡ f x ∷ map f (drop (suc i) xs)
 left_item f xs i x is within = ap (map f) (drop-cons xs i x within) ∙ ap (λ y. f y ∷ map f (drop (suc i) xs)) (sym is)
 
 pub loop-word-init : goal.loop-word-init
-loop-word-init c = none_before (given_of Options (map string_bytes c.args.words.now))
+loop-word-init c = followed_by-nothing (given_of Options (map string_bytes c.args.words.now))
 
 pub loop-word-preserved : goal.loop-word-preserved
 loop-word-preserved c =
