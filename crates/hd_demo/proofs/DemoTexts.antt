@@ -9,25 +9,25 @@ use Rattle.hd_demo.specs.DemoText.{AddsRow, AddsRows, AddsTold, AreEdits, AreRow
 use Rattle.hd_demo.specs.Generator.{drawn_edit}
 
 -- no lines
-pub no_rows : (s : State) (text : List ℕ) → AddsRows s [] text text s
-no_rows s text = ([], (refl, refl), sym (append-nil text))
+pub AddsRows-none : (s : State) (text : List ℕ) → AddsRows s [] text text s
+AddsRows-none s text = ([], (refl, refl), sym (append-nil text))
 
 -- a line, and then others
-pub row_then : (s middle after : State) (r : Row) (rows : List Row) (old mid new : List ℕ) → AddsRow s r old mid middle → AddsRows middle rows mid new after → AddsRows s (r ∷ rows) old new after
-row_then s middle after r rows old mid new (told, is, e) (others, are, f) =
+pub AddsRows-then : (s middle after : State) (r : Row) (rows : List Row) (old mid new : List ℕ) → AddsRow s r old mid middle → AddsRows middle rows mid new after → AddsRows s (r ∷ rows) old new after
+AddsRows-then s middle after r rows old mid new (told, is, e) (others, are, f) =
     (told ++ others, (told, middle, others, is, are, refl), f ∙ ap (λ t. t ++ others) e ∙ append_assoc old told others)
 
 -- one more edit
-pub edits_more : (demo : Demo) (s middle after : State) (n : ℕ) (line : List ℕ) (reply : Reply) → AreEdits demo s n middle → line ≡ drawn_edit demo.size demo.number n → IsAnswer middle 1 line reply after
+pub AreEdits-more : (demo : Demo) (s middle after : State) (n : ℕ) (line : List ℕ) (reply : Reply) → AreEdits demo s n middle → line ≡ drawn_edit demo.size demo.number n → IsAnswer middle 1 line reply after
     → AreEdits demo s (n + 1) after
-edits_more demo s middle after n line reply are line_is is =
+AreEdits-more demo s middle after n line reply are line_is is =
     let e : suc n ≡ n + 1 = omega arith in
     subst (λ (k : ℕ). AreEdits demo s k after) e (middle, reply, are, subst (λ (xs : List ℕ). IsAnswer middle 1 xs reply after) line_is is)
 
 -- both summaries, and the line between them
-pub told_of : (demo : Demo) (s shown edited last : State) (old before between new : List ℕ) → AddsRows s summary_rows old before shown → AreEdits demo shown demo.edits edited
+pub AddsTold-lines : (demo : Demo) (s shown edited last : State) (old before between new : List ℕ) → AddsRows s summary_rows old before shown → AreEdits demo shown demo.edits edited
     → between ≡ before ++ edits_line demo → AddsRows edited summary_rows between new last → AddsTold demo s old new
-told_of demo s shown edited last old before between new (first, are, e) edits line_is (second, are', f) = (
+AddsTold-lines demo s shown edited last old before between new (first, are, e) edits line_is (second, are', f) = (
   first ++ edits_line demo ++ second,
   record {
     before = first;
@@ -48,10 +48,10 @@ demo_is : (demo : Demo) (s : State) (text : List ℕ) → s ≡ demo_state demo 
 demo_is demo s text state (told, is, e) = (told, subst (λ (t : State). IsTold demo t told) state is, e)
 
 -- and it is the one text, where a demo prints one
-pub told-is_the_text : {E : Type 0} (demo : Demo) (s : State) (result : Result (List ℕ) E) → s ≡ demo_state demo → ((a b : List ℕ) → IsDemoText demo a → IsDemoText demo b → a ≡ b)
+pub IsTheDemoText-told : {E : Type 0} (demo : Demo) (s : State) (result : Result (List ℕ) E) → s ≡ demo_state demo → ((a b : List ℕ) → IsDemoText demo a → IsDemoText demo b → a ≡ b)
     → IfOk result (λ text. AddsTold demo s (title demo) text) → IfOk result (λ text. IsTheDemoText demo text)
-told-is_the_text demo s (Ok text) state one told = let is = demo_is demo s text state told in record { is = is; only = λ other h. one other text h is }
-told-is_the_text demo s (Err error) state one told = tt
+IsTheDemoText-told demo s (Ok text) state one told = let is = demo_is demo s text state told in record { is = is; only = λ other h. one other text h is }
+IsTheDemoText-told demo s (Err error) state one told = tt
 
 -- two texts and the states after them agree
 pub record Agree (a b : List ℕ) (s' s'' : State) : Type 0 where
@@ -106,5 +106,5 @@ module _ (known : OneAnswer) where
       x.text_is ∙ ap (λ t. t ++ edits_line demo ++ x.later) first.texts ∙ ap (λ t. y.before ++ edits_line demo ++ t) second.texts ∙ sym y.text_is
 
   -- a demo prints one text
-  pub demo-one : (demo : Demo) (a b : List ℕ) → IsState (demo_state demo) → IsDemoText demo a → IsDemoText demo b → a ≡ b
-  demo-one demo a b whole (told, is, e) (told', is', e') = e ∙ ap (λ t. title demo ++ t) (told-one demo (demo_state demo) told told' whole is is') ∙ sym e'
+  pub IsDemoText-unique : (demo : Demo) (a b : List ℕ) → IsState (demo_state demo) → IsDemoText demo a → IsDemoText demo b → a ≡ b
+  IsDemoText-unique demo a b whole (told, is, e) (told', is', e') = e ∙ ap (λ t. title demo ++ t) (told-one demo (demo_state demo) told told' whole is is') ∙ sym e'

@@ -3,7 +3,7 @@ use Rattle.std.proofs.lemmas.List.FromFn.{length-map-range_with_len}
 use Rattle.hd_map.specs.Cells.{cells_in}
 use Rattle.hd_map.specs.Map.{cell_count}
 use Rattle.hd_demo.specs.Generator.{cell_in, next_draw}
-use Rattle.hd_demo.proofs.Drawings.{cells_more, drawn_more}
+use Rattle.hd_demo.proofs.Drawings.{drawn_cells-more, drawn-more}
 use Rattle.hd_demo.proofs.generator.drawn_surface.Goals as goal
 
 pub cells-preserved : goal.cells-preserved
@@ -13,8 +13,8 @@ cells-preserved c =
     let inv = c.cells.invariant in
     record {
       data_type = c.push.ensures.data_type ∙ inv.data_type;
-      cells = cells_more number n c.cells.draws.last (cells_in c.cells.cells) (cells_in c.push.new.self) c.cell_in.result inv.cells inv.last (c.cell_in.ensures.cell ∙ ap cell_in c.draw.ensures.drawn) c.in_ok-push.ensures.ok;
-      last = c.draw.ensures.last ∙ c.draw.ensures.drawn ∙ ap next_draw inv.last ∙ sym (drawn_more number n);
+      cells = drawn_cells-more number n c.cells.draws.last (cells_in c.cells.cells) (cells_in c.push.new.self) c.cell_in.result inv.cells inv.last (c.cell_in.ensures.cell ∙ ap cell_in c.draw.ensures.drawn) c.in_ok-push.ensures.ok;
+      last = c.draw.ensures.last ∙ c.draw.ensures.drawn ∙ ap next_draw inv.last ∙ sym (drawn-more number n);
       few = omega (arith, c.cells-test.true);
     }
 

@@ -1,5 +1,5 @@
 use Rattle.hd_map.specs.Surface.{map_of}
-use Rattle.hd_demo.proofs.Drawings.{forms_on}
+use Rattle.hd_demo.proofs.Drawings.{HasForms-file}
 use Rattle.hd_demo.proofs.generator.file_on.Goals as goal
 
 pub invariant_of-result : goal.invariant_of-result
@@ -18,5 +18,5 @@ invariant_of-result c = record {
     c.new-3.ensures,
     c.new-4.ensures,
     c.new-5.ensures,
-  ) (forms_on (map_of c.args.surface));
+  ) (HasForms-file (map_of c.args.surface));
 }
