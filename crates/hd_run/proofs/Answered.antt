@@ -68,21 +68,21 @@ abbrev pub AnswersAreDetermined : Type 0
 AnswersAreDetermined = (s : State) (number : ℕ) (lines : List (List ℕ)) (a b : Reply) (s' s'' : State) → IsState s → AreAnswers s number lines a s' → AreAnswers s number lines b s'' → (a ≡ b) × (s' ≡ s'')
 
 -- the answers to all lines begin with those to the first few
-pub every_start : AnswersAreDetermined → (s : State) (lines : List (List ℕ)) (text : List ℕ) (reply : Reply) (last : State) → IsState s → AnswersFirst s lines text → AreAnswers s 1 lines reply last
+pub AnswersFirst-starts : AnswersAreDetermined → (s : State) (lines : List (List ℕ)) (text : List ℕ) (reply : Reply) (last : State) → IsState s → AnswersFirst s lines text → AreAnswers s 1 lines reply last
     → StartsWith reply.text text
-every_start law s lines text reply last whole first all =
+AnswersFirst-starts law s lines text reply last whole first all =
     let some = first_answers s 1 lines first.count reply last all in
     let few : Reply = some.0 in
     let same = law s 1 (take first.count lines) (reply_of first.accepted text) few first.after some.1 whole first.answers some.3 in
     subst (λ (t : List ℕ). StartsWith t text) (ap (λ (r : Reply). r.text ++ some.2) same.0 ∙ sym some.4) (StartsWith-front text some.2)
 
 -- the answers to the first no lines
-pub no_answers : (s : State) (lines : List (List ℕ)) → AnswersFirst s lines []
-no_answers s lines = record { count = 0; accepted = true; after = s; answers = record { state = refl; reply = refl } }
+pub AnswersFirst-none : (s : State) (lines : List (List ℕ)) → AnswersFirst s lines []
+AnswersFirst-none s lines = record { count = 0; accepted = true; after = s; answers = record { state = refl; reply = refl } }
 
 -- the answers to all lines are those to the first of them
-pub all_answers : (s : State) (lines : List (List ℕ)) (accepted : Bool) (text : List ℕ) (after : State) → AreAnswers s 1 lines (reply_of accepted text) after → AnswersFirst s lines text
-all_answers s lines accepted text after are =
+pub AnswersFirst-all : (s : State) (lines : List (List ℕ)) (accepted : Bool) (text : List ℕ) (after : State) → AreAnswers s 1 lines (reply_of accepted text) after → AnswersFirst s lines text
+AnswersFirst-all s lines accepted text after are =
     record { count = length lines; accepted = accepted; after = after; answers = subst (λ (xs : List (List ℕ)). AreAnswers s 1 xs (reply_of accepted text) after) (sym (take_all lines)) are } where
       take_all : (xs : List (List ℕ)) → take (length xs) xs ≡ xs
       take_all [] = refl
@@ -112,9 +112,9 @@ module _ (start : State) (all : List (List ℕ)) (s : State) (number : ℕ) (lin
       (answers_then start 1 (take so_far.count all) (reply_of accepted so_far.text) s line first after so_far.answers (subst (λ (n : ℕ). IsAnswer s n line first after) place is))
 
   -- one more line is answered
-  pub answered_more : (first : Reply) (after : State) (new : Option (List ℕ)) → IsAnswer s number line first after → Appends mid new first.text
+  pub AreAnswered-more : (first : Reply) (after : State) (new : Option (List ℕ)) → IsAnswer s number line first after → Appends mid new first.text
       → AreAnswered start all s number (line ∷ rest) accepted old mid → AreAnswered start all after (number + 1) rest (accepted && first.accepted) old new
-  answered_more first after new is written so_far = record {
+  AreAnswered-more first after new is written so_far = record {
     count = so_far.count + 1;
     numbered = ap (λ n. n + 1) so_far.numbered;
     rest_is = sym (drop-drop 1 so_far.count all) ∙ ap (drop 1) so_far.rest_is;
@@ -124,23 +124,23 @@ module _ (start : State) (all : List (List ℕ)) (s : State) (number : ℕ) (lin
   }
 
   -- a stop at the next line
-  pub answered_stop : (stop : Stop) (after : State) (new : Option (List ℕ)) → WritesAnswer s number line (Err stop) after mid new
+  pub AreAnswered-stop : (stop : Stop) (after : State) (new : Option (List ℕ)) → WritesAnswer s number line (Err stop) after mid new
       → AreAnswered start all s number (line ∷ rest) accepted old mid → WritesAnswers start all (Err stop) after old new
-  answered_stop Memory after new kept so_far =
+  AreAnswered-stop Memory after new kept so_far =
       (so_far.text, record { count = so_far.count; accepted = accepted; after = s; answers = so_far.answers }, Appends-kept old mid new so_far.text so_far.written kept)
-  answered_stop WriteFault after new (reply, is, part) so_far =
+  AreAnswered-stop WriteFault after new (reply, is, part) so_far =
       let first : Reply = reply in (
         so_far.text ++ first.text,
         record { count = so_far.count + 1; accepted = accepted && first.accepted; after = after; answers = answers_more first after is so_far },
         AppendsPart-after old mid new so_far.text first.text so_far.written part,
       )
-  answered_stop ReadFault after new h so_far = absurd h
-  answered_stop (Refused refusal) after new h so_far = absurd h
+  AreAnswered-stop ReadFault after new h so_far = absurd h
+  AreAnswered-stop (Refused refusal) after new h so_far = absurd h
 
   -- each answer before that one was written
-  pub answered_turn : (stop : Stop) (after : State) (new : Option (List ℕ)) (asked : ℕ) → asked ≡ number → WritesAnswer s number line (Err stop) after mid new
+  pub AreAnswered-turn : (stop : Stop) (after : State) (new : Option (List ℕ)) (asked : ℕ) → asked ≡ number → WritesAnswer s number line (Err stop) after mid new
       → AreAnswered start all s number (line ∷ rest) accepted old mid → StopsInTurn start all asked old new
-  answered_turn Memory after new asked is kept so_far = record {
+  AreAnswered-turn Memory after new asked is kept so_far = record {
     count = so_far.count;
     one_more = is ∙ so_far.numbered;
     accepted = accepted;
@@ -150,7 +150,7 @@ module _ (start : State) (all : List (List ℕ)) (s : State) (number : ℕ) (lin
     got = [];
     written = subst (λ (xs : List ℕ). Appends old new xs) (sym (append-nil so_far.text)) (Appends-kept old mid new so_far.text so_far.written kept);
   }
-  answered_turn WriteFault after new asked is (reply, answer, part) so_far = record {
+  AreAnswered-turn WriteFault after new asked is (reply, answer, part) so_far = record {
     count = so_far.count;
     one_more = is ∙ so_far.numbered;
     accepted = accepted;
@@ -160,13 +160,13 @@ module _ (start : State) (all : List (List ℕ)) (s : State) (number : ℕ) (lin
     got = part.0;
     written = Appends-trans old mid new so_far.text part.0 so_far.written part.3;
   }
-  answered_turn ReadFault after new asked is h so_far = absurd h
-  answered_turn (Refused refusal) after new asked is h so_far = absurd h
+  AreAnswered-turn ReadFault after new asked is h so_far = absurd h
+  AreAnswered-turn (Refused refusal) after new asked is h so_far = absurd h
 
 -- all lines are answered
-pub answered_all : (start : State) (all : List (List ℕ)) (s : State) (number : ℕ) (accepted : Bool) (old new : Option (List ℕ)) → AreAnswered start all s number [] accepted old new
+pub AreAnswered-all : (start : State) (all : List (List ℕ)) (s : State) (number : ℕ) (accepted : Bool) (old new : Option (List ℕ)) → AreAnswered start all s number [] accepted old new
     → WritesAnswers start all (Ok accepted) s old new
-answered_all start all s number accepted old new so_far =
+AreAnswered-all start all s number accepted old new so_far =
     let whole : take so_far.count all ≡ all = sym (append-nil (take so_far.count all)) ∙ ap (λ xs. take so_far.count all ++ xs) (sym so_far.rest_is) ∙ take-append-drop so_far.count all in
     (so_far.text, subst (λ (lines : List (List ℕ)). AreAnswers start 1 lines (reply_of accepted so_far.text) s) whole so_far.answers, so_far.written)
 

@@ -33,13 +33,13 @@ pub record VerdictsAreDetermined : Type 0 where
   pub prunings : (m : Map) (a : Audit) (v w : Verdict) → pruning.IsVerdict m a v → pruning.IsVerdict m a w → v ≡ w
 
 -- what holds of a value, and of an error
-pub of_ok : {T E P : Type 0} (r : Result T E) → is_err r ≡ false → OnOk r P → P
-of_ok (Ok x) fine h = h
-of_ok (Err e) fine h = absurd (cc)
+pub OnOk-holds : {T E P : Type 0} (r : Result T E) → is_err r ≡ false → OnOk r P → P
+OnOk-holds (Ok x) fine h = h
+OnOk-holds (Err e) fine h = absurd (cc)
 
-pub of_err : {T E P : Type 0} (r : Result T E) → is_err r ≡ true → OnErr r P → P
-of_err (Ok x) failed h = absurd (cc)
-of_err (Err e) failed h = h
+pub OnErr-holds : {T E P : Type 0} (r : Result T E) → is_err r ≡ true → OnErr r P → P
+OnErr-holds (Ok x) failed h = absurd (cc)
+OnErr-holds (Err e) failed h = h
 
 one_outcome : {C : Type 0} (Is : C → Verdict → Type 0) → ((c : C) (v w : Verdict) → Is c v → Is c w → v ≡ w) → (reading : Result C CertificateError) (a b : RunOutcome) → IsOutcomeOfReading Is reading a → IsOutcomeOfReading Is reading b → a ≡ b
 one_outcome Is law (Ok certificate) a b (v, is, e) (w, is', e') = e ∙ ap judges (law certificate v w is is') ∙ sym e'
@@ -72,11 +72,11 @@ module _ (surface second : List ℕ) where
   surface_refused refusal refused = record { is = subst (AtSurface (Err refusal)) (sym refused) refl; only = λ other h. subst (AtSurface other) refused h }
 
   -- a surface that is not read stops a check
-  pub check_surface_stops : (stop : Stop) (told : Option (List ℕ)) → IsSurfaceRead surface (Err stop) → IsCheck surface second (Err stop) told told
-  check_surface_stops Memory told h = Keeps-refl told
-  check_surface_stops ReadFault told h = Keeps-refl told
-  check_surface_stops WriteFault told h = absurd h
-  check_surface_stops (Refused refusal) told h = (surface_refused refusal h, Keeps-refl told)
+  pub IsCheck-surface_stops : (stop : Stop) (told : Option (List ℕ)) → IsSurfaceRead surface (Err stop) → IsCheck surface second (Err stop) told told
+  IsCheck-surface_stops Memory told h = Keeps-refl told
+  IsCheck-surface_stops ReadFault told h = Keeps-refl told
+  IsCheck-surface_stops WriteFault told h = absurd h
+  IsCheck-surface_stops (Refused refusal) told h = (surface_refused refusal h, Keeps-refl told)
 
   module _ (file : File) (read : surface_of surface ≡ Ok file) where
     at_text : (o : RunOutcome) (text : Result (List ℕ) Refusal) → certificate_text_of second ≡ text → AtText file.map o text → AtSurface o (surface_of surface)
@@ -90,11 +90,11 @@ module _ (surface second : List ℕ) where
     second_refused refusal refused = record { is = at_text (Err refusal) (Err refusal) refused refl; only = λ other h. of_text other (Err refusal) refused h }
 
     -- a certificate that is not read stops a check
-    pub check_second_stops : (stop : Stop) (told : Option (List ℕ)) → IsCertificateRead second (Err stop) → IsCheck surface second (Err stop) told told
-    check_second_stops Memory told h = Keeps-refl told
-    check_second_stops ReadFault told h = Keeps-refl told
-    check_second_stops WriteFault told h = absurd h
-    check_second_stops (Refused refusal) told h = (second_refused refusal (text_long second h.0 ∙ ap Err (sym h.1)), Keeps-refl told)
+    pub IsCheck-second_stops : (stop : Stop) (told : Option (List ℕ)) → IsCertificateRead second (Err stop) → IsCheck surface second (Err stop) told told
+    IsCheck-second_stops Memory told h = Keeps-refl told
+    IsCheck-second_stops ReadFault told h = Keeps-refl told
+    IsCheck-second_stops WriteFault told h = absurd h
+    IsCheck-second_stops (Refused refusal) told h = (second_refused refusal (text_long second h.0 ∙ ap Err (sym h.1)), Keeps-refl told)
 
     module _ (laws : VerdictsAreDetermined) (fits : length second ≤ certificate_limit) where
       -- what the certificate comes to is the outcome
@@ -105,16 +105,16 @@ module _ (surface second : List ℕ) where
       }
 
       -- a certificate that is refused stops a check
-      pub check_judge_stops : (T : Type 0) (stop : Stop) (told : Option (List ℕ)) → IsJudged {T = T} file.map second (Err stop) → IsCheck surface second (Err stop) told told
-      check_judge_stops T Memory told h = Keeps-refl told
-      check_judge_stops T ReadFault told h = absurd h
-      check_judge_stops T WriteFault told h = absurd h
-      check_judge_stops T (Refused refusal) told h = (judged_is (Err refusal) h, Keeps-refl told)
+      pub IsCheck-judge_stops : (T : Type 0) (stop : Stop) (told : Option (List ℕ)) → IsJudged {T = T} file.map second (Err stop) → IsCheck surface second (Err stop) told told
+      IsCheck-judge_stops T Memory told h = Keeps-refl told
+      IsCheck-judge_stops T ReadFault told h = absurd h
+      IsCheck-judge_stops T WriteFault told h = absurd h
+      IsCheck-judge_stops T (Refused refusal) told h = (judged_is (Err refusal) h, Keeps-refl told)
 
       -- a certificate that is accepted
-      pub check_accepts : (old new : Option (List ℕ)) → IsOutcomeOfCertificate file.map second (Ok acceptance) → Appends old new accepted_text → IsCheck surface second (Ok true) old new
-      check_accepts old new h written = (refl, judged_is (Ok acceptance) h, written)
+      pub IsCheck-accepts : (old new : Option (List ℕ)) → IsOutcomeOfCertificate file.map second (Ok acceptance) → Appends old new accepted_text → IsCheck surface second (Ok true) old new
+      IsCheck-accepts old new h written = (refl, judged_is (Ok acceptance) h, written)
 
       -- a certificate that is accepted, where this cannot be written
-      pub check_cut_short : (old new : Option (List ℕ)) → IsOutcomeOfCertificate file.map second (Ok acceptance) → AppendsPart old new accepted_text → IsCheck surface second (Err WriteFault) old new
-      check_cut_short old new h part = (judged_is (Ok acceptance) h, part)
+      pub IsCheck-cut_short : (old new : Option (List ℕ)) → IsOutcomeOfCertificate file.map second (Ok acceptance) → AppendsPart old new accepted_text → IsCheck surface second (Err WriteFault) old new
+      IsCheck-cut_short old new h part = (judged_is (Ok acceptance) h, part)

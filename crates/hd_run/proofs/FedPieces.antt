@@ -16,9 +16,9 @@ module _ {R : Type 0} (StandsFor : R → List ℕ → Type 0) where
     pub stands : StandsFor reader got
 
   -- one more piece is fed
-  pub fed_more : (before mid left : Option (List ℕ)) (old new : R) (count n : ℕ) (piece : List ℕ) → (fed : HasFed before mid old count) → Consumes mid left (take n piece) → n ≤ length piece
+  pub HasFed-more : (before mid left : Option (List ℕ)) (old new : R) (count n : ℕ) (piece : List ℕ) → (fed : HasFed before mid old count) → Consumes mid left (take n piece) → n ≤ length piece
       → StandsFor new (fed.got ++ take n piece) → HasFed before left new (count + n)
-  fed_more before mid left old new count n piece fed more fits stands = record {
+  HasFed-more before mid left old new count n piece fed more fits stands = record {
     got = fed.got ++ take n piece;
     size = omega (arith, length-append fed.got (take n piece), length-take-le n piece fits, fed.size);
     taken = Consumes-trans before mid left fed.got (take n piece) fed.taken more;
@@ -32,6 +32,6 @@ module _ {R : Type 0} (StandsFor : R → List ℕ → Type 0) where
       TakesFew-more bytes fed.got piece limit n before mid left told fed.taken more (omega (arith, fits, fed.size))
 
 -- a call that is no error was accepted
-pub on_ok : {T E P : Type 0} (result : Result T E) → is_err result ≡ false → OnOk result P → P
-on_ok (Ok x) ok holds = holds
-on_ok (Err e) ok holds = cc
+pub OnOk-holds : {T E P : Type 0} (result : Result T E) → is_err result ≡ false → OnOk result P → P
+OnOk-holds (Ok x) ok holds = holds
+OnOk-holds (Err e) ok holds = cc

@@ -45,14 +45,14 @@ IsOfKind-whole : (kind : Bool) (bytes : List ℕ) → IsOfKind kind bytes → be
 IsOfKind-whole kind bytes is = ap (λ (xs : List ℕ). begins_pruning (lines_of xs)) (sym (append-nil bytes)) ∙ is []
 
 -- what is judged by its kind
-pub judged_by_kind : {T : Type 0} (m : Map) (kind : Bool) (bytes : List ℕ) (result : Result T Stop) → IsOfKind kind bytes → IsJudgedAs {T = T} (IsOutcomeOfKind kind m bytes) result → IsJudged {T = T} m bytes result
-judged_by_kind {T} m kind bytes result is judged = subst (λ (k : Bool). IsJudgedAs {T = T} (IsOutcomeOfKind k m bytes) result) (sym (IsOfKind-whole kind bytes is)) judged
+pub IsJudged-by_kind : {T : Type 0} (m : Map) (kind : Bool) (bytes : List ℕ) (result : Result T Stop) → IsOfKind kind bytes → IsJudgedAs {T = T} (IsOutcomeOfKind kind m bytes) result → IsJudged {T = T} m bytes result
+IsJudged-by_kind {T} m kind bytes result is judged = subst (λ (k : Bool). IsJudgedAs {T = T} (IsOutcomeOfKind k m bytes) result) (sym (IsOfKind-whole kind bytes is)) judged
 
 -- what was read of a certificate is what its bytes say, unless memory was refused
-pub judged_read : {T C : Type 0} (Is : C → Verdict → Type 0) (read told : Result C CertificateError) (result : Result T Stop) → (read ≡ Err unread.Memory) ⊎ (read ≡ told)
+pub IsJudgedAs-read : {T C : Type 0} (Is : C → Verdict → Type 0) (read told : Result C CertificateError) (result : Result T Stop) → (read ≡ Err unread.Memory) ⊎ (read ≡ told)
     → IsJudgedAs {T = T} (IsOutcomeOfReading Is read) result → IsJudgedAs {T = T} (IsOutcomeOfReading Is told) result
-judged_read {T} {C} Is read told result (inr same) judged = subst (λ (r : Result C CertificateError). IsJudgedAs {T = T} (IsOutcomeOfReading Is r) result) same judged
-judged_read {T} {C} Is read told result (inl memory) judged = unjudged result (subst (λ (r : Result C CertificateError). IsJudgedAs {T = T} (IsOutcomeOfReading Is r) result) memory judged)
+IsJudgedAs-read {T} {C} Is read told result (inr same) judged = subst (λ (r : Result C CertificateError). IsJudgedAs {T = T} (IsOutcomeOfReading Is r) result) same judged
+IsJudgedAs-read {T} {C} Is read told result (inl memory) judged = unjudged result (subst (λ (r : Result C CertificateError). IsJudgedAs {T = T} (IsOutcomeOfReading Is r) result) memory judged)
   where
     unjudged : (result : Result T Stop) → IsJudgedAs {T = T} (IsOutcomeOfReading Is (Err unread.Memory)) result → IsJudgedAs {T = T} (IsOutcomeOfReading Is told) result
     unjudged (Ok done) (line, is, e) = absurd (cc)

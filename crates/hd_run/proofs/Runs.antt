@@ -21,24 +21,24 @@ use Rattle.hd_run.specs.Outcome.{RunOutcome, Work, Inputs, IsTheRunOutcome, surf
 use Rattle.hd_run.specs.RunResult.{IsRun, IsBegun, AnswersAndSaves}
 use Rattle.hd_run.specs.Saving.{Saving}
 use Rattle.hd_run.specs.WrittenAnswers.{AnswersFirst, reply_of}
-use Rattle.hd_run.proofs.Answered.{AnswersAreDetermined, every_start}
+use Rattle.hd_run.proofs.Answered.{AnswersAreDetermined, AnswersFirst-starts}
 
 -- a second input that nothing is read of
-pub second_untouched : {R : Type 0} (name : Option (List ℕ)) (surface : Option (List ℕ)) (surfaces : Count) (script : R) → SecondComesLast name surface surfaces script script
-second_untouched name surface surfaces script = record { unnamed = λ none. refl; failed = λ rose. refl; refused = λ bytes refusal told no. refl }
+pub SecondComesLast-untouched : {R : Type 0} (name : Option (List ℕ)) (surface : Option (List ℕ)) (surfaces : Count) (script : R) → SecondComesLast name surface surfaces script script
+SecondComesLast-untouched name surface surfaces script = record { unnamed = λ none. refl; failed = λ rose. refl; refused = λ bytes refusal told no. refl }
 
 -- a second input that is read once the surface is accepted
-pub second_after : {R : Type 0} (given : Option (List ℕ)) (surface : Option (List ℕ)) (surfaces : Count) (script script' : R) (name : List ℕ) (file : File) → given ≡ Some name → Stays surfaces
+pub SecondComesLast-after : {R : Type 0} (given : Option (List ℕ)) (surface : Option (List ℕ)) (surfaces : Count) (script script' : R) (name : List ℕ) (file : File) → given ≡ Some name → Stays surfaces
     → ((bytes : List ℕ) → surface ≡ Some bytes → surface_of bytes ≡ Ok file) → SecondComesLast given surface surfaces script script'
-second_after given surface surfaces script script' name file named stays accepted = record {
+SecondComesLast-after given surface surfaces script script' name file named stays accepted = record {
   unnamed = λ none. absurd (cc);
   failed = λ rose. absurd (rose stays);
   refused = λ bytes refusal told no. absurd (let yes = accepted bytes told in cc);
 }
 
 -- how far it is read, whatever name is meant
-pub second_read : {U : Type 0} (given : Option (List ℕ)) (name other : List ℕ) (limit : ℕ) (r : Reading) → given ≡ Some name → given ≡ Some other → StopsWithin limit name r → U ⊎ StopsWithin limit other r
-second_read given name other limit r named is read = let same : name ≡ other = cc in inr (subst (λ (n : List ℕ). StopsWithin limit n r) same read)
+pub StopsWithin-second : {U : Type 0} (given : Option (List ℕ)) (name other : List ℕ) (limit : ℕ) (r : Reading) → given ≡ Some name → given ≡ Some other → StopsWithin limit name r → U ⊎ StopsWithin limit other r
+StopsWithin-second given name other limit r named is read = let same : name ≡ other = cc in inr (subst (λ (n : List ℕ). StopsWithin limit n r) same read)
 
 pub lines_to_answer-none : (script : Option (List ℕ)) (bytes : List ℕ) → script ≡ None → lines_to_answer script bytes ≡ Ok (codes "dales" ∷ [])
 lines_to_answer-none script bytes is = rw is refl
@@ -68,19 +68,19 @@ module _ (request : RunRequest) (surface script : List ℕ) where
 
   module _ (stays : Type 0) (s : Saving) where
     -- a surface that is not read stops a run
-    pub surface_stops : (stop : Stop) (told : Option (List ℕ)) → IsSurfaceRead surface (Err stop) → IsRun request surface script stays s (Err stop) told told
-    surface_stops Memory told h = inl (Keeps-refl told)
-    surface_stops ReadFault told h = Keeps-refl told
-    surface_stops WriteFault told h = absurd h
-    surface_stops (Refused refusal) told h = (refused_is refusal (inputs_of-surface refusal h), Keeps-refl told)
+    pub IsRun-surface_stops : (stop : Stop) (told : Option (List ℕ)) → IsSurfaceRead surface (Err stop) → IsRun request surface script stays s (Err stop) told told
+    IsRun-surface_stops Memory told h = inl (Keeps-refl told)
+    IsRun-surface_stops ReadFault told h = Keeps-refl told
+    IsRun-surface_stops WriteFault told h = absurd h
+    IsRun-surface_stops (Refused refusal) told h = (refused_is refusal (inputs_of-surface refusal h), Keeps-refl told)
 
     -- a script that is not read stops a run
-    pub script_stops : (name : List ℕ) (file : File) (stop : Stop) (told : Option (List ℕ)) → surface_of surface ≡ Ok file → request.script ≡ Some name → IsScriptRead script (Err stop)
+    pub IsRun-script_stops : (name : List ℕ) (file : File) (stop : Stop) (told : Option (List ℕ)) → surface_of surface ≡ Ok file → request.script ≡ Some name → IsScriptRead script (Err stop)
         → IsRun request surface script stays s (Err stop) told told
-    script_stops name file Memory told read named h = inl (Keeps-refl told)
-    script_stops name file ReadFault told read named h = Keeps-refl told
-    script_stops name file WriteFault told read named h = absurd h
-    script_stops name file (Refused refusal) told read named h =
+    IsRun-script_stops name file Memory told read named h = inl (Keeps-refl told)
+    IsRun-script_stops name file ReadFault told read named h = Keeps-refl told
+    IsRun-script_stops name file WriteFault told read named h = absurd h
+    IsRun-script_stops name file (Refused refusal) told read named h =
         (refused_is refusal (inputs_of-script file refusal read (lines_to_answer-long request.script name script named h.0 ∙ ap Err (sym h.1))), Keeps-refl told)
 
   module _ (law : AnswersAreDetermined) (inputs : Inputs) (whole : IsState (first_state inputs.file)) (accepted : inputs_of request surface script ≡ Ok inputs) where
@@ -94,7 +94,7 @@ module _ (request : RunRequest) (surface script : List ℕ) where
       answers = first;
       every = λ work h. let k = lines_of_outcome (Ok work) h in
           let same : work ≡ answered request.save k.0 k.1 = cc in
-          subst (λ (t : List ℕ). StartsWith t text) (sym (ap (λ (w : Work). w.out) same)) (every_start law (first_state inputs.file) inputs.lines text k.0 k.1 whole first k.2);
+          subst (λ (t : List ℕ). StartsWith t text) (sym (ap (λ (w : Work). w.out) same)) (AnswersFirst-starts law (first_state inputs.file) inputs.lines text k.0 k.1 whole first k.2);
     }
 
     -- the answers to all lines, and the file that they leave, are the outcome
@@ -106,12 +106,12 @@ module _ (request : RunRequest) (surface script : List ℕ) where
     }
 
     -- the answers to the lines, and the saving of the file that they leave, are those of a run
-    pub run_answered : (stays : Type 0) (s : Saving) (result : Result Bool Stop) (old new : Option (List ℕ)) → AnswersAndSaves request.save (first_state inputs.file) inputs.lines stays s result old new
+    pub IsRun-answered : (stays : Type 0) (s : Saving) (result : Result Bool Stop) (old new : Option (List ℕ)) → AnswersAndSaves request.save (first_state inputs.file) inputs.lines stays s result old new
         → IsRun request surface script stays s result old new
-    run_answered stays s (Ok all_accepted) old new (text, after, are, written, saved) = (answered request.save (reply_of all_accepted text) after, is_defined (reply_of all_accepted text) after are, refl, written, saved)
-    run_answered stays s (Err Memory) old new (text, first, written) = inr (text, is_begun text first, written)
-    run_answered stays s (Err WriteFault) old new (inl (kept, text, first, part)) = inl (kept, text, is_begun text first, part)
-    run_answered stays s (Err WriteFault) old new (inr (all_accepted, text, after, are, written, saved, is, some)) =
+    IsRun-answered stays s (Ok all_accepted) old new (text, after, are, written, saved) = (answered request.save (reply_of all_accepted text) after, is_defined (reply_of all_accepted text) after are, refl, written, saved)
+    IsRun-answered stays s (Err Memory) old new (text, first, written) = inr (text, is_begun text first, written)
+    IsRun-answered stays s (Err WriteFault) old new (inl (kept, text, first, part)) = inl (kept, text, is_begun text first, part)
+    IsRun-answered stays s (Err WriteFault) old new (inr (all_accepted, text, after, are, written, saved, is, some)) =
         inr (answered request.save (reply_of all_accepted text) after, is_defined (reply_of all_accepted text) after are, (saved, is, some, written))
-    run_answered stays s (Err ReadFault) old new h = absurd h
-    run_answered stays s (Err (Refused refusal)) old new h = absurd h
+    IsRun-answered stays s (Err ReadFault) old new h = absurd h
+    IsRun-answered stays s (Err (Refused refusal)) old new h = absurd h

@@ -8,16 +8,16 @@ use Rattle.hd_base.proofs.Pieces.{AreWritten, AreWritten-more}
 use Rattle.hd_base.proofs.Told.{AppendsPart-after}
 
 -- a piece of what was left is written
-pub piece_written : (old mid new : Told) (text left piece rest : List ℕ) → left ≡ piece ++ rest → Appends mid new piece → AreWritten old mid text left → AreWritten old new text rest
-piece_written old mid new text left piece rest joined more written =
+pub AreWritten-piece : (old mid new : Told) (text left piece rest : List ℕ) → left ≡ piece ++ rest → Appends mid new piece → AreWritten old mid text left → AreWritten old new text rest
+AreWritten-piece old mid new text left piece rest joined more written =
     let first : take (length piece) left ≡ piece = ap (take (length piece)) joined ∙ take-append_seam piece rest in
     let behind : drop (length piece) left ≡ rest = ap (drop (length piece)) joined ∙ drop-append_seam piece rest in
     let fits : length piece ≤ length left = omega (arith, ap length joined, length-append piece rest) in
     subst (AreWritten old new text) behind (AreWritten-more old mid new text left (length piece) fits (subst (Appends mid new) (sym first) more) written)
 
 -- nothing is left
-pub all_written : (old new : Told) (text left : List ℕ) → left ≡ [] → AreWritten old new text left → Appends old new text
-all_written old new text left none written =
+pub AreWritten-all : (old new : Told) (text left : List ℕ) → left ≡ [] → AreWritten old new text left → Appends old new text
+AreWritten-all old new text left none written =
     let whole : take written.count text ≡ text =
     sym (append-nil (take written.count text)) ∙ ap (λ (t : List ℕ). take written.count text ++ t) (sym none ∙ written.rest_is) ∙ take-append-drop written.count text in
     subst (Appends old new) whole written.taken
@@ -28,8 +28,8 @@ part_longer old new piece rest (got, begins, short, written) =
     (got, take-append-le (length got) piece rest (omega (arith, short)) ∙ begins, omega (arith, short, length-append piece rest), written)
 
 -- not all of a piece is written
-pub part_written : (old mid new : Told) (text left piece rest : List ℕ) → left ≡ piece ++ rest → AppendsPart mid new piece → AreWritten old mid text left → AppendsPart old new text
-part_written old mid new text left piece rest joined part written =
+pub AreWritten-part : (old mid new : Told) (text left piece rest : List ℕ) → left ≡ piece ++ rest → AppendsPart mid new piece → AreWritten old mid text left → AppendsPart old new text
+AreWritten-part old mid new text left piece rest joined part written =
     let whole : take written.count text ++ left ≡ text = ap (λ (t : List ℕ). take written.count text ++ t) written.rest_is ∙ take-append-drop written.count text in
     subst (AppendsPart old new) whole
     (AppendsPart-after old mid new (take written.count text) left written.taken (subst (AppendsPart mid new) (sym joined) (part_longer mid new piece rest part)))

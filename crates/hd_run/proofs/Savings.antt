@@ -15,7 +15,7 @@ use Rattle.hd_run.specs.Outcome.{saved_of}
 use Rattle.hd_run.specs.RunResult.{AnswersAndSaves, HasSinkStop}
 use Rattle.hd_run.specs.Saving.{Saving, SavesAll, IsSavedAs, Saves, SavesLast, emptied}
 use Rattle.hd_run.specs.WrittenAnswers.{WritesAnswers}
-use Rattle.hd_run.proofs.Answered.{all_answers}
+use Rattle.hd_run.proofs.Answered.{AnswersFirst-all}
 
 -- after an accepted open no byte is written yet
 pub emptied-open : (old new : Told) → OnTold old (new ≡ Some []) → Keeps (emptied old) new
@@ -23,51 +23,51 @@ emptied-open None new empty = tt
 emptied-open (Some bytes) new empty = rw (empty bytes refl) refl
 
 -- what is appended to no byte
-pub after_open : (old mid new : Told) (text : List ℕ) → Keeps (emptied old) mid → Appends mid new text → Appends (emptied old) new text
-after_open old mid new text opened written = Appends-trans (emptied old) mid new [] text (Appends-kept (emptied old) (emptied old) mid [] (Appends-nil (emptied old)) opened) written
+pub emptied-appended : (old mid new : Told) (text : List ℕ) → Keeps (emptied old) mid → Appends mid new text → Appends (emptied old) new text
+emptied-appended old mid new text opened written = Appends-trans (emptied old) mid new [] text (Appends-kept (emptied old) (emptied old) mid [] (Appends-nil (emptied old)) opened) written
 
 -- after it not all of a text is written
-pub cut_after_open : (old mid new : Told) (text : List ℕ) → Keeps (emptied old) mid → AppendsPart mid new text → AppendsStart (emptied old) new text
-cut_after_open old mid new text opened (got, begins, short, more) = (got, begins, after_open old mid new got opened more)
+pub emptied-cut : (old mid new : Told) (text : List ℕ) → Keeps (emptied old) mid → AppendsPart mid new text → AppendsStart (emptied old) new text
+emptied-cut old mid new text opened (got, begins, short, more) = (got, begins, emptied-appended old mid new got opened more)
 
 -- or all of it is, and nothing more
-pub all_after_open : (old mid new last : Told) (text : List ℕ) → Keeps (emptied old) mid → Appends mid new text → Keeps new last → Appends (emptied old) last text
-all_after_open old mid new last text opened written kept = Appends-kept (emptied old) new last text (after_open old mid new text opened written) kept
+pub emptied-all : (old mid new last : Told) (text : List ℕ) → Keeps (emptied old) mid → Appends mid new text → Keeps new last → Appends (emptied old) last text
+emptied-all old mid new last text opened written kept = Appends-kept (emptied old) new last text (emptied-appended old mid new text opened written) kept
 
 -- all of a text begins it
-pub start-whole : (old new : Told) (text : List ℕ) → Appends old new text → AppendsStart old new text
-start-whole old new text written = (text, subst (λ (whole : List ℕ). StartsWith whole text) (append-nil text) (StartsWith-front text []), written)
+pub AppendsStart-whole : (old new : Told) (text : List ℕ) → Appends old new text → AppendsStart old new text
+AppendsStart-whole old new text written = (text, subst (λ (whole : List ℕ). StartsWith whole text) (append-nil text) (StartsWith-front text []), written)
 
 -- a count that rose later
-pub rose_later : (before mid now : ℕ) → mid ≡ before → Rose mid now → Rose before now
-rose_later before mid now same rose = subst (λ (n : ℕ). Rose n now) same rose
+pub Rose-later : (before mid now : ℕ) → mid ≡ before → Rose mid now → Rose before now
+Rose-later before mid now same rose = subst (λ (n : ℕ). Rose n now) same rose
 
 module _ (save : Option (List ℕ)) (first : State) (lines : List (List ℕ)) (stays : Type 0) (s : Saving) (old new : Told) where
   -- the answering stops, and nothing is saved
-  pub lines_stop : (stop : Stop) (after : State) → stays → WritesAnswers first lines (Err stop) after old new → AnswersAndSaves save first lines stays s (Err stop) old new
-  lines_stop Memory after kept h = h
-  lines_stop WriteFault after kept (text, answers, part) = inl (kept, text, answers, part)
-  lines_stop ReadFault after kept h = absurd h
-  lines_stop (Refused refusal) after kept h = absurd h
+  pub AnswersAndSaves-lines_stop : (stop : Stop) (after : State) → stays → WritesAnswers first lines (Err stop) after old new → AnswersAndSaves save first lines stays s (Err stop) old new
+  AnswersAndSaves-lines_stop Memory after kept h = h
+  AnswersAndSaves-lines_stop WriteFault after kept (text, answers, part) = inl (kept, text, answers, part)
+  AnswersAndSaves-lines_stop ReadFault after kept h = absurd h
+  AnswersAndSaves-lines_stop (Refused refusal) after kept h = absurd h
 
   -- all lines are answered, and nothing is to be saved
-  pub lines_kept : (accepted : Bool) (after : State) → save ≡ None → stays → WritesAnswers first lines (Ok accepted) after old new → AnswersAndSaves save first lines stays s (Ok accepted) old new
-  lines_kept accepted after none kept (text, are, written) = (text, after, are, written, subst (λ (o : Option (List ℕ)). IsSavedAs stays s (saved_of o after)) (sym none) kept)
+  pub AnswersAndSaves-lines_kept : (accepted : Bool) (after : State) → save ≡ None → stays → WritesAnswers first lines (Ok accepted) after old new → AnswersAndSaves save first lines stays s (Ok accepted) old new
+  AnswersAndSaves-lines_kept accepted after none kept (text, are, written) = (text, after, are, written, subst (λ (o : Option (List ℕ)). IsSavedAs stays s (saved_of o after)) (sym none) kept)
 
   module _ (accepted : Bool) (after : State) (name : List ℕ) (named : save ≡ Some name) where
     text_saved : saved_of save after ≡ Some (canonical (saved_file after))
     text_saved = ap (λ (o : Option (List ℕ)). saved_of o after) named
 
     -- all lines are answered, and their file is saved
-    pub SavesLast-lines : WritesAnswers first lines (Ok accepted) after old new → SavesAll (canonical (saved_file after)) s → AnswersAndSaves save first lines stays s (Ok accepted) old new
-    SavesLast-lines (text, are, written) all = (text, after, are, written, subst (IsSavedAs stays s) (sym text_saved) all)
+    pub AnswersAndSaves-lines_saved : WritesAnswers first lines (Ok accepted) after old new → SavesAll (canonical (saved_file after)) s → AnswersAndSaves save first lines stays s (Ok accepted) old new
+    AnswersAndSaves-lines_saved (text, are, written) all = (text, after, are, written, subst (IsSavedAs stays s) (sym text_saved) all)
 
     -- all lines are answered, and the saving of their file stops
-    pub saving_stops : (T : Type 0) (stop : Stop) → WritesAnswers first lines (Ok accepted) after old new → Saves {T = T} (canonical (saved_file after)) stays (Err stop) s → AnswersAndSaves save first lines stays s (Err stop) old new
-    saving_stops T Memory (text, are, written) h = (text, all_answers first lines accepted text after are, written)
-    saving_stops T WriteFault (text, are, written) some = inr (accepted, text, after, are, written, canonical (saved_file after), text_saved, some)
-    saving_stops T ReadFault w h = absurd h
-    saving_stops T (Refused refusal) w h = absurd h
+    pub AnswersAndSaves-saving_stops : (T : Type 0) (stop : Stop) → WritesAnswers first lines (Ok accepted) after old new → Saves {T = T} (canonical (saved_file after)) stays (Err stop) s → AnswersAndSaves save first lines stays s (Err stop) old new
+    AnswersAndSaves-saving_stops T Memory (text, are, written) h = (text, AnswersFirst-all first lines accepted text after are, written)
+    AnswersAndSaves-saving_stops T WriteFault (text, are, written) some = inr (accepted, text, after, are, written, canonical (saved_file after), text_saved, some)
+    AnswersAndSaves-saving_stops T ReadFault w h = absurd h
+    AnswersAndSaves-saving_stops T (Refused refusal) w h = absurd h
 
 module _ (save : Option (List ℕ)) (result : Result Bool Stop) (stays : Type 0) (surface script out : Count) (s : Saving) where
   -- `saved` is not touched
@@ -81,16 +81,16 @@ module _ (save : Option (List ℕ)) (result : Result Bool Stop) (stays : Type 0)
   }
 
   -- it is not touched, since nothing is to be saved
-  pub last_unasked : save ≡ None → stays → Stays s.faults → SavesLast save result stays surface script out s
-  last_unasked none kept count = last_untouched kept count (λ accepted name done asked. cc)
+  pub SavesLast-unasked : save ≡ None → stays → Stays s.faults → SavesLast save result stays surface script out s
+  SavesLast-unasked none kept count = last_untouched kept count (λ accepted name done asked. cc)
 
   -- or since something stops before
-  pub last_unreached : (stop : Stop) → result ≡ Err stop → stays → Stays s.faults → SavesLast save result stays surface script out s
-  last_unreached stop is kept count = last_untouched kept count (λ accepted name done asked. cc)
+  pub SavesLast-unreached : (stop : Stop) → result ≡ Err stop → stays → Stays s.faults → SavesLast save result stays surface script out s
+  SavesLast-unreached stop is kept count = last_untouched kept count (λ accepted name done asked. cc)
 
   -- the file is saved
-  pub last_saved : (accepted : Bool) (name text : List ℕ) → save ≡ Some name → result ≡ Ok accepted → Stays surface → Stays script → SavesAll text s → SavesLast save result stays surface script out s
-  last_saved accepted name text named is a b all = record {
+  pub SavesLast-saved : (accepted : Bool) (name text : List ℕ) → save ≡ Some name → result ≡ Ok accepted → Stays surface → Stays script → SavesAll text s → SavesLast save result stays surface script out s
+  SavesLast-saved accepted name text named is a b all = record {
     unasked = λ none. absurd (cc);
     stopped = λ stop other not_write. absurd (cc);
     read = λ rose. absurd (rose (a, b));
@@ -99,23 +99,23 @@ module _ (save : Option (List ℕ)) (result : Result Bool Stop) (stays : Type 0)
   }
 
   -- the saving of the file stops
-  pub last_stopped : (T : Type 0) (stop : Stop) (name text : List ℕ) → save ≡ Some name → result ≡ Err stop → Stays surface → Stays script → Stays out → Saves {T = T} text stays (Err stop) s
+  pub SavesLast-stopped : (T : Type 0) (stop : Stop) (name text : List ℕ) → save ≡ Some name → result ≡ Err stop → Stays surface → Stays script → Stays out → Saves {T = T} text stays (Err stop) s
       → SavesLast save result stays surface script out s
-  last_stopped T Memory name text named is a b c (kept, count) = last_untouched kept count (λ accepted other ok asked. cc)
-  last_stopped T WriteFault name text named is a b c some = record {
+  SavesLast-stopped T Memory name text named is a b c (kept, count) = last_untouched kept count (λ accepted other ok asked. cc)
+  SavesLast-stopped T WriteFault name text named is a b c some = record {
     unasked = λ none. absurd (cc);
     stopped = λ stop other not_write. absurd (not_write cc);
     read = λ rose. absurd (rose (a, b));
     failed = λ rose. (is, c);
     flushed_all = λ accepted other ok asked. absurd (cc);
   }
-  last_stopped T ReadFault name text named is a b c h = absurd h
-  last_stopped T (Refused refusal) name text named is a b c h = absurd h
+  SavesLast-stopped T ReadFault name text named is a b c h = absurd h
+  SavesLast-stopped T (Refused refusal) name text named is a b c h = absurd h
 
 module _ (out : Count) (s : Saving) where
   -- the saving stops
-  pub saving_cause : (T : Type 0) (stop : Stop) (text : List ℕ) (stays : Type 0) → Stays out → Saves {T = T} text stays (Err stop) s → HasSinkStop {T = Bool} out s.faults (Err stop)
-  saving_cause T Memory text stays kept h = record { write = λ e. absurd (cc); other = λ e. (kept, h.1); only = λ stop e. inr (cc) }
-  saving_cause T WriteFault text stays kept some = record { write = λ e. inr (kept, some.count); other = λ e. absurd (e refl); only = λ stop e. inl (cc) }
-  saving_cause T ReadFault text stays kept h = absurd h
-  saving_cause T (Refused refusal) text stays kept h = absurd h
+  pub Saves-cause : (T : Type 0) (stop : Stop) (text : List ℕ) (stays : Type 0) → Stays out → Saves {T = T} text stays (Err stop) s → HasSinkStop {T = Bool} out s.faults (Err stop)
+  Saves-cause T Memory text stays kept h = record { write = λ e. absurd (cc); other = λ e. (kept, h.1); only = λ stop e. inr (cc) }
+  Saves-cause T WriteFault text stays kept some = record { write = λ e. inr (kept, some.count); other = λ e. absurd (e refl); only = λ stop e. inl (cc) }
+  Saves-cause T ReadFault text stays kept h = absurd h
+  Saves-cause T (Refused refusal) text stays kept h = absurd h

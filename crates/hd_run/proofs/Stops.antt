@@ -35,52 +35,52 @@ pub HasSinkStop-no_refusal : {T : Type 0} (out saved : Count) (result : Result T
 HasSinkStop-no_refusal out saved result cause refusal e = elim (cause.only (Refused refusal) e) [ inl w ↦ absurd (cc) | inr w ↦ absurd (cc) ]
 
 -- a stop for another cause than a refusal of the surface is none
-pub no_refusal_of_surface : {T : Type 0} (result : Result T Stop) (refusal : Refusal) → IfErr result IsNotOfSurface → result ≡ Err (Refused refusal) → IsOfSurface refusal → ⊥
-no_refusal_of_surface {T} result refusal other is = subst (λ (r : Result T Stop). IfErr r IsNotOfSurface) is other
+pub IsNotOfSurface-result : {T : Type 0} (result : Result T Stop) (refusal : Refusal) → IfErr result IsNotOfSurface → result ≡ Err (Refused refusal) → IsOfSurface refusal → ⊥
+IsNotOfSurface-result {T} result refusal other is = subst (λ (r : Result T Stop). IfErr r IsNotOfSurface) is other
 
-pub later_refusal : {T : Type 0} (stop : Stop) (refusal : Refusal) → IsNotOfSurface stop → ◌≡◌ {A = Result T Stop} (Err stop) (Err (Refused refusal)) → IsOfSurface refusal → ⊥
-later_refusal {T} stop refusal other is = no_refusal_of_surface {T = T} (Err stop) refusal other is
+pub IsNotOfSurface-stop : {T : Type 0} (stop : Stop) (refusal : Refusal) → IsNotOfSurface stop → ◌≡◌ {A = Result T Stop} (Err stop) (Err (Refused refusal)) → IsOfSurface refusal → ⊥
+IsNotOfSurface-stop {T} stop refusal other is = IsNotOfSurface-result {T = T} (Err stop) refusal other is
 
 -- what is judged is no fault
-pub judged_no_fault : {T : Type 0} (Is : RunOutcome → Type 0) (result : Result T Stop) → IsJudgedAs {T = T} Is result → result ≢ Err ReadFault
-judged_no_fault {T} Is result judged e = subst (λ (r : Result T Stop). IsJudgedAs {T = T} Is r) e judged
+pub HasJudgeStop-no_read_fault : {T : Type 0} (Is : RunOutcome → Type 0) (result : Result T Stop) → IsJudgedAs {T = T} Is result → result ≢ Err ReadFault
+HasJudgeStop-no_read_fault {T} Is result judged e = subst (λ (r : Result T Stop). IsJudgedAs {T = T} Is r) e judged
 
-pub judged_no_write : {T : Type 0} (Is : RunOutcome → Type 0) (result : Result T Stop) → IsJudgedAs {T = T} Is result → result ≢ Err WriteFault
-judged_no_write {T} Is result judged e = subst (λ (r : Result T Stop). IsJudgedAs {T = T} Is r) e judged
+pub HasJudgeStop-no_write_fault : {T : Type 0} (Is : RunOutcome → Type 0) (result : Result T Stop) → IsJudgedAs {T = T} Is result → result ≢ Err WriteFault
+HasJudgeStop-no_write_fault {T} Is result judged e = subst (λ (r : Result T Stop). IsJudgedAs {T = T} Is r) e judged
 
 -- the same stop is no read fault, whatever was to be had
-pub no_fault_moved : {T U : Type 0} (stop : Stop) → ◌≢◌ {A = Result T Stop} (Err stop) (Err ReadFault) → ◌≢◌ {A = Result U Stop} (Err stop) (Err ReadFault)
-no_fault_moved stop no_fault e = let same : stop ≡ ReadFault = cc in no_fault (ap Err same)
+pub ReadFault-moved : {T U : Type 0} (stop : Stop) → ◌≢◌ {A = Result T Stop} (Err stop) (Err ReadFault) → ◌≢◌ {A = Result U Stop} (Err stop) (Err ReadFault)
+ReadFault-moved stop no_fault e = let same : stop ≡ ReadFault = cc in no_fault (ap Err same)
 
 module _ {U : Type 0} (surface script out saved : Count) (stop : Stop) where
   -- the surface is not read
-  pub surface_stopped : {T : Type 0} → HasReadStop {T = T} surface.before surface.now (Err stop) → Stays script → Stays out → Stays saved → HasRunStop {T = U} surface script out saved (Err stop)
-  surface_stopped cause b c d = record {
+  pub HasRunStop-surface : {T : Type 0} → HasReadStop {T = T} surface.before surface.now (Err stop) → Stays script → Stays out → Stays saved → HasRunStop {T = U} surface script out saved (Err stop)
+  HasRunStop-surface cause b c d = record {
     read = λ e. let same : stop ≡ ReadFault = cc in (inl (cause.fault (ap Err same), b), c, d);
     write = λ e. let same : stop ≡ WriteFault = cc in absurd (cause.no_write (ap Err same));
     other = λ not_read not_write. (cause.no_fault (λ e. let same : stop ≡ ReadFault = cc in not_read (ap Err same)), b, c, d);
   }
 
   -- the second input is not read
-  pub second_stopped : {T : Type 0} → Stays surface → HasReadStop {T = T} script.before script.now (Err stop) → Stays out → Stays saved → HasRunStop {T = U} surface script out saved (Err stop)
-  second_stopped a cause c d = record {
+  pub HasRunStop-second : {T : Type 0} → Stays surface → HasReadStop {T = T} script.before script.now (Err stop) → Stays out → Stays saved → HasRunStop {T = U} surface script out saved (Err stop)
+  HasRunStop-second a cause c d = record {
     read = λ e. let same : stop ≡ ReadFault = cc in (inr (a, cause.fault (ap Err same)), c, d);
     write = λ e. let same : stop ≡ WriteFault = cc in absurd (cause.no_write (ap Err same));
     other = λ not_read not_write. (a, cause.no_fault (λ e. let same : stop ≡ ReadFault = cc in not_read (ap Err same)), c, d);
   }
 
   -- the certificate is refused
-  pub judged_stopped : {T : Type 0} → ◌≢◌ {A = Result T Stop} (Err stop) (Err ReadFault) → ◌≢◌ {A = Result T Stop} (Err stop) (Err WriteFault) → Stays surface → Stays script → Stays out → Stays saved
+  pub HasRunStop-judged : {T : Type 0} → ◌≢◌ {A = Result T Stop} (Err stop) (Err ReadFault) → ◌≢◌ {A = Result T Stop} (Err stop) (Err WriteFault) → Stays surface → Stays script → Stays out → Stays saved
       → HasRunStop {T = U} surface script out saved (Err stop)
-  judged_stopped no_fault no_write a b c d = record {
+  HasRunStop-judged no_fault no_write a b c d = record {
     read = λ e. let same : stop ≡ ReadFault = cc in absurd (no_fault (ap Err same));
     write = λ e. let same : stop ≡ WriteFault = cc in absurd (no_write (ap Err same));
     other = λ _ _. (a, b, c, d);
   }
 
 -- both inputs are read, and the lines answered or not
-pub answering_stopped : {T : Type 0} (surface script out saved : Count) (result : Result T Stop) → Stays surface → Stays script → HasSinkStop out saved result → HasRunStop surface script out saved result
-answering_stopped surface script out saved result a b cause = record {
+pub HasRunStop-answering : {T : Type 0} (surface script out saved : Count) (result : Result T Stop) → Stays surface → Stays script → HasSinkStop out saved result → HasRunStop surface script out saved result
+HasRunStop-answering surface script out saved result a b cause = record {
   read = λ e. absurd (HasSinkStop-no_read_fault out saved result cause e);
   write = λ e. (a, b, cause.write e);
   other = λ not_read not_write. let still = cause.other not_write in (a, b, still.0, still.1);

@@ -2,7 +2,7 @@ use Rattle.std.proofs.Common.{◌≤◌, ℕ, length, sym, ◌∙◌, arith, len
 use Rattle.std.proofs.lemmas.List.{take-append-le}
 use Rattle.hd_sdf_read.specs.Reader.{StandsFor}
 use Rattle.hd_run.specs.Limits.{surface_limit}
-use Rattle.hd_run.proofs.FedPieces.{TakesFew-fed, fed_more, on_ok}
+use Rattle.hd_run.proofs.FedPieces.{TakesFew-fed, HasFed-more, OnOk-holds}
 use Rattle.hd_run.proofs.inputs.feed_all.Goals as goal
 
 pub returns-then-is_err-clause-few : goal.returns-then-is_err-clause-few
@@ -19,11 +19,11 @@ pieces-preserved g c =
     let room = length-take c.min-room.result c.pieces.piece in
     let counted = c.pieces.invariant.counted in
     let bound : c.in-Ok.taken ≤ length c.read.new.into = c.in-Ok.ensures.bound.0 in
-    let stands = on_ok c.feed_piece.result (sym c.is_err.ensures.value ∙ c.if-is_err.false) c.feed_piece.ensures.stands c.pieces.invariant.fed.got c.pieces.invariant.fed.stands in
+    let stands = OnOk-holds c.feed_piece.result (sym c.is_err.ensures.value ∙ c.if-is_err.false) c.feed_piece.ensures.stands c.pieces.invariant.fed.got c.pieces.invariant.fed.stands in
     record {
       open_still = c.in-Ok.ensures.open;
       within = omega arith;
-      fed = fed_more StandsFor _ _ _ _ _ c.pieces.count c.in-Ok.taken c.read.new.into c.pieces.invariant.fed c.in-Ok.ensures.bytes.0 bound (rw take-append-le at stands);
+      fed = HasFed-more StandsFor _ _ _ _ _ c.pieces.count c.in-Ok.taken c.read.new.into c.pieces.invariant.fed c.in-Ok.ensures.bytes.0 bound (rw take-append-le at stands);
       counted = omega (arith, c.feed_piece.ensures.fed, length-take {A = ℕ});
       faults = c.in-Ok.ensures.cause.accepted ∙ c.pieces.invariant.faults;
     }

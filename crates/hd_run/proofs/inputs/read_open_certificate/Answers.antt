@@ -2,7 +2,7 @@ use Rattle.std.proofs.Common.{◌≤◌, ℕ, length, ◌∙◌, arith, length-t
 use Rattle.std.proofs.lemmas.List.{take-append-le}
 use Rattle.hd_run.specs.CertificateReader.{StandsFor}
 use Rattle.hd_run.specs.Limits.{certificate_limit}
-use Rattle.hd_run.proofs.FedPieces.{TakesFew-fed, fed_more}
+use Rattle.hd_run.proofs.FedPieces.{TakesFew-fed, HasFed-more}
 use Rattle.hd_run.proofs.inputs.read_open_certificate.Goals as goal
 
 pub returns-in-Err-clause-few : goal.returns-in-Err-clause-few
@@ -23,7 +23,7 @@ pieces-preserved g c =
     record {
       open_still = c.in-Ok.ensures.open;
       within = omega arith;
-      fed = fed_more StandsFor _ _ _ _ _ c.pieces.count c.in-Ok.length c.read.new.into c.pieces.invariant.fed c.in-Ok.ensures.bytes.0 bound (rw take-append-le at stands);
+      fed = HasFed-more StandsFor _ _ _ _ _ c.pieces.count c.in-Ok.length c.read.new.into c.pieces.invariant.fed c.in-Ok.ensures.bytes.0 bound (rw take-append-le at stands);
       counted = omega (arith, c.in-Ok-fed.ensures.fed, length-take {A = ℕ});
       faults = c.in-Ok.ensures.cause.accepted ∙ c.pieces.invariant.faults;
     }

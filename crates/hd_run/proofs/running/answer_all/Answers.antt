@@ -7,11 +7,11 @@ use Rattle.hd_session.specs.State.{State, first_state}
 use Rattle.hd_run.specs.declared.stop.Stop.{Stop}
 use Rattle.hd_run.specs.RunResult.{AnswersAndSaves}
 use Rattle.hd_run.specs.Saving.{Saving}
-use Rattle.hd_run.proofs.Answered.{no_answers}
+use Rattle.hd_run.proofs.Answered.{AnswersFirst-none}
 use Rattle.hd_run.proofs.running.answer_all.Goals as goal
 
 pub returns-in_default-clause-answers : goal.returns-in_default-clause-answers
-returns-in_default-clause-answers g c = ([], no_answers _ _, Appends-nil (g.W.Sink.written c.args.out.now))
+returns-in_default-clause-answers g c = ([], AnswersFirst-none _ _, Appends-nil (g.W.Sink.written c.args.out.now))
 
 from_state : (save : Option (List ℕ)) (before first : State) (lines : List (List ℕ)) (stays : Type 0) (s : Saving) (result : Result Bool Stop) (old new : Option (List ℕ)) → before ≡ first
     → AnswersAndSaves save before lines stays s result old new → AnswersAndSaves save first lines stays s result old new

@@ -3,7 +3,7 @@ use Rattle.std.specs.Option.{option_copied}
 use Rattle.std.specs.Prelude.{⊤}
 use Rattle.hd_num.specs.Lines.{lines_of}
 use Rattle.hd_run.specs.declared.stop.Stop.TheVariants.{WriteFault}
-use Rattle.hd_run.proofs.Savings.{last_saved, last_stopped, last_unasked, last_unreached, lines_kept, SavesLast-lines, lines_stop, saving_cause, saving_stops}
+use Rattle.hd_run.proofs.Savings.{SavesLast-saved, SavesLast-stopped, SavesLast-unasked, SavesLast-unreached, AnswersAndSaves-lines_kept, AnswersAndSaves-lines_saved, AnswersAndSaves-lines_stop, Saves-cause, AnswersAndSaves-saving_stops}
 use Rattle.hd_run.proofs.Stops.{ok≢err, HasWriteStop-ok}
 use Rattle.hd_run.proofs.running.answer_and_save.Goals as goal
 
@@ -22,14 +22,14 @@ returns-in-Err-save_file-clause-answers g c =
     let first = g.E.SurfaceSession.state c.args.session.now in
     let after = g.E.SurfaceSession.state c.answer_lines.new.session in
     let accepted = c.in-Ok.accepted in
-    saving_stops (option_copied c.args.job.now.save) first lines _ _ old new accepted after c.in-Some.name.now (ap option_copied c.in-Some.is) ⊤ c.in-Err-save_file.stop c.in-Ok.ensures.answers c.in-Err-save_file.ensures
+    AnswersAndSaves-saving_stops (option_copied c.args.job.now.save) first lines _ _ old new accepted after c.in-Some.name.now (ap option_copied c.in-Some.is) ⊤ c.in-Err-save_file.stop c.in-Ok.ensures.answers c.in-Err-save_file.ensures
 
 pub returns-in-Err-save_file-clause-cause : goal.returns-in-Err-save_file-clause-cause
-returns-in-Err-save_file-clause-cause g c = saving_cause _ _ ⊤ c.in-Err-save_file.stop _ _ (HasWriteStop-ok _ _ c.in-Ok.accepted c.in-Ok.ensures.cause) c.in-Err-save_file.ensures
+returns-in-Err-save_file-clause-cause g c = Saves-cause _ _ ⊤ c.in-Err-save_file.stop _ _ (HasWriteStop-ok _ _ c.in-Ok.accepted c.in-Ok.ensures.cause) c.in-Err-save_file.ensures
 
 pub returns-in-Err-save_file-clause-saved : goal.returns-in-Err-save_file-clause-saved
 returns-in-Err-save_file-clause-saved g c = λ surface script a b.
-    last_stopped _ _ _ surface script _ _ ⊤ c.in-Err-save_file.stop c.in-Some.name.now _ (ap option_copied c.in-Some.is) refl a b (HasWriteStop-ok _ _ c.in-Ok.accepted c.in-Ok.ensures.cause) c.in-Err-save_file.ensures
+    SavesLast-stopped _ _ _ surface script _ _ ⊤ c.in-Err-save_file.stop c.in-Some.name.now _ (ap option_copied c.in-Some.is) refl a b (HasWriteStop-ok _ _ c.in-Ok.accepted c.in-Ok.ensures.cause) c.in-Err-save_file.ensures
 
 pub returns-clause-answers : goal.returns-clause-answers
 returns-clause-answers g c =
@@ -39,7 +39,7 @@ returns-clause-answers g c =
     let first = g.E.SurfaceSession.state c.args.session.now in
     let after = g.E.SurfaceSession.state c.answer_lines.new.session in
     let accepted = c.in-Ok.accepted in
-    SavesLast-lines (option_copied c.args.job.now.save) first lines _ _ old new accepted after c.in-Some.name.now (ap option_copied c.in-Some.is) c.in-Ok.ensures.answers c.in-Ok-save_file.ensures
+    AnswersAndSaves-lines_saved (option_copied c.args.job.now.save) first lines _ _ old new accepted after c.in-Some.name.now (ap option_copied c.in-Some.is) c.in-Ok.ensures.answers c.in-Ok-save_file.ensures
 
 pub returns-clause-cause : goal.returns-clause-cause
 returns-clause-cause g c = record {
@@ -49,7 +49,7 @@ returns-clause-cause g c = record {
 }
 
 pub returns-clause-saved : goal.returns-clause-saved
-returns-clause-saved g c = λ surface script a b. last_saved _ _ _ surface script _ _ c.in-Ok.accepted c.in-Some.name.now _ (ap option_copied c.in-Some.is) refl a b c.in-Ok-save_file.ensures
+returns-clause-saved g c = λ surface script a b. SavesLast-saved _ _ _ surface script _ _ c.in-Ok.accepted c.in-Some.name.now _ (ap option_copied c.in-Some.is) refl a b c.in-Ok-save_file.ensures
 
 pub returns-in-Err-clause-open : goal.returns-in-Err-clause-open
 returns-in-Err-clause-open g c = c.answer_lines.ensures.open
@@ -61,10 +61,10 @@ returns-in-Err-clause-answers g c =
     let lines = lines_of c.args.script.now in
     let first = g.E.SurfaceSession.state c.args.session.now in
     let after = g.E.SurfaceSession.state c.answer_lines.new.session in
-    lines_stop (option_copied c.args.job.now.save) first lines _ _ old new c.in-Err.stop after refl c.in-Err.ensures.answers
+    AnswersAndSaves-lines_stop (option_copied c.args.job.now.save) first lines _ _ old new c.in-Err.stop after refl c.in-Err.ensures.answers
 
 pub returns-in-Err-clause-saved : goal.returns-in-Err-clause-saved
-returns-in-Err-clause-saved g c = λ surface script a b. last_unreached _ _ _ surface script _ _ c.in-Err.stop refl refl refl
+returns-in-Err-clause-saved g c = λ surface script a b. SavesLast-unreached _ _ _ surface script _ _ c.in-Err.stop refl refl refl
 
 pub returns-in_default-clause-open : goal.returns-in_default-clause-open
 returns-in_default-clause-open g c = c.answer_lines.ensures.open
@@ -76,7 +76,7 @@ returns-in_default-clause-answers g c =
     let lines = lines_of c.args.script.now in
     let first = g.E.SurfaceSession.state c.args.session.now in
     let after = g.E.SurfaceSession.state c.answer_lines.new.session in
-    lines_kept (option_copied c.args.job.now.save) first lines _ _ old new c.in-Ok.accepted after (ap option_copied c.in_default.is) refl c.in-Ok.ensures.answers
+    AnswersAndSaves-lines_kept (option_copied c.args.job.now.save) first lines _ _ old new c.in-Ok.accepted after (ap option_copied c.in_default.is) refl c.in-Ok.ensures.answers
 
 pub returns-in_default-clause-cause : goal.returns-in_default-clause-cause
 returns-in_default-clause-cause g c = record {
@@ -86,7 +86,7 @@ returns-in_default-clause-cause g c = record {
 }
 
 pub returns-in_default-clause-saved : goal.returns-in_default-clause-saved
-returns-in_default-clause-saved g c = λ surface script a b. last_unasked _ _ _ surface script _ _ (ap option_copied c.in_default.is) refl refl
+returns-in_default-clause-saved g c = λ surface script a b. SavesLast-unasked _ _ _ surface script _ _ (ap option_copied c.in_default.is) refl refl
 
 pub returns-in-Err-save_file-clause-open : goal.returns-in-Err-save_file-clause-open
 returns-in-Err-save_file-clause-open g c = c.answer_lines.ensures.open

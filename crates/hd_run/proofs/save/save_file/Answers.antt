@@ -3,8 +3,8 @@ use Rattle.std.specs.Io.KnownBytes.{Appends}
 use Rattle.hd_base.specs.Told.{AppendsStart}
 use Rattle.hd_sdf_write.specs.Pieces.{PiecesState}
 use Rattle.hd_run.specs.Saving.{emptied}
-use Rattle.hd_run.proofs.Checks.{of_err, of_ok}
-use Rattle.hd_run.proofs.Savings.{all_after_open, cut_after_open, emptied-open, rose_later, start-whole}
+use Rattle.hd_run.proofs.Checks.{OnErr-holds, OnOk-holds}
+use Rattle.hd_run.proofs.Savings.{emptied-all, emptied-cut, emptied-open, Rose-later, AppendsStart-whole}
 use Rattle.hd_run.proofs.save.save_file.Goals as goal
 
 pub returns-in_default : goal.returns-in_default
@@ -13,7 +13,7 @@ returns-in_default g c = (refl, refl)
 pub returns-then-is_err : goal.returns-then-is_err
 returns-then-is_err g c =
     let failed = sym c.is_err.ensures.value ∙ c.if-is_err.true in
-    record { written = inl (of_err c.open.result failed c.open.ensures.refused); count = of_err c.open.result failed c.open.ensures.cause.failed }
+    record { written = inl (OnErr-holds c.open.result failed c.open.ensures.refused); count = OnErr-holds c.open.result failed c.open.ensures.cause.failed }
 
 pub returns-then-is_err-2 : goal.returns-then-is_err-2
 returns-then-is_err-2 g c =
@@ -22,10 +22,10 @@ returns-then-is_err-2 g c =
     let new = g.V.Sink.written c.write_pieces.new.saved in
     let opened = sym c.is_err.ensures.value ∙ c.if-is_err.false in
     let failed = sym c.is_err-2.ensures.value ∙ c.if-is_err-2.true in
-    let begun = cut_after_open old mid new c.in-Ok.pieces.left (emptied-open old mid (of_ok c.open.result opened c.open.ensures.empty)) (of_err c.write_pieces.result failed c.write_pieces.ensures.part) in
+    let begun = emptied-cut old mid new c.in-Ok.pieces.left (emptied-open old mid (OnOk-holds c.open.result opened c.open.ensures.empty)) (OnErr-holds c.write_pieces.result failed c.write_pieces.ensures.part) in
     record {
       written = inr (subst (λ (text : List ℕ). AppendsStart (emptied old) new text) (ap (λ (p : PiecesState). p.left) c.in-Ok.ensures) begun);
-      count = rose_later _ _ _ (of_ok c.open.result opened c.open.ensures.cause.accepted) (of_err c.write_pieces.result failed c.write_pieces.ensures.cause.failed);
+      count = Rose-later _ _ _ (OnOk-holds c.open.result opened c.open.ensures.cause.accepted) (OnErr-holds c.write_pieces.result failed c.write_pieces.ensures.cause.failed);
     }
 
 pub returns-then-is_err-3 : goal.returns-then-is_err-3
@@ -37,11 +37,11 @@ returns-then-is_err-3 g c =
     let opened = sym c.is_err.ensures.value ∙ c.if-is_err.false in
     let written = sym c.is_err-2.ensures.value ∙ c.if-is_err-2.false in
     let failed = sym c.is_err-3.ensures.value ∙ c.if-is_err-3.true in
-    let all = all_after_open old mid new last c.in-Ok.pieces.left (emptied-open old mid (of_ok c.open.result opened c.open.ensures.empty)) (of_ok c.write_pieces.result written c.write_pieces.ensures.all) c.flush.ensures.written in
+    let all = emptied-all old mid new last c.in-Ok.pieces.left (emptied-open old mid (OnOk-holds c.open.result opened c.open.ensures.empty)) (OnOk-holds c.write_pieces.result written c.write_pieces.ensures.all) c.flush.ensures.written in
     record {
-      written = inr (start-whole (emptied old) last _ (subst (λ (text : List ℕ). Appends (emptied old) last text) (ap (λ (p : PiecesState). p.left) c.in-Ok.ensures) all));
-      count = rose_later _ _ _ (of_ok c.write_pieces.result written c.write_pieces.ensures.cause.accepted ∙ of_ok c.open.result opened c.open.ensures.cause.accepted)
-          (of_err c.flush.result failed c.flush.ensures.cause.failed);
+      written = inr (AppendsStart-whole (emptied old) last _ (subst (λ (text : List ℕ). Appends (emptied old) last text) (ap (λ (p : PiecesState). p.left) c.in-Ok.ensures) all));
+      count = Rose-later _ _ _ (OnOk-holds c.write_pieces.result written c.write_pieces.ensures.cause.accepted ∙ OnOk-holds c.open.result opened c.open.ensures.cause.accepted)
+          (OnErr-holds c.flush.result failed c.flush.ensures.cause.failed);
     }
 
 pub returns : goal.returns
@@ -53,9 +53,9 @@ returns g c =
     let opened = sym c.is_err.ensures.value ∙ c.if-is_err.false in
     let written = sym c.is_err-2.ensures.value ∙ c.if-is_err-2.false in
     let flushed = sym c.is_err-3.ensures.value ∙ c.if-is_err-3.false in
-    let all = all_after_open old mid new last c.in-Ok.pieces.left (emptied-open old mid (of_ok c.open.result opened c.open.ensures.empty)) (of_ok c.write_pieces.result written c.write_pieces.ensures.all) c.flush.ensures.written in
+    let all = emptied-all old mid new last c.in-Ok.pieces.left (emptied-open old mid (OnOk-holds c.open.result opened c.open.ensures.empty)) (OnOk-holds c.write_pieces.result written c.write_pieces.ensures.all) c.flush.ensures.written in
     record {
       written = subst (λ (text : List ℕ). Appends (emptied old) last text) (ap (λ (p : PiecesState). p.left) c.in-Ok.ensures) all;
-      flushed_all = of_ok c.flush.result flushed c.flush.ensures.flushed;
-      count = of_ok c.flush.result flushed c.flush.ensures.cause.accepted ∙ of_ok c.write_pieces.result written c.write_pieces.ensures.cause.accepted ∙ of_ok c.open.result opened c.open.ensures.cause.accepted;
+      flushed_all = OnOk-holds c.flush.result flushed c.flush.ensures.flushed;
+      count = OnOk-holds c.flush.result flushed c.flush.ensures.cause.accepted ∙ OnOk-holds c.write_pieces.result written c.write_pieces.ensures.cause.accepted ∙ OnOk-holds c.open.result opened c.open.ensures.cause.accepted;
     }
