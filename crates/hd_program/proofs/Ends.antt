@@ -26,11 +26,11 @@ use Rattle.hd_program.specs.Outcome.{Outcome, IsOutcomeOfRequest, outcome_of, te
 use Rattle.hd_program.specs.Status.{HasStatusCause, refusal_status, status_of}
 use Rattle.hd_program.specs.Texts.{usage_text, read_fault_text}
 use Rattle.hd_program.specs.WorkOrder.{ReadsInOrder, ReadsWithin, SavesInTurn, second_limit}
-use Rattle.hd_program.proofs.Works.{IsWork}
+use Rattle.hd_program.proofs.IsWork.{IsWork}
 
 -- words that have a form
-pub has_a_form : {A : Type 0} (form : Option A) (x : A) → form ≡ Some x → form ≢ None
-has_a_form form x is none = cc
+pub form-some : {A : Type 0} (form : Option A) (x : A) → form ≡ Some x → form ≢ None
+form-some form x is none = cc
 
 one_form : {A : Type 0} (form : Option A) (x y : A) → form ≡ Some x → form ≡ Some y → x ≡ y
 one_form form x y is also = cc
@@ -74,9 +74,9 @@ module _ (words : List (List ℕ)) (surface script : List ℕ) (failed stays : T
   ]
 
   -- words without their form
-  pub usage_ends : (got : List ℕ) (status : Status) (old new : Option (List ℕ)) (flushed : Bool) (faults : Count) → form_of words ≡ None → got ≡ usage_text → stays
+  pub EndsAs-usage : (got : List ℕ) (status : Status) (old new : Option (List ℕ)) (flushed : Bool) (faults : Count) → form_of words ≡ None → got ≡ usage_text → stays
       → Finishes got Usage status old new flushed faults → EndsAs words surface script failed stays s status old new
-  usage_ends got status old new flushed faults none e kept finish =
+  EndsAs-usage got status old new flushed faults none e kept finish =
       let P : Outcome → Option Request → Type 0 = λ o form. MatchOption form (o ≡ tells Usage usage_text) (λ request. IsOutcomeOfRequest request surface script o) in
       let o : Outcome = tells Usage usage_text in
       text_ends usage_text Usage status old old new flushed faults (Keeps-refl old) (record { is = subst (P o) (sym none) refl; only = λ o' h. subst (P o') none h })
@@ -116,11 +116,11 @@ module _ (words : List (List ℕ)) (surface script : List ℕ) (failed stays : T
       ]
 
       -- what `out` and `saved` hold at the end, from what the run came to
-      pub run_ends : (result : Result Bool Stop) (status : Status) (old mid new : Option (List ℕ)) (flushed : Bool) (faults : Count) → (result ≡ Err stop.ReadFault → failed)
+      pub EndsAs-run : (result : Result Bool Stop) (status : Status) (old mid new : Option (List ℕ)) (flushed : Bool) (faults : Count) → (result ≡ Err stop.ReadFault → failed)
           → ((why : Stop) → result ≡ Err why → why ≢ stop.WriteFault → stays) → IsWork Is Begins stays s result old mid → EndsRun result status mid new flushed faults → EndsAs words surface script failed stays s status old new
-      run_ends (Ok true) status old mid new flushed faults cause unsaved run finish = answered_ends true status old mid new flushed faults run (λ h. h) finish
-      run_ends (Ok false) status old mid new flushed faults cause unsaved run finish = answered_ends false status old mid new flushed faults run (λ h. h) finish
-      run_ends (Err stop.Memory) status old mid new flushed faults cause unsaved run end =
+      EndsAs-run (Ok true) status old mid new flushed faults cause unsaved run finish = answered_ends true status old mid new flushed faults run (λ h. h) finish
+      EndsAs-run (Ok false) status old mid new flushed faults cause unsaved run finish = answered_ends false status old mid new flushed faults run (λ h. h) finish
+      EndsAs-run (Err stop.Memory) status old mid new flushed faults cause unsaved run end =
           subst (λ t. EndsAs words surface script failed stays s t old new) (sym end.status_is) (
             unsaved stop.Memory refl (λ e. cc),
             elim run [
@@ -128,19 +128,19 @@ module _ (words : List (List ℕ)) (surface script : List ℕ) (failed stays : T
               | inr more ↦ inr (more.0, (request, named, few more.0 more.1), Appends-kept old mid new more.0 more.2 end.kept)
             ],
           )
-      run_ends (Err stop.WriteFault) status old mid new flushed faults cause unsaved (inl (kept, text, begun, part)) end =
+      EndsAs-run (Err stop.WriteFault) status old mid new flushed faults cause unsaved (inl (kept, text, begun, part)) end =
           subst (λ t. EndsAs words surface script failed stays s t old new) (sym end.status_is) (inl (kept, inl (text, (request, named, few text begun), AppendsPart-kept old mid new text part end.kept)))
-      run_ends (Err stop.WriteFault) status old mid new flushed faults cause unsaved (inr (work, the, inl (text, is, some, written))) end =
+      EndsAs-run (Err stop.WriteFault) status old mid new flushed faults cause unsaved (inr (work, the, inl (text, is, some, written))) end =
           subst (λ t. EndsAs words surface script failed stays s t old new) (sym end.status_is) (inr (inr (outcome_of (Ok work), text, the_run (Ok work) the, is, some, Appends-kept old mid new work.out written end.kept)))
-      run_ends (Err stop.WriteFault) status old mid new flushed faults cause unsaved (inr (work, the, inr cut)) end =
+      EndsAs-run (Err stop.WriteFault) status old mid new flushed faults cause unsaved (inr (work, the, inr cut)) end =
           subst (λ t. EndsAs words surface script failed stays s t old new) (sym end.status_is) (inr (inl (outcome_of (Ok work), the_run (Ok work) the, cut_kept stays s work.out old mid new work.saved cut end.kept)))
-      run_ends (Err stop.ReadFault) status old mid new flushed faults cause unsaved kept finish =
+      EndsAs-run (Err stop.ReadFault) status old mid new flushed faults cause unsaved kept finish =
           let still = unsaved stop.ReadFault refl (λ e. cc) in
           elim finish [
             | inl w ↦ subst (λ t. EndsAs words surface script failed stays s t old new) (sym w.status_is) (cause refl, still, kept_text old mid new read_fault_text kept w.written)
             | inr cut ↦ subst (λ t. EndsAs words surface script failed stays s t old new) (sym cut.status_is) (inl (still, inr (cause refl, kept_start old mid new read_fault_text kept cut.written)))
           ]
-      run_ends (Err (stop.Refused refusal)) status old mid new flushed faults cause unsaved run end =
+      EndsAs-run (Err (stop.Refused refusal)) status old mid new flushed faults cause unsaved run end =
           let still = unsaved (stop.Refused refusal) refl (λ e. cc) in
           elim end [
             | inl w ↦ subst (λ t. EndsAs words surface script failed stays s t old new) (sym w.status_is) (still, inl (Keeps-trans old mid new run.1 w.kept))
@@ -148,10 +148,10 @@ module _ (words : List (List ℕ)) (surface script : List ℕ) (failed stays : T
           ]
 
   -- what they hold at the end of a demo
-  pub demo_ends : (demo : Demo) (status : Status) (old new : Option (List ℕ)) (flushed : Bool) (faults : Count) → form_of words ≡ Some (Demonstrate demo) → stays → EndsDemo demo status old new flushed faults
+  pub EndsAs-demo : (demo : Demo) (status : Status) (old new : Option (List ℕ)) (flushed : Bool) (faults : Count) → form_of words ≡ Some (Demonstrate demo) → stays → EndsDemo demo status old new flushed faults
       → EndsAs words surface script failed stays s status old new
-  demo_ends demo status old new flushed faults named kept (inl stop) = subst (λ t. EndsAs words surface script failed stays s t old new) (sym stop.status_is) (kept, inl stop.kept)
-  demo_ends demo status old new flushed faults named kept (inr (text, the, finish)) =
+  EndsAs-demo demo status old new flushed faults named kept (inl stop) = subst (λ t. EndsAs words surface script failed stays s t old new) (sym stop.status_is) (kept, inl stop.kept)
+  EndsAs-demo demo status old new flushed faults named kept (inr (text, the, finish)) =
       text_ends text Done status old old new flushed faults (Keeps-refl old)
       (the_outcome (Demonstrate demo) named (tells Done text) (text, the.is, refl) (λ other h. h.2 ∙ ap (tells Done) (the.only h.0 h.1))) kept (λ h. h) finish
 
@@ -189,24 +189,24 @@ refusal_ends (RuleFails rule at) e is = elim is [ inl a ↦ cc | inr b ↦ cc ]
 
 module _ (status : Status) (old mid new : Option (List ℕ)) (flushed : Bool) where
   -- all is flushed but after a write fault and want of memory
-  pub run_flushed : (result : Result Bool Stop) (faults : Count) → EndsRun result status mid new flushed faults → status ≢ WriteFault → status ≢ Memory → IsTrue flushed
-  run_flushed (Ok accepted) faults end fine kept = (finished [] (status_of accepted) status mid new flushed faults end fine).2
-  run_flushed (Err stop.Memory) faults end fine kept = absurd (kept end.status_is)
-  run_flushed (Err stop.WriteFault) faults end fine kept = absurd (fine end.status_is)
-  run_flushed (Err stop.ReadFault) faults end fine kept = (finished read_fault_text ReadFault status mid new flushed faults end fine).2
-  run_flushed (Err (stop.Refused refusal)) faults end fine kept = elim end [
+  pub EndsRun-flushed : (result : Result Bool Stop) (faults : Count) → EndsRun result status mid new flushed faults → status ≢ WriteFault → status ≢ Memory → IsTrue flushed
+  EndsRun-flushed (Ok accepted) faults end fine kept = (finished [] (status_of accepted) status mid new flushed faults end fine).2
+  EndsRun-flushed (Err stop.Memory) faults end fine kept = absurd (kept end.status_is)
+  EndsRun-flushed (Err stop.WriteFault) faults end fine kept = absurd (fine end.status_is)
+  EndsRun-flushed (Err stop.ReadFault) faults end fine kept = (finished read_fault_text ReadFault status mid new flushed faults end fine).2
+  EndsRun-flushed (Err (stop.Refused refusal)) faults end fine kept = elim end [
     | inl w ↦ absurd (kept w.status_is)
     | inr finish ↦ (finished (refusal_text refusal) (refusal_status refusal) status mid new flushed faults finish fine).2
   ]
 
   -- the line of a read fault is written where the status is that
-  pub run_read_fault : (result : Result Bool Stop) (faults : Count) → EndsRun result status mid new flushed faults → (result ≡ Err stop.ReadFault → Keeps old mid) → status ≡ ReadFault → Appends old new read_fault_text
-  run_read_fault (Ok true) faults end kept is = absurd (let e = (finished [] (status_of true) status mid new flushed faults end (λ w. cc)).0 in cc)
-  run_read_fault (Ok false) faults end kept is = absurd (let e = (finished [] (status_of false) status mid new flushed faults end (λ w. cc)).0 in cc)
-  run_read_fault (Err stop.Memory) faults end kept is = absurd (let e = end.status_is in cc)
-  run_read_fault (Err stop.WriteFault) faults end kept is = absurd (let e = end.status_is in cc)
-  run_read_fault (Err stop.ReadFault) faults end kept is = kept_text old mid new read_fault_text (kept refl) (finished read_fault_text ReadFault status mid new flushed faults end (λ w. cc)).1
-  run_read_fault (Err (stop.Refused refusal)) faults end kept is = elim end [
+  pub EndsRun-read_fault : (result : Result Bool Stop) (faults : Count) → EndsRun result status mid new flushed faults → (result ≡ Err stop.ReadFault → Keeps old mid) → status ≡ ReadFault → Appends old new read_fault_text
+  EndsRun-read_fault (Ok true) faults end kept is = absurd (let e = (finished [] (status_of true) status mid new flushed faults end (λ w. cc)).0 in cc)
+  EndsRun-read_fault (Ok false) faults end kept is = absurd (let e = (finished [] (status_of false) status mid new flushed faults end (λ w. cc)).0 in cc)
+  EndsRun-read_fault (Err stop.Memory) faults end kept is = absurd (let e = end.status_is in cc)
+  EndsRun-read_fault (Err stop.WriteFault) faults end kept is = absurd (let e = end.status_is in cc)
+  EndsRun-read_fault (Err stop.ReadFault) faults end kept is = kept_text old mid new read_fault_text (kept refl) (finished read_fault_text ReadFault status mid new flushed faults end (λ w. cc)).1
+  EndsRun-read_fault (Err (stop.Refused refusal)) faults end kept is = elim end [
     | inl w ↦ absurd (let e = w.status_is in cc)
     | inr finish ↦ absurd ((refusal_is refusal).0 (sym (finished (refusal_text refusal) (refusal_status refusal) status mid new flushed faults finish (λ w. cc)).0 ∙ is))
   ]
@@ -229,15 +229,15 @@ module _ (surface script saved : Count) (before mid now : ℕ) (status : Status)
   ]
 
   -- why a status comes, from why the run stopped
-  pub run_cause : (result : Result Bool Stop) → HasRunStop surface script (record { before = before; now = mid }) saved result → EndsRun result status old new flushed (record { before = mid; now = now })
+  pub EndsRun-cause : (result : Result Bool Stop) → HasRunStop surface script (record { before = before; now = mid }) saved result → EndsRun result status old new flushed (record { before = mid; now = now })
       → HasStatusCause status surface script (record { before = before; now = now }) saved
-  run_cause (Ok true) run end = finish_cause [] (status_of true) (λ e. cc) (λ e. cc) (run.other (λ e. cc) (λ e. cc)) end
-  run_cause (Ok false) run end = finish_cause [] (status_of false) (λ e. cc) (λ e. cc) (run.other (λ e. cc) (λ e. cc)) end
-  run_cause (Err stop.Memory) run end =
+  EndsRun-cause (Ok true) run end = finish_cause [] (status_of true) (λ e. cc) (λ e. cc) (run.other (λ e. cc) (λ e. cc)) end
+  EndsRun-cause (Ok false) run end = finish_cause [] (status_of false) (λ e. cc) (λ e. cc) (run.other (λ e. cc) (λ e. cc)) end
+  EndsRun-cause (Err stop.Memory) run end =
       let stays = run.other (λ e. cc) (λ e. cc) in
       let is : status ≡ Memory = end.status_is in
       record { read = λ e. absurd (cc); write = λ e. absurd (cc); other = λ _ _. (stays.0, stays.1, end.count ∙ stays.2, stays.3) }
-  run_cause (Err stop.WriteFault) run end =
+  EndsRun-cause (Err stop.WriteFault) run end =
       let is : status ≡ WriteFault = end.status_is in
       record {
         read = λ e. absurd (cc);
@@ -245,14 +245,14 @@ module _ (surface script saved : Count) (before mid now : ℕ) (status : Status)
             inl (why.0, why.1, elim why.2 [ inl x ↦ inl (subst (λ n. RoseIn (record { before = before; now = n })) (sym end.count) x.0, x.1) | inr x ↦ inr (end.count ∙ x.0, x.1) ]);
         other = λ _ not_write. absurd (not_write is);
       }
-  run_cause (Err stop.ReadFault) run finish = elim finish [
+  EndsRun-cause (Err stop.ReadFault) run finish = elim finish [
     | inl w ↦
         let is : status ≡ ReadFault = w.status_is in
         let why = run.read refl in
         record { read = λ e. (why.0, w.count ∙ why.1, why.2); write = λ e. absurd (cc); other = λ not_read _. absurd (not_read is) }
     | inr cut ↦ let why = run.read refl in cut_cause (inr why.0) why.2 why.1 cut.status_is cut.count
   ]
-  run_cause (Err (stop.Refused refusal)) run end =
+  EndsRun-cause (Err (stop.Refused refusal)) run end =
       let stays = run.other (λ e. cc) (λ e. cc) in
       let other = refusal_is refusal in
       elim end [
@@ -288,13 +288,13 @@ module _ (status : Status) (old new : Option (List ℕ)) (flushed : Bool) (fault
   ]
 
   -- a run that ends as one that refuses the surface refused it
-  pub run_unread : {P : Type 0} (result : Result Bool Stop) → ((refusal : Refusal) → result ≡ Err (stop.Refused refusal) → IsOfSurface refusal → P) → EndsRun result status old new flushed faults → status ≡ SurfaceRefused → P
-  run_unread (Ok true) known end is = absurd (let e = (finished [] (status_of true) status old new flushed faults end (λ w. cc)).0 in cc)
-  run_unread (Ok false) known end is = absurd (let e = (finished [] (status_of false) status old new flushed faults end (λ w. cc)).0 in cc)
-  run_unread (Err stop.Memory) known end is = absurd (let e = end.status_is in cc)
-  run_unread (Err stop.WriteFault) known end is = absurd (let e = end.status_is in cc)
-  run_unread (Err stop.ReadFault) known end is = absurd (let e = (finished read_fault_text ReadFault status old new flushed faults end (λ w. cc)).0 in cc)
-  run_unread (Err (stop.Refused refusal)) known end is = elim end [
+  pub EndsRun-unread : {P : Type 0} (result : Result Bool Stop) → ((refusal : Refusal) → result ≡ Err (stop.Refused refusal) → IsOfSurface refusal → P) → EndsRun result status old new flushed faults → status ≡ SurfaceRefused → P
+  EndsRun-unread (Ok true) known end is = absurd (let e = (finished [] (status_of true) status old new flushed faults end (λ w. cc)).0 in cc)
+  EndsRun-unread (Ok false) known end is = absurd (let e = (finished [] (status_of false) status old new flushed faults end (λ w. cc)).0 in cc)
+  EndsRun-unread (Err stop.Memory) known end is = absurd (let e = end.status_is in cc)
+  EndsRun-unread (Err stop.WriteFault) known end is = absurd (let e = end.status_is in cc)
+  EndsRun-unread (Err stop.ReadFault) known end is = absurd (let e = (finished read_fault_text ReadFault status old new flushed faults end (λ w. cc)).0 in cc)
+  EndsRun-unread (Err (stop.Refused refusal)) known end is = elim end [
     | inl w ↦ absurd (let e = w.status_is in cc)
     | inr finish ↦ known refusal refl (refuses_surface refusal (sym (finished (refusal_text refusal) (refusal_status refusal) status old new flushed faults finish (λ w. cc)).0 ∙ is))
   ]
@@ -303,10 +303,10 @@ module _ (status : Status) (old new : Option (List ℕ)) (flushed : Bool) (fault
   fault_count result is end = let stopped : EndsRun (Err stop.WriteFault) status old new flushed faults = subst (λ (r : Result Bool Stop). EndsRun r status old new flushed faults) is end in stopped.count
 
 -- when `saved` is touched, from when the run touches it
-pub run_saves : (form : Option Request) (request : Request) (result : Result Bool Stop) (status : Status) (stays : Type 0) (surface script : Count) (before mid now : ℕ) (s : Saving) (old new : Option (List ℕ)) (flushed : Bool)
+pub EndsRun-saves : (form : Option Request) (request : Request) (result : Result Bool Stop) (status : Status) (stays : Type 0) (surface script : Count) (before mid now : ℕ) (s : Saving) (old new : Option (List ℕ)) (flushed : Bool)
     → form ≡ Some request → SavesLast (save_name request) result stays surface script (record { before = before; now = mid }) s → EndsRun result status old new flushed (record { before = mid; now = now })
     → SavesInTurn form status stays surface script (record { before = before; now = now }) s
-run_saves form request result status stays surface script before mid now s old new flushed named last end =
+EndsRun-saves form request result status stays surface script before mid now s old new flushed named last end =
     let faults : Count = record { before = mid; now = now } in record {
       unasked = λ none. last.unasked (none request named);
       stopped = λ a b d. stopped_early status old new flushed faults result last.stopped end a b d;
@@ -317,9 +317,9 @@ run_saves form request result status stays surface script before mid now s old n
     }
 
 -- words that name no file to save save nothing
-pub unnamed_saves : (form : Option Request) (status : Status) (stays : Type 0) (surface script out : Count) (s : Saving) → ((request : Request) → form ≡ Some request → save_name request ≡ None) → stays → Stays s.faults
+pub SavesInTurn-unnamed : (form : Option Request) (status : Status) (stays : Type 0) (surface script out : Count) (s : Saving) → ((request : Request) → form ≡ Some request → save_name request ≡ None) → stays → Stays s.faults
     → SavesInTurn form status stays surface script out s
-unnamed_saves form status stays surface script out s none kept count = record {
+SavesInTurn-unnamed form status stays surface script out s none kept count = record {
   unasked = λ _. kept;
   stopped = λ _ _ _. kept;
   read = λ _. kept;
@@ -328,43 +328,43 @@ unnamed_saves form status stays surface script out s none kept count = record {
 }
 
 -- nor do words that have no form, and those of a request that names none
-pub unformed_saves : (form : Option Request) (status : Status) (stays : Type 0) (surface script out : Count) (s : Saving) → form ≡ None → stays → Stays s.faults → SavesInTurn form status stays surface script out s
-unformed_saves form status stays surface script out s none kept count = unnamed_saves form status stays surface script out s (λ request is. absurd (has_a_form form request is none)) kept count
+pub SavesInTurn-unformed : (form : Option Request) (status : Status) (stays : Type 0) (surface script out : Count) (s : Saving) → form ≡ None → stays → Stays s.faults → SavesInTurn form status stays surface script out s
+SavesInTurn-unformed form status stays surface script out s none kept count = SavesInTurn-unnamed form status stays surface script out s (λ request is. absurd (form-some form request is none)) kept count
 
-pub request_saves : (form : Option Request) (request : Request) (status : Status) (stays : Type 0) (surface script out : Count) (s : Saving) → form ≡ Some request → save_name request ≡ None → stays → Stays s.faults
+pub SavesInTurn-request : (form : Option Request) (request : Request) (status : Status) (stays : Type 0) (surface script out : Count) (s : Saving) → form ≡ Some request → save_name request ≡ None → stays → Stays s.faults
     → SavesInTurn form status stays surface script out s
-request_saves form request status stays surface script out s named none kept count =
-    unnamed_saves form status stays surface script out s (λ other is. subst (λ (r : Request). save_name r ≡ None) (one_form form request other named is) none) kept count
+SavesInTurn-request form request status stays surface script out s named none kept count =
+    SavesInTurn-unnamed form status stays surface script out s (λ other is. subst (λ (r : Request). save_name r ≡ None) (one_form form request other named is) none) kept count
 
 -- no run ends with the usage text
-pub run_has_form : (result : Result Bool Stop) (status : Status) (old new : Option (List ℕ)) (flushed : Bool) (faults : Count) → EndsRun result status old new flushed faults → status ≢ Usage
-run_has_form (Ok true) status old new flushed faults end is = let e = (finished [] (status_of true) status old new flushed faults end (λ w. cc)).0 in cc
-run_has_form (Ok false) status old new flushed faults end is = let e = (finished [] (status_of false) status old new flushed faults end (λ w. cc)).0 in cc
-run_has_form (Err stop.Memory) status old new flushed faults end is = let e = end.status_is in cc
-run_has_form (Err stop.WriteFault) status old new flushed faults end is = let e = end.status_is in cc
-run_has_form (Err stop.ReadFault) status old new flushed faults end is = let e = (finished read_fault_text ReadFault status old new flushed faults end (λ w. cc)).0 in cc
-run_has_form (Err (stop.Refused refusal)) status old new flushed faults end is = elim end [
+pub EndsRun-no_usage : (result : Result Bool Stop) (status : Status) (old new : Option (List ℕ)) (flushed : Bool) (faults : Count) → EndsRun result status old new flushed faults → status ≢ Usage
+EndsRun-no_usage (Ok true) status old new flushed faults end is = let e = (finished [] (status_of true) status old new flushed faults end (λ w. cc)).0 in cc
+EndsRun-no_usage (Ok false) status old new flushed faults end is = let e = (finished [] (status_of false) status old new flushed faults end (λ w. cc)).0 in cc
+EndsRun-no_usage (Err stop.Memory) status old new flushed faults end is = let e = end.status_is in cc
+EndsRun-no_usage (Err stop.WriteFault) status old new flushed faults end is = let e = end.status_is in cc
+EndsRun-no_usage (Err stop.ReadFault) status old new flushed faults end is = let e = (finished read_fault_text ReadFault status old new flushed faults end (λ w. cc)).0 in cc
+EndsRun-no_usage (Err (stop.Refused refusal)) status old new flushed faults end is = elim end [
   | inl w ↦ let e = w.status_is in cc
   | inr finish ↦ (refusal_is refusal).2 (sym (finished (refusal_text refusal) (refusal_status refusal) status old new flushed faults finish (λ w. cc)).0 ∙ is)
 ]
 
 -- no source is touched where the words have not their form
-pub unformed_in_order : {S R : Type 0} (form : Option Request) (files : List ℕ → Option (List ℕ)) (surfaces : Count) (surface : S) (script : R) → form ≡ None → ReadsInOrder form files surfaces surface surface script script
-unformed_in_order form files surfaces surface script none = record { unformed = λ e. (refl, refl); unnamed = λ request e named. (refl, refl); formed = λ request name e named. absurd (cc) }
+pub ReadsInOrder-unformed : {S R : Type 0} (form : Option Request) (files : List ℕ → Option (List ℕ)) (surfaces : Count) (surface : S) (script : R) → form ≡ None → ReadsInOrder form files surfaces surface surface script script
+ReadsInOrder-unformed form files surfaces surface script none = record { unformed = λ e. (refl, refl); unnamed = λ request e named. (refl, refl); formed = λ request name e named. absurd (cc) }
 
 -- nor where they name no surface
-pub unnamed_in_order : {S R : Type 0} (form : Option Request) (request : Request) (files : List ℕ → Option (List ℕ)) (surfaces : Count) (surface : S) (script : R) → form ≡ Some request → surface_name request ≡ None
+pub ReadsInOrder-unnamed : {S R : Type 0} (form : Option Request) (request : Request) (files : List ℕ → Option (List ℕ)) (surfaces : Count) (surface : S) (script : R) → form ≡ Some request → surface_name request ≡ None
     → ReadsInOrder form files surfaces surface surface script script
-unnamed_in_order form request files surfaces surface script named none = record {
+ReadsInOrder-unnamed form request files surfaces surface script named none = record {
   unformed = λ e. (refl, refl);
   unnamed = λ other e no_name. (refl, refl);
   formed = λ other name e is. let same : request ≡ other = cc in let wrong : surface_name request ≡ Some name = ap surface_name same ∙ is in absurd (cc);
 }
 
 -- the order of a run on a surface, where the words have the form that was found
-pub run_in_order : {S R : Type 0} (form : Option Request) (request : Request) (name : List ℕ) (files : List ℕ → Option (List ℕ)) (surfaces : Count) (surface surface' : S) (script script' : R) → form ≡ Some request
+pub ReadsInOrder-run : {S R : Type 0} (form : Option Request) (request : Request) (name : List ℕ) (files : List ℕ → Option (List ℕ)) (surfaces : Count) (surface surface' : S) (script script' : R) → form ≡ Some request
     → surface_name request ≡ Some name → SecondComesLast (second_name request) (files name) surfaces script script' → ReadsInOrder form files surfaces surface surface' script script'
-run_in_order form request name files surfaces surface surface' script script' named surface_is order = record {
+ReadsInOrder-run form request name files surfaces surface surface' script script' named surface_is order = record {
   unformed = λ none. absurd (cc);
   unnamed = λ other e none. let same : request ≡ other = cc in let wrong : surface_name request ≡ None = ap surface_name same ∙ none in absurd (cc);
   formed = λ other read e is. let same : request ≡ other = cc in
@@ -375,14 +375,14 @@ run_in_order form request name files surfaces surface surface' script script' na
 }
 
 -- no source is read
-pub unread_within : (form : Option Request) (surface_unread second_unread : Type 0) (surface second : Reading) → surface_unread → second_unread → ReadsWithin form surface_unread second_unread surface second
-unread_within form surface_unread second_unread surface second first last = record { surface_within = λ request name named is. inl first; second_within = λ request name named is. inl last }
+pub ReadsWithin-unread : (form : Option Request) (surface_unread second_unread : Type 0) (surface second : Reading) → surface_unread → second_unread → ReadsWithin form surface_unread second_unread surface second
+ReadsWithin-unread form surface_unread second_unread surface second first last = record { surface_within = λ request name named is. inl first; second_within = λ request name named is. inl last }
 
 -- how far the inputs of a run are read, where the words have the form that was found
-pub run_within : (form : Option Request) (request : Request) (name : List ℕ) (surface_unread second_unread : Type 0) (surface second : Reading) → form ≡ Some request → surface_name request ≡ Some name
+pub ReadsWithin-run : (form : Option Request) (request : Request) (name : List ℕ) (surface_unread second_unread : Type 0) (surface second : Reading) → form ≡ Some request → surface_name request ≡ Some name
     → StopsWithin surface_limit name surface → ((other : List ℕ) → second_name request ≡ Some other → second_unread ⊎ StopsWithin (second_limit request) other second)
     → ReadsWithin form surface_unread second_unread surface second
-run_within form request name surface_unread second_unread surface second named surface_is first last = record {
+ReadsWithin-run form request name surface_unread second_unread surface second named surface_is first last = record {
   surface_within = λ other read e is. let same : request ≡ other = cc in
       let it : Some name ≡ Some read = sym surface_is ∙ ap surface_name same ∙ is in
       let same_name : name ≡ read = cc in
@@ -401,23 +401,23 @@ module _ (demo : Demo) (status : Status) (old new : Option (List ℕ)) (flushed 
   demo_is_other : (other : Status) → EndsDemo demo status old new flushed faults → other ≢ Done → other ≢ WriteFault → other ≢ Memory → status ≢ other
   demo_is_other other end a b d is = elim (demo_ended end) [ inl e ↦ a (sym is ∙ e) | inr rest ↦ elim rest [ inl e ↦ b (sym is ∙ e) | inr e ↦ d (sym is ∙ e) ] ]
 
-  pub demo_flushed : EndsDemo demo status old new flushed faults → status ≢ WriteFault → status ≢ Memory → IsTrue flushed
-  demo_flushed (inl stop) fine kept = absurd (kept stop.status_is)
-  demo_flushed (inr (text, the, finish)) fine kept = (finished text Done status old new flushed faults finish fine).2
+  pub EndsDemo-flushed : EndsDemo demo status old new flushed faults → status ≢ WriteFault → status ≢ Memory → IsTrue flushed
+  EndsDemo-flushed (inl stop) fine kept = absurd (kept stop.status_is)
+  EndsDemo-flushed (inr (text, the, finish)) fine kept = (finished text Done status old new flushed faults finish fine).2
 
-  pub demo_cause : (surface script saved : Count) → Stays surface → Stays script → Stays saved → EndsDemo demo status old new flushed faults → HasStatusCause status surface script faults saved
-  demo_cause surface script saved a b d (inl stop) =
+  pub EndsDemo-cause : (surface script saved : Count) → Stays surface → Stays script → Stays saved → EndsDemo demo status old new flushed faults → HasStatusCause status surface script faults saved
+  EndsDemo-cause surface script saved a b d (inl stop) =
       let is : status ≡ Memory = stop.status_is in
       record { read = λ e. absurd (cc); write = λ e. absurd (cc); other = λ _ _. (a, b, stop.count, d) }
-  demo_cause surface script saved a b d (inr (text, the, finish)) =
+  EndsDemo-cause surface script saved a b d (inr (text, the, finish)) =
       finish_cause surface script saved faults.before faults.before faults.now status old new flushed text Done (λ e. cc) (λ e. cc) (a, b, refl, d) finish
 
   -- and with neither of these
-  pub demo_no_usage : EndsDemo demo status old new flushed faults → status ≢ Usage
-  demo_no_usage end = demo_is_other Usage end (λ e. cc) (λ e. cc) (λ e. cc)
+  pub EndsDemo-no_usage : EndsDemo demo status old new flushed faults → status ≢ Usage
+  EndsDemo-no_usage end = demo_is_other Usage end (λ e. cc) (λ e. cc) (λ e. cc)
 
-  pub demo_no_read_fault : EndsDemo demo status old new flushed faults → status ≢ ReadFault
-  demo_no_read_fault end = demo_is_other ReadFault end (λ e. cc) (λ e. cc) (λ e. cc)
+  pub EndsDemo-no_read_fault : EndsDemo demo status old new flushed faults → status ≢ ReadFault
+  EndsDemo-no_read_fault end = demo_is_other ReadFault end (λ e. cc) (λ e. cc) (λ e. cc)
 
 -- the usage text is written, or the sink failed
 module _ (bytes : List ℕ) (status : Status) (old new : Option (List ℕ)) (flushed : Bool) (faults : Count) (end : Finishes bytes Usage status old new flushed faults) where
@@ -435,5 +435,5 @@ module _ (bytes : List ℕ) (status : Status) (old new : Option (List ℕ)) (flu
       finish_cause surface script saved faults.before faults.before faults.now status old new flushed bytes Usage (λ e. cc) (λ e. cc) (a, b, refl, d) end
 
 -- how far the second input is read, by either of its names
-pub second_within_as : {U : Type 0} (limit : ℕ) (r : Reading) (name other : List ℕ) → Some name ≡ Some other → U ⊎ StopsWithin limit name r → U ⊎ StopsWithin limit other r
-second_within_as {U} limit r name other is h = let same : name ≡ other = cc in subst (λ (n : List ℕ). U ⊎ StopsWithin limit n r) same h
+pub StopsWithin-second : {U : Type 0} (limit : ℕ) (r : Reading) (name other : List ℕ) → Some name ≡ Some other → U ⊎ StopsWithin limit name r → U ⊎ StopsWithin limit other r
+StopsWithin-second {U} limit r name other is h = let same : name ≡ other = cc in subst (λ (n : List ℕ). U ⊎ StopsWithin limit n r) same h

@@ -1,2 +1,2 @@
-mod Works
+mod IsWork
 mod Ends

@@ -26,18 +26,18 @@ abbrev pub NoAnswers : List ℕ → Type 0
 NoAnswers text = ⊥
 
 module _ (stays : Type 0) (s : Saving) (old new : Option (List ℕ)) where
-  pub run_is_work : (run : RunRequest) (surface script : List ℕ) (result : Result Bool Stop) → IsRun run surface script stays s result old new
+  pub IsWork-run : (run : RunRequest) (surface script : List ℕ) (result : Result Bool Stop) → IsRun run surface script stays s result old new
       → IsWork (IsOutcomeOfRun run surface script) (IsBegun run surface script) stays s result old new
-  run_is_work run surface script (Ok accepted) h = h
-  run_is_work run surface script (Err Memory) h = h
-  run_is_work run surface script (Err WriteFault) (inl stopped) = inl stopped
-  run_is_work run surface script (Err WriteFault) (inr (work, is, unsaved)) = inr (work, is, inl unsaved)
-  run_is_work run surface script (Err ReadFault) h = h
-  run_is_work run surface script (Err (Refused refusal)) h = h
+  IsWork-run run surface script (Ok accepted) h = h
+  IsWork-run run surface script (Err Memory) h = h
+  IsWork-run run surface script (Err WriteFault) (inl stopped) = inl stopped
+  IsWork-run run surface script (Err WriteFault) (inr (work, is, unsaved)) = inr (work, is, inl unsaved)
+  IsWork-run run surface script (Err ReadFault) h = h
+  IsWork-run run surface script (Err (Refused refusal)) h = h
 
-  pub check_is_work : (surface second : List ℕ) (result : Result Bool Stop) → stays → IsCheck surface second result old new → IsWork (IsOutcomeOfCheck surface second) NoAnswers stays s result old new
-  check_is_work surface second (Ok accepted) kept (is, the, written) = (acceptance, the, sym is, written, kept)
-  check_is_work surface second (Err Memory) kept h = inl h
-  check_is_work surface second (Err WriteFault) kept (the, part) = inr (acceptance, the, inr (kept, AppendsPart-start old new acceptance.out part))
-  check_is_work surface second (Err ReadFault) kept h = h
-  check_is_work surface second (Err (Refused refusal)) kept h = h
+  pub IsWork-check : (surface second : List ℕ) (result : Result Bool Stop) → stays → IsCheck surface second result old new → IsWork (IsOutcomeOfCheck surface second) NoAnswers stays s result old new
+  IsWork-check surface second (Ok accepted) kept (is, the, written) = (acceptance, the, sym is, written, kept)
+  IsWork-check surface second (Err Memory) kept h = inl h
+  IsWork-check surface second (Err WriteFault) kept (the, part) = inr (acceptance, the, inr (kept, AppendsPart-start old new acceptance.out part))
+  IsWork-check surface second (Err ReadFault) kept h = h
+  IsWork-check surface second (Err (Refused refusal)) kept h = h
