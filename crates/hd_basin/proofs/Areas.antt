@@ -7,7 +7,7 @@ use Rattle.hd_map.specs.declared.types.Pos.{Pos}
 use Rattle.hd_map.specs.declared.types.Size.{Size}
 use Rattle.hd_map.specs.Map.{InGrid, Map, Present}
 use Rattle.hd_tiles.specs.Tile.{tile_of, tiles_across}
-use Rattle.hd_tiles.proofs.TilesAlong.{part_below, part_is}
+use Rattle.hd_tiles.proofs.TilesAlong.{tiles_along-part, part-is}
 use Rattle.hd_basin.specs.declared.frame.Frame.{Frame}
 use Rattle.hd_basin.specs.Frames.{InFrame, FitsGrid}
 use Rattle.hd_basin.specs.Inside.{place_of_frame}
@@ -30,7 +30,7 @@ module _ (s : Size) (t tile : ℕ) (f : Frame) (some : 1 ≤ t) (area : IsArea s
   -- each position of the tile lies in it
   pub area-in : (p : Pos) → InGrid s p → tile_of s t p ≡ tile → InFrame f p
   area-in p inside at =
-      let parts = tile_parts (p.y / t) (p.x / t) (tiles_across s t) tile (part_below p.x s.points t some inside.column) at in
+      let parts = tile_parts (p.y / t) (p.x / t) (tiles_across s t) tile (tiles_along-part p.x s.points t some inside.column) at in
       let left : f.left ≡ p.x / t * t = area.left ∙ ap (λ (k : ℕ). k * t) parts.1 in
       let top : f.top ≡ p.y / t * t = area.top ∙ ap (λ (k : ℕ). k * t) parts.0 in
       let x = div-add-mod' p.x t in
@@ -50,10 +50,10 @@ module _ (s : Size) (t tile : ℕ) (f : Frame) (some : 1 ≤ t) (area : IsArea s
 
   module _ (p : Pos) (within : InFrame f p) where
     x_part : p.x / t ≡ tile % tiles_across s t
-    x_part = (let a = within.left in let b = within.right in let c = area.columns in let l = area.left in part_is p.x (tile % tiles_across s t) t (p.x - f.left) (omega (arith, a, b, c)) (omega (arith, a, l)))
+    x_part = (let a = within.left in let b = within.right in let c = area.columns in let l = area.left in part-is p.x (tile % tiles_across s t) t (p.x - f.left) (omega (arith, a, b, c)) (omega (arith, a, l)))
 
     y_part : p.y / t ≡ tile / tiles_across s t
-    y_part = (let a = within.top in let b = within.bottom in let c = area.rows in let l = area.top in part_is p.y (tile / tiles_across s t) t (p.y - f.top) (omega (arith, a, b, c)) (omega (arith, a, l)))
+    y_part = (let a = within.top in let b = within.bottom in let c = area.rows in let l = area.top in part-is p.y (tile / tiles_across s t) t (p.y - f.top) (omega (arith, a, b, c)) (omega (arith, a, l)))
 
     -- and it has no other
     pub area-grid : InGrid s p

@@ -10,7 +10,7 @@ use Rattle.hd_map.specs.Order.{IsNotAbove}
 use Rattle.hd_map.specs.Rank.{below_by}
 use Rattle.hd_map.specs.SideLaws.{below_by-order}
 use Rattle.hd_map.proofs.Order.{below-not_above, not_above-refl, not_above-trans}
-use Rattle.hd_tiles.proofs.Stamping.{get-set_same, get-set_other}
+use Rattle.hd_tiles.proofs.Stamping.{slice_get-set_same, slice_get-set_other}
 use Rattle.hd_basin.specs.declared.meetings.Meeting.{Meeting}
 use Rattle.hd_basin.specs.Meetings.{IsLast, AreChained, IsUnknown, IsMeetingAt, Notes, AreKept}
 use Rattle.hd_basin.proofs.Lists.{get-push_left, get-push_last, get-push_cases}
@@ -66,10 +66,10 @@ module _ (list : List Meeting) (x : Meeting) where
       record {
         ends = λ a h at. elim (cases_eq a x.a) [
           | inl same ↦ (
-              let e : Some (length list) ≡ h = same_Some (Some (length list)) h (sym (get-set_same lasts x.a (Some (length list)) inside) ∙ ap (slice_get (set lasts x.a (Some (length list)))) (sym same) ∙ at) in
+              let e : Some (length list) ≡ h = same_Some (Some (length list)) h (sym (slice_get-set_same lasts x.a (Some (length list)) inside) ∙ ap (slice_get (set lasts x.a (Some (length list)))) (sym same) ∙ at) in
               subst (λ (n : ℕ). IsLast (list ++ x ∷ []) a n h) count (subst (λ (b : ℕ). IsLast (list ++ x ∷ []) b (length list + 1) h) (sym same) (subst (λ (o : Option ℕ). IsLast (list ++ x ∷ []) x.a (length list + 1) o) e last-own)))
           | inr other ↦ (
-              let was : slice_get lasts a ≡ Some h = sym (get-set_other lasts x.a a (Some (length list)) other) ∙ at in
+              let was : slice_get lasts a ≡ Some h = sym (slice_get-set_other lasts x.a a (Some (length list)) other) ∙ at in
               subst (λ (n : ℕ). IsLast (list ++ x ∷ []) a n h) count (last-other a h (λ e. other (sym e)) (are.ends a h was)))
         ];
         each = λ i y at. elim (get-push_cases list x y i at) [
@@ -84,7 +84,7 @@ module _ (list : List Meeting) (i : ℕ) (was x : Meeting) (at : slice_get list 
   changed = set list i x
 
   pub new-at : slice_get changed i ≡ Some x
-  new-at = get-set_same list i x (slice_get_within list i was at)
+  new-at = slice_get-set_same list i x (slice_get_within list i was at)
 
   -- what is there was there with the same nodes
   pub record Stood (j : ℕ) (y : Meeting) : Type 0 where
@@ -98,7 +98,7 @@ module _ (list : List Meeting) (i : ℕ) (was x : Meeting) (at : slice_get list 
     | inl e ↦ (
         let same : x ≡ y = same_Some x y (sym new-at ∙ ap (slice_get changed) (sym e) ∙ read) in
         record { old = was; old_at = ap (slice_get list) e ∙ at; same_a = ap (λ (z : Meeting). z.a) (sym same) ∙ lesser; same_b = ap (λ (z : Meeting). z.b) (sym same) ∙ greater })
-    | inr other ↦ record { old = y; old_at = sym (get-set_other list i j x other) ∙ read; same_a = refl; same_b = refl }
+    | inr other ↦ record { old = y; old_at = sym (slice_get-set_other list i j x other) ∙ read; same_a = refl; same_b = refl }
   ]
 
   last-same : (a bound : ℕ) (h : Option ℕ) → IsLast list a bound h → IsLast changed a bound h
@@ -114,7 +114,7 @@ module _ (list : List Meeting) (i : ℕ) (was x : Meeting) (at : slice_get list 
           subst (λ (z : Meeting). IsLast changed z.a j z.before) same
           (subst (λ (n : ℕ). IsLast changed x.a n x.before) (sym e)
           (subst (λ (o : Option ℕ). IsLast changed x.a i o) (sym before) (subst (λ (b : ℕ). IsLast changed b i was.before) (sym lesser) (last-same was.a i was.before (are.each i was at))))))
-      | inr other ↦ last-same y.a j y.before (are.each j y (sym (get-set_other list i j x other) ∙ read))
+      | inr other ↦ last-same y.a j y.before (are.each j y (sym (slice_get-set_other list i j x other) ∙ read))
     ];
   }
 
@@ -223,7 +223,7 @@ module _ (side : SideName) (Event : ℕ → ℕ → Rank → Type 0) (a b : ℕ)
           | inl e ↦ (
               let same : x ≡ y = same_Some x y (sym (new-at old i was x at mine other) ∙ ap (slice_get (set old i x)) (sym e) ∙ read) in
               inr (ap (λ (z : Meeting). z.a) (sym same) ∙ is.lesser, ap (λ (z : Meeting). z.b) (sym same) ∙ is.greater, ap (λ (z : Meeting). z.at) (sym same) ∙ is.at))
-          | inr apart ↦ inl (kept.each j y (sym (get-set_other old i j x apart) ∙ read))
+          | inr apart ↦ inl (kept.each j y (sym (slice_get-set_other old i j x apart) ∙ read))
         ];
         every = λ c d v event. elim event [
           | inl before ↦ (
@@ -239,7 +239,7 @@ module _ (side : SideName) (Event : ℕ → ℕ → Rank → Type 0) (a b : ℕ)
                       subst (λ (z : Rank). IsNotAbove (below_by side) z v) (sym is.at) (not_above-trans (below_by side) (below_by-order side) w was.at v (below-not_above (below_by side) (below_by-order side) w was.at low)
                           (subst (λ (z : Meeting). IsNotAbove (below_by side) z.at v) same k.5)),
                     ))
-                | inr apart ↦ (k.0, k.1, get-set_other old i k.0 x apart ∙ k.2, k.3, k.4, k.5)
+                | inr apart ↦ (k.0, k.1, slice_get-set_other old i k.0 x apart ∙ k.2, k.3, k.4, k.5)
               ])
           | inr new ↦ (
             i,

@@ -22,7 +22,7 @@ use Rattle.hd_map.proofs.Gather.{same_pos}
 use Rattle.hd_map.proofs.Points.{place_inside, position_at-of}
 use Rattle.hd_basin.specs.declared.frame.Frame.{Frame}
 use Rattle.hd_tiles.specs.Tile.{tiles_across}
-use Rattle.hd_tiles.proofs.TilesAlong.{part_below, part_is}
+use Rattle.hd_tiles.proofs.TilesAlong.{tiles_along-part, part-is}
 use Rattle.hd_basin.specs.Views.{ShowSame}
 use Rattle.hd_basin.specs.Frames.{AreFilled, at_step, InFrame, FitsGrid, HoldsRound, IsRoundOnly, is_in, seen_at, cell_of, any_type, framed_map, IsPartOf, IsWindow, ShowsFrame, moved}
 
@@ -38,7 +38,7 @@ part_start tile across limit t some wide below =
 
 -- a row of tiles has one at least
 pub some_across : (s : Size) (t : ℕ) → 1 ≤ t → 1 ≤ s.points → 1 ≤ tiles_across s t
-some_across s t some points = (let first = part_below 0 s.points t some points in omega (arith, first))
+some_across s t some points = (let first = tiles_along-part 0 s.points t some points in omega (arith, first))
 
 -- a part of those of a limit begins below the limit
 pub column_start : (k limit t : ℕ) → 1 ≤ t → k < (limit + t - 1) / t → k * t < limit
@@ -68,7 +68,7 @@ pub frame_holds : (s : Size) (t tile : ℕ) (f : Frame) → 1 ≤ t →
     f.top + f.rows ≤ s.profiles → f.top ≡ tile / tiles_across s t * t - 1 → (f.top + f.rows ≡ s.profiles) ⊎ (tile / tiles_across s t * t + t + 1 ≤ f.top + f.rows) →
     HoldsRound s t tile f
 frame_holds s t tile f some fit_x from_x after_x fit_y from_y after_y q inside round =
-    let below = part_below round.from.x s.points t some round.in_grid.column in
+    let below = tiles_along-part round.from.x s.points t some round.in_grid.column in
     let parts = tile_parts (round.from.y / t) (round.from.x / t) (tiles_across s t) tile below round.in_tile in
     let x = in_stretch s.points t (tile % tiles_across s t) f.left f.columns round.from.x q.x some (record { fits = fit_x; begins = from_x; after = after_x }) (sym parts.1) round.columns inside.column in
     let y = in_stretch s.profiles t (tile / tiles_across s t) f.top f.rows round.from.y q.y some (record { fits = fit_y; begins = from_y; after = after_y }) (sym parts.0) round.rows inside.profile in
@@ -83,10 +83,10 @@ record IsPlaced (limit t part q : ℕ) : Type 0 where
 
 from_stretch : (limit t part from count q : ℕ) → 1 ≤ t → part * t < limit → from ≡ part * t - 1 → from + count ≤ limit → from + count ≤ part * t + t + 1 → from ≤ q → q < from + count → IsPlaced limit t part q
 from_stretch limit t part from count q some begins starts fits ends low high = elim (cases_lt q (part * t)) [
-  | inl early ↦ record { near = part * t; below = begins; in_part = part_is (part * t) part t 0 (omega arith) (omega arith); is_near = (omega (arith, starts, low), omega (arith, early)) }
+  | inl early ↦ record { near = part * t; below = begins; in_part = part-is (part * t) part t 0 (omega arith) (omega arith); is_near = (omega (arith, starts, low), omega (arith, early)) }
   | inr here ↦ elim (cases_lt q (part * t + t)) [
-    | inl inside ↦ record { near = q; below = omega (arith, high, fits); in_part = part_is q part t (q - part * t) (omega (arith, inside, here)) (omega (arith, here)); is_near = (omega arith, omega arith) }
-    | inr late ↦ record { near = part * t + t - 1; below = omega (arith, high, fits, late, some); in_part = part_is (part * t + t - 1) part t (t - 1) (omega arith) (omega (arith, some)); is_near = (omega (arith, late), omega (arith, high, ends)) }
+    | inl inside ↦ record { near = q; below = omega (arith, high, fits); in_part = part-is q part t (q - part * t) (omega (arith, inside, here)) (omega (arith, here)); is_near = (omega arith, omega arith) }
+    | inr late ↦ record { near = part * t + t - 1; below = omega (arith, high, fits, late, some); in_part = part-is (part * t + t - 1) part t (t - 1) (omega arith) (omega (arith, some)); is_near = (omega (arith, late), omega (arith, high, ends)) }
   ]
 ]
 

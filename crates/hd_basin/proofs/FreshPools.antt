@@ -9,7 +9,7 @@ use Rattle.hd_map.specs.Map.{Map, InGrid}
 use Rattle.hd_map.specs.Rank.{IsPoint}
 use Rattle.hd_map.proofs.Points.{Near-from, Near-to}
 use Rattle.hd_tiles.specs.Tile.{tile_of, tile_count}
-use Rattle.hd_tiles.proofs.Corners.{tile_inside}
+use Rattle.hd_tiles.proofs.Corners.{tile_of-inside}
 use Rattle.hd_basin.specs.Basin.{tile_at}
 use Rattle.hd_basin.specs.InStep.{IsInStep, IsPoolOf, KeepsSeen}
 use Rattle.hd_basin.specs.Parts.{Pool, IsFresh, IsLinked, IsSeamOf, IsSound}
@@ -34,7 +34,7 @@ module _ (m : Map) (side : SideName) (stamps : List ℕ) (pool : Pool) (sound : 
     (all : (tile : ℕ) → tile < length pool.parts → IsFresh stamps pool.parts tile) where
   tile_fresh : (p : Pos) → InGrid m.size p → IsFresh stamps pool.parts (tile_of m.size pool.side p)
   tile_fresh p inside =
-      let below = tile_inside m.size pool.side p some inside in
+      let below = tile_of-inside m.size pool.side p some inside in
       let count : tile_count m.size pool.side ≡ length pool.parts = ap (λ (s : Size). tile_count s pool.side) (sym step.size) ∙ sym sound.whole in
       all _ (omega (arith, below, count))
 

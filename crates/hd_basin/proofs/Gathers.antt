@@ -12,7 +12,7 @@ use Rattle.hd_map.specs.Map.{Map, Present, position_at}
 use Rattle.hd_map.specs.Rank.{rank}
 use Rattle.hd_map.proofs.Points.{same_point, rank_position, position_at-of}
 use Rattle.hd_tiles.specs.Tile.{tile_of}
-use Rattle.hd_tiles.proofs.Stamping.{get-set_same, get-set_other}
+use Rattle.hd_tiles.proofs.Stamping.{slice_get-set_same, slice_get-set_other}
 use Rattle.hd_basin.specs.declared.frame.Frame.{Frame}
 use Rattle.hd_basin.specs.declared.node.Node.{Node}
 use Rattle.hd_basin.specs.Basin.{IsSink, IsSinkOf, FlowsTo, tile_at}
@@ -217,10 +217,10 @@ module _ (m : Map) (side : SideName) (t tile : ℕ) (f : Frame) (k : ℕ) (some 
         inside = slice_get_within ns label a.old a.at
 
         new_at : slice_get ns' label ≡ Some a.new
-        new_at = ap (λ (xs : List Node). slice_get xs label) a.nodes_are ∙ get-set_same ns label a.new inside
+        new_at = ap (λ (xs : List Node). slice_get xs label) a.nodes_are ∙ slice_get-set_same ns label a.new inside
 
         away : (i : ℕ) → i ≢ label → slice_get ns' i ≡ slice_get ns i
-        away i other = ap (λ (xs : List Node). slice_get xs i) a.nodes_are ∙ get-set_other ns label i a.new other
+        away i other = ap (λ (xs : List Node). slice_get xs i) a.nodes_are ∙ slice_get-set_other ns label i a.new other
 
         grow : (l : ℕ) (n : Node) → slice_get ns l ≡ Some n → (u : Node) × (slice_get ns' l ≡ Some u) × (u.low ≡ n.low)
         grow l n at = elim (cases_eq l label) [
@@ -343,17 +343,17 @@ module _ (m : Map) (side : SideName) (t tile : ℕ) (f : Frame) (k : ℕ) (some 
             | inr new ↦ subst (IsGatheredNode m side t tile f (k + 1)) (sym new.1) first_node
           ];
           homes = λ i n at. elim (was_or_new i n at) [
-            | inl was ↦ numbered (home_of m t n.low) ∙ get-set_other numbers home (home_of m t n.low) (length ns) (λ e. none_own i n was (same-home i n was e)) ∙ g.homes i n was
+            | inl was ↦ numbered (home_of m t n.low) ∙ slice_get-set_other numbers home (home_of m t n.low) (length ns) (λ e. none_own i n was (same-home i n was e)) ∙ g.homes i n was
             | inr new ↦ (
                 let at_home : home_of m t n.low ≡ home = ap (λ (x : Node). home_of m t x.low) new.1 ∙ home-rank a.node.low a.low in
-                numbered (home_of m t n.low) ∙ ap (slice_get (set numbers home (length ns))) at_home ∙ get-set_same numbers home (length ns) home-below ∙ ap (λ (j : ℕ). Some j) (sym new.0))
+                numbered (home_of m t n.low) ∙ ap (slice_get (set numbers home (length ns))) at_home ∙ slice_get-set_same numbers home (length ns) home-below ∙ ap (λ (j : ℕ). Some j) (sym new.0))
           ];
           known = λ j i at taken. elim (cases_eq j home) [
             | inl e ↦ (
-                let value : i ≡ length ns = same_Some i (length ns) (sym at ∙ numbered j ∙ ap (slice_get (set numbers home (length ns))) e ∙ get-set_same numbers home (length ns) home-below) in
+                let value : i ≡ length ns = same_Some i (length ns) (sym at ∙ numbered j ∙ ap (slice_get (set numbers home (length ns))) e ∙ slice_get-set_same numbers home (length ns) home-below) in
                 (a.node, ap (slice_get ns') value ∙ new_last, home-rank a.node.low a.low ∙ sym e))
             | inr other ↦ (
-                let n = g.known j i (sym (get-set_other numbers home j (length ns) other) ∙ sym (numbered j) ∙ at) taken in
+                let n = g.known j i (sym (slice_get-set_other numbers home j (length ns) other) ∙ sym (numbered j) ∙ at) taken in
                 (n.0, left i n.0 n.1, n.2))
           ];
           labels = labels-more ns' label (λ l n at. (n, left l n at, refl)) (record {

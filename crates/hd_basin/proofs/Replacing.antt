@@ -13,7 +13,7 @@ use Rattle.hd_map.specs.Map.{Map, Present, position_at}
 use Rattle.hd_map.specs.Rank.{rank}
 use Rattle.hd_map.proofs.Points.{place_inside, rank_position}
 use Rattle.hd_tiles.specs.Tile.{tile_of}
-use Rattle.hd_tiles.proofs.Stamping.{get-set_same, get-set_other}
+use Rattle.hd_tiles.proofs.Stamping.{slice_get-set_same, slice_get-set_other}
 use Rattle.hd_basin.specs.declared.node.Node.{Node}
 use Rattle.hd_basin.specs.declared.part.Part.{Part}
 use Rattle.hd_basin.specs.declared.part.Seam.{Seam}
@@ -76,10 +76,10 @@ module _ (m : Map) (side : SideName) (t : ℕ) (stamps : List ℕ) (parts : List
   after = set parts tile part
 
   here : slice_get after tile ≡ Some part
-  here = get-set_same parts tile part inside
+  here = slice_get-set_same parts tile part inside
 
   away : (j : ℕ) → j ≢ tile → slice_get after j ≡ slice_get parts j
-  away j other = get-set_other parts tile j part other
+  away j other = slice_get-set_other parts tile j part other
 
   -- what is read at the tile is the new part
   new_part : (j : ℕ) (p : Part) → j ≡ tile → slice_get after j ≡ Some p → p ≡ part

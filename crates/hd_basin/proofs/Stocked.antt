@@ -7,7 +7,7 @@ use Rattle.std.proofs.lemmas.Bool.{cases_eq, false≢true}
 use Rattle.std.proofs.lemmas.List.Elements.{All-contains, All-map, All-weaker, Contains-append_left, Contains-push, Contains-push_cases, filter_map-append}
 use Rattle.std.proofs.lemmas.Option.{same_Some, slice_get-map}
 use Rattle.hd_map.proofs.Items.{Contains-head, Contains-tail, Contains-cases, Contains-none}
-use Rattle.hd_tiles.proofs.Stamping.{get-set_same, get-set_other}
+use Rattle.hd_tiles.proofs.Stamping.{slice_get-set_same, slice_get-set_other}
 use Rattle.slab.specs.Slab.{Slab, ContainsKey, Updates, get}
 use Rattle.hd_basin.specs.declared.kept.Kept.{Kept}
 use Rattle.hd_basin.specs.declared.node.Node.{Node}
@@ -193,10 +193,10 @@ module _ (old mid new : Slab Node) (tiles : List Kept) (tile : ℕ) (was kept : 
   after = set tiles tile kept
 
   here : slice_get after tile ≡ Some kept
-  here = get-set_same tiles tile kept inside
+  here = slice_get-set_same tiles tile kept inside
 
   away : (j : ℕ) → j ≢ tile → slice_get after j ≡ slice_get tiles j
-  away j far = get-set_other tiles tile j kept far
+  away j far = slice_get-set_other tiles tile j kept far
 
   -- what is read at the tile is the new one
   new_kept : (j : ℕ) (k : Kept) → j ≡ tile → slice_get after j ≡ Some k → k ≡ kept

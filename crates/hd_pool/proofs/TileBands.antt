@@ -23,8 +23,8 @@ use Rattle.hd_steep.specs.Tracing.{IsTraced, Traced, TracesAcross, traced_passes
 use Rattle.hd_steep.proofs.Crossed.{extends_none, extends_on}
 use Rattle.hd_steep.proofs.TracedCrossings.{across_kept, traced-crossings}
 use Rattle.hd_tiles.specs.Tile.{tile_count, tile_of, tiles_across, tiles_along}
-use Rattle.hd_tiles.proofs.Stamping.{get-set_same}
-use Rattle.hd_tiles.proofs.TilesAlong.{part_below, part_is}
+use Rattle.hd_tiles.proofs.Stamping.{slice_get-set_same}
+use Rattle.hd_tiles.proofs.TilesAlong.{tiles_along-part, part-is}
 use Rattle.hd_pool.specs.declared.bands.Band.{Band}
 use Rattle.hd_pool.specs.TileBands.{AreBandsOf, AreTracedAcross, HasBand, HaveDescents, IsBandOf}
 
@@ -43,7 +43,7 @@ in-band n t y some below =
 
 -- a number between two multiples is in the part that begins at the first
 pub in-part : (k part t : ℕ) → part * t ≤ k → k < part * t + t → k / t ≡ part
-in-part k part t from below = part_is k part t (k - part * t) (omega (arith, from, below)) (omega (arith, from))
+in-part k part t from below = part-is k part t (k - part * t) (omega (arith, from, below)) (omega (arith, from))
 
 -- the tile of a position in the profiles of a row of tiles is one of that row
 pub band-tile : (s : Size) (t band : ℕ) (p : Pos) → InGrid s p → IsInProfiles (band * t) (min (band * t + t) s.profiles) p
@@ -52,7 +52,7 @@ band-tile s t band p inside within =
     let low = within.0 in
     let high = within.1 in
     let row : p.y / t * tiles_across s t ≡ band * tiles_across s t = ap (λ (k : ℕ). k * tiles_across s t) (in-part p.y band t low (omega (arith, high))) in
-    let column = part_below p.x s.points t (omega (arith, low, high)) inside.column in
+    let column = tiles_along-part p.x s.points t (omega (arith, low, high)) inside.column in
     (omega (arith, row), omega (arith, row, column))
 
 module _ (m : Map) (side : SideName) (t : ℕ) where
@@ -65,7 +65,7 @@ module _ (m : Map) (side : SideName) (t : ℕ) where
 
   -- a row that was listed anew
   pub band-set : (bands : List Band) (band : ℕ) (found : Band) → band < length bands → IsBandOf m side t band found → HasBand m side t (set bands band found) band
-  band-set bands band found inside is other read = subst (IsBandOf m side t band) (same_Some found other (sym (get-set_same bands band found inside) ∙ read)) is
+  band-set bands band found inside is other read = subst (IsBandOf m side t band) (same_Some found other (sym (slice_get-set_same bands band found inside) ∙ read)) is
 
   -- all rows have the descents of the map
   pub bands-have : (bands : List Band) → 1 ≤ t → AreBandsOf m side t bands → HaveDescents m side bands
@@ -77,7 +77,7 @@ module _ (m : Map) (side : SideName) (t : ℕ) where
     all = λ u here z lower. (
         let profile = here.in_grid.profile in
         let row : ℕ = u.y / t in
-        let inside : row < length bands = (let below = part_below u.y m.size.profiles t some profile in let all = are.all in omega (arith, below, all)) in
+        let inside : row < length bands = (let below = tiles_along-part u.y m.size.profiles t some profile in let all = are.all in omega (arith, below, all)) in
         let found = item_at bands row inside in (
           found.0,
           at_place bands row found.0 found.1,

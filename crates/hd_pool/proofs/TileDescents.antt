@@ -13,7 +13,7 @@ use Rattle.hd_steep.specs.FirstLinks.{AgreeRound}
 use Rattle.hd_steep.proofs.DescentsStay.{descents-stay}
 use Rattle.hd_tiles.specs.Stamps.{ComesFrom}
 use Rattle.hd_tiles.specs.Tile.{Agree, tile_of, tiles_across, tiles_along}
-use Rattle.hd_tiles.proofs.Stamping.{get-set_same, get-set_other}
+use Rattle.hd_tiles.proofs.Stamping.{slice_get-set_same, slice_get-set_other}
 use Rattle.hd_pool.specs.declared.bands.Band.{Band}
 use Rattle.hd_pool.specs.TileBands.{AreBandsOf, HasBand, IsBandOf}
 use Rattle.hd_pool.specs.TileDescents.{TileDescents, AreDescentsInStep, IsBandSeen, IsSeen, KeepsSeen}
@@ -23,17 +23,17 @@ use Rattle.hd_pool.proofs.TileLinks.{agree-round}
 module _ (stamps seen : List ℕ) (tile : ℕ) where
   -- another tile than one that was seen anew was seen before
   seen-before : (k stamp : ℕ) → k ≢ tile → IsSeen stamps (set seen tile stamp) k → IsSeen stamps seen k
-  seen-before k stamp other at = record { stamp = at.stamp; was = sym (get-set_other seen tile k stamp other) ∙ at.was; now = at.now }
+  seen-before k stamp other at = record { stamp = at.stamp; was = sym (slice_get-set_other seen tile k stamp other) ∙ at.was; now = at.now }
 
   module _ (stamp : ℕ) (inside : tile < length seen) (now : slice_get stamps tile ≡ Some stamp) where
     -- the tile that was seen anew, and those that were seen before
     pub seen-set : IsSeen stamps (set seen tile stamp) tile
-    seen-set = record { stamp = stamp; was = get-set_same seen tile stamp inside; now = now }
+    seen-set = record { stamp = stamp; was = slice_get-set_same seen tile stamp inside; now = now }
 
     pub keeps-seen : KeepsSeen stamps seen (set seen tile stamp)
     keeps-seen k at = elim (cases_eq k tile) [
       | inl same ↦ subst (IsSeen stamps (set seen tile stamp)) (sym same) seen-set
-      | inr other ↦ record { stamp = at.stamp; was = get-set_other seen tile k stamp other ∙ at.was; now = at.now }
+      | inr other ↦ record { stamp = at.stamp; was = slice_get-set_other seen tile k stamp other ∙ at.was; now = at.now }
     ]
 
 module _ (m : Map) (side : SideName) (t : ℕ) (stamps : List ℕ) where
@@ -45,10 +45,10 @@ module _ (m : Map) (side : SideName) (t : ℕ) (stamps : List ℕ) where
     all_bands = step.all_bands;
     not_ahead = λ k seen present was is. elim (cases_eq k tile) [
       | inl same ↦ (
-          let a : seen ≡ stamp = same_Some seen stamp (sym was ∙ ap (slice_get (set kept.seen tile stamp)) same ∙ get-set_same kept.seen tile stamp inside) in
+          let a : seen ≡ stamp = same_Some seen stamp (sym was ∙ ap (slice_get (set kept.seen tile stamp)) same ∙ slice_get-set_same kept.seen tile stamp inside) in
           let b : present ≡ stamp = same_Some present stamp (sym is ∙ ap (slice_get stamps) same ∙ now) in
           omega (arith, a, b))
-      | inr other ↦ step.not_ahead k seen present (sym (get-set_other kept.seen tile k stamp other) ∙ was) is
+      | inr other ↦ step.not_ahead k seen present (sym (slice_get-set_other kept.seen tile k stamp other) ∙ was) is
     ];
     reaches = λ band seen. elim (cases_eq band (tile / tiles_across m.size t)) [
       | inl same ↦ subst (HasBand m side t kept.bands) (sym same) row
@@ -67,7 +67,7 @@ module _ (m : Map) (side : SideName) (t : ℕ) (stamps : List ℕ) where
     not_ahead = step.not_ahead;
     reaches = λ k seen. elim (cases_eq k band) [
       | inl same ↦ subst (HasBand m side t (set kept.bands band found)) (sym same) (band-set m side t kept.bands band found inside is)
-      | inr other ↦ λ b read. step.reaches k seen b (sym (get-set_other kept.bands band k found other) ∙ read)
+      | inr other ↦ λ b read. step.reaches k seen b (sym (slice_get-set_other kept.bands band k found other) ∙ read)
     ];
   }
 

@@ -14,16 +14,16 @@ use Rattle.hd_steep.specs.FirstLinks.{IsFirstLink, AreFirstLinks, IsRenewedAt, A
 use Rattle.hd_steep.proofs.FirstLink.{first_link-stays}
 use Rattle.hd_tiles.specs.Stamps.{ComesFrom}
 use Rattle.hd_tiles.specs.Tile.{Agree, tile_of, tile_count, tiles_across}
-use Rattle.hd_tiles.proofs.Corners.{tile_inside}
-use Rattle.hd_tiles.proofs.TilesAlong.{part_below}
-use Rattle.hd_tiles.proofs.Stamping.{get-set_same, get-set_other}
+use Rattle.hd_tiles.proofs.Corners.{tile_of-inside}
+use Rattle.hd_tiles.proofs.TilesAlong.{tiles_along-part}
+use Rattle.hd_tiles.proofs.Stamping.{slice_get-set_same, slice_get-set_other}
 use Rattle.hd_basin.proofs.Frames.{tile_parts}
 use Rattle.hd_pool.specs.TileLinks.{TileLinks, IsLinked, IsTileLinked, AreSpanLinked, AreLinksInStep, KeepsLinked}
 
 -- the columns and the profiles of a tile
 pub tile-columns : (s : Size) (t tile : ℕ) (p : Pos) → 1 ≤ t → InGrid s p → tile_of s t p ≡ tile → (tile % tiles_across s t * t ≤ p.x) × (p.x < tile % tiles_across s t * t + t)
 tile-columns s t tile p some inside at =
-    let parts = tile_parts (p.y / t) (p.x / t) (tiles_across s t) tile (part_below p.x s.points t some inside.column) at in
+    let parts = tile_parts (p.y / t) (p.x / t) (tiles_across s t) tile (tiles_along-part p.x s.points t some inside.column) at in
     let left : tile % tiles_across s t * t ≡ p.x / t * t = ap (λ (k : ℕ). k * t) parts.1 in
     let split = div-add-mod' p.x t in
     let rest = mod_below p.x t some in
@@ -31,7 +31,7 @@ tile-columns s t tile p some inside at =
 
 pub tile-profiles : (s : Size) (t tile : ℕ) (p : Pos) → 1 ≤ t → InGrid s p → tile_of s t p ≡ tile → (tile / tiles_across s t * t ≤ p.y) × (p.y < tile / tiles_across s t * t + t)
 tile-profiles s t tile p some inside at =
-    let parts = tile_parts (p.y / t) (p.x / t) (tiles_across s t) tile (part_below p.x s.points t some inside.column) at in
+    let parts = tile_parts (p.y / t) (p.x / t) (tiles_across s t) tile (tiles_along-part p.x s.points t some inside.column) at in
     let top : tile / tiles_across s t * t ≡ p.y / t * t = ap (λ (k : ℕ). k * t) parts.0 in
     let split = div-add-mod' p.y t in
     let rest = mod_below p.y t some in
@@ -91,14 +91,14 @@ module _ (m : Map) (side : SideName) where
       tiles = length-set kept.seen tile stamp ∙ step.tiles;
       not_ahead = λ k seen present was is. elim (cases_eq k tile) [
         | inl same ↦ (
-            let a : seen ≡ stamp = same_Some seen stamp (sym was ∙ ap (slice_get (set kept.seen tile stamp)) same ∙ get-set_same kept.seen tile stamp inside) in
+            let a : seen ≡ stamp = same_Some seen stamp (sym was ∙ ap (slice_get (set kept.seen tile stamp)) same ∙ slice_get-set_same kept.seen tile stamp inside) in
             let b : present ≡ stamp = same_Some present stamp (sym is ∙ ap (slice_get stamps) same ∙ now) in
             omega (arith, a, b))
-        | inr other ↦ step.not_ahead k seen present (sym (get-set_other kept.seen tile k stamp other) ∙ was) is
+        | inr other ↦ step.not_ahead k seen present (sym (slice_get-set_other kept.seen tile k stamp other) ∙ was) is
       ];
       has = λ k present was is. elim (cases_eq k tile) [
         | inl same ↦ rw same linked
-        | inr other ↦ λ p within at. keeps p within (step.has k present (sym (get-set_other kept.seen tile k stamp other) ∙ was) is p within at)
+        | inr other ↦ λ p within at. keeps p within (step.has k present (sym (slice_get-set_other kept.seen tile k stamp other) ∙ was) is p within at)
       ];
     }
 
@@ -113,7 +113,7 @@ module _ (m : Map) (side : SideName) where
           let inside : InGrid m.size p = position_at-inside m.size k whole.size.some_points below in
           let place : place_of m.size p ≡ k = position_at-place m.size k whole.size.some_points in
           let tile : ℕ = tile_of m.size t p in
-          let here : tile < length stamps = rw tiles (tile_inside m.size t p some inside) in
+          let here : tile < length stamps = rw tiles (tile_of-inside m.size t p some inside) in
           let now = slice_get-get_or stamps tile 0 here in
           subst (λ (i : ℕ). IsFirstLink m side i (slice_index kept.links i)) place (step.has tile (get_or stamps tile 0) (all tile here ∙ now) now p inside refl);
     }

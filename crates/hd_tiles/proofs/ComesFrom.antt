@@ -16,23 +16,23 @@ use Rattle.hd_map.proofs.Sets.{cell_at_heights, cell_in_profile, cell_off_profil
 use Rattle.hd_tiles.specs.Profile.{AllStay, Changes, IsRoundChange, SomeChanges}
 use Rattle.hd_tiles.specs.Tile.{IsRound, Agree}
 use Rattle.hd_tiles.specs.Stamps.{ComesFrom, AreUpTo, Rise, Touches, TouchesRound, TouchesProfile, TouchesAll, AreStamped}
-use Rattle.hd_tiles.proofs.Stamping.{stamped-as}
+use Rattle.hd_tiles.proofs.Stamping.{AreStamped-as}
 
 -- a map in a tile that neither holds the position nor one round it is left by a change at the position
 module _ (m : Map) (t tile : ℕ) (p : Pos) (inside : InGrid m.size p) (far : IsRound m.size t tile p → ⊥) where
   other_place : (q : Pos) → InGrid m.size q → IsRound m.size t tile q → place_of m.size q ≢ place_of m.size p
   other_place q within round e = far (let same : q ≡ p = same_place m.size q p within inside e in rw (← same) round)
 
-  pub cell_leaves : (c : Cell) → Agree m (with_cell m p c) t tile
-  cell_leaves c = record {
+  pub with_cell-leaves : (c : Cell) → Agree m (with_cell m p c) t tile
+  with_cell-leaves c = record {
     size = refl;
     adjacency = refl;
     cells = λ q within round. sym (get_or-set_other m.cells (place_of m.size p) (place_of m.size q) c Bad (other_place q within round));
     masks = λ q within round. refl;
   }
 
-  pub mask_leaves : (b : Bool) → Agree m (with_mask m p b) t tile
-  mask_leaves b = record {
+  pub with_mask-leaves : (b : Bool) → Agree m (with_mask m p b) t tile
+  with_mask-leaves b = record {
     size = refl;
     adjacency = refl;
     cells = λ q within round. refl;
@@ -40,15 +40,15 @@ module _ (m : Map) (t tile : ℕ) (p : Pos) (inside : InGrid m.size p) (far : Is
   }
 
 -- to set what stands there leaves the map
-pub cell_stands : (m : Map) (p : Pos) (c : Cell) → IsMap m → InGrid m.size p → c ≡ cell_at m p → InGrid m.size p × IsCellOf m.data_type c × (m ≡ with_cell m p c)
-cell_stands m p c whole inside same =
+pub with_cell-stands : (m : Map) (p : Pos) (c : Cell) → IsMap m → InGrid m.size p → c ≡ cell_at m p → InGrid m.size p × IsCellOf m.data_type c × (m ≡ with_cell m p c)
+with_cell-stands m p c whole inside same =
     let place = place_of m.size p in
     let below = place_inside m.size p inside in
     let cells : set m.cells place c ≡ m.cells = ap (λ (x : Cell). set m.cells place x) same ∙ set-get_or m.cells place Bad in
     (inside, subst (IsCellOf m.data_type) (sym same) (whole.heights place (rw whole.cells below)), ap (λ (xs : List Cell). record m { cells = xs }) (sym cells))
 
-pub mask_stands : (m : Map) (p : Pos) (b : Bool) → InGrid m.size p → b ≡ mask_at m p → InGrid m.size p × (m ≡ with_mask m p b)
-mask_stands m p b inside same =
+pub with_mask-stands : (m : Map) (p : Pos) (b : Bool) → InGrid m.size p → b ≡ mask_at m p → InGrid m.size p × (m ≡ with_mask m p b)
+with_mask-stands m p b inside same =
     let place = place_of m.size p in
     let masks : set m.masks place b ≡ m.masks = ap (λ (x : Bool). set m.masks place x) same ∙ set-get_or m.masks place false in
     (inside, ap (λ (xs : List Bool). record m { masks = xs }) (sym masks))
@@ -64,13 +64,13 @@ cases_stay (Some z) (Height h) = by_lt_z z h
     (λ not_above. inl (ap Height (omega (arith, ints, not_below, not_above)))))
 
 -- heights by which no cell of the profile becomes another leave the map
-pub profile_stands : (m : Map) (y : ℕ) (heights : List (Option ℤ)) (points : ℕ) → IsMap m → points ≡ m.size.points → AllStay m y heights 0 points → m ≡ with_heights m y heights
-profile_stands m y heights points whole same stay = sym (heights_same m y whole heights (λ x below. stay x (omega arith) (rw same below)))
+pub with_heights-stands : (m : Map) (y : ℕ) (heights : List (Option ℤ)) (points : ℕ) → IsMap m → points ≡ m.size.points → AllStay m y heights 0 points → m ≡ with_heights m y heights
+with_heights-stands m y heights points whole same stay = sym (heights_same m y whole heights (λ x below. stay x (omega arith) (rw same below)))
 
 -- the stamps of touched tiles were not above the count, and are one above it now
 module _ (Touched : ℕ → Type 0) (count : ℕ) (before after : List ℕ) (low : AreUpTo count before) (stamped : AreStamped Touched (count + 1) before after) where
-  pub up_to : AreUpTo (count + 1) after
-  up_to tile stamp read = elim (stamped.either tile) [
+  pub AreUpTo-changes : AreUpTo (count + 1) after
+  AreUpTo-changes tile stamp read = elim (stamped.either tile) [
     | inl new ↦ (let e = same_Some stamp (count + 1) (sym read ∙ new) in omega (arith, e))
     | inr old ↦ (let below = low tile stamp (sym old ∙ read) in omega (arith, below))
   ]
@@ -84,12 +84,12 @@ module _ (Touched : ℕ → Type 0) (count : ℕ) (before after : List ℕ) (low
   }
 
   -- a change of the map touches them
-  pub touches-changed : (old new : Map) → (new ≡ old → ⊥) → Touches Touched old new count (count + 1) before after
-  touches-changed old new differs = record { same = λ e. absurd (differs e); counted = λ _. refl; changed = λ _. rise }
+  pub Touches-changed : (old new : Map) → (new ≡ old → ⊥) → Touches Touched old new count (count + 1) before after
+  Touches-changed old new differs = record { same = λ e. absurd (differs e); counted = λ _. refl; changed = λ _. rise }
 
   -- it comes from the map before where the tiles that are not touched are left
-  pub changed-comes : (old new : Map) (t : ℕ) → old.size ≡ new.size → ((tile : ℕ) → (Touched tile → ⊥) → Agree old new t tile) → ComesFrom old t before new t after
-  changed-comes old new t size leaves = record {
+  pub ComesFrom-changed : (old new : Map) (t : ℕ) → old.size ≡ new.size → ((tile : ℕ) → (Touched tile → ⊥) → Agree old new t tile) → ComesFrom old t before new t after
+  ComesFrom-changed old new t size leaves = record {
     size = size;
     same_side = refl;
     not_less = λ tile was now had has. (
@@ -119,11 +119,11 @@ module _ (old new : Map) (t count : ℕ) (before after : List ℕ) (low : AreUpT
           let there : cell_at (with_cell old p c) p ≡ c = get_or-set_same old.cells (place_of old.size p) c Bad (rw whole.cells (place_inside old.size p inside)) in
           other (sym there ∙ ap (λ (m : Map). cell_at m p) (sym is ∙ e))
 
-      pub cell-comes : ComesFrom old t before new t after
-      cell-comes = changed-comes Here count before after low here old new t (ap (λ (m : Map). m.size) (sym is)) (λ tile far. subst (λ (m : Map). Agree old m t tile) (sym is) (cell_leaves old t tile p inside far c))
+      pub ComesFrom-cell : ComesFrom old t before new t after
+      ComesFrom-cell = ComesFrom-changed Here count before after low here old new t (ap (λ (m : Map). m.size) (sym is)) (λ tile far. subst (λ (m : Map). Agree old m t tile) (sym is) (with_cell-leaves old t tile p inside far c))
 
-      pub cell-touches : TouchesRound t p old new count (count + 1) before after
-      cell-touches = touches-changed Here count before after low here old new cell_differs
+      pub TouchesRound-cell : TouchesRound t p old new count (count + 1) before after
+      TouchesRound-cell = Touches-changed Here count before after low here old new cell_differs
 
     module _ (b : Bool) (is : new ≡ with_mask old p b) (other : b ≡ mask_at old p → ⊥) where
       mask_differs : new ≡ old → ⊥
@@ -131,11 +131,11 @@ module _ (old new : Map) (t count : ℕ) (before after : List ℕ) (low : AreUpT
           let there : mask_at (with_mask old p b) p ≡ b = get_or-set_same old.masks (place_of old.size p) b false (rw whole.masks (place_inside old.size p inside)) in
           other (sym there ∙ ap (λ (m : Map). mask_at m p) (sym is ∙ e))
 
-      pub mask-comes : ComesFrom old t before new t after
-      mask-comes = changed-comes Here count before after low here old new t (ap (λ (m : Map). m.size) (sym is)) (λ tile far. subst (λ (m : Map). Agree old m t tile) (sym is) (mask_leaves old t tile p inside far b))
+      pub ComesFrom-mask : ComesFrom old t before new t after
+      ComesFrom-mask = ComesFrom-changed Here count before after low here old new t (ap (λ (m : Map). m.size) (sym is)) (λ tile far. subst (λ (m : Map). Agree old m t tile) (sym is) (with_mask-leaves old t tile p inside far b))
 
-      pub mask-touches : TouchesRound t p old new count (count + 1) before after
-      mask-touches = touches-changed Here count before after low here old new mask_differs
+      pub TouchesRound-mask : TouchesRound t p old new count (count + 1) before after
+      TouchesRound-mask = Touches-changed Here count before after low here old new mask_differs
 
   module _ (whole : IsMap old) (y : ℕ) (heights : List (Option ℤ)) (points : ℕ) (same : points ≡ old.size.points) (is : new ≡ with_heights old y heights)
       (stamped : AreStamped (IsRoundChange old y heights t 0 points) (count + 1) before after) where
@@ -167,9 +167,9 @@ module _ (old new : Map) (t count : ℕ) (before after : List ℕ) (low : AreUpT
       masks = λ q within round. refl;
     }
 
-    pub profile-comes : ComesFrom old t before new t after
-    profile-comes =
-        changed-comes (IsRoundChange old y heights t 0 points) count before after low stamped old new t (ap (λ (m : Map). m.size) (sym is)) (λ tile far. subst (λ (m : Map). Agree old m t tile) (sym is) (profile_leaves tile far))
+    pub ComesFrom-profile : ComesFrom old t before new t after
+    ComesFrom-profile =
+        ComesFrom-changed (IsRoundChange old y heights t 0 points) count before after low stamped old new t (ap (λ (m : Map). m.size) (sym is)) (λ tile far. subst (λ (m : Map). Agree old m t tile) (sym is) (profile_leaves tile far))
 
     abbrev AtProfile : ℕ → Type 0
     AtProfile tile = (p : Pos) × InGrid old.size p × (p.y ≡ y) × (cell_at new p ≢ cell_at old p) × IsRound old.size t tile p
@@ -195,20 +195,20 @@ module _ (old new : Map) (t count : ℕ) (before after : List ℕ) (low : AreUpT
           }
 
       -- the map becomes another where a cell does
-      pub profile_differs : SomeChanges old y heights points → new ≡ old → ⊥
-      profile_differs some e =
+      pub SomeChanges-differs : SomeChanges old y heights points → new ≡ old → ⊥
+      SomeChanges-differs some e =
           some.changes (sym (cell_new some.column (in_row some.column some.below)) ∙ ap (λ (m : Map). cell_at m (record { x = some.column; y = y })) e)
 
-      pub profile-touches : SomeChanges old y heights points → TouchesProfile t y old new count (count + 1) before after
-      profile-touches some =
-          touches-changed AtProfile count before after low (stamped-as (count + 1) (IsRoundChange old y heights t 0 points) before after stamped AtProfile (λ tile within. from_profile tile) at_profile) old new (profile_differs some)
+      pub TouchesProfile-profile : SomeChanges old y heights points → TouchesProfile t y old new count (count + 1) before after
+      TouchesProfile-profile some =
+          Touches-changed AtProfile count before after low (AreStamped-as (count + 1) (IsRoundChange old y heights t 0 points) before after stamped AtProfile (λ tile within. from_profile tile) at_profile) old new (SomeChanges-differs some)
 
   module _ (stamped : AreStamped (λ tile. Unit {0}) (count + 1) before after) (a : Adjacency) (is : new ≡ under a old) (other : a ≡ old.adjacency → ⊥) where
     setting_differs : new ≡ old → ⊥
     setting_differs e = other (ap (λ (m : Map). m.adjacency) (sym is ∙ e))
 
-    pub setting-comes : ComesFrom old t before new t after
-    setting-comes = changed-comes (λ tile. Unit {0}) count before after low stamped old new t (ap (λ (m : Map). m.size) (sym is)) (λ tile far. absurd (far tt))
+    pub ComesFrom-setting : ComesFrom old t before new t after
+    ComesFrom-setting = ComesFrom-changed (λ tile. Unit {0}) count before after low stamped old new t (ap (λ (m : Map). m.size) (sym is)) (λ tile far. absurd (far tt))
 
-    pub setting-touches : TouchesAll old new count (count + 1) before after
-    setting-touches = touches-changed (λ tile. Unit {0}) count before after low stamped old new setting_differs
+    pub TouchesAll-setting : TouchesAll old new count (count + 1) before after
+    TouchesAll-setting = Touches-changed (λ tile. Unit {0}) count before after low stamped old new setting_differs

@@ -7,13 +7,13 @@ use Rattle.hd_map.specs.declared.types.Pos.{Pos}
 use Rattle.hd_map.specs.declared.types.Size.{Size}
 use Rattle.hd_map.specs.Map.{InGrid, IsSize}
 use Rattle.hd_tiles.specs.Tile.{IsRound, tile_of, tile_count, tiles_along, tiles_across}
-use Rattle.hd_tiles.proofs.TilesAlong.{near_part, part_below}
+use Rattle.hd_tiles.proofs.TilesAlong.{part-near, tiles_along-part}
 
 -- the tile of a position of the grid is one of its tiles
-pub tile_inside : (s : Size) (t : ℕ) (p : Pos) → 1 ≤ t → InGrid s p → tile_of s t p < tile_count s t
-tile_inside s t p some inside =
-    let column = part_below p.x s.points t some inside.column in
-    let row : p.y / t + 1 ≤ tiles_along s.profiles t = (let below = part_below p.y s.profiles t some inside.profile in omega (arith, below)) in
+pub tile_of-inside : (s : Size) (t : ℕ) (p : Pos) → 1 ≤ t → InGrid s p → tile_of s t p < tile_count s t
+tile_of-inside s t p some inside =
+    let column = tiles_along-part p.x s.points t some inside.column in
+    let row : p.y / t + 1 ≤ tiles_along s.profiles t = (let below = tiles_along-part p.y s.profiles t some inside.profile in omega (arith, below)) in
     let rows = mul-le-mul_right (tiles_across s t) row in
     omega (arith, column, rows)
 
@@ -24,8 +24,8 @@ few_along n t wide =
     let below = div_below (n + t - 1) t (n + 1) (omega arith) (let more = mul-le-mul_left n (let some : 1 ≤ t = omega arith in some) in omega (arith, more)) in
     omega (arith, below)
 
-pub few_tiles : (s : Size) (t : ℕ) → 8 ≤ t → IsSize s → tile_count s t < 4294967296
-few_tiles s t wide limits =
+pub tile_count-few : (s : Size) (t : ℕ) → 8 ≤ t → IsSize s → tile_count s t < 4294967296
+tile_count-few s t wide limits =
     let product = mul-le (tiles_along s.profiles t) (tiles_across s t) s.profiles s.points (few_along s.profiles t wide) (few_along s.points t wide) in
     let few = limits.cells in
     omega (arith, product, few)
@@ -45,17 +45,17 @@ module _ (s : Size) (t : ℕ) (p : Pos) (wide : 8 ≤ t) (inside : InGrid s p) w
   round q there right left down up = record { from = q; in_grid = there; in_tile = refl; columns = (right, left); rows = (down, up) }
 
   -- each corner holds one of the positions
-  pub top_left : IsRound s t (corner (before p.y) (before p.x)) p
-  top_left = round (record { x = p.x - 1; y = p.y - 1 }) (record { column = omega (arith, inside.column); profile = omega (arith, inside.profile) }) (omega arith) (omega arith) (omega arith) (omega arith)
+  pub IsRound-top_left : IsRound s t (corner (before p.y) (before p.x)) p
+  IsRound-top_left = round (record { x = p.x - 1; y = p.y - 1 }) (record { column = omega (arith, inside.column); profile = omega (arith, inside.profile) }) (omega arith) (omega arith) (omega arith) (omega arith)
 
-  pub top_right : IsRound s t (corner (before p.y) (after p.x s.points)) p
-  top_right = round (record { x = min (p.x + 1) (s.points - 1); y = p.y - 1 }) (record { column = omega (arith, inside.column); profile = omega (arith, inside.profile) }) (omega arith) (omega (arith, inside.column)) (omega arith) (omega arith)
+  pub IsRound-top_right : IsRound s t (corner (before p.y) (after p.x s.points)) p
+  IsRound-top_right = round (record { x = min (p.x + 1) (s.points - 1); y = p.y - 1 }) (record { column = omega (arith, inside.column); profile = omega (arith, inside.profile) }) (omega arith) (omega (arith, inside.column)) (omega arith) (omega arith)
 
-  pub bottom_left : IsRound s t (corner (after p.y s.profiles) (before p.x)) p
-  bottom_left = round (record { x = p.x - 1; y = min (p.y + 1) (s.profiles - 1) }) (record { column = omega (arith, inside.column); profile = omega (arith, inside.profile) }) (omega arith) (omega arith) (omega arith) (omega (arith, inside.profile))
+  pub IsRound-bottom_left : IsRound s t (corner (after p.y s.profiles) (before p.x)) p
+  IsRound-bottom_left = round (record { x = p.x - 1; y = min (p.y + 1) (s.profiles - 1) }) (record { column = omega (arith, inside.column); profile = omega (arith, inside.profile) }) (omega arith) (omega arith) (omega arith) (omega (arith, inside.profile))
 
-  pub bottom_right : IsRound s t (corner (after p.y s.profiles) (after p.x s.points)) p
-  bottom_right = round (record { x = min (p.x + 1) (s.points - 1); y = min (p.y + 1) (s.profiles - 1) }) (record { column = omega (arith, inside.column); profile = omega (arith, inside.profile) }) (omega arith) (omega (arith, inside.column)) (omega arith) (omega (arith, inside.profile))
+  pub IsRound-bottom_right : IsRound s t (corner (after p.y s.profiles) (after p.x s.points)) p
+  IsRound-bottom_right = round (record { x = min (p.x + 1) (s.points - 1); y = min (p.y + 1) (s.profiles - 1) }) (record { column = omega (arith, inside.column); profile = omega (arith, inside.profile) }) (omega arith) (omega (arith, inside.column)) (omega arith) (omega (arith, inside.profile))
 
   -- a tile is at one of the four corners
   abbrev pub AtCorner : ℕ → Type 0
@@ -68,21 +68,21 @@ module _ (s : Size) (t : ℕ) (p : Pos) (wide : 8 ≤ t) (inside : InGrid s p) w
   at_row tile row column e (inr down) (inr right) = inr (e ∙ ap (λ (k : ℕ). corner k column) down ∙ ap (corner (after p.y s.profiles)) right)
 
   -- the tiles that hold one of the positions are those at the corners
-  pub at_corner : (tile : ℕ) → IsRound s t tile p → AtCorner tile
-  at_corner tile r = at_row tile (r.from.y / t) (r.from.x / t) (sym r.in_tile)
-      (near_part p.y r.from.y s.profiles t wide inside.profile r.in_grid.profile r.rows)
-      (near_part p.x r.from.x s.points t wide inside.column r.in_grid.column r.columns)
+  pub AtCorner-round : (tile : ℕ) → IsRound s t tile p → AtCorner tile
+  AtCorner-round tile r = at_row tile (r.from.y / t) (r.from.x / t) (sym r.in_tile)
+      (part-near p.y r.from.y s.profiles t wide inside.profile r.in_grid.profile r.rows)
+      (part-near p.x r.from.x s.points t wide inside.column r.in_grid.column r.columns)
 
   abbrev IsHere : ℕ → Type 0
   IsHere tile = IsRound s t tile p
 
-  pub from_corner : (tile : ℕ) → AtCorner tile → IsRound s t tile p
-  from_corner tile (inl (inl (inl (inl never)))) = absurd never
-  from_corner tile (inl (inl (inl (inr e)))) = subst IsHere (sym e) top_left
-  from_corner tile (inl (inl (inr e))) = subst IsHere (sym e) top_right
-  from_corner tile (inl (inr e)) = subst IsHere (sym e) bottom_left
-  from_corner tile (inr e) = subst IsHere (sym e) bottom_right
+  pub IsRound-corner : (tile : ℕ) → AtCorner tile → IsRound s t tile p
+  IsRound-corner tile (inl (inl (inl (inl never)))) = absurd never
+  IsRound-corner tile (inl (inl (inl (inr e)))) = subst IsHere (sym e) IsRound-top_left
+  IsRound-corner tile (inl (inl (inr e))) = subst IsHere (sym e) IsRound-top_right
+  IsRound-corner tile (inl (inr e)) = subst IsHere (sym e) IsRound-bottom_left
+  IsRound-corner tile (inr e) = subst IsHere (sym e) IsRound-bottom_right
 
   -- such a tile is one of the grid
-  pub round_inside : (tile : ℕ) → IsRound s t tile p → tile < tile_count s t
-  round_inside tile r = subst (λ (k : ℕ). k < tile_count s t) r.in_tile (tile_inside s t r.from (omega arith) r.in_grid)
+  pub IsRound-inside : (tile : ℕ) → IsRound s t tile p → tile < tile_count s t
+  IsRound-inside tile r = subst (λ (k : ℕ). k < tile_count s t) r.in_tile (tile_of-inside s t r.from (omega arith) r.in_grid)

@@ -4,7 +4,7 @@ use Rattle.std.proofs.Math.Nat.{mul-le-mul_left, mul-le-mul_right, mul_assoc, mu
 use Rattle.std.proofs.lemmas.Bool.{cases_lt}
 use Rattle.std.proofs.lemmas.Nat.{div-add-mod', mod_below}
 use Rattle.hd_tiles.specs.Tile.{inverse_of}
-use Rattle.hd_tiles.proofs.TilesAlong.{part_is}
+use Rattle.hd_tiles.proofs.TilesAlong.{part-is}
 
 -- the inverse, times the side, is 2 ^ 25 or more by less than the side
 inverse_times : (t : ℕ) → 8 ≤ t → (33554432 ≤ inverse_of t * t) × (inverse_of t * t < 33554432 + t)
@@ -36,4 +36,4 @@ divided_by_inverse x t few wide narrow =
     let from = mul-le-mul_right v (let begins : q * t ≤ x = omega (arith, split) in begins) in
     let to = mul-le-mul_right v (let ends : x + 1 ≤ (q + 1) * t = omega (arith, split, below) in ends) in
     let great = inverse_great t wide narrow in
-    part_is (x * v) q 33554432 (x * v - q * 33554432) (omega (arith, again (q + 1), greatest, to, great, split, few, narrow)) (omega (arith, again q, least, from))
+    part-is (x * v) q 33554432 (x * v - q * 33554432) (omega (arith, again (q + 1), greatest, to, great, split, few, narrow)) (omega (arith, again q, least, from))

@@ -5,8 +5,8 @@ use Rattle.hd_map.specs.declared.types.Size.{Size}
 use Rattle.hd_map.specs.Map.{InGrid, IsSize}
 use Rattle.hd_tiles.specs.Stamps.{AreStamped}
 use Rattle.hd_tiles.specs.Tile.{IsRound, IsTileSide, tile_count, tiles_across}
-use Rattle.hd_tiles.proofs.Corners.{few_tiles, top_left, top_right, bottom_left, bottom_right, at_corner, from_corner, round_inside}
-use Rattle.hd_tiles.proofs.Stamping.{stamped-none, stamped-more, stamped-as}
+use Rattle.hd_tiles.proofs.Corners.{tile_count-few, IsRound-top_left, IsRound-top_right, IsRound-bottom_left, IsRound-bottom_right, AtCorner-round, IsRound-corner, IsRound-inside}
+use Rattle.hd_tiles.proofs.Stamping.{AreStamped-none, AreStamped-more, AreStamped-as}
 use Rattle.hd_tiles.proofs.touch.touch_round.Goals as goal
 
 -- a part by the sides that a tiling answers
@@ -24,22 +24,22 @@ module _ (s : Size) (t : ℕ) (p : Pos) (limits : IsSize s) (sides : IsTileSide 
   Here tile = IsRound s t tile p
 
   first : Here (top * across + left)
-  first = rw (top_is, across_is, left_is) (top_left s t p sides.least inside)
+  first = rw (top_is, across_is, left_is) (IsRound-top_left s t p sides.least inside)
 
   second : Here (top * across + right)
-  second = rw (top_is, across_is, right_is) (top_right s t p sides.least inside)
+  second = rw (top_is, across_is, right_is) (IsRound-top_right s t p sides.least inside)
 
   third : Here (bottom * across + left)
-  third = rw (bottom_is, across_is, left_is) (bottom_left s t p sides.least inside)
+  third = rw (bottom_is, across_is, left_is) (IsRound-bottom_left s t p sides.least inside)
 
   fourth : Here (bottom * across + right)
-  fourth = rw (bottom_is, across_is, right_is) (bottom_right s t p sides.least inside)
+  fourth = rw (bottom_is, across_is, right_is) (IsRound-bottom_right s t p sides.least inside)
 
   tile : (k : ℕ) → Here k → k < tile_count s t
-  tile k here = round_inside s t p sides.least inside k here
+  tile k here = IsRound-inside s t p sides.least inside k here
 
   small : (k : ℕ) → Here k → k < 4294967296
-  small k here = (let a = tile k here in let b = few_tiles s t sides.least limits in omega (arith, a, b))
+  small k here = (let a = tile k here in let b = tile_count-few s t sides.least limits in omega (arith, a, b))
 
   module _ (stamp : ℕ) (before : List ℕ) (whole : length before ≡ tile_count s t) where
     inside_list : (k : ℕ) → Here k → k < length before
@@ -47,13 +47,13 @@ module _ (s : Size) (t : ℕ) (p : Pos) (limits : IsSize s) (sides : IsTileSide 
 
     stamped : AreStamped Here stamp before (set (set (set (set before (top * across + left) stamp) (top * across + right) stamp) (bottom * across + left) stamp) (bottom * across + right) stamp)
     stamped =
-        let a = stamped-more stamp _ before before (stamped-none stamp before) (top * across + left) (inside_list _ first) in
-        let b = stamped-more stamp _ before _ a (top * across + right) (inside_list _ second) in
-        let d = stamped-more stamp _ before _ b (bottom * across + left) (inside_list _ third) in
-        let e = stamped-more stamp _ before _ d (bottom * across + right) (inside_list _ fourth) in
-        stamped-as stamp _ before _ e Here
-        (λ k within here. rw (top_is, bottom_is, across_is, left_is, right_is) (at_corner s t p sides.least inside k here))
-        (λ k at. from_corner s t p sides.least inside k (rw (← top_is, ← bottom_is, ← across_is, ← left_is, ← right_is) at))
+        let a = AreStamped-more stamp _ before before (AreStamped-none stamp before) (top * across + left) (inside_list _ first) in
+        let b = AreStamped-more stamp _ before _ a (top * across + right) (inside_list _ second) in
+        let d = AreStamped-more stamp _ before _ b (bottom * across + left) (inside_list _ third) in
+        let e = AreStamped-more stamp _ before _ d (bottom * across + right) (inside_list _ fourth) in
+        AreStamped-as stamp _ before _ e Here
+        (λ k within here. rw (top_is, bottom_is, across_is, left_is, right_is) (AtCorner-round s t p sides.least inside k here))
+        (λ k at. IsRound-corner s t p sides.least inside k (rw (← top_is, ← bottom_is, ← across_is, ← left_is, ← right_is) at))
 
 pub overflow_add-top : goal.overflow_add-top
 overflow_add-top c =

@@ -4,7 +4,7 @@ use Rattle.std.proofs.lemmas.Option.{slice_get_within}
 use Rattle.hd_map.specs.declared.types.Size.{Size}
 use Rattle.hd_tiles.specs.declared.tiling.Tiling.{Tiling}
 use Rattle.hd_tiles.specs.Tile.{tiles_across}
-use Rattle.hd_tiles.proofs.Corners.{few_tiles}
+use Rattle.hd_tiles.proofs.Corners.{tile_count-few}
 use Rattle.hd_pool.specs.declared.bands.Band.{Band}
 use Rattle.hd_pool.specs.TileBands.{HasBand}
 use Rattle.hd_pool.specs.TileDescents.{IsSeen}
@@ -20,7 +20,7 @@ overflow_add-tile-end g c =
     let across : c.across-across.result ≡ tiles_across m.size t = c.across-across.ensures ∙ ap (λ (k : Tiling). tiles_across k.size k.side) c.tiling.ensures ∙ ap (λ (s : Size). tiles_across s t) tiles.same_size in
     let first : c.args.band * c.across-across.result ≡ c.args.band * tiles_across m.size t = ap (λ (k : ℕ). c.args.band * k) across in
     let fits = band-fits m.size t c.args.band c.requires.band in
-    let few = few_tiles m.size t tiles.tiling.tile_side.least (g.met.G.Heights.whole tiles.grid).size in
+    let few = tile_count-few m.size t tiles.tiling.tile_side.least (g.met.G.Heights.whole tiles.grid).size in
     omega (arith, fits, few, first, across)
 
 pub tiles-preserved : goal.tiles-preserved

@@ -2,7 +2,7 @@ use Rattle.std.proofs.Common.{◌≡◌, ◌<◌, ◌∙◌, ℕ, List, Some, le
 use Rattle.std.proofs.lemmas.Option.{slice_get_read}
 use Rattle.hd_map.specs.declared.types.SideName.{SideName}
 use Rattle.hd_map.specs.Map.{Map}
-use Rattle.hd_tiles.proofs.Stamping.{get-set_same, get-set_other}
+use Rattle.hd_tiles.proofs.Stamping.{slice_get-set_same, slice_get-set_other}
 use Rattle.hd_pool.specs.TileLinks.{TileLinks, AreLinksInStep}
 use Rattle.hd_pool.proofs.TileLinks.{step-more}
 use Rattle.hd_pool.proofs.side_links.SideLinks.bring_tile_up.Goals as goal
@@ -51,10 +51,10 @@ pub returns-then-index-stamp-clause-seen : goal.returns-then-index-stamp-clause-
 returns-then-index-stamp-clause-seen g c =
     let tiles = c.args.tiles.now in
     let here = inside (g.G.Heights.map tiles.grid) g.S.Side.NAME tiles.tiling.side tiles.stamps.items c.self.inside.links c.self.inside.seen.items c.args.self.now c.self.view_is c.requires.in_step c.args.tile _ tiles.stamped c.requires.tile in
-    get-set_same c.self.inside.seen.items c.args.tile c.stamp-stamp.result here ∙ sym c.stamp-stamp.ensures
+    slice_get-set_same c.self.inside.seen.items c.args.tile c.stamp-stamp.result here ∙ sym c.stamp-stamp.ensures
 
 pub returns-then-index-stamp-clause-others : goal.returns-then-index-stamp-clause-others
-returns-then-index-stamp-clause-others g c = λ k other. get-set_other c.self.inside.seen.items c.args.tile k c.stamp-stamp.result other ∙ ap (λ (kept : TileLinks). slice_get kept.seen k) c.self.view_is
+returns-then-index-stamp-clause-others g c = λ k other. slice_get-set_other c.self.inside.seen.items c.args.tile k c.stamp-stamp.result other ∙ ap (λ (kept : TileLinks). slice_get kept.seen k) c.self.view_is
 
 pub returns-else-index-stamp-clause-seen : goal.returns-else-index-stamp-clause-seen
 returns-else-index-stamp-clause-seen g c =

@@ -1,6 +1,6 @@
 use Rattle.std.proofs.Common.{◌≡◌, sym, ◌∙◌, ap, rules, arith}
 use Rattle.hd_map.specs.Map.{Map}
-use Rattle.hd_tiles.proofs.ComesFrom.{up_to, setting-comes, setting-touches}
+use Rattle.hd_tiles.proofs.ComesFrom.{AreUpTo-changes, ComesFrom-setting, TouchesAll-setting}
 use Rattle.hd_tiles.proofs.tiles.TilesGrid.set_adjacency.Goals as goal
 
 pub set_adjacency-requires : goal.set_adjacency-requires
@@ -13,7 +13,7 @@ invariant_of-self g c =
     record {
       same_size = s.same_size ∙ ap (λ (m : Map). m.size) (sym sets);
       stamped = c.touch_all.ensures.whole ∙ s.stamped;
-      numbered = up_to (λ tile. Unit {0}) s.changes s.stamps.items c.touch_all.new.stamps.items s.numbered c.touch_all.ensures;
+      numbered = AreUpTo-changes (λ tile. Unit {0}) s.changes s.stamps.items c.touch_all.new.stamps.items s.numbered c.touch_all.ensures;
       counted = (let once = c.set_adjacency.ensures.count.once in let low = s.counted in omega (arith, once, low));
     }
 
@@ -22,11 +22,11 @@ returns-clause-origin g c =
     let s = c.args.self.now in
     let m : Map = g.G.Heights.map s.grid in
     let other : c.args.adjacency ≡ m.adjacency → ⊥ = search rules in
-    setting-comes m (g.G.Heights.map c.set_adjacency.new.self) s.tiling.side s.changes s.stamps.items c.touch_all.new.stamps.items s.numbered c.touch_all.ensures c.args.adjacency c.set_adjacency.ensures.sets other
+    ComesFrom-setting m (g.G.Heights.map c.set_adjacency.new.self) s.tiling.side s.changes s.stamps.items c.touch_all.new.stamps.items s.numbered c.touch_all.ensures c.args.adjacency c.set_adjacency.ensures.sets other
 
 pub returns-clause-touched : goal.returns-clause-touched
 returns-clause-touched g c =
     let s = c.args.self.now in
     let m : Map = g.G.Heights.map s.grid in
     let other : c.args.adjacency ≡ m.adjacency → ⊥ = search rules in
-    setting-touches m (g.G.Heights.map c.set_adjacency.new.self) s.tiling.side s.changes s.stamps.items c.touch_all.new.stamps.items s.numbered c.touch_all.ensures c.args.adjacency c.set_adjacency.ensures.sets other
+    TouchesAll-setting m (g.G.Heights.map c.set_adjacency.new.self) s.tiling.side s.changes s.stamps.items c.touch_all.new.stamps.items s.numbered c.touch_all.ensures c.args.adjacency c.set_adjacency.ensures.sets other

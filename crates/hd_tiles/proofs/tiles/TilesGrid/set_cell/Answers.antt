@@ -2,7 +2,7 @@ use Rattle.std.proofs.Common.{◌≡◌, sym, ◌∙◌, subst, ap, rules, arith
 use Rattle.hd_map.specs.declared.types.Size.{Size}
 use Rattle.hd_map.specs.Map.{Map, InGrid, cell_at}
 use Rattle.hd_tiles.specs.Tile.{IsRound}
-use Rattle.hd_tiles.proofs.ComesFrom.{cell_stands, up_to, cell-comes, cell-touches}
+use Rattle.hd_tiles.proofs.ComesFrom.{with_cell-stands, AreUpTo-changes, ComesFrom-cell, TouchesRound-cell}
 use Rattle.hd_tiles.proofs.tiles.TilesGrid.set_cell.Goals as goal
 
 pub returns-then-eq-clause-sets : goal.returns-then-eq-clause-sets
@@ -11,7 +11,7 @@ returns-then-eq-clause-sets g c =
     let m : Map = g.G.Heights.map s.grid in
     let inside : InGrid s.tiling.size c.args.at = search rules in
     let stands : c.args.cell ≡ cell_at m c.args.at = search rules in
-    cell_stands m c.args.at c.args.cell (g.met.G.Heights.whole s.grid) (subst (λ (z : Size). InGrid z c.args.at) s.same_size inside) stands
+    with_cell-stands m c.args.at c.args.cell (g.met.G.Heights.whole s.grid) (subst (λ (z : Size). InGrid z c.args.at) s.same_size inside) stands
 
 pub set_cell-requires : goal.set_cell-requires
 set_cell-requires g c = let s = c.args.self.now in let few = s.counted in omega (arith, few)
@@ -23,7 +23,7 @@ invariant_of-self-2 g c =
     record {
       same_size = s.same_size ∙ ap (λ (m : Map). m.size) (sym sets.2);
       stamped = c.touch_round.ensures.whole ∙ s.stamped;
-      numbered = up_to (λ tile. IsRound s.tiling.size s.tiling.side tile c.args.at) s.changes s.stamps.items c.touch_round.new.stamps.items s.numbered c.touch_round.ensures;
+      numbered = AreUpTo-changes (λ tile. IsRound s.tiling.size s.tiling.side tile c.args.at) s.changes s.stamps.items c.touch_round.new.stamps.items s.numbered c.touch_round.ensures;
       counted = (let once = c.in_ok-set_cell.ensures.count.once in let low = s.counted in omega (arith, once, low));
     }
 
@@ -33,7 +33,7 @@ returns-clause-origin g c =
     let m : Map = g.G.Heights.map s.grid in
     let sets = c.in_ok-set_cell.ensures.sets in
     let other : c.args.cell ≡ cell_at m c.args.at → ⊥ = search rules in
-    cell-comes m (g.G.Heights.map c.set_cell.new.self) s.tiling.side s.changes s.stamps.items c.touch_round.new.stamps.items s.numbered s.tiling.size c.args.at s.same_size (g.met.G.Heights.whole s.grid) sets.0 c.touch_round.ensures c.args.cell sets.2 other
+    ComesFrom-cell m (g.G.Heights.map c.set_cell.new.self) s.tiling.side s.changes s.stamps.items c.touch_round.new.stamps.items s.numbered s.tiling.size c.args.at s.same_size (g.met.G.Heights.whole s.grid) sets.0 c.touch_round.ensures c.args.cell sets.2 other
 
 pub returns-clause-touched : goal.returns-clause-touched
 returns-clause-touched g c =
@@ -41,4 +41,4 @@ returns-clause-touched g c =
     let m : Map = g.G.Heights.map s.grid in
     let sets = c.in_ok-set_cell.ensures.sets in
     let other : c.args.cell ≡ cell_at m c.args.at → ⊥ = search rules in
-    cell-touches m (g.G.Heights.map c.set_cell.new.self) s.tiling.side s.changes s.stamps.items c.touch_round.new.stamps.items s.numbered s.tiling.size c.args.at s.same_size (g.met.G.Heights.whole s.grid) sets.0 c.touch_round.ensures c.args.cell sets.2 other
+    TouchesRound-cell m (g.G.Heights.map c.set_cell.new.self) s.tiling.side s.changes s.stamps.items c.touch_round.new.stamps.items s.numbered s.tiling.size c.args.at s.same_size (g.met.G.Heights.whole s.grid) sets.0 c.touch_round.ensures c.args.cell sets.2 other
