@@ -15,7 +15,7 @@ use Rattle.std.proofs.lemmas.Str.Parse.{digits_value_short}
 use Rattle.bstr.specs.Bytes.{is_in}
 use Rattle.hd_num.specs.Decimal.{IsSplit, IsValueOf, IsBounded, decimal_of, digits_of, fraction_digits, has_exponent, has_exponent_form, is_decimal, is_exponent, is_exponent_mark, is_point, is_unsigned_decimal, scale_of, whole_digits}
 use Rattle.hd_num.specs.Whole.{count_of, is_numeral, signed_number}
-use Rattle.hd_num.proofs.Pieces.{AgreeOn}
+use Rattle.hd_num.proofs.LinePieces.{AgreeOn}
 use Rattle.hd_num.proofs.WholeReadsBack.{IsNumeralModel-digits}
 
 -- digits after a number and one more

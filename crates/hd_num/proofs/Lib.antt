@@ -1,11 +1,9 @@
 pub mod Decimals
 pub mod Fractions
-pub mod LineSteps
+pub mod LinePieces
 pub mod Numerals
 pub mod PercentReadsBack
 pub mod Percents
-pub mod Pieces
-pub mod WholeReadsBack
 pub mod StepsReadBack
 pub mod StepsText
-pub mod WordSteps
+pub mod WholeReadsBack

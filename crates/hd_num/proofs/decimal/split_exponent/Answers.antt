@@ -3,7 +3,7 @@ use Rattle.std.proofs.lemmas.List.{take_rest}
 use Rattle.bstr.specs.Bytes.{is_in}
 use Rattle.hd_num.specs.Decimal.{is_exponent_mark}
 use Rattle.hd_num.proofs.Decimals.{is_exponent_mark-is_in, IsBounded-kept, has_exponent_form-broken, IsSplit-found, IsSplit-none}
-use Rattle.hd_num.proofs.Pieces.{position_or_len-found, position_or_len-nowhere}
+use Rattle.hd_num.proofs.LinePieces.{position_or_len-found, position_or_len-nowhere}
 use Rattle.hd_num.proofs.decimal.split_exponent.Goals as goal
 
 pub returns-in_err-exponent-in-Some : goal.returns-in_err-exponent-in-Some

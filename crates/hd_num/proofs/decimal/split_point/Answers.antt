@@ -2,7 +2,7 @@ use Rattle.std.proofs.Common.{◌+◌, sym, refl, ◌∙◌, ap, length, take, d
 use Rattle.std.proofs.lemmas.List.{take_rest, take_all, drop_all}
 use Rattle.bstr.specs.Find.{is_byte}
 use Rattle.hd_num.specs.Decimal.{is_point}
-use Rattle.hd_num.proofs.Pieces.{position_or_len-found, position_or_len-nowhere}
+use Rattle.hd_num.proofs.LinePieces.{position_or_len-found, position_or_len-nowhere}
 use Rattle.hd_num.proofs.decimal.split_point.Goals as goal
 
 pub returns-in-Some-clause-before : goal.returns-in-Some-clause-before

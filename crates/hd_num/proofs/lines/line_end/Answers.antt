@@ -2,7 +2,7 @@ use Rattle.std.proofs.Common.{refl}
 use Rattle.std.proofs.lemmas.List.{take_rest}
 use Rattle.bstr.specs.Find.{is_byte}
 use Rattle.hd_num.specs.Lines.{is_line_feed}
-use Rattle.hd_num.proofs.Pieces.{IsPieceEnd-found, IsPieceEnd-none}
+use Rattle.hd_num.proofs.LinePieces.{IsPieceEnd-found, IsPieceEnd-none}
 use Rattle.hd_num.proofs.lines.line_end.Goals as goal
 
 pub returns-in-Some : goal.returns-in-Some

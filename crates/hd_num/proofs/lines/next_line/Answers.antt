@@ -1,5 +1,5 @@
 use Rattle.std.proofs.Common.{◌<◌, length, arith}
-use Rattle.hd_num.proofs.LineSteps.{IsLineAt-from_piece}
+use Rattle.hd_num.proofs.LinePieces.{IsLineAt-from_piece}
 use Rattle.hd_num.proofs.lines.next_line.Goals as goal
 
 pub returns-clause-line : goal.returns-clause-line

@@ -1,6 +1,6 @@
 use Rattle.std.proofs.Common.{◌+◌, List, subst, sym, ◌∙◌}
 use Rattle.hd_num.specs.declared.span.Span.{Span}
-use Rattle.hd_num.proofs.WordSteps.{AreWordsBefore, AreWordsBefore-more, AreWordsBefore-same}
+use Rattle.hd_num.proofs.LinePieces.{AreWordsBefore, AreWordsBefore-more, AreWordsBefore-same}
 use Rattle.hd_num.proofs.words.split_words.Goals as goal
 use Rattle.hd_num.proofs.words.split_words.Goals.{then-start-end+in_ok-push, else-start-end}
 

@@ -1,5 +1,5 @@
 use Rattle.std.proofs.Common.{◌-◌, length}
-use Rattle.hd_num.proofs.WordSteps.{AreWordsBefore}
+use Rattle.hd_num.proofs.LinePieces.{AreWordsBefore}
 use Rattle.hd_num.proofs.words.split_words.Given as goal
 
 abbrev pub invariant-pieces : goal.invariant-pieces

@@ -2,7 +2,7 @@ use Rattle.std.proofs.Common.{[], ◌∷◌}
 use Rattle.std.proofs.lemmas.List.{take_rest}
 use Rattle.bstr.specs.Bytes.{is_in}
 use Rattle.hd_num.specs.Lines.{is_blank}
-use Rattle.hd_num.proofs.Pieces.{is_blank-is_in, IsPieceEnd-found, IsPieceEnd-none}
+use Rattle.hd_num.proofs.LinePieces.{is_blank-is_in, IsPieceEnd-found, IsPieceEnd-none}
 use Rattle.hd_num.proofs.words.word_end.Goals as goal
 
 pub returns-in-Some : goal.returns-in-Some
