@@ -1,5 +1,6 @@
 pub mod Decimals
 pub mod Fractions
+pub mod Integers
 pub mod LinePieces
 pub mod Numerals
 pub mod PercentReadsBack

@@ -13,16 +13,13 @@ use Rattle.hd_num.specs.declared.whole.Whole.TheVariants.{Is, Not, Outside}
 use Rattle.hd_sdf_read.specs.declared.error.SdfError.TheVariants.{DatumRange, TooFewData}
 use Rattle.hd_sdf_read.specs.Grammar.{cell_of, datum_at, height_cell}
 use Rattle.hd_sdf_read.specs.Tokens.{is_star, token_of}
+use Rattle.hd_num.proofs.Integers.{int_le-holds}
 
 -- a datum that is there is read by its token
 pub datum_at-by_token : (least greatest : ℤ) (read : ℕ) (text token : List ℕ) → token ≡ token_of text → eqb (length token) 0 ≡ false → is_star token ≡ false
     → datum_at least greatest read text ≡ cell_of least greatest (read + 1) token
 unfolding datum_at
 datum_at-by_token least greatest read text token is filled other = rw (← is, filled, other) refl
-
--- what the test says
-int_le-true : (a b : ℤ) → int_le a b ≡ true → a ≤ℤ b
-int_le-true a b e = grind (arith, ints)
 
 -- the cell of a whole number is of the type
 height_cell-fits : (t : DataType) (n : ℕ) (w : Whole) (cell : Cell) → height_cell (least_height t) (greatest_height t) n w ≡ Ok cell → IsCellOf t cell
@@ -33,8 +30,8 @@ height_cell-fits t n (Is h) cell e = elim (cases_Bool (int_le (least_height t) h
       let same : Ok (Height h) ≡ Ok cell = sym (rw within refl) ∙ e in
       let height : h ≡ z = cc in
       let parts : (int_le (least_height t) h ≡ true) × (int_le h (greatest_height t) ≡ true) = and_parts _ _ within in
-      let low = int_le-true (least_height t) h parts.0 in
-      let high = int_le-true h (greatest_height t) parts.1 in
+      let low = int_le-holds (least_height t) h parts.0 in
+      let high = int_le-holds h (greatest_height t) parts.1 in
       (rw height at low, rw height at high)
   | inr outside ↦ let wrong : Err (DatumRange n) ≡ Ok cell = sym (rw outside refl) ∙ e in cc
 ]

@@ -20,6 +20,7 @@ use Rattle.hd_sdf_read.specs.Tokens.{is_gap, after_token, is_star, token_of}
 use Rattle.hd_sdf_read.specs.Grammar.{cell_of, datum_at}
 use Rattle.hd_sdf_read.proofs.DatumAt.{datum_at-by_token}
 use Rattle.hd_sdf_read.specs.WholeTokens.{AreDigits, TakesCell, TakesHeight, TakesNumber}
+use Rattle.hd_num.proofs.Integers.{int_le-true}
 
 -- a digit is no gap
 pub is_gap-digit : (byte : ℕ) → is_ascii_digit byte ≡ true → is_gap byte ≡ false
@@ -117,18 +118,14 @@ minus_at (byte ∷ bytes) (suc k) n filled minus some digits gap =
     let is : byte ≡ 45 = minus in
     signed_height byte bytes k n true (rw is refl) (rw is refl) (rw is refl) (omega (arith, within)) digits.digits (λ _. gap) digits.value digits.bound
 
--- what the test says
-int_le-holds : (a b : ℤ) → a ≤ℤ b → int_le a b ≡ true
-int_le-holds a b within = grind (arith, ints, within)
-
 module _ (below greatest : ℕ) (text rest : List ℕ) (n : ℕ) where
   -- a number without a sign in the range, by how far it is over the least height
   pub TakesCell-plain : TakesNumber text rest n → n ≤ greatest → TakesCell (signed_number true below) (pos greatest) text rest (Height (signed_number true below +ℤ pos (below + n)))
   TakesCell-plain takes within = record {
     height = signed_number false n;
     takes = rw takes.after (plain_at text takes.count n takes.some takes.digits (gap_behind text rest takes.count takes.after takes.begins));
-    low = int_le-holds (signed_number true below) (signed_number false n) (omega (arith, ints));
-    high = int_le-holds (signed_number false n) (pos greatest) (omega (arith, ints, within));
+    low = int_le-true (signed_number true below) (signed_number false n) (omega (arith, ints));
+    high = int_le-true (signed_number false n) (pos greatest) (omega (arith, ints, within));
     cell_is = ap Height (let sum : signed_number true below +ℤ pos (below + n) ≡ signed_number false n = omega (arith, ints) in sum);
   }
 
@@ -137,8 +134,8 @@ module _ (below greatest : ℕ) (text rest : List ℕ) (n : ℕ) where
   TakesCell-minus filled minus takes within = record {
     height = signed_number true n;
     takes = rw takes.after (minus_at text takes.count n filled minus takes.some takes.digits (gap_behind (drop 1 text) rest takes.count takes.after takes.begins));
-    low = int_le-holds (signed_number true below) (signed_number true n) (omega (arith, ints, within));
-    high = int_le-holds (signed_number true n) (pos greatest) (omega (arith, ints));
+    low = int_le-true (signed_number true below) (signed_number true n) (omega (arith, ints, within));
+    high = int_le-true (signed_number true n) (pos greatest) (omega (arith, ints));
     cell_is = ap Height (let sum : signed_number true below +ℤ pos (below - n) ≡ signed_number true n = omega (arith, ints, within) in sum);
   }
 

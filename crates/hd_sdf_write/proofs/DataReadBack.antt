@@ -33,6 +33,7 @@ use Rattle.hd_sdf_write.specs.Canonical.{cell_text, line, profile, profile_lines
 use Rattle.hd_sdf_read.proofs.TextFronts.{after_token-front, token_of-front}
 use Rattle.hd_sdf_read.proofs.Gapless.{is_decimal-form, is_gap-decimal, whole_of-some}
 use Rattle.hd_sdf_write.proofs.SpacedProfiles.{profile-length}
+use Rattle.hd_num.proofs.Integers.{int_le-true}
 
 -- heights fit 64 bits
 small_fits : (h : ℤ) → negsuc 9007199254740991 ≤ℤ h → h ≤ℤ pos 9007199254740992 → FitsSigned w64 h
@@ -80,9 +81,6 @@ IsToken-cell_text t (Height h) few fits =
       none = is_gap-decimal (cell_text t (Height h)) (is_decimal-form (cell_text t (Height h)) (steps_decimal h (places_of t)) decimal);
     }
 
-int_le-from : (a b : ℤ) → a ≤ℤ b → int_le a b ≡ true
-int_le-from a b le = grind (arith, ints)
-
 -- and is read as its cell
 datum_read : (t : DataType) (read : ℕ) (text : List ℕ) (cell : Cell) → has_decimals t ≡ false → IsCellOf t cell → token_of text ≡ cell_text t cell → datum_at (least_height t) (greatest_height t) read text ≡ Ok cell
 datum_read t read text Bad whole fits is = datum_at-by_token (least_height t) (greatest_height t) read text (codes "BAD") (sym is) refl refl
@@ -92,7 +90,7 @@ datum_read t read text (Height h) whole fits is =
     let some = whole_of-some (signed_decimal h) h number in
     let filled : eqb (length (signed_decimal h)) 0 ≡ false = ne_eqb (length (signed_decimal h)) 0 (λ none. omega (arith, none, some)) in
     let no_bad : bytes_eq (signed_decimal h) (codes "BAD") ≡ false = whole_of-apart (codes "BAD") (signed_decimal h) h refl number in
-    let within : (int_le (least_height t) h && int_le h (greatest_height t)) ≡ true = and_from _ _ (int_le-from (least_height t) h (fits h refl).0) (int_le-from h (greatest_height t) (fits h refl).1) in
+    let within : (int_le (least_height t) h && int_le h (greatest_height t)) ≡ true = and_from _ _ (int_le-true (least_height t) h (fits h refl).0) (int_le-true h (greatest_height t) (fits h refl).1) in
     datum_at-by_token (least_height t) (greatest_height t) read text (signed_decimal h) (sym (is ∙ height_text t h whole)) filled (whole_of-apart (codes "*") (signed_decimal h) h refl number)
     ∙ rw (no_bad, number, within) refl
 
