@@ -17,8 +17,7 @@ use Rattle.hd_sdf_read.specs.declared.file.Extra.{Extra}
 use Rattle.hd_sdf_read.specs.Entries.{Ends, Keyed, Skipped, Unread, entry_of, extra_entries, has_key, is_comment, is_equals, is_key, is_value, keyed, kind_of, kind_of_text, offence, text_of, value_offence, value_of}
 use Rattle.hd_sdf_read.specs.File.{AreGood, are_apart, is_entry, is_extra, is_header_key, is_header_value, is_trimmed_line}
 use Rattle.hd_sdf_read.specs.Keys.{form_of, same_key}
-use Rattle.hd_sdf_read.proofs.HeaderFrom.{trimmed-length}
-use Rattle.hd_sdf_read.proofs.Trims.{IsTrimmed, list_any-drop, list_any-take, trimmed_by-any, before_first-none, trimmed_by-first, IsTrimmed-trimmed_by, IsTrimmed-same}
+use Rattle.hd_sdf_read.proofs.Trims.{IsTrimmed, trimmed-length, list_any-drop, list_any-take, trimmed_by-any, before_first-none, trimmed_by-first, IsTrimmed-trimmed_by, IsTrimmed-same}
 
 -- a trimmed text of one line
 trimmed_line : (text : List ℕ) → list_any is_line_feed text ≡ false → is_trimmed_line (trimmed text) ≡ true

@@ -18,7 +18,12 @@ use Rattle.hd_sdf_read.specs.Grammar.{after_lines, body_in, file_in, version_of_
 use Rattle.hd_sdf_read.specs.HeaderPieces.{header_in}
 use Rattle.hd_sdf_read.specs.Reads.{◌>>=◌}
 use Rattle.hd_sdf_read.proofs.TextFronts.{after_line-front, lines_of-front}
-use Rattle.hd_sdf_read.proofs.HeaderFrom.{header_from-kind}
+
+-- the header from a line on, by the kind of the line
+header_from-kind : (n : ℕ) (before : List Extra) (line : List ℕ) (lines : List (List ℕ)) (kind : Kind) → kind ≡ kind_of line
+    → header_from n before (line ∷ lines) ≡ header_by n before kind (λ entries. header_from (n + 1) entries lines)
+unfolding header_from
+header_from-kind n before line lines kind is = ap (λ k. header_by n before k (λ entries. header_from (n + 1) entries lines)) (sym is)
 
 -- an entry without an offence is read on
 unless_ok : (o : Option SdfError) (r : Result Header SdfError) (h : Header) → unless o r ≡ Ok h → r ≡ Ok h

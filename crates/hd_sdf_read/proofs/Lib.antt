@@ -20,7 +20,6 @@ pub mod Gapless
 pub mod GoodEntries
 pub mod WholeFronts
 mod HeaderPieces
-mod HeaderFrom
 pub mod Scaling
 pub mod ShortWords
 pub mod Grammar

@@ -1,10 +1,10 @@
 -- What is left of a text without the bytes at its ends that pass a test.
-use Rattle.std.proofs.Common.{◌≡◌, ◌+◌, ◌-◌, ◌<◌, ◌||◌, ℕ, zero, suc, Bool, true, false, not, List, [], ◌∷◌, length, take, drop, get_or, reverse, refl, sym, ap, arith, ◌∙◌, inl, inr, length-take, length-drop}
+use Rattle.std.proofs.Common.{◌≡◌, ◌+◌, ◌-◌, ◌<◌, ◌≤◌, ◌||◌, ℕ, zero, suc, Bool, true, false, not, List, [], ◌∷◌, length, take, drop, get_or, reverse, refl, sym, ap, arith, ◌∙◌, inl, inr, length-take, length-drop}
 use Rattle.std.specs.List.{before_first, list_any, prefix_len, suffix_len}
 use Rattle.std.proofs.lemmas.Bool.{cases_Bool}
 use Rattle.std.proofs.lemmas.List.{get_or-drop, get_or-reverse, get_or-take, length-reverse, take_all}
 use Rattle.std.proofs.lemmas.List.Sums.{prefix_len_is, prefix_len_stops, suffix_len_is, take_while-cons}
-use Rattle.hd_num.specs.Lines.{trimmed_by, without_end, without_start}
+use Rattle.hd_num.specs.Lines.{is_blank, trimmed, trimmed_by, without_end, without_start}
 
 -- the text begins and ends with no byte that passes the test
 pub record IsTrimmed (test : ℕ → Bool) (text : List ℕ) : Type 0 where
@@ -88,3 +88,9 @@ before_first-none test (x ∷ xs) = elim (cases_Bool (test x)) [
       let more : before_first test (x ∷ xs) ≡ x ∷ before_first test xs = take_while-cons (λ y. not (test y)) x xs ∙ rw fails refl in
       ap (list_any test) more ∙ ap (λ b. b || list_any test (before_first test xs)) fails ∙ before_first-none test xs
 ]
+
+-- a trimmed text is no longer
+pub trimmed-length : (text : List ℕ) → length (trimmed text) ≤ length text
+trimmed-length text =
+    let rest : List ℕ = without_start is_blank text in
+    omega (arith, length-take (length rest - suffix_len is_blank rest) rest, length-drop (prefix_len is_blank text) text)
