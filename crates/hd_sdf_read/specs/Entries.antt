@@ -8,8 +8,8 @@ use Rattle.hd_sdf_read.specs.declared.error.SdfError.TheVariants.{BadHeaderLine,
 use Rattle.hd_sdf_read.specs.declared.error.SdfError.TheVariants as refusals
 use Rattle.hd_sdf_read.specs.declared.file.Extra.{Extra}
 use Rattle.hd_sdf_read.specs.declared.keys.Form.{Form}
-use Rattle.hd_sdf_read.specs.declared.keys.Verdict.{Verdict}
-use Rattle.hd_sdf_read.specs.declared.keys.Verdict.TheVariants.{Right, Wrong, Unsupported}
+use Rattle.hd_sdf_read.specs.declared.keys.ValueVerdict.{ValueVerdict}
+use Rattle.hd_sdf_read.specs.declared.keys.ValueVerdict.TheVariants.{Right, Wrong, Unsupported}
 use Rattle.hd_sdf_read.specs.Keys.{form_of, judge, same_key}
 
 -- a byte of a key: from 0x20 to 0x7E
@@ -73,7 +73,7 @@ abbrev pub extra_entries : List Extra → List Extra
 extra_entries entries = filter (λ e. is_none (form_of e.key)) entries
 
 -- what a verdict on a value means in this line
-abbrev pub verdict_offence : ℕ → Verdict → Option SdfError
+abbrev pub verdict_offence : ℕ → ValueVerdict → Option SdfError
 verdict_offence line Right = None
 verdict_offence line Wrong = Some (BadValue line)
 verdict_offence line Unsupported = Some (refusals.Unsupported line)

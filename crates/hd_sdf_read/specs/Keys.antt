@@ -12,8 +12,8 @@ use Rattle.hd_num.specs.declared.whole.Whole.{Whole}
 use Rattle.hd_num.specs.declared.whole.Whole.TheVariants.{Not, Outside, Is}
 use Rattle.hd_sdf_read.specs.declared.keys.Form.{Form}
 use Rattle.hd_sdf_read.specs.declared.keys.Form.TheVariants.{AnyText, Extent, Number, Zero, TypeCode}
-use Rattle.hd_sdf_read.specs.declared.keys.Verdict.{Verdict}
-use Rattle.hd_sdf_read.specs.declared.keys.Verdict.TheVariants.{Right, Wrong, Unsupported}
+use Rattle.hd_sdf_read.specs.declared.keys.ValueVerdict.{ValueVerdict}
+use Rattle.hd_sdf_read.specs.declared.keys.ValueVerdict.TheVariants.{Right, Wrong, Unsupported}
 
 -- keys are compared without regard to the case of ASCII letters
 abbrev pub same_key : List ℕ → List ℕ → Bool
@@ -90,21 +90,21 @@ abbrev pub type_of : List ℕ → Option DataType
 type_of value = type_in (whole_of value)
 
 -- a whole number: 0, or one that is not supported
-abbrev pub judge_zero : Whole → Verdict
+abbrev pub judge_zero : Whole → ValueVerdict
 judge_zero (Is (pos n)) = if n == 0 then Right else Unsupported
 judge_zero (Is (negsuc n)) = Unsupported
 judge_zero Outside = Unsupported
 judge_zero Not = Wrong
 
 -- a whole number from 0 to 7
-abbrev pub judge_type : Whole → Verdict
+abbrev pub judge_type : Whole → ValueVerdict
 judge_type (Is (pos n)) = if nat_lt 7 n then Wrong else Right
 judge_type (Is (negsuc n)) = Wrong
 judge_type Outside = Wrong
 judge_type Not = Wrong
 
 -- what a value is for a form
-abbrev pub judge : Form → List ℕ → Verdict
+abbrev pub judge : Form → List ℕ → ValueVerdict
 judge AnyText value = Right
 judge Extent value = if is_some (extent_of value) then Right else Wrong
 judge Number value = if is_decimal value then Right else Wrong

@@ -2,9 +2,9 @@
 use Rattle.std.specs.Prelude.{ℕ, List}
 use Rattle.hd_map.specs.declared.surface.Surface.{Surface}
 use Rattle.hd_map.specs.Surface.{map_of}
-use Rattle.hd_sdf_read.specs.declared.entries.Entry.{Entry}
-use Rattle.hd_sdf_read.specs.declared.entries.Line.{Line}
-use Rattle.hd_sdf_read.specs.declared.entries.Line.TheVariants as lines
+use Rattle.hd_sdf_read.specs.declared.entries.HeaderEntry.{HeaderEntry}
+use Rattle.hd_sdf_read.specs.declared.entries.HeaderLine.{HeaderLine}
+use Rattle.hd_sdf_read.specs.declared.entries.HeaderLine.TheVariants as lines
 use Rattle.hd_sdf_read.specs.declared.file.Extra.{Extra}
 use Rattle.hd_sdf_read.specs.declared.required_keys.RequiredKeys as declared
 use Rattle.hd_sdf_read.specs.Entries.{Kind, Skipped, Ends, Keyed, Unread, entry}
@@ -12,11 +12,11 @@ use Rattle.hd_sdf_read.specs.RequiredKeys.{RequiredKeys}
 use Rattle.hd_sdf_read.specs.Bodies.{Surveyed}
 
 -- the texts of an entry
-abbrev pub extra_of : Entry → Extra
+abbrev pub extra_of : HeaderEntry → Extra
 extra_of e = entry e.key.now e.value.now
 
 -- the kind of a line
-abbrev pub kind_view : Line → Kind
+abbrev pub kind_view : HeaderLine → Kind
 kind_view lines.Skipped = Skipped
 kind_view lines.Ends = Ends
 kind_view (lines.Keyed e) = Keyed (extra_of e)

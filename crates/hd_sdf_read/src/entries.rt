@@ -4,7 +4,7 @@ ghost use Rattle.std.specs.List.{after_first, before_first, list_any};
 ghost use Rattle.hd_sdf_read.specs.Entries.{extra_entries, has_key, is_equals, is_key, keyed, kind_of, offence, value_of};
 ghost use Rattle.hd_sdf_read.specs.Views.{extra_of, kind_view};
 
-use crate::keys::{Verdict, form_of, judge, same_key};
+use crate::keys::{ValueVerdict, form_of, judge, same_key};
 use crate::{Extra, SdfError};
 use hd_list::{List, Memory};
 use hd_num::trim;
@@ -12,44 +12,44 @@ use std::alloc::Global;
 
 /// A key of a header and its value.
 #[derive(Clone, Copy)]
-pub struct Entry<'a> {
+pub struct HeaderEntry<'a> {
     pub key: &'a [u8],
     pub value: &'a [u8],
 }
 
 /// What a line of a header is.
-pub enum Line<'a> {
+pub enum HeaderLine<'a> {
     /// It is empty or a comment.
     Skipped,
     /// It ends the header.
     Ends,
     /// It has a key and a value.
-    Keyed(Entry<'a>),
+    Keyed(HeaderEntry<'a>),
     /// It is none of these.
     Unread,
 }
 
 /// What a line is.
 #[tactic(auto, unfolding(crate::specs::Entries::kind_of))]
-pub fn kind_of(line: &[u8]) -> Line<'_>
+pub fn kind_of(line: &[u8]) -> HeaderLine<'_>
     ensures { kind_view result ≡ kind_of line.now }
 {
     if line.len() > 1024 {
-        return Line::Unread;
+        return HeaderLine::Unread;
     }
     let text = trim(line);
     if text.is_empty() || text[0] == b';' {
-        return Line::Skipped;
+        return HeaderLine::Skipped;
     }
     if text == b"*".as_slice() {
-        return Line::Ends;
+        return HeaderLine::Ends;
     }
     match split_at_equals(text) {
-        Some((key, value)) => keyed(Entry {
+        Some((key, value)) => keyed(HeaderEntry {
             key: trim(key),
             value: trim(value),
         }),
-        None => Line::Unread,
+        None => HeaderLine::Unread,
     }
 }
 
@@ -68,13 +68,13 @@ fn split_at_equals(text: &[u8]) -> Option<(&[u8], &[u8])>
 }
 
 // The line of an entry, if its key and its value have their forms.
-fn keyed(found: Entry<'_>) -> Line<'_>
+fn keyed(found: HeaderEntry<'_>) -> HeaderLine<'_>
     ensures { kind_view result ≡ keyed (extra_of found.entry) }
 {
     if is_key(found.key) && found.value.len() <= 896 {
-        Line::Keyed(found)
+        HeaderLine::Keyed(found)
     } else {
-        Line::Unread
+        HeaderLine::Unread
     }
 }
 
@@ -95,7 +95,7 @@ fn is_key(text: &[u8]) -> bool
 
 /// The first offence of a key line of this number after some entries, if it has one.
 #[tactic(auto, unfolding(crate::specs::Entries::offence))]
-pub fn offence(number: u64, before: &[Extra], entry: &Entry) -> Option<SdfError>
+pub fn offence(number: u64, before: &[Extra], entry: &HeaderEntry) -> Option<SdfError>
     ensures { result ≡ offence number before.now (extra_of entry.now) }
 {
     if has_key(before, entry.key) {
@@ -109,9 +109,9 @@ pub fn offence(number: u64, before: &[Extra], entry: &Entry) -> Option<SdfError>
         };
     };
     match judge(form, entry.value) {
-        Verdict::Right => None,
-        Verdict::Wrong => Some(SdfError::BadValue(number)),
-        Verdict::Unsupported => Some(SdfError::Unsupported(number)),
+        ValueVerdict::Right => None,
+        ValueVerdict::Wrong => Some(SdfError::BadValue(number)),
+        ValueVerdict::Unsupported => Some(SdfError::Unsupported(number)),
     }
 }
 
@@ -154,7 +154,7 @@ pub fn value_of<'a>(entries: &'a [Extra], key: &[u8]) -> Option<&'a [u8]>
 }
 
 /// A copy of an entry.
-pub fn owned(alloc: Global, entry: &Entry) -> Result<Extra, Memory>
+pub fn owned(alloc: Global, entry: &HeaderEntry) -> Result<Extra, Memory>
     ensures { IfOk result (λ extra. extra ≡ extra_of entry.now) }
 {
     Ok(Extra {

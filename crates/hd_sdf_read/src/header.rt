@@ -5,7 +5,7 @@ ghost use Rattle.hd_num.specs.Lines.{is_line_feed};
 ghost use Rattle.hd_sdf_read.specs.File.{AreGood};
 ghost use Rattle.hd_sdf_read.specs.Grammar.{version_of_line};
 
-use crate::entries::{Entry, Line, kind_of, offence, owned};
+use crate::entries::{HeaderEntry, HeaderLine, kind_of, offence, owned};
 use crate::part_line::PartLine;
 use crate::{Extra, SdfError, Version};
 use hd_list::{List, Memory};
@@ -69,21 +69,21 @@ impl Header {
         ensures number { self.new.number ≤ self.old.number + 1 }
     {
         match kind_of(line) {
-            Line::Skipped => {
+            HeaderLine::Skipped => {
                 self.number += 1;
                 Ok(false)
             }
-            Line::Ends => Ok(true),
-            Line::Keyed(entry) => match self.take_entry(alloc, &entry) {
+            HeaderLine::Ends => Ok(true),
+            HeaderLine::Keyed(entry) => match self.take_entry(alloc, &entry) {
                 Ok(()) => Ok(false),
                 Err(refusal) => Err(refusal),
             },
-            Line::Unread => Err(SdfError::BadHeaderLine(self.number)),
+            HeaderLine::Unread => Err(SdfError::BadHeaderLine(self.number)),
         }
     }
 
     // Reads the next line, which has this key and value.
-    fn take_entry(&mut self, alloc: Global, entry: &Entry) -> Result<(), SdfError>
+    fn take_entry(&mut self, alloc: Global, entry: &HeaderEntry) -> Result<(), SdfError>
         requires count { self.old.number + 1 < 2 ^ 64 }
         requires form { is_entry (extra_of entry.now) ≡ true }
         ensures { TakesEntry self.old self.new (extra_of entry.now) result }

@@ -22,7 +22,7 @@ pub enum Form {
 
 /// What a value is for its form.
 #[derive(Clone, Copy)]
-pub enum Verdict {
+pub enum ValueVerdict {
     /// It has the form.
     Right,
     /// It has not the form.
@@ -63,33 +63,33 @@ pub fn same_key(first: &[u8], second: &[u8]) -> bool
 }
 
 /// What a value is for a form.
-pub fn judge(form: Form, value: &[u8]) -> Verdict
+pub fn judge(form: Form, value: &[u8]) -> ValueVerdict
     ensures { result ≡ judge form value.now }
 {
     match form {
-        Form::AnyText => Verdict::Right,
+        Form::AnyText => ValueVerdict::Right,
         Form::Extent => right_or_wrong(extent_of(value).is_some()),
         Form::Number => right_or_wrong(is_decimal(value)),
         Form::Zero => match read_whole(value) {
-            Whole::Is(0) => Verdict::Right,
-            Whole::Is(_) | Whole::Outside => Verdict::Unsupported,
-            Whole::Not => Verdict::Wrong,
+            Whole::Is(0) => ValueVerdict::Right,
+            Whole::Is(_) | Whole::Outside => ValueVerdict::Unsupported,
+            Whole::Not => ValueVerdict::Wrong,
         },
         Form::TypeCode => match read_whole(value) {
-            Whole::Is(0..=7) => Verdict::Right,
-            _ => Verdict::Wrong,
+            Whole::Is(0..=7) => ValueVerdict::Right,
+            _ => ValueVerdict::Wrong,
         },
     }
 }
 
 // The verdict on a value that has its form or not.
-fn right_or_wrong(right: bool) -> Verdict
-    ensures { result ≡ (if right then Verdict.Right else Verdict.Wrong) }
+fn right_or_wrong(right: bool) -> ValueVerdict
+    ensures { result ≡ (if right then ValueVerdict.Right else ValueVerdict.Wrong) }
 {
     if right {
-        Verdict::Right
+        ValueVerdict::Right
     } else {
-        Verdict::Wrong
+        ValueVerdict::Wrong
     }
 }
 

@@ -85,20 +85,20 @@ pub fn build(
 
 // What a file keeps of its header beside the required keys.
 #[derive(Drop)]
-struct Kept {
+struct KeptHeader {
     origin: Origin,
     z_resolution: Decimal,
     extra: List<Extra>,
 }
 
 // What the entries of a header say beside the required keys.
-fn kept_of(alloc: Global, entries: &[Extra]) -> Result<Kept, Memory>
+fn kept_of(alloc: Global, entries: &[Extra]) -> Result<KeptHeader, Memory>
     ensures { IfOk result (λ kept. IsKept kept entries.now) }
 {
     let origin = origin_of(alloc, entries)?;
     let z_resolution = resolution_of(alloc, entries)?;
     let extra = extra_entries(alloc, entries)?;
-    Ok(Kept {
+    Ok(KeptHeader {
         origin,
         z_resolution,
         extra,

@@ -11,8 +11,8 @@ use Rattle.hd_num.specs.Decimal.{decimal_of}
 use Rattle.hd_num.specs.declared.decimal.Decimal.{Decimal}
 use Rattle.hd_sdf_read.specs.declared.file.Extra.{Extra}
 use Rattle.hd_sdf_read.specs.declared.keys.Form.TheVariants.{Extent, Number, TypeCode}
-use Rattle.hd_sdf_read.specs.declared.keys.Verdict.{Verdict}
-use Rattle.hd_sdf_read.specs.declared.keys.Verdict.TheVariants.{Right, Wrong}
+use Rattle.hd_sdf_read.specs.declared.keys.ValueVerdict.{ValueVerdict}
+use Rattle.hd_sdf_read.specs.declared.keys.ValueVerdict.TheVariants.{Right, Wrong}
 use Rattle.hd_sdf_read.specs.Entries.{offence, verdict_offence}
 use Rattle.hd_sdf_read.specs.File.{File, HasForms, is_entry, is_extra, is_header_value}
 use Rattle.hd_sdf_read.specs.Keys.{form_of, judge, judge_type, known_keys}
@@ -83,7 +83,7 @@ firsts_follow f whole forms =
     )
 
 -- what the type of a file is judged as
-type_judged : (f : File) (n : ℕ) (verdict : Verdict) → judge TypeCode (decimal (code_of f.map.data_type)) ≡ verdict → offence n (firsts f) (type_entry f) ≡ verdict_offence n verdict
+type_judged : (f : File) (n : ℕ) (verdict : ValueVerdict) → judge TypeCode (decimal (code_of f.map.data_type)) ≡ verdict → offence n (firsts f) (type_entry f) ≡ verdict_offence n verdict
 unfolding offence form_of
 type_judged f n verdict is = ap (verdict_offence n) is
 

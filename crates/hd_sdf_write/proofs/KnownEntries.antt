@@ -11,7 +11,7 @@ use Rattle.hd_num.specs.Whole.{whole_of}
 use Rattle.hd_num.specs.declared.whole.Whole.TheVariants.{Is}
 use Rattle.hd_num.proofs.WholeReadsBack.{whole_of-signed_decimal}
 use Rattle.hd_sdf_read.specs.declared.file.Extra.{Extra}
-use Rattle.hd_sdf_read.specs.declared.keys.Verdict.TheVariants.{Right}
+use Rattle.hd_sdf_read.specs.declared.keys.ValueVerdict.TheVariants.{Right}
 use Rattle.hd_sdf_read.specs.Entries.{entry, extra_entries}
 use Rattle.hd_sdf_read.specs.File.{File, HasForms}
 use Rattle.hd_sdf_read.specs.Grammar.{resolution_of}
