@@ -1,6 +1,6 @@
 -- Reading so many items, and lines without words.
 use Rattle.std.proofs.Common.{◌≡◌, ◌≤◌, ◌<◌, ◌+◌, ◌-◌, ℕ, suc, List, [], ◌∷◌, ◌++◌, Option, Ok, Err, refl, sym, ap, ◌∙◌, append_assoc, arith}
-use Rattle.hd_check.specs.declared.lines.Place.{Place}
+use Rattle.hd_check.specs.declared.lines.LinePlace.{LinePlace}
 use Rattle.hd_check.specs.declared.types.CertificateError.{CertificateError}
 use Rattle.hd_check.specs.declared.types.CertificateError.TheVariants.{BadLine}
 use Rattle.hd_check.specs.Reading.{Lines, Read, and_then, items_in, line_as, blank_lines_in}
@@ -13,7 +13,7 @@ module _ {A : Type 0} (form : List (List ℕ) → Option A) where
   before xs (Err e) = Err e
 
   -- the items that are read before a place, and how many are left
-  pub record AreItemsBefore (bytes : List ℕ) (count : ℕ) (start : Place) (items : List A) (place : Place) (k : ℕ) : Type 0 where
+  pub record AreItemsBefore (bytes : List ℕ) (count : ℕ) (start : LinePlace) (items : List A) (place : LinePlace) (k : ℕ) : Type 0 where
     pub at : IsPlace bytes place
     pub whole : items_in form count (lines_at bytes start) ≡ before items (items_in form (count - k) (lines_at bytes place))
 
@@ -29,7 +29,7 @@ module _ {A : Type 0} (form : List (List ℕ) → Option A) where
   items_fail n rest e read = ap (λ (r : Read A). and_then r (λ x rest. and_then (items_in form n rest) (λ xs rest. Ok (x ∷ xs, rest)))) read
 
   -- one more is read
-  pub AreItemsBefore-more : (bytes : List ℕ) (count : ℕ) (start : Place) (items : List A) (place next : Place) (k : ℕ) (x : A) → k < count → AreItemsBefore bytes count start items place k
+  pub AreItemsBefore-more : (bytes : List ℕ) (count : ℕ) (start : LinePlace) (items : List A) (place next : LinePlace) (k : ℕ) (x : A) → k < count → AreItemsBefore bytes count start items place k
       → line_as form (lines_at bytes place) ≡ Ok (x, lines_at bytes next) → IsPlace bytes next → AreItemsBefore bytes count start (items ++ x ∷ []) next (k + 1)
   AreItemsBefore-more bytes count start items place next k x less so_far read at =
       let left : count - k ≡ suc (count - (k + 1)) = omega (arith, less) in
@@ -41,14 +41,14 @@ module _ {A : Type 0} (form : List (List ℕ) → Option A) where
       }
 
   -- one is not read
-  pub items_in-bad : (bytes : List ℕ) (count : ℕ) (start : Place) (items : List A) (place : Place) (k : ℕ) (e : CertificateError) → k < count → AreItemsBefore bytes count start items place k
+  pub items_in-bad : (bytes : List ℕ) (count : ℕ) (start : LinePlace) (items : List A) (place : LinePlace) (k : ℕ) (e : CertificateError) → k < count → AreItemsBefore bytes count start items place k
       → line_as form (lines_at bytes place) ≡ Err e → items_in form count (lines_at bytes start) ≡ Err e
   items_in-bad bytes count start items place k e less so_far read =
       let left : count - k ≡ suc (count - (k + 1)) = omega (arith, less) in
       so_far.whole ∙ ap (λ (n : ℕ). before items (items_in form n (lines_at bytes place))) left ∙ ap (before items) (items_fail (count - (k + 1)) (lines_at bytes place) e read)
 
 -- the lines before a place have no words
-pub record AreBlankBefore (bytes : List ℕ) (start place : Place) : Type 0 where
+pub record AreBlankBefore (bytes : List ℕ) (start place : LinePlace) : Type 0 where
   pub at : IsPlace bytes place
   pub whole : blank_lines_in start.number (lines_at bytes start).lines ≡ blank_lines_in place.number (lines_at bytes place).lines
 

@@ -21,7 +21,7 @@ use Rattle.hd_num.specs.Lines.{is_blank, is_filled, is_line_feed, lines_of, with
 use Rattle.hd_num.specs.Whole.{i64_of}
 use Rattle.hd_num.proofs.WholeReadsBack.{count_of-decimal, IsNumeralModel-digits, whole_of-signed_decimal}
 use Rattle.hd_check.specs.declared.types.Certificate.{Certificate}
-use Rattle.hd_check.specs.declared.words.Head.{Head}
+use Rattle.hd_check.specs.declared.words.CertificateHead.{CertificateHead}
 use Rattle.hd_check.specs.Reading.{Lines, Read, after_cut, after_from, after_path, after_head, after_saddle, after_to, and_then, certificate_of, count_form, head_form, items_in, line_as, line_gives, point_form, point_of_counts, saddle_form, saddle_of_parts, value_of}
 use Rattle.hd_check.specs.Text.{adjacency_word, certificate_lines, certificate_text, line_text, point_words, saddle_lines, side_word}
 use Rattle.hd_check.specs.Writable.{IsWritable, IsWritablePoint, IsWritableSaddle, AreWritable}
@@ -265,7 +265,7 @@ saddle_back : (s : Pos × ℤ) → IsWritablePoint s.0 → FitsSigned w64 s.1 �
 saddle_back s point fits = ap₂ (λ (p : Option Pos) (h : Option ℤ). saddle_of_parts p h) (point_back s.0 point) (ap i64_of (whole_of-signed_decimal s.1 fits))
 
 -- the lines of a saddle and a path, and what follows them
-path_back : (head : Head) (from to : Pos) (saddle : Option (Pos × ℤ)) (path : List Pos) (number : ℕ) (rest : List (List (List ℕ))) → IsWritableSaddle saddle path → AreWritable path
+path_back : (head : CertificateHead) (from to : Pos) (saddle : Option (Pos × ℤ)) (path : List Pos) (number : ℕ) (rest : List (List (List ℕ))) → IsWritableSaddle saddle path → AreWritable path
     → (n : ℕ) × (after_to head from to (numbered-from_line number (saddle_lines saddle path ++ rest)) ≡ after_path head from to saddle path (numbered-from_line n rest))
 path_back head from to (Some s) path number rest is are =
     let more = count_form-counted point_words point_form IsWritablePoint point_back (codes "path") refl path (number + 1) rest are.few are.each in (
@@ -276,7 +276,7 @@ path_back head from to (Some s) path number rest is are =
 path_back head from to None path number rest is are = (number + 1, ap (λ (ps : List Pos). after_path head from to None ps (numbered-from_line (number + 1) rest)) (sym is))
 
 -- the lines of a cut, and the end
-cut_back : (head : Head) (from to : Pos) (saddle : Option (Pos × ℤ)) (path cut : List Pos) (number : ℕ) → AreWritable cut
+cut_back : (head : CertificateHead) (from to : Pos) (saddle : Option (Pos × ℤ)) (path cut : List Pos) (number : ℕ) → AreWritable cut
     → value_of (after_path head from to saddle path (numbered-from_line number (cut_part cut))) ≡ Ok (record { side = head.side; adjacency = head.adjacency; from = from; to = to; saddle = saddle; path = path; cut = cut })
 cut_back head from to saddle path cut number are =
     let more = count_form-counted point_words point_form IsWritablePoint point_back (codes "cut") refl cut number ((codes "end" ∷ []) ∷ []) are.few are.each in
@@ -293,13 +293,13 @@ head_back Hills Eight = refl
 -- the text of a certificate is read as this certificate
 pub certificate_in-certificate_text : (c : Certificate) → IsWritable c → certificate_of (certificate_text c) ≡ Ok c
 certificate_in-certificate_text c is =
-    let head : Head = record { side = c.side; adjacency = c.adjacency } in
+    let head : CertificateHead = record { side = c.side; adjacency = c.adjacency } in
     let tail : List (List (List ℕ)) = saddle_lines c.saddle c.path ++ cut_part c.cut in
     let third : List (List (List ℕ)) = (codes "to" ∷ point_words c.to) ∷ tail in
     let second : List (List (List ℕ)) = (codes "from" ∷ point_words c.from) ∷ third in
     let path = path_back head c.from c.to c.saddle c.path 4 (cut_part c.cut) is.saddle is.path in
     ap (λ (lines : List (List (List ℕ))). value_of (and_then (line_as head_form (numbered-from_line 1 lines)) after_head)) (lines_of-line_text (certificate_lines c) (all_clear c is))
-    ∙ ap (λ (o : Option Head). value_of (and_then (line_gives 1 second o) after_head)) (head_back c.side c.adjacency)
+    ∙ ap (λ (o : Option CertificateHead). value_of (and_then (line_gives 1 second o) after_head)) (head_back c.side c.adjacency)
     ∙ ap (λ (o : Option Pos). value_of (and_then (line_gives 2 third o) (after_from head))) (point_back c.from is.from)
     ∙ ap (λ (o : Option Pos). value_of (and_then (line_gives 3 tail o) (after_to head c.from))) (point_back c.to is.to)
     ∙ ap value_of path.1

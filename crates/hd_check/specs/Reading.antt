@@ -9,7 +9,7 @@ use Rattle.hd_map.specs.declared.types.SideName.TheVariants.{Dales, Hills}
 use Rattle.hd_num.specs.Lines.{lines_of, words_of}
 use Rattle.hd_num.specs.Whole.{count_of, whole_of, i64_of}
 use Rattle.hd_check.specs.declared.types.Certificate.{Certificate}
-use Rattle.hd_check.specs.declared.words.Head.{Head}
+use Rattle.hd_check.specs.declared.words.CertificateHead.{CertificateHead}
 use Rattle.hd_check.specs.declared.types.CertificateError.{CertificateError}
 use Rattle.hd_check.specs.declared.types.CertificateError.TheVariants.{BadLine}
 
@@ -49,17 +49,17 @@ abbrev pub adjacency_of : List ℕ → Option Adjacency
 adjacency_of word = if bytes_eq word (codes "4") then Some Four else if bytes_eq word (codes "6") then Some Six else if bytes_eq word (codes "8") then Some Eight else None
 
 -- a side and a setting, where both have their form
-abbrev pub head_of_parts : Option SideName → Option Adjacency → Option Head
+abbrev pub head_of_parts : Option SideName → Option Adjacency → Option CertificateHead
 head_of_parts (Some side) (Some adjacency) = Some (record { side = side; adjacency = adjacency })
 head_of_parts (Some side) None = None
 head_of_parts None adjacency = None
 
 -- `certificate`, a side and a setting
-abbrev pub head_of : List ℕ → List ℕ → List ℕ → Option Head
+abbrev pub head_of : List ℕ → List ℕ → List ℕ → Option CertificateHead
 head_of name side adjacency = if bytes_eq name (codes "certificate") then head_of_parts (side_of side) (adjacency_of adjacency) else None
 
 -- `certificate S N`
-abbrev pub head_form : List (List ℕ) → Option Head
+abbrev pub head_form : List (List ℕ) → Option CertificateHead
 head_form [] = None
 head_form (a ∷ []) = None
 head_form (a ∷ b ∷ []) = None
@@ -153,28 +153,28 @@ abbrev pub end_in : Lines → Read (Unit {0})
 end_in rest = and_then (line_as end_form rest) (λ _ rest. blank_lines_in rest.number rest.lines)
 
 -- the last lines of a certificate, after the others
-abbrev pub after_cut : Head → Pos → Pos → Option (Pos × ℤ) → List Pos → List Pos → Lines → Read Certificate
+abbrev pub after_cut : CertificateHead → Pos → Pos → Option (Pos × ℤ) → List Pos → List Pos → Lines → Read Certificate
 after_cut head from to saddle path cut rest = and_then (end_in rest) (λ _ rest.
     Ok (record { side = head.side; adjacency = head.adjacency; from = from; to = to; saddle = saddle; path = path; cut = cut }, rest))
 
 -- its cut and what follows
-abbrev pub after_path : Head → Pos → Pos → Option (Pos × ℤ) → List Pos → Lines → Read Certificate
+abbrev pub after_path : CertificateHead → Pos → Pos → Option (Pos × ℤ) → List Pos → Lines → Read Certificate
 after_path head from to saddle path rest = and_then (counted_in (codes "cut") rest) (after_cut head from to saddle path)
 
 -- its path and what follows
-abbrev pub after_saddle : Head → Pos → Pos → Option (Pos × ℤ) → Lines → Read Certificate
+abbrev pub after_saddle : CertificateHead → Pos → Pos → Option (Pos × ℤ) → Lines → Read Certificate
 after_saddle head from to saddle rest = and_then (path_in saddle rest) (after_path head from to saddle)
 
 -- its saddle and what follows
-abbrev pub after_to : Head → Pos → Pos → Lines → Read Certificate
+abbrev pub after_to : CertificateHead → Pos → Pos → Lines → Read Certificate
 after_to head from to rest = and_then (line_as saddle_form rest) (after_saddle head from to)
 
 -- its second pit and what follows
-abbrev pub after_from : Head → Pos → Lines → Read Certificate
+abbrev pub after_from : CertificateHead → Pos → Lines → Read Certificate
 after_from head from rest = and_then (line_as (end_point_form (codes "to")) rest) (after_to head from)
 
 -- its first pit and what follows
-abbrev pub after_head : Head → Lines → Read Certificate
+abbrev pub after_head : CertificateHead → Lines → Read Certificate
 after_head head rest = and_then (line_as (end_point_form (codes "from")) rest) (after_from head)
 
 -- the lines of a certificate, in their order

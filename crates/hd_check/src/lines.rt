@@ -10,7 +10,7 @@ use std::alloc::Global;
 
 /// Where a line of a text begins, and its number, from 1.
 #[derive(Clone, Copy)]
-pub struct Place {
+pub struct LinePlace {
     /// The index of its first byte.
     pub from: usize,
     /// Its number.
@@ -19,22 +19,22 @@ pub struct Place {
 
 /// A line, its words, and where the next one begins.
 #[derive(Drop)]
-pub struct Line {
+pub struct CertificateLine {
     pub span: Span,
     pub words: List<Span>,
-    pub next: Place,
+    pub next: LinePlace,
 }
 
 /// The line at a place, and the place where the next one begins. `BadLine` comes where the text ends
 /// there.
-pub fn line_at(bytes: &[u8], place: Place) -> Result<(Span, Place), CertificateError>
+pub fn line_at(bytes: &[u8], place: LinePlace) -> Result<(Span, LinePlace), CertificateError>
     requires { IsPlace bytes.now place }
     ensures { TakesLine bytes.now place result }
 {
     let Some((span, next)) = next_line(bytes, place.from) else {
         return Err(CertificateError::BadLine(place.number));
     };
-    let next = Place {
+    let next = LinePlace {
         from: next,
         number: place.number + 1,
     };
@@ -42,13 +42,17 @@ pub fn line_at(bytes: &[u8], place: Place) -> Result<(Span, Place), CertificateE
 }
 
 /// The line at a place, by its words. `BadLine` comes where the text ends there.
-pub fn take_line(alloc: Global, bytes: &[u8], place: Place) -> Result<Line, CertificateError>
+pub fn take_line(
+    alloc: Global,
+    bytes: &[u8],
+    place: LinePlace,
+) -> Result<CertificateLine, CertificateError>
     requires { IsPlace bytes.now place }
     ensures { Takes bytes.now place result }
 {
     let (span, next) = line_at(bytes, place)?;
     let words = split_words(alloc, &bytes[span.start..span.end])?;
-    Ok(Line { span, words, next })
+    Ok(CertificateLine { span, words, next })
 }
 
 /// The bytes of a part of a text.

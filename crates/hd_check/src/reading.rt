@@ -3,9 +3,11 @@ ghost use Rattle.std.specs.Prelude.{◌≡◌, ◌⊎◌, Err};
 ghost use Rattle.hd_check.specs.Places.{Gives, IsPlace, lines_at};
 ghost use Rattle.hd_check.specs.Reading.{blank_lines_in, certificate_of, count_form, counted_in, end_in, end_point_form, head_form, line_as, path_in, point_form, points_in, saddle_form};
 
-use crate::lines::{Place, line_at, part, take_line};
+use crate::lines::{LinePlace, line_at, part, take_line};
 use crate::points::point_in;
-use crate::words::{Head, count_words, end_point_words, end_words, head_words, saddle_words};
+use crate::words::{
+    CertificateHead, count_words, end_point_words, end_words, head_words, saddle_words,
+};
 use crate::{Certificate, CertificateError};
 use hd_list::List;
 use hd_map::Pos;
@@ -20,7 +22,7 @@ use std::alloc::Global;
 pub fn read_certificate(alloc: Global, bytes: &[u8]) -> Result<Certificate, CertificateError>
     ensures { (result ≡ Err CertificateError.Memory) ⊎ (result ≡ certificate_of bytes.now) }
 {
-    let start = Place { from: 0, number: 1 };
+    let start = LinePlace { from: 0, number: 1 };
     let (head, place) = head_line(alloc, bytes, start)?;
     let (from, place) = end_point_line(alloc, bytes, b"from", place)?;
     let (to, place) = end_point_line(alloc, bytes, b"to", place)?;
@@ -40,7 +42,11 @@ pub fn read_certificate(alloc: Global, bytes: &[u8]) -> Result<Certificate, Cert
 }
 
 // Reads `certificate S N`.
-fn head_line(alloc: Global, bytes: &[u8], place: Place) -> Result<(Head, Place), CertificateError>
+fn head_line(
+    alloc: Global,
+    bytes: &[u8],
+    place: LinePlace,
+) -> Result<(CertificateHead, LinePlace), CertificateError>
     requires { IsPlace bytes.now place }
     ensures { Gives bytes.now result (line_as head_form (lines_at bytes.now place)) }
 {
@@ -56,8 +62,8 @@ fn end_point_line(
     alloc: Global,
     bytes: &[u8],
     key: &[u8],
-    place: Place,
-) -> Result<(Pos, Place), CertificateError>
+    place: LinePlace,
+) -> Result<(Pos, LinePlace), CertificateError>
     requires { IsPlace bytes.now place }
     ensures { Gives bytes.now result (line_as (end_point_form key.now) (lines_at bytes.now place)) }
 {
@@ -72,8 +78,8 @@ fn end_point_line(
 fn saddle_line(
     alloc: Global,
     bytes: &[u8],
-    place: Place,
-) -> Result<(Option<(Pos, i64)>, Place), CertificateError>
+    place: LinePlace,
+) -> Result<(Option<(Pos, i64)>, LinePlace), CertificateError>
     requires { IsPlace bytes.now place }
     ensures { Gives bytes.now result (line_as saddle_form (lines_at bytes.now place)) }
 {
@@ -89,8 +95,8 @@ fn path_lines(
     alloc: Global,
     bytes: &[u8],
     saddle: Option<(Pos, i64)>,
-    place: Place,
-) -> Result<(List<Pos>, Place), CertificateError>
+    place: LinePlace,
+) -> Result<(List<Pos>, LinePlace), CertificateError>
     requires { IsPlace bytes.now place }
     ensures { Gives bytes.now result (path_in saddle (lines_at bytes.now place)) }
 {
@@ -106,8 +112,8 @@ fn counted_lines(
     alloc: Global,
     bytes: &[u8],
     key: &[u8],
-    place: Place,
-) -> Result<(List<Pos>, Place), CertificateError>
+    place: LinePlace,
+) -> Result<(List<Pos>, LinePlace), CertificateError>
     requires { IsPlace bytes.now place }
     ensures { Gives bytes.now result (counted_in key.now (lines_at bytes.now place)) }
 {
@@ -120,8 +126,8 @@ fn count_line(
     alloc: Global,
     bytes: &[u8],
     key: &[u8],
-    place: Place,
-) -> Result<(u32, Place), CertificateError>
+    place: LinePlace,
+) -> Result<(u32, LinePlace), CertificateError>
     requires { IsPlace bytes.now place }
     ensures { Gives bytes.now result (line_as (count_form key.now) (lines_at bytes.now place)) }
 {
@@ -137,8 +143,8 @@ fn point_lines(
     alloc: Global,
     bytes: &[u8],
     count: u32,
-    start: Place,
-) -> Result<(List<Pos>, Place), CertificateError>
+    start: LinePlace,
+) -> Result<(List<Pos>, LinePlace), CertificateError>
     requires { IsPlace bytes.now start }
     ensures { Gives bytes.now result (points_in count (lines_at bytes.now start)) }
 {
@@ -153,7 +159,7 @@ fn point_lines(
 }
 
 // Reads `X Y`. It takes no memory.
-fn point_line(bytes: &[u8], place: Place) -> Result<(Pos, Place), CertificateError>
+fn point_line(bytes: &[u8], place: LinePlace) -> Result<(Pos, LinePlace), CertificateError>
     requires { IsPlace bytes.now place }
     ensures { Gives bytes.now result (line_as point_form (lines_at bytes.now place)) }
 {
@@ -165,7 +171,11 @@ fn point_line(bytes: &[u8], place: Place) -> Result<(Pos, Place), CertificateErr
 }
 
 // Reads `end` and the lines without words that follow it, up to the end of the text.
-fn last_lines(alloc: Global, bytes: &[u8], place: Place) -> Result<((), Place), CertificateError>
+fn last_lines(
+    alloc: Global,
+    bytes: &[u8],
+    place: LinePlace,
+) -> Result<((), LinePlace), CertificateError>
     requires { IsPlace bytes.now place }
     ensures { Gives bytes.now result (end_in (lines_at bytes.now place)) }
 {
@@ -177,7 +187,11 @@ fn last_lines(alloc: Global, bytes: &[u8], place: Place) -> Result<((), Place), 
 }
 
 // Reads lines without words up to the end of the text.
-fn blank_lines(alloc: Global, bytes: &[u8], start: Place) -> Result<((), Place), CertificateError>
+fn blank_lines(
+    alloc: Global,
+    bytes: &[u8],
+    start: LinePlace,
+) -> Result<((), LinePlace), CertificateError>
     requires { IsPlace bytes.now start }
     ensures { Gives bytes.now result (blank_lines_in start.number (lines_at bytes.now start).lines) }
 {

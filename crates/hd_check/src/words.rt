@@ -10,13 +10,13 @@ use hd_num::{Span, Whole, read_count, read_whole};
 
 /// What the first line of a certificate names.
 #[derive(Clone, Copy, Debug)]
-pub struct Head {
+pub struct CertificateHead {
     pub side: SideName,
     pub adjacency: Adjacency,
 }
 
 /// The side and the setting of `certificate S N`.
-pub fn head_words(line: &[u8], words: &[Span]) -> Option<Head>
+pub fn head_words(line: &[u8], words: &[Span]) -> Option<CertificateHead>
     requires { All (IsPart line.now) words.now }
     ensures { result ≡ head_form (map (text_at line.now) words.now) }
 {
@@ -27,7 +27,7 @@ pub fn head_words(line: &[u8], words: &[Span]) -> Option<Head>
 }
 
 // The side and the setting of these three words.
-fn head_of(name: &[u8], side: &[u8], adjacency: &[u8]) -> Option<Head>
+fn head_of(name: &[u8], side: &[u8], adjacency: &[u8]) -> Option<CertificateHead>
     ensures { result ≡ head_of name.now side.now adjacency.now }
 {
     if name != b"certificate".as_slice() {
@@ -35,7 +35,7 @@ fn head_of(name: &[u8], side: &[u8], adjacency: &[u8]) -> Option<Head>
     }
     let side = side_of(side)?;
     let adjacency = adjacency_of(adjacency)?;
-    Some(Head { side, adjacency })
+    Some(CertificateHead { side, adjacency })
 }
 
 /// The setting that a word names.
