@@ -9,7 +9,7 @@ use Rattle.hd_audit.specs.declared.stage.Stage.{Stage}
 use Rattle.hd_audit.specs.declared.stage.Stage.TheVariants.{End, Head, Nothing, Points}
 use Rattle.hd_audit.specs.declared.types.Audit.{Audit}
 use Rattle.hd_audit.specs.declared.types.AuditLine.{AuditLine}
-use Rattle.hd_audit.specs.declared.words.Head as words
+use Rattle.hd_audit.specs.declared.words.AuditHead as words
 use Rattle.hd_audit.specs.Pieces.{EndsLine, IsCutAfterLine}
 use Rattle.hd_audit.specs.Stages.{Leads, go_on, numbered, words_in}
 use Rattle.hd_audit.proofs.Stages.{points_on}
@@ -42,7 +42,7 @@ pub words_in-last : (rest line : List ℕ) → line ≡ rest → words_in (rest 
 words_in-last rest line is = ap words_in (append-nil rest ∙ sym is) ∙ sym (append-nil (words_in line))
 
 -- no point is read where no line is left
-no_points : (head : words.Head) (lines : List AuditLine) (left number : ℕ) → value_of (points_on head lines left (numbered number [])) ≡ Err (BadLine number)
+no_points : (head : words.AuditHead) (lines : List AuditLine) (left number : ℕ) → value_of (points_on head lines left (numbered number [])) ≡ Err (BadLine number)
 no_points head lines zero number = refl
 no_points head lines (suc left) number = refl
 

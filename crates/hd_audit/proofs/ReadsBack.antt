@@ -20,7 +20,7 @@ use Rattle.hd_check.specs.Text.{adjacency_word, side_word}
 use Rattle.hd_check.proofs.ReadsBack.{AreLines, IsWord, adjacency_word-clear, count_form-counted, IsWord-decimal, IsWord-filled, numbered-from_line, is_clear, AreLines-items, lines_of-line_text, AreWords-number, side_word-clear, IsWord-end}
 use Rattle.hd_audit.specs.declared.types.Audit.{Audit}
 use Rattle.hd_audit.specs.declared.types.AuditLine.{AuditLine}
-use Rattle.hd_audit.specs.declared.words.Head.{Head}
+use Rattle.hd_audit.specs.declared.words.AuditHead.{AuditHead}
 use Rattle.hd_audit.specs.Reading.{after_head, after_points, audit_of, count_or_none, given, head_form, head_of_parts, line_of_parts, point_form}
 use Rattle.hd_audit.specs.Text.{audit_lines, audit_text, count_word, point_words}
 use Rattle.hd_audit.specs.Writable.{IsWritable, IsWritableLine}
@@ -89,7 +89,7 @@ percent_clear t most =
     ]
 
 -- what the words of a side and a setting give, with a percent
-abbrev parts_of : SideName → Option Percent → Adjacency → Option Head
+abbrev parts_of : SideName → Option Percent → Adjacency → Option AuditHead
 parts_of side p adjacency = head_of_parts (side_of (side_word side)) p (adjacency_of (adjacency_word adjacency))
 
 -- the first line reads back
@@ -118,8 +118,8 @@ all_clear a is = (
 -- the text of a pruning certificate is read as this certificate
 pub audit_of-audit_text : (a : Audit) → IsWritable a → audit_of (audit_text a) ≡ Ok a
 audit_of-audit_text a is =
-    let head : Head = record { side = a.side; percent = a.percent; adjacency = a.adjacency } in
+    let head : AuditHead = record { side = a.side; percent = a.percent; adjacency = a.adjacency } in
     let more = count_form-counted point_words point_form IsWritableLine line_back (codes "points") refl a.lines 2 ((codes "end" ∷ []) ∷ []) is.few is.each in
     ap (λ (lines : List (List (List ℕ))). value_of (and_then (line_as head_form (numbered-from_line 1 lines)) after_head)) (lines_of-line_text (audit_lines a) (all_clear a is))
-    ∙ ap (λ (o : Option Head). value_of (and_then (line_gives 1 (points_part a.lines) o) after_head)) (head_back a.side a.percent.thousandths a.adjacency is.percent)
+    ∙ ap (λ (o : Option AuditHead). value_of (and_then (line_gives 1 (points_part a.lines) o) after_head)) (head_back a.side a.percent.thousandths a.adjacency is.percent)
     ∙ ap (λ (r : Read (List AuditLine)). value_of (and_then r (after_points head))) more.1

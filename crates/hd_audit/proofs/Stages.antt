@@ -8,16 +8,16 @@ use Rattle.hd_num.specs.Lines.{lines_of, words_of}
 use Rattle.hd_audit.specs.declared.stage.Stage.{Stage}
 use Rattle.hd_audit.specs.declared.types.Audit.{Audit}
 use Rattle.hd_audit.specs.declared.types.AuditLine.{AuditLine}
-use Rattle.hd_audit.specs.declared.words.Head as words
+use Rattle.hd_audit.specs.declared.words.AuditHead as words
 use Rattle.hd_audit.specs.Plain.{BeginsWithLine}
 use Rattle.hd_audit.specs.Reading.{after_points, point_form, points_in}
 use Rattle.hd_audit.specs.Stages.{Leads, go_on, numbered, words_in}
 
 -- the certificate, or the first line that has not its form, where so many points are to come after these
-abbrev pub points_on : words.Head → List AuditLine → ℕ → Lines → Read Audit
+abbrev pub points_on : words.AuditHead → List AuditLine → ℕ → Lines → Read Audit
 points_on head lines left rest = and_then (points_in left rest) (λ more rest. after_points head (lines ++ more) rest)
 
-module _ (head : words.Head) (lines : List AuditLine) where
+module _ (head : words.AuditHead) (lines : List AuditLine) where
   -- what follows one more point follows the points with it
   one_more : (x : AuditLine) (r : Read (List AuditLine))
       → and_then (and_then r (λ xs rest. Ok (x ∷ xs, rest))) (λ more rest. after_points head (lines ++ more) rest) ≡ and_then r (λ more rest. after_points head ((lines ++ x ∷ []) ++ more) rest)

@@ -3,7 +3,7 @@ use Rattle.std.specs.Prelude.{ℕ, Bool, true, false, List, Option, Some, None, 
 use Rattle.std.specs.Simd.Lanes.{zip2}
 use Rattle.hd_audit.specs.declared.line_list.Named.{Named}
 use Rattle.hd_audit.specs.declared.line_list.Named.TheVariants.{Neither, Parent, Cut, Both}
-use Rattle.hd_audit.specs.declared.line_list.Numbers.{Numbers}
+use Rattle.hd_audit.specs.declared.line_list.LineNumbers.{LineNumbers}
 use Rattle.hd_audit.specs.declared.types.AuditLine.{AuditLine}
 
 -- whether a parent is named
@@ -25,9 +25,9 @@ abbrev pub number_if : Bool → ℕ → Option ℕ
 number_if named number = if named then Some number else None
 
 -- the line that is kept so
-abbrev pub line_kept : Numbers → Named → AuditLine
+abbrev pub line_kept : LineNumbers → Named → AuditLine
 line_kept numbers named = record { index = numbers.index; parent = number_if (names_parent named) numbers.parent; cut = number_if (names_cut named) numbers.cut }
 
 -- the lines that are kept so
-abbrev pub lines_kept : List Numbers → List Named → List AuditLine
+abbrev pub lines_kept : List LineNumbers → List Named → List AuditLine
 lines_kept numbers named = zip2 line_kept numbers named

@@ -3,7 +3,7 @@ use Rattle.std.specs.Prelude.{◌≡◌, ◌++◌, ℕ, List}
 use Rattle.hd_check.specs.declared.types.CertificateError.{CertificateError}
 use Rattle.hd_check.specs.declared.types.CertificateError.TheVariants.{Memory}
 use Rattle.hd_audit.specs.declared.reader.AuditReader.{AuditReader}
-use Rattle.hd_audit.specs.declared.reader.State.TheVariants.{Refused}
+use Rattle.hd_audit.specs.declared.reader.AuditState.TheVariants.{Refused}
 use Rattle.hd_audit.specs.Pieces.{continued}
 use Rattle.hd_audit.specs.Reading.{audit_of}
 

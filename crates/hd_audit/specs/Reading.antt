@@ -8,23 +8,23 @@ use Rattle.hd_num.specs.Percent.{percent_of}
 use Rattle.hd_num.specs.Whole.{count_of}
 use Rattle.hd_check.specs.declared.types.CertificateError.{CertificateError}
 use Rattle.hd_check.specs.Reading.{Lines, Read, adjacency_of, and_then, count_form, end_in, items_in, line_as, lines_in, side_of, value_of}
-use Rattle.hd_audit.specs.declared.words.Head.{Head}
+use Rattle.hd_audit.specs.declared.words.AuditHead.{AuditHead}
 use Rattle.hd_audit.specs.declared.types.Audit.{Audit}
 use Rattle.hd_audit.specs.declared.types.AuditLine.{AuditLine}
 
 -- a side, a percent and a setting, where each has its form
-abbrev pub head_of_parts : Option SideName → Option Percent → Option Adjacency → Option Head
+abbrev pub head_of_parts : Option SideName → Option Percent → Option Adjacency → Option AuditHead
 head_of_parts (Some side) (Some percent) (Some adjacency) = Some (record { side = side; percent = percent; adjacency = adjacency })
 head_of_parts (Some side) (Some percent) None = None
 head_of_parts (Some side) None adjacency = None
 head_of_parts None percent adjacency = None
 
 -- `pruning`, a side, a percent and a setting
-abbrev pub head_of : List ℕ → List ℕ → List ℕ → List ℕ → Option Head
+abbrev pub head_of : List ℕ → List ℕ → List ℕ → List ℕ → Option AuditHead
 head_of name side percent adjacency = if bytes_eq name (codes "pruning") then head_of_parts (side_of side) (percent_of percent) (adjacency_of adjacency) else None
 
 -- `pruning S P N`
-abbrev pub head_form : List (List ℕ) → Option Head
+abbrev pub head_form : List (List ℕ) → Option AuditHead
 head_form [] = None
 head_form (a ∷ []) = None
 head_form (a ∷ b ∷ []) = None
@@ -65,11 +65,11 @@ abbrev pub counted_in : Lines → Read (List AuditLine)
 counted_in rest = and_then (line_as (count_form (codes "points")) rest) points_in
 
 -- the last lines of a certificate, after the others
-abbrev pub after_points : Head → List AuditLine → Lines → Read Audit
+abbrev pub after_points : AuditHead → List AuditLine → Lines → Read Audit
 after_points head lines rest = and_then (end_in rest) (λ _ rest. Ok (record { side = head.side; percent = head.percent; adjacency = head.adjacency; lines = lines }, rest))
 
 -- its points and what follows
-abbrev pub after_head : Head → Lines → Read Audit
+abbrev pub after_head : AuditHead → Lines → Read Audit
 after_head head rest = and_then (counted_in rest) (after_points head)
 
 -- the lines of a certificate, in their order

@@ -20,18 +20,18 @@ const _: () = prove!(size_of::<Named>() == 1);
 
 /// The numbers of a line, and 0 for those that it does not name.
 #[derive(Clone, Copy, Debug)]
-pub struct Numbers {
+pub struct LineNumbers {
     pub index: u32,
     pub parent: u32,
     pub cut: u32,
 }
 
-const _: () = prove!(size_of::<Numbers>() == 12);
+const _: () = prove!(size_of::<LineNumbers>() == 12);
 
 /// The lines of a pruning certificate. Contracts see them as the list of the lines. Each takes thirteen bytes.
 #[derive(Debug, Drop)]
 pub struct AuditLines {
-    numbers: Vec<Numbers>,
+    numbers: Vec<LineNumbers>,
     named: Vec<Named>,
 }
 
@@ -104,10 +104,10 @@ impl AuditLines {
 
 // The line that is kept so.
 #[inline]
-fn line_kept(numbers: Numbers, named: Named) -> AuditLine
+fn line_kept(numbers: LineNumbers, named: Named) -> AuditLine
     ensures { result ≡ line_kept numbers named }
 {
-    let Numbers { index, parent, cut } = numbers;
+    let LineNumbers { index, parent, cut } = numbers;
     let (parent, cut) = match named {
         Named::Neither => (None, None),
         Named::Parent => (Some(parent), None),
@@ -119,7 +119,7 @@ fn line_kept(numbers: Numbers, named: Named) -> AuditLine
 
 // How a line is kept.
 #[inline]
-fn kept_line(line: AuditLine) -> (Numbers, Named)
+fn kept_line(line: AuditLine) -> (LineNumbers, Named)
     ensures { line_kept result.0 result.1 ≡ line }
 {
     let (parent, cut, named) = match (line.parent, line.cut) {
@@ -129,5 +129,5 @@ fn kept_line(line: AuditLine) -> (Numbers, Named)
         (Some(parent), Some(cut)) => (parent, cut, Named::Both),
     };
     let index = line.index;
-    (Numbers { index, parent, cut }, named)
+    (LineNumbers { index, parent, cut }, named)
 }

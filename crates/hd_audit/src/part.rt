@@ -12,20 +12,20 @@ use std::alloc::Global;
 /// How far a certificate is read, the number of the line that is not whole yet, and what has come of
 /// that line.
 #[derive(Drop)]
-pub struct Part {
+pub struct PartAudit {
     pub stage: Stage,
     pub number: u64,
     pub rest: List<u8>,
 }
 
-impl Part {
+impl PartAudit {
     /// Before the first piece.
-    pub fn new(alloc: Global) -> Part
+    pub fn new(alloc: Global) -> PartAudit
         ensures stage { result.stage ≡ Stage.Nothing }
         ensures number { result.number ≡ 1 }
         ensures rest { result.rest ≡ [] }
     {
-        Part {
+        PartAudit {
             stage: Stage::Nothing,
             number: 1,
             rest: List::new(alloc),
@@ -36,12 +36,12 @@ impl Part {
     /// its last line feed.
     ///
     /// `BadLine` comes with the number of the first line that has not its form in its place.
-    pub fn fed(self, alloc: Global, piece: &[u8]) -> Result<Part, CertificateError>
+    pub fn fed(self, alloc: Global, piece: &[u8]) -> Result<PartAudit, CertificateError>
         requires { part_size self + length piece.now < 2 ^ 64 }
         ensures text { FeedsPart self piece.now result }
         ensures size { IfOk result (λ part. part_size part ≤ part_size self + length piece.now) }
     {
-        let Part {
+        let PartAudit {
             stage,
             number,
             rest,
@@ -50,7 +50,7 @@ impl Part {
         let Some((first, others)) = first_line(piece) else {
             line.extend_from_slice(piece)?;
             let rest = line;
-            return Ok(Part {
+            return Ok(PartAudit {
                 stage,
                 number,
                 rest,
@@ -61,7 +61,7 @@ impl Part {
         let (lines, end) = whole_lines(others);
         let (stage, number) = take_lines(alloc, stage, number, lines)?;
         let rest = List::from_slice(alloc, end)?;
-        Ok(Part {
+        Ok(PartAudit {
             stage,
             number,
             rest,
@@ -73,7 +73,7 @@ impl Part {
         requires { part_size self < 2 ^ 64 }
         ensures { (result ≡ Err CertificateError.Memory) ⊎ (result ≡ part_ends self) }
     {
-        let Part {
+        let PartAudit {
             stage,
             number,
             rest,

@@ -3,7 +3,7 @@ ghost use Rattle.std.specs.Prelude.{◌≡◌, ◌⊎◌, ◌≤◌, ◌<◌, �
 ghost use Rattle.hd_audit.specs.Pieces.{Feeds, size_of};
 
 use crate::Audit;
-use crate::part::Part;
+use crate::part::PartAudit;
 use hd_check::CertificateError;
 use hd_list::Memory;
 use std::alloc::Global;
@@ -11,9 +11,9 @@ use std::mem::replace;
 
 /// What has come of a certificate.
 #[derive(Drop)]
-pub enum State {
+pub enum AuditState {
     /// Lines that have their form, and a part of the next.
-    Reading(Part),
+    Reading(PartAudit),
     /// An offence, or want of memory.
     Refused(CertificateError),
 }
@@ -25,7 +25,7 @@ pub enum State {
 #[derive(Drop)]
 pub struct AuditReader {
     fed: u64,
-    state: State,
+    state: AuditState,
     ghost counted: { size_of state ≤ fed + 1 },
     ghost few: { fed < 2 ^ 63 },
 }
@@ -43,7 +43,7 @@ impl AuditReader {
     {
         AuditReader {
             fed: 0,
-            state: State::Reading(Part::new(alloc)),
+            state: AuditState::Reading(PartAudit::new(alloc)),
         }
     }
 
@@ -57,9 +57,12 @@ impl AuditReader {
         ensures stays { StaysRefused self.old self.new }
         ensures fed { fed_of self.new ≡ fed_of self.old + length piece.now }
     {
-        let old = replace(&mut self.state, State::Refused(CertificateError::Memory));
+        let old = replace(
+            &mut self.state,
+            AuditState::Refused(CertificateError::Memory),
+        );
         let new = read_on(alloc, old, piece);
-        let is_spent = matches!(&new, State::Refused(CertificateError::Memory));
+        let is_spent = matches!(&new, AuditState::Refused(CertificateError::Memory));
         drop(replace(&mut self.state, new));
         self.fed += piece.len() as u64;
         if is_spent { Err(Memory) } else { Ok(()) }
@@ -78,24 +81,24 @@ impl AuditReader {
     {
         let AuditReader { state, .. } = self;
         match state {
-            State::Reading(part) => part.ended(alloc),
-            State::Refused(error) => Err(error),
+            AuditState::Reading(part) => part.ended(alloc),
+            AuditState::Refused(error) => Err(error),
         }
     }
 }
 
 // Reads on in the next piece.
-fn read_on(alloc: Global, state: State, piece: &[u8]) -> State
+fn read_on(alloc: Global, state: AuditState, piece: &[u8]) -> AuditState
     requires { size_of state + length piece.now < 2 ^ 64 }
     ensures text { Feeds state piece.now result }
-    ensures again { (error : _) → state ≡ State.Refused error → result ≡ State.Refused error }
+    ensures again { (error : _) → state ≡ AuditState.Refused error → result ≡ AuditState.Refused error }
     ensures size { size_of result ≤ size_of state + length piece.now }
 {
     match state {
-        State::Reading(part) => match part.fed(alloc, piece) {
-            Ok(part) => State::Reading(part),
-            Err(error) => State::Refused(error),
+        AuditState::Reading(part) => match part.fed(alloc, piece) {
+            Ok(part) => AuditState::Reading(part),
+            Err(error) => AuditState::Refused(error),
         },
-        State::Refused(error) => State::Refused(error),
+        AuditState::Refused(error) => AuditState::Refused(error),
     }
 }

@@ -4,7 +4,7 @@ ghost use Rattle.hd_num.specs.Lines.{words_of};
 ghost use Rattle.hd_audit.specs.Stages.{ReadsOn, Takes, TakesPlain, words_in};
 
 use crate::plain::plain_line;
-use crate::words::{Head, head_words, point_in};
+use crate::words::{AuditHead, head_words, point_in};
 use crate::{Audit, AuditLines};
 use hd_check::{CertificateError, count_words, end_words, part};
 use hd_list::Memory;
@@ -17,7 +17,7 @@ pub enum Stage {
     /// No line is read.
     Nothing,
     /// The first line is.
-    Head(Head),
+    Head(AuditHead),
     /// The number of the points is, and some of them.
     Points(Points),
     /// All lines are, up to `end`.
@@ -28,7 +28,7 @@ pub enum Stage {
 #[derive(Debug, Drop)]
 pub struct Points {
     /// What the first line names.
-    pub head: Head,
+    pub head: AuditHead,
     /// Those that are read.
     pub lines: AuditLines,
     /// How many are to come.
@@ -138,7 +138,7 @@ fn take_head(alloc: Global, number: u64, line: &[u8]) -> Result<Stage, Certifica
 // Reads `points M`.
 fn take_count(
     alloc: Global,
-    head: Head,
+    head: AuditHead,
     number: u64,
     line: &[u8],
 ) -> Result<Stage, CertificateError>
@@ -177,7 +177,7 @@ fn take_point(
 // Reads `end`.
 fn take_end(
     alloc: Global,
-    head: Head,
+    head: AuditHead,
     lines: AuditLines,
     number: u64,
     line: &[u8],

@@ -11,14 +11,14 @@ use hd_num::{Percent, Span, first_word, read_count, read_percent};
 
 /// What the first line of a certificate names.
 #[derive(Clone, Copy, Debug)]
-pub struct Head {
+pub struct AuditHead {
     pub side: SideName,
     pub percent: Percent,
     pub adjacency: Adjacency,
 }
 
 /// The side, the percent and the setting of `pruning S P N`.
-pub fn head_words(line: &[u8], words: &[Span]) -> Option<Head>
+pub fn head_words(line: &[u8], words: &[Span]) -> Option<AuditHead>
     requires { All (IsPart line.now) words.now }
     ensures { result ≡ head_form (map (text_at line.now) words.now) }
 {
@@ -34,7 +34,7 @@ pub fn head_words(line: &[u8], words: &[Span]) -> Option<Head>
 }
 
 // The side, the percent and the setting of these four words.
-fn head_of(name: &[u8], side: &[u8], percent: &[u8], adjacency: &[u8]) -> Option<Head>
+fn head_of(name: &[u8], side: &[u8], percent: &[u8], adjacency: &[u8]) -> Option<AuditHead>
     ensures { result ≡ head_of name.now side.now percent.now adjacency.now }
 {
     if name != b"pruning".as_slice() {
@@ -43,7 +43,7 @@ fn head_of(name: &[u8], side: &[u8], percent: &[u8], adjacency: &[u8]) -> Option
     let side = side_of(side)?;
     let percent = read_percent(percent)?;
     let adjacency = adjacency_of(adjacency)?;
-    Some(Head {
+    Some(AuditHead {
         side,
         percent,
         adjacency,

@@ -1,5 +1,5 @@
 use Rattle.std.proofs.Common.{◌∙◌, inl, inr, sym}
-use Rattle.hd_audit.specs.declared.reader.State.TheVariants.{Reading, Refused}
+use Rattle.hd_audit.specs.declared.reader.AuditState.TheVariants.{Reading, Refused}
 use Rattle.hd_audit.proofs.StandsFor.{audit_of-ended}
 use Rattle.hd_audit.proofs.reader.AuditReader.finish.Goals as goal
 

@@ -2,7 +2,7 @@ use Rattle.std.proofs.Common.{◌≡◌, ◌∙◌, ◌++◌, ap, inl, inr}
 use Rattle.std.proofs.lemmas.Result.{err_from_is_err_and}
 use Rattle.hd_check.specs.Reading.{value_of}
 use Rattle.hd_audit.proofs.Pieces.{words_in-first, go_on-front, go_on-refused, words_in-others}
-use Rattle.hd_audit.proofs.part.Part.fed.Goals as goal
+use Rattle.hd_audit.proofs.part.PartAudit.fed.Goals as goal
 
 pub returns-in_err-stage-clause-text : goal.returns-in_err-stage-clause-text
 returns-in_err-stage-clause-text c =

@@ -4,7 +4,7 @@ use Rattle.hd_check.specs.Reading.{value_of}
 use Rattle.hd_audit.specs.Stages.{go_on, numbered}
 use Rattle.hd_audit.specs.declared.stage.Stage.{Stage}
 use Rattle.hd_audit.proofs.Pieces.{go_on-ends_early, go_on-front, go_on-refused, words_in-last}
-use Rattle.hd_audit.proofs.part.Part.ended.Goals as goal
+use Rattle.hd_audit.proofs.part.PartAudit.ended.Goals as goal
 
 pub returns-in_err-stage : goal.returns-in_err-stage
 returns-in_err-stage c =
