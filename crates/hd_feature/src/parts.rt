@@ -5,7 +5,7 @@ ghost use Rattle.hd_feature.specs.Parts.{parts_left, parts_of, Reads};
 use crate::NotationError;
 
 /// What a part of a notation writes.
-pub trait Part: Sized {
+pub trait NotationPart: Sized {
     /// What a text writes as this part, or none where it has not the form.
     ghost form_of: { List ℕ → Option Self };
 
@@ -16,7 +16,7 @@ pub trait Part: Sized {
 
 /// What the first of the parts that are left writes, and the parts that are left after it. The part
 /// has this number.
-pub fn read_part<P: Part>(
+pub fn read_part<P: NotationPart>(
     number: u8,
     rest: Option<&[u8]>,
 ) -> Result<(P, Option<&[u8]>), NotationError>

@@ -2,7 +2,7 @@
 ghost use Rattle.std.specs.Prelude.{◌≡◌, ◌++◌, codes};
 ghost use Rattle.hd_feature.specs.Notation.{attribute_of, edge_bound, has_attribute, has_significance, height_of, kind_of, notation_of, number_of, paired, pruning_of, scope_of, significance_of, statistic_of};
 
-use crate::parts::{Part, read_part};
+use crate::parts::{NotationPart, read_part};
 use crate::{Attribute, Kind, Notation, NotationError, Significance, Statistic};
 use hd_num::{Percent, Whole, read_count, read_percent, read_whole};
 
@@ -102,7 +102,7 @@ pub enum Scope {
     Features,
 }
 
-impl Part for Scope {
+impl NotationPart for Scope {
     ghost form_of = { scope_of };
 
     fn form(text: &[u8]) -> Option<Scope> {
@@ -113,7 +113,7 @@ impl Part for Scope {
     }
 }
 
-impl Part for Kind {
+impl NotationPart for Kind {
     ghost form_of = { kind_of };
 
     fn form(text: &[u8]) -> Option<Kind> {
@@ -127,7 +127,7 @@ impl Part for Kind {
     }
 }
 
-impl Part for Percent {
+impl NotationPart for Percent {
     ghost form_of = { pruning_of };
 
     fn form(text: &[u8]) -> Option<Percent> {
@@ -136,7 +136,7 @@ impl Part for Percent {
     }
 }
 
-impl Part for Significance {
+impl NotationPart for Significance {
     ghost form_of = { significance_of };
 
     fn form(text: &[u8]) -> Option<Significance> {
@@ -165,7 +165,7 @@ fn edge_bound(text: &[u8]) -> Option<Significance>
     }
 }
 
-impl Part for Attribute {
+impl NotationPart for Attribute {
     ghost form_of = { attribute_of };
 
     fn form(text: &[u8]) -> Option<Attribute> {
@@ -178,7 +178,7 @@ impl Part for Attribute {
     }
 }
 
-impl Part for Statistic {
+impl NotationPart for Statistic {
     ghost form_of = { statistic_of };
 
     fn form(text: &[u8]) -> Option<Statistic> {

@@ -2,7 +2,7 @@
 ghost use Rattle.std.specs.Prelude.{◌≡◌, ◌&&◌, IfOk, nat_lt, map};
 ghost use Rattle.std.specs.Ordering.{is_lt};
 ghost use Rattle.hd_feature.specs.declared.region.Region.{Region};
-ghost use Rattle.hd_feature.specs.Cut.{IsCut, is_ahead, is_within, place_of, significant_by};
+ghost use Rattle.hd_feature.specs.Cut.{IsCut, is_ahead, is_within, key_of, significant_by};
 ghost use Rattle.hd_feature.specs.Value.{is_among, is_at_least, is_at_most, is_open, is_significant};
 
 use crate::{Kind, Region, Significance};
@@ -12,20 +12,20 @@ use std::cmp::Ordering;
 
 /// What regions are compared by.
 #[derive(Clone, Copy)]
-pub struct Place {
+pub struct RegionKey {
     /// The local height in steps.
     pub lpvh: i64,
     /// The index of the pit.
     pub index: u32,
 }
 
-/// The place of the last of the regions that a significance keeps by their number, and none where it
+/// The key of the last of the regions that a significance keeps by their number, and none where it
 /// keeps all.
 pub fn cut_of(
     alloc: Global,
     significance: Significance,
     regions: &[Region],
-) -> Result<Option<Place>, Memory>
+) -> Result<Option<RegionKey>, Memory>
     ensures { IfOk result (IsCut significance regions.now) }
 {
     match significance {
@@ -38,7 +38,7 @@ pub fn cut_of(
 pub fn is_significant(
     kind: Kind,
     significance: Significance,
-    cut: Option<Place>,
+    cut: Option<RegionKey>,
     region: &Region,
 ) -> bool
     ensures { result ≡ significant_by kind significance cut region.now }
@@ -46,7 +46,7 @@ pub fn is_significant(
     match significance {
         Significance::All => true,
         Significance::Top(number) | Significance::Bot(number) => {
-            0 < number && is_within(place_of(region), cut)
+            0 < number && is_within(key_of(region), cut)
         }
         Significance::Closed(c) => !is_open(kind, c, region),
         Significance::Open(c) => is_open(kind, c, region),
@@ -83,59 +83,59 @@ fn is_at_most(c: i64, height: Option<i64>) -> bool
     }
 }
 
-// The place of a region.
-fn place_of(region: &Region) -> Place
-    ensures { result ≡ place_of region.now }
+// The key of a region.
+fn key_of(region: &Region) -> RegionKey
+    ensures { result ≡ key_of region.now }
 {
-    Place {
+    RegionKey {
         lpvh: region.lpvh,
         index: region.pit.index,
     }
 }
 
-// Whether a place is ahead of another: the local height is greater, or the same and the index less.
-fn is_ahead(a: Place, b: Place) -> bool
+// Whether a key is ahead of another: the local height is greater, or the same and the index less.
+fn is_ahead(a: RegionKey, b: RegionKey) -> bool
     ensures { result ≡ is_ahead a b }
 {
     b.lpvh < a.lpvh || (a.lpvh == b.lpvh && a.index < b.index)
 }
 
-// Whether a place is not behind a cut.
-fn is_within(place: Place, cut: Option<Place>) -> bool
-    ensures { result ≡ is_within place cut }
+// Whether a key is not behind a cut.
+fn is_within(key: RegionKey, cut: Option<RegionKey>) -> bool
+    ensures { result ≡ is_within key cut }
 {
     match cut {
-        Some(last) => !is_ahead(last, place),
+        Some(last) => !is_ahead(last, key),
         None => true,
     }
 }
 
-// The place of the last of so many regions, and none where there are fewer.
-fn last_of(alloc: Global, number: u32, regions: &[Region]) -> Result<Option<Place>, Memory>
-    ensures { IfOk result (λ cut. (r : Region) → is_among regions.now number r ≡ (nat_lt 0 number && is_within (place_of r) cut)) }
+// The key of the last of so many regions, and none where there are fewer.
+fn last_of(alloc: Global, number: u32, regions: &[Region]) -> Result<Option<RegionKey>, Memory>
+    ensures { IfOk result (λ cut. (r : Region) → is_among regions.now number r ≡ (nat_lt 0 number && is_within (key_of r) cut)) }
 {
     let count = number as usize;
     if count == 0 || regions.len() < count {
         return Ok(None);
     }
-    let mut places = places_of(alloc, regions)?;
-    let (_, last, _) = places.select_nth_unstable_by(count - 1, |a, b| compare(a, b));
+    let mut keys = keys_of(alloc, regions)?;
+    let (_, last, _) = keys.select_nth_unstable_by(count - 1, |a, b| compare(a, b));
     Ok(Some(*last))
 }
 
-// The places of the regions.
-fn places_of(alloc: Global, regions: &[Region]) -> Result<Vec<Place>, Memory>
-    ensures { IfOk result (λ places. places.items ≡ map place_of regions.now) }
+// The keys of the regions.
+fn keys_of(alloc: Global, regions: &[Region]) -> Result<Vec<RegionKey>, Memory>
+    ensures { IfOk result (λ keys. keys.items ≡ map key_of regions.now) }
 {
-    let mut places = Vec::with_capacity(alloc, regions.len())?;
+    let mut keys = Vec::with_capacity(alloc, regions.len())?;
     'regions: for region in regions {
-        places.push(place_of(region))?;
+        keys.push(key_of(region))?;
     }
-    Ok(places)
+    Ok(keys)
 }
 
-// Which of two places is ahead.
-fn compare(a: &Place, b: &Place) -> Ordering
+// Which of two keys is ahead.
+fn compare(a: &RegionKey, b: &RegionKey) -> Ordering
     ensures { is_lt result ≡ is_ahead a.now b.now }
 {
     if is_ahead(*a, *b) {

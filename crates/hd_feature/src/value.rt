@@ -3,7 +3,7 @@ ghost use Rattle.std.specs.Prelude.{◌≡◌, ◌≤◌, ◌++◌, ◌∷◌, [
 ghost use Rattle.hd_feature.specs.Cut.{IsCut, significant_by};
 ghost use Rattle.hd_feature.specs.Value.{IsValue, attribute, attributes};
 
-use crate::significance::{Place, cut_of, is_significant};
+use crate::significance::{RegionKey, cut_of, is_significant};
 use crate::statistic::statistic_of;
 use crate::{Attribute, Notation, Region};
 use hd_list::{List, Memory};
@@ -55,7 +55,7 @@ pub fn attributes(
 fn add_significant(
     values: &mut Vec<i64>,
     notation: &Notation,
-    cut: Option<Place>,
+    cut: Option<RegionKey>,
     region: &Region,
 ) -> Result<(), Memory>
     requires { region.now.points ≤ 4194304 }
