@@ -2,7 +2,7 @@
 ghost use Rattle.std.specs.Prelude.{◌≡◌};
 ghost use Rattle.hd_cert.specs.Residues.{residue_after};
 
-use hd_reach::Mark;
+use hd_reach::FloodMark;
 
 /// In how many steps, modulo 3, a point is reached.
 #[derive(Clone, Copy, PartialEq, Eq)]
@@ -19,7 +19,7 @@ pub enum Residue {
 
 const _: () = prove!(size_of::<Residue>() == 1);
 
-impl Mark for Residue {
+impl FloodMark for Residue {
     ghost use Rattle.hd_cert.specs.Residues.{after-reached, residue_after};
     ghost use Rattle.hd_cert.specs.declared.residue.Residue.TheVariants.{Unreached};
 

@@ -5,7 +5,7 @@ ghost use Rattle.hd_reach.specs.Flood.{FloodsRound, Reaches, ReachesAt};
 ghost use Rattle.hd_reach.specs.Marks.{AreBlank, AreMarked, marking};
 ghost use Rattle.hd_reach.specs.Within.{LiesWithin};
 
-use crate::Mark;
+use crate::FloodMark;
 use crate::bound::{Bound, lies_within};
 use hd_list::Memory;
 use hd_map::{Heights, Pos, Side, beside_at, index_of, position_of};
@@ -15,7 +15,7 @@ use std::collections::VecDeque;
 /// mark, and each other point by the one after that of a point from which it is reached in the fewest steps. It
 /// ends at the goal, if there is one: points that are further may be left as they were. What waits is queued in
 /// four bytes each, and it takes time in proportion to the points that are reached.
-pub fn flood<S: Side, M: Mark, G: Heights>(
+pub fn flood<S: Side, M: FloodMark, G: Heights>(
     grid: &G,
     bound: Bound,
     start: Pos,
@@ -49,7 +49,7 @@ pub fn flood<S: Side, M: Mark, G: Heights>(
 }
 
 // Reaches the neighbours of a point.
-fn reach_round<S: Side, M: Mark, G: Heights>(
+fn reach_round<S: Side, M: FloodMark, G: Heights>(
     grid: &G,
     bound: Bound,
     here: Pos,
@@ -74,7 +74,7 @@ fn reach_round<S: Side, M: Mark, G: Heights>(
 
 // Reaches the position at a step from a point, if it lies in the grid and is beside the point.
 #[inline(always)]
-fn reach_at<S: Side, M: Mark, G: Heights>(
+fn reach_at<S: Side, M: FloodMark, G: Heights>(
     grid: &G,
     bound: Bound,
     here: Pos,
@@ -99,7 +99,7 @@ fn reach_at<S: Side, M: Mark, G: Heights>(
 
 // Reaches a position, if it lies within the bound and is not yet reached.
 #[inline(always)]
-fn reach<S: Side, M: Mark, G: Heights>(
+fn reach<S: Side, M: FloodMark, G: Heights>(
     grid: &G,
     bound: Bound,
     at: Pos,

@@ -10,4 +10,4 @@ mod mark;
 
 pub use bound::{Bound, lies_within};
 pub use breadth::flood;
-pub use mark::Mark;
+pub use mark::FloodMark;

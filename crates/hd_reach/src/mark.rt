@@ -1,7 +1,7 @@
 // What a flood marks points with.
 
 /// What stands at a point: a blank, or the mark of a point that is reached.
-pub trait Mark: Copy + Drop {
+pub trait FloodMark: Copy + Drop {
     ghost use Rattle.std.specs.Prelude.{◌≡◌, ◌↔◌, IsTrue};
 
     /// What stands at a point that is not reached.
@@ -23,7 +23,7 @@ pub trait Mark: Copy + Drop {
 }
 
 /// The number of the start, the same at all points that it reaches.
-impl Mark for Option<u32> {
+impl FloodMark for Option<u32> {
     ghost use Rattle.std.specs.Prelude.{None};
 
     ghost blank = { None };

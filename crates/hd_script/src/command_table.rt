@@ -9,7 +9,7 @@ use crate::command_words::{
     set_words, tree_words, undo_words,
 };
 use crate::element::element_words;
-use crate::filters::{Filter, filter_words};
+use crate::filters::{FilterWord, filter_words};
 use crate::parameters::{feature_words, height_words, hist_words, param_words, perc_words};
 use crate::prunings::{PruningReport, pruning_words};
 use crate::{Command, LineError};
@@ -58,13 +58,13 @@ fn read_later_command(
     ensures whole { IfOk result IsWhole }
 {
     if name == b"dilate".as_slice() {
-        filter_words(alloc, line, words, Filter::Dilate)
+        filter_words(alloc, line, words, FilterWord::Dilate)
     } else if name == b"erode".as_slice() {
-        filter_words(alloc, line, words, Filter::Erode)
+        filter_words(alloc, line, words, FilterWord::Erode)
     } else if name == b"open".as_slice() {
-        filter_words(alloc, line, words, Filter::Open)
+        filter_words(alloc, line, words, FilterWord::Open)
     } else if name == b"close".as_slice() {
-        filter_words(alloc, line, words, Filter::Close)
+        filter_words(alloc, line, words, FilterWord::Close)
     } else if name == b"undo".as_slice() {
         undo_words(line, words)
     } else if name == b"element".as_slice() {

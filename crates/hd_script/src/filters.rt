@@ -14,7 +14,7 @@ use std::alloc::Global;
 
 /// The filters.
 #[derive(Clone, Copy)]
-pub enum Filter {
+pub enum FilterWord {
     /// The dilation.
     Dilate,
     /// The erosion.
@@ -26,14 +26,14 @@ pub enum Filter {
 }
 
 // The edit by a filter with the element of a name.
-fn edit_by(filter: Filter, name: List<u8>) -> Edit
+fn edit_by(filter: FilterWord, name: List<u8>) -> Edit
     ensures { result ≡ edit_by filter name }
 {
     match filter {
-        Filter::Dilate => Edit::Dilate { name },
-        Filter::Erode => Edit::Erode { name },
-        Filter::Open => Edit::Open { name },
-        Filter::Close => Edit::Close { name },
+        FilterWord::Dilate => Edit::Dilate { name },
+        FilterWord::Erode => Edit::Erode { name },
+        FilterWord::Open => Edit::Open { name },
+        FilterWord::Close => Edit::Close { name },
     }
 }
 
@@ -42,7 +42,7 @@ pub fn filter_words(
     alloc: Global,
     line: &[u8],
     words: &[Span],
-    filter: Filter,
+    filter: FilterWord,
 ) -> Result<Command, LineError>
     requires { All (IsPart line.now) words.now }
     ensures value { (result ≡ Err LineError.Memory) ⊎ (result ≡ filter_words (edit_by filter) (map (text_at line.now) words.now)) }

@@ -3,7 +3,7 @@ use Rattle.std.specs.Prelude.{◌≡◌, ◌++◌, ℕ, false, codes, bytes_eq, 
 use Rattle.std.specs.Option.{option_copied, option_to_list, option_map, option_and_then}
 use Rattle.hd_words.specs.Forms.{dales_form, run_form, check_form, demo_form}
 use Rattle.hd_words.specs.GivenWords.{Given, given_of}
-use Rattle.hd_words.specs.declared.found.Found.{Found}
+use Rattle.hd_words.specs.declared.found.FoundWords.{FoundWords}
 use Rattle.hd_words.specs.declared.found.FoundNames.{FoundNames}
 use Rattle.hd_words.specs.declared.found.FoundNames.TheVariants.{Zero, One, Two, Three, Four}
 use Rattle.hd_words.specs.declared.found.Progress.{Progress}
@@ -18,7 +18,7 @@ names_in (Three first second third) = first.now ∷ second.now ∷ third.now ∷
 names_in (Four first second third fourth) = first.now ∷ second.now ∷ third.now ∷ fourth.now ∷ []
 
 -- what was found, as names and values of `--tile` and of `--save`
-abbrev pub found_so_far : Found → Given
+abbrev pub found_so_far : FoundWords → Given
 found_so_far found = record {
   names = names_in found.names;
   tiles = option_to_list (option_copied found.tile);
@@ -38,7 +38,7 @@ abbrev pub followed_by : Given → Option Given → Option Given
 followed_by before later = option_map (both_given before) later
 
 -- at a stage, with what was found
-abbrev pub at_stage : Stage → Found → Progress
+abbrev pub at_stage : Stage → FoundWords → Progress
 at_stage stage found = record { stage = stage; found = found }
 
 -- what was found, and then what the words that are left give

@@ -6,7 +6,7 @@ ghost use Rattle.hd_words.specs.Requests.{command_for};
 ghost use Rattle.hd_words.specs.WordSteps.{found_so_far};
 
 use crate::demo::Demo;
-use crate::found::{Found, FoundNames, found_in, is_option};
+use crate::found::{FoundNames, FoundWords, found_in, is_option};
 use crate::limits::{GREATEST_TILE, LEAST_TILE, USUAL_TILE};
 use hd_num::read_count;
 
@@ -39,7 +39,7 @@ pub fn command_of(words: &[String]) -> Option<Command>
 }
 
 // The command of a name, where what was found has its form.
-fn command_named(name: &str, found: Found<'_>) -> Option<Command>
+fn command_named(name: &str, found: FoundWords<'_>) -> Option<Command>
     ensures { result ≡ option_map command_for (form_named name.now (found_so_far found.entry)) }
 {
     if name == "dales" {
@@ -56,7 +56,7 @@ fn command_named(name: &str, found: Found<'_>) -> Option<Command>
 }
 
 // The command `dales`, where what was found has its form.
-fn dales_command(found: Found<'_>) -> Option<Command>
+fn dales_command(found: FoundWords<'_>) -> Option<Command>
     ensures { result ≡ option_map command_for (dales_form (found_so_far found.entry)) }
 {
     match (found.names, found.tile, found.save) {
@@ -66,7 +66,7 @@ fn dales_command(found: Found<'_>) -> Option<Command>
 }
 
 // The command `run`, where what was found has its form.
-fn run_command(found: Found<'_>) -> Option<Command>
+fn run_command(found: FoundWords<'_>) -> Option<Command>
     ensures { result ≡ option_map command_for (run_form (found_so_far found.entry)) }
 {
     match found.names {
@@ -82,7 +82,7 @@ fn run_command(found: Found<'_>) -> Option<Command>
 }
 
 // The command `check`, where what was found has its form.
-fn check_command(found: Found<'_>) -> Option<Command>
+fn check_command(found: FoundWords<'_>) -> Option<Command>
     ensures { result ≡ option_map command_for (check_form (found_so_far found.entry)) }
 {
     match (found.names, found.tile, found.save) {
@@ -97,7 +97,7 @@ fn check_command(found: Found<'_>) -> Option<Command>
 }
 
 // The command `demo`, where what was found has its form.
-fn demo_command(found: Found<'_>) -> Option<Command>
+fn demo_command(found: FoundWords<'_>) -> Option<Command>
     ensures { result ≡ option_map command_for (demo_form (found_so_far found.entry)) }
 {
     match (found.names, found.save) {

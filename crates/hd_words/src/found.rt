@@ -27,7 +27,7 @@ pub enum FoundNames<'a> {
 
 /// What the words so far have given.
 #[derive(Clone, Copy)]
-pub struct Found<'a> {
+pub struct FoundWords<'a> {
     pub names: FoundNames<'a>,
     pub tile: Option<&'a str>,
     pub save: Option<&'a str>,
@@ -37,19 +37,19 @@ pub struct Found<'a> {
 #[derive(Clone, Copy)]
 struct Progress<'a> {
     stage: Stage,
-    found: Found<'a>,
+    found: FoundWords<'a>,
 }
 
 /// What the words after the command give. None comes where they are refused, or are too many for
 /// each form.
-pub fn found_in(words: &[String]) -> Option<Found<'_>>
+pub fn found_in(words: &[String]) -> Option<FoundWords<'_>>
     ensures none { IfNone result (HasNoForm (given_of Stage.Options (map string_bytes words.now))) }
     ensures some { IfSome result
         (λ found. given_of Stage.Options (map string_bytes words.now) ≡ Some (found_so_far found)) }
 {
     let mut progress = Progress {
         stage: Stage::Options,
-        found: Found {
+        found: FoundWords {
             names: FoundNames::Zero,
             tile: None,
             save: None,
@@ -81,7 +81,7 @@ fn after_word<'a>(progress: Progress<'a>, word: &'a str) -> Option<Progress<'a>>
 }
 
 // Reads the next word where it is an option or a name.
-fn after_option<'a>(found: Found<'a>, word: &'a str) -> Option<Progress<'a>>
+fn after_option<'a>(found: FoundWords<'a>, word: &'a str) -> Option<Progress<'a>>
     ensures none { IfNone result (IsRefused (at_stage Stage.Options found.entry) word.now) }
     ensures some { IfSome result (λ next. LeadsTo (at_stage Stage.Options found.entry) word.now next) }
 {
@@ -106,7 +106,7 @@ fn after_option<'a>(found: Found<'a>, word: &'a str) -> Option<Progress<'a>>
 }
 
 // Reads the next word where it is an option with its value, or a name.
-fn after_joined<'a>(found: Found<'a>, word: &'a str) -> Option<Progress<'a>>
+fn after_joined<'a>(found: FoundWords<'a>, word: &'a str) -> Option<Progress<'a>>
     requires { IsNoOptionAlone word.now }
     ensures none { IfNone result (IsRefused (at_stage Stage.Options found.entry) word.now) }
     ensures some { IfSome result (λ next. LeadsTo (at_stage Stage.Options found.entry) word.now next) }
@@ -141,7 +141,7 @@ pub fn is_option(word: &str) -> bool
 }
 
 // One more value of `--tile`, where it is the first.
-fn with_tile<'a>(found: Found<'a>, value: &'a str) -> Option<Progress<'a>>
+fn with_tile<'a>(found: FoundWords<'a>, value: &'a str) -> Option<Progress<'a>>
     ensures none { IfNone result (IsRefused (at_stage Stage.TileValue found.entry) value.now) }
     ensures some { IfSome result (λ next. LeadsTo (at_stage Stage.TileValue found.entry) value.now next) }
 {
@@ -149,7 +149,7 @@ fn with_tile<'a>(found: Found<'a>, value: &'a str) -> Option<Progress<'a>>
         Some(_) => None,
         None => Some(Progress {
             stage: Stage::Options,
-            found: Found {
+            found: FoundWords {
                 names: found.names,
                 tile: Some(value),
                 save: found.save,
@@ -159,7 +159,7 @@ fn with_tile<'a>(found: Found<'a>, value: &'a str) -> Option<Progress<'a>>
 }
 
 // One more value of `--save`, where it is the first.
-fn with_save<'a>(found: Found<'a>, value: &'a str) -> Option<Progress<'a>>
+fn with_save<'a>(found: FoundWords<'a>, value: &'a str) -> Option<Progress<'a>>
     ensures none { IfNone result (IsRefused (at_stage Stage.SaveValue found.entry) value.now) }
     ensures some { IfSome result (λ next. LeadsTo (at_stage Stage.SaveValue found.entry) value.now next) }
 {
@@ -167,7 +167,7 @@ fn with_save<'a>(found: Found<'a>, value: &'a str) -> Option<Progress<'a>>
         Some(_) => None,
         None => Some(Progress {
             stage: Stage::Options,
-            found: Found {
+            found: FoundWords {
                 names: found.names,
                 tile: found.tile,
                 save: Some(value),
@@ -177,7 +177,7 @@ fn with_save<'a>(found: Found<'a>, value: &'a str) -> Option<Progress<'a>>
 }
 
 // One more name, where there are not four yet.
-fn with_name<'a>(found: Found<'a>, name: &'a str) -> Option<Found<'a>>
+fn with_name<'a>(found: FoundWords<'a>, name: &'a str) -> Option<FoundWords<'a>>
     ensures none { IfNone result (length (found_so_far found.entry).names ≡ 4) }
     ensures some { IfSome result (λ more. found_so_far more ≡ record {
       names = (found_so_far found.entry).names ++ (name.now ∷ []);
@@ -192,7 +192,7 @@ fn with_name<'a>(found: Found<'a>, name: &'a str) -> Option<Found<'a>>
         FoundNames::Three(first, second, third) => FoundNames::Four(first, second, third, name),
         FoundNames::Four(..) => return None,
     };
-    Some(Found {
+    Some(FoundWords {
         names,
         tile: found.tile,
         save: found.save,

@@ -11,8 +11,8 @@ use Rattle.hd_reach.proofs.breadth.reach_round.Goals as goal
 pub returns : goal.returns
 returns g c start first before passed w in_grid f =
     let m = g.G.Heights.map c.args.grid.now in
-    let blank = g.M.Mark.blank in
-    let how = marking blank g.M.Mark.after first before in
+    let blank = g.M.FloodMark.blank in
+    let how = marking blank g.M.FloodMark.after first before in
     let here = c.args.here in
     let mark = c.after-mark.result in
     let marks = c.args.marks.now.items in
@@ -25,7 +25,7 @@ returns g c start first before passed w in_grid f =
     let place : c.index_of.result ≡ place_of m.size here = c.index_of.ensures.value ∙ ap (λ (s : Size). place_of s here) c.size.ensures in
     let whole : c.index_of.result < length marks = rw (place, c.requires.whole) (place_inside m.size here at.in_grid) in
     let read : c.index.result.now ≡ mark_at blank m.size marks here = c.index.ensures ∙ get_or_default marks c.index_of.result c.index.result.now blank whole ∙ ap (λ i. get_or marks i blank) place in
-    let mark_is : mark ≡ mark_in how (n + 1) = c.after-mark.ensures ∙ ap g.M.Mark.after read ∙ from.1 in
+    let mark_is : mark ≡ mark_in how (n + 1) = c.after-mark.ensures ∙ ap g.M.FloodMark.after read ∙ from.1 in
     let round1 = IsRound-more m IsOpen start how w (λ p is_open. is_open.present) here n mark 0 c.reach_at.new.marks.items (front ++ c.reach_at.new.queue.items) mark_is (omega arith) (ReachesAt-behind m IsOpen blank here 0 0 mark marks c.reach_at.new.marks.items front c.args.queue.now.items c.reach_at.new.queue.items c.in_ok-reach_at.ensures.reaches) from.2 in
     let round2 = IsRound-more m IsOpen start how w (λ p is_open. is_open.present) here n mark 1 c.reach_at-2.new.marks.items (front ++ c.reach_at-2.new.queue.items) mark_is (omega arith) (ReachesAt-behind m IsOpen blank here 1 0 mark c.reach_at.new.marks.items c.reach_at-2.new.marks.items front c.reach_at.new.queue.items c.reach_at-2.new.queue.items c.in_ok-reach_at-2.ensures.reaches) round1 in
     let round3 = IsRound-more m IsOpen start how w (λ p is_open. is_open.present) here n mark 2 c.reach_at-3.new.marks.items (front ++ c.reach_at-3.new.queue.items) mark_is (omega arith) (ReachesAt-behind m IsOpen blank here 2 0 mark c.reach_at-2.new.marks.items c.reach_at-3.new.marks.items front c.reach_at-2.new.queue.items c.reach_at-3.new.queue.items c.in_ok-reach_at-3.ensures.reaches) round2 in
