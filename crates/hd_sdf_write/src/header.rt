@@ -3,7 +3,7 @@ ghost use Rattle.std.specs.Prelude.{◌≡◌, ◌++◌, OnOk, decimal};
 ghost use Rattle.hd_sdf_write.specs.Canonical.{encoding_lines, entry_line, header_lines, line, name_lines, scale_lines, version_text};
 ghost use Rattle.hd_sdf_write.specs.Texts.{file_with};
 
-use crate::lines::{push_entry, push_extra, push_line};
+use crate::entry_lines::{push_entry, push_extra, push_line};
 use crate::texts::SdfTexts;
 use hd_list::{List, Memory};
 use hd_map::Grid;

@@ -5,9 +5,9 @@
 #![tactic(auto)]
 
 mod cells;
+mod entry_lines;
 mod header;
 mod laws;
-mod lines;
 mod pieces;
 mod rest;
 mod steps;

@@ -6,8 +6,8 @@ ghost use Rattle.hd_sdf_write.specs.Pieces.{most_bytes};
 ghost use Rattle.hd_sdf_write.specs.Texts.{file_with};
 
 use crate::cells::write_data;
+use crate::entry_lines::push_end;
 use crate::header::push_header;
-use crate::lines::push_end;
 use crate::rest::Rest;
 use crate::texts::SdfTexts;
 use hd_list::{List, Memory};
