@@ -1,5 +1,4 @@
 mod Answered
-mod Readings
 mod Runs
 mod Checks
 mod SavedPieces

@@ -22,6 +22,14 @@ write≢read result is e = cc
 pub HasReadStop-ok : {T : Type 0} (before now : ℕ) (x : T) → HasReadStop before now (Ok x) → now ≡ before
 HasReadStop-ok before now x cause = cause.no_fault (ok≢err x ReadFault)
 
+-- the same stop, whatever was to be read
+pub HasReadStop-moved : {T U : Type 0} (before now : ℕ) (stop : Stop) → HasReadStop {T = T} before now (Err stop) → HasReadStop {T = U} before now (Err stop)
+HasReadStop-moved before now stop h = record {
+  fault = λ e. let same : stop ≡ ReadFault = cc in h.fault (ap Err same);
+  no_fault = λ other. h.no_fault (λ e. let same : stop ≡ ReadFault = cc in other (ap Err same));
+  no_write = λ e. let same : stop ≡ WriteFault = cc in h.no_write (ap Err same);
+}
+
 -- what is written leaves it
 pub HasWriteStop-ok : {T : Type 0} (before now : ℕ) (x : T) → HasWriteStop before now (Ok x) → now ≡ before
 HasWriteStop-ok before now x cause = cause.no_fault (ok≢err x WriteFault)

@@ -2,9 +2,8 @@ use Rattle.std.proofs.Common.{Some, inl, inr, refl}
 use Rattle.std.proofs.KnownBytes.{Keeps-refl}
 use Rattle.hd_sdf_read.specs.FileOf.{file_of}
 use Rattle.hd_run.proofs.Checks.{IsCheck-surface_stops}
-use Rattle.hd_run.proofs.Readings.{HasReadStop-moved}
 use Rattle.hd_run.proofs.Runs.{SecondComesLast-after, SecondComesLast-untouched}
-use Rattle.hd_run.proofs.Stops.{HasReadStop-ok, IsNotOfSurface-result, HasRunStop-surface}
+use Rattle.hd_run.proofs.Stops.{HasReadStop-ok, HasReadStop-moved, IsNotOfSurface-result, HasRunStop-surface}
 use Rattle.hd_run.proofs.check.check_certificate.Goals as goal
 
 pub returns-clause-told : goal.returns-clause-told

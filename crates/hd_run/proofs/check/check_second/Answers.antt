@@ -7,8 +7,7 @@ use Rattle.hd_sdf_read.specs.FileOf.{file_of}
 use Rattle.hd_run.specs.Texts.{accepted_text}
 use Rattle.hd_run.specs.declared.stop.Stop.TheVariants.{ReadFault, WriteFault}
 use Rattle.hd_run.proofs.Checks.{IsCheck-accepts, IsCheck-cut_short, IsCheck-judge_stops, IsCheck-second_stops, OnErr-holds, OnOk-holds}
-use Rattle.hd_run.proofs.Readings.{HasReadStop-moved}
-use Rattle.hd_run.proofs.Stops.{HasRunStop-judged, ReadFault-moved, ok≢err, HasReadStop-ok, HasRunStop-second, write≢read}
+use Rattle.hd_run.proofs.Stops.{HasRunStop-judged, ReadFault-moved, ok≢err, HasReadStop-ok, HasReadStop-moved, HasRunStop-second, write≢read}
 use Rattle.hd_run.proofs.check.check_second.Goals as goal
 
 pub returns-in-Err-judge-clause-told : goal.returns-in-Err-judge-clause-told

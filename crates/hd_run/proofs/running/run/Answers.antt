@@ -8,10 +8,9 @@ use Rattle.hd_words.specs.Requests.{run_request_of}
 use Rattle.hd_run.specs.FaultCounts.{over}
 use Rattle.hd_run.specs.Limits.{script_limit}
 use Rattle.hd_run.specs.ReadOrder.{reading}
-use Rattle.hd_run.proofs.Readings.{HasReadStop-moved}
 use Rattle.hd_run.proofs.Runs.{inputs_of-ok, lines_to_answer-none, lines_to_answer-fits, IsRun-answered, SecondComesLast-after, StopsWithin-second, IsRun-script_stops, SecondComesLast-untouched, IsRun-surface_stops}
 use Rattle.hd_run.proofs.Savings.{SavesLast-unreached}
-use Rattle.hd_run.proofs.Stops.{HasRunStop-answering, IsNotOfSurface-stop, HasSinkStop-no_read_fault, HasSinkStop-no_refusal, HasReadStop-ok, HasRunStop-second, HasRunStop-surface}
+use Rattle.hd_run.proofs.Stops.{HasRunStop-answering, IsNotOfSurface-stop, HasSinkStop-no_read_fault, HasSinkStop-no_refusal, HasReadStop-ok, HasReadStop-moved, HasRunStop-second, HasRunStop-surface}
 use Rattle.hd_run.proofs.running.run.Goals as goal
 
 pub returns-in-Err-clause-told : goal.returns-in-Err-clause-told
