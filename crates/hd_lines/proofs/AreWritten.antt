@@ -11,9 +11,9 @@ module _ {X : Type 0} (key : X → ℕ) (value : ℕ → X → ℕ) (xs : List X
   AreWritten n table = (i : ℕ) (x : X) → i < n → slice_get xs i ≡ Some x → slice_get table (key x) ≡ Some (value i x)
 
   -- one more is written, and those before it stay
-  pub written-more : AllPairs (λ x y. key x ≢ key y) xs → (n : ℕ) (d : X) (table : List ℕ) → AreWritten n table → n < length xs → key (get_or xs n d) < length table
+  pub AreWritten-more : AllPairs (λ x y. key x ≢ key y) xs → (n : ℕ) (d : X) (table : List ℕ) → AreWritten n table → n < length xs → key (get_or xs n d) < length table
       → AreWritten (n + 1) (set table (key (get_or xs n d)) (value n (get_or xs n d)))
-  written-more different n d table before inside room = λ i x less at.
+  AreWritten-more different n d table before inside room = λ i x less at.
       let y : X = get_or xs n d in
       let read : slice_get xs n ≡ Some y = slice_get-get_or xs n d inside in
       let old = item_at table (key y) room in

@@ -24,8 +24,8 @@ use Rattle.hd_lines.specs.Listed.{AreListed, line_of}
 use Rattle.hd_steep.specs.Found.{HasPlace}
 use Rattle.hd_lines.specs.Places.{AreOwnerPlaces}
 use Rattle.hd_steep.proofs.Counted.{counted-as}
-use Rattle.hd_lines.proofs.HasPlace.{kept-last, last-kept, own-place, owned-place, pit_at-is, place-owned, place-owner, place-rises, HasPlace-found, places-joined, pit_at, rises-at}
-use Rattle.hd_lines.proofs.FirstJoins.{first-saddle}
+use Rattle.hd_lines.proofs.HasPlace.{kept-last, last-kept, HasPlace-own, HasPlace-of_owned, pit_at-is, HasPlace-owned, HasPlace-owner, place-rises, HasPlace-found, HasPlace-joined, pit_at, rises-at}
+use Rattle.hd_lines.proofs.FirstJoins.{IsFirstJoin-saddle}
 
 module _ (m : Map) (whole : IsMap m) (side : SideName) (thousandths : ℕ) (steps : List Step) (kept : List Kept) (owners : List Owned) (pruned : IsPruned m side thousandths steps kept owners)
     (regions : Numbering) (numbered : AreNumbered m side regions) (places : List ℕ) (are : AreOwnerPlaces kept owners regions.numbers places)
@@ -34,8 +34,8 @@ module _ (m : Map) (whole : IsMap m) (side : SideName) (thousandths : ℕ) (step
   pub border-kept : (l : Border) → Contains borders l → ((a : Kept) × (slice_get kept l.a ≡ Some a)) × ((b : Kept) × (slice_get kept l.b ≡ Some b))
   border-kept l at =
       let r = (right.counted l at).reached in
-      let a = place-owner m whole side thousandths steps kept owners pruned regions numbered places are r.0.from l.a r.1.from_in in
-      let b = place-owner m whole side thousandths steps kept owners pruned regions numbered places are r.0.to l.b r.1.to_in in
+      let a = HasPlace-owner m whole side thousandths steps kept owners pruned regions numbered places are r.0.from l.a r.1.from_in in
+      let b = HasPlace-owner m whole side thousandths steps kept owners pruned regions numbered places are r.0.to l.b r.1.to_in in
       ((a.0, a.1), (b.0, b.1))
 
   pub borders-within : All (λ l. (l.a < length kept) × (l.b < length kept)) borders
@@ -49,13 +49,13 @@ module _ (m : Map) (whole : IsMap m) (side : SideName) (thousandths : ℕ) (step
   across-same i j a b at_a at_b p = (
     λ h. record {
       near = h.near;
-      from_in = place-owned m whole side thousandths steps kept owners pruned regions numbered places are p.from i a at_a h.from_in;
-      to_in = place-owned m whole side thousandths steps kept owners pruned regions numbered places are p.to j b at_b h.to_in;
+      from_in = HasPlace-owned m whole side thousandths steps kept owners pruned regions numbered places are p.from i a at_a h.from_in;
+      to_in = HasPlace-owned m whole side thousandths steps kept owners pruned regions numbered places are p.to j b at_b h.to_in;
     },
     λ h. record {
       near = h.near;
-      from_in = owned-place m whole side thousandths steps kept owners pruned regions numbered places are p.from i a at_a h.from_in;
-      to_in = owned-place m whole side thousandths steps kept owners pruned regions numbered places are p.to j b at_b h.to_in;
+      from_in = HasPlace-of_owned m whole side thousandths steps kept owners pruned regions numbered places are p.from i a at_a h.from_in;
+      to_in = HasPlace-of_owned m whole side thousandths steps kept owners pruned regions numbered places are p.to j b at_b h.to_in;
     },
   )
 
@@ -95,11 +95,11 @@ module _ (m : Map) (whole : IsMap m) (side : SideName) (thousandths : ℕ) (step
     border-line n l a b first at at_a at_b at_first =
         let in_borders : Contains borders l = at_place borders n l at in
         let own : HasPlace m places (pit_at kept l.a) l.a =
-        subst (λ (z : Rank). HasPlace m places z l.a) (sym (pit_at-is kept l.a a at_a)) (own-place m whole side thousandths steps kept owners pruned regions numbered places are l.a a at_a) in
+        subst (λ (z : Rank). HasPlace m places z l.a) (sym (pit_at-is kept l.a a at_a)) (HasPlace-own m whole side thousandths steps kept owners pruned regions numbered places are l.a a at_a) in
         let own' : HasPlace m places (pit_at kept l.b) l.b =
-        subst (λ (z : Rank). HasPlace m places z l.b) (sym (pit_at-is kept l.b b at_b)) (own-place m whole side thousandths steps kept owners pruned regions numbered places are l.b b at_b) in
-        let saddle = first-saddle m side places borders right (pit_at kept) (HasPlace-found m whole side thousandths steps kept owners pruned regions numbered places are)
-        (places-joined m whole side thousandths steps kept owners pruned regions numbered places are) l in_borders own own' first (joins.each n l first at at_first) in
+        subst (λ (z : Rank). HasPlace m places z l.b) (sym (pit_at-is kept l.b b at_b)) (HasPlace-own m whole side thousandths steps kept owners pruned regions numbered places are l.b b at_b) in
+        let saddle = IsFirstJoin-saddle m side places borders right (pit_at kept) (HasPlace-found m whole side thousandths steps kept owners pruned regions numbered places are)
+        (HasPlace-joined m whole side thousandths steps kept owners pruned regions numbered places are) l in_borders own own' first (joins.each n l first at at_first) in
         record {
           first = kept-last m whole side thousandths steps kept owners pruned a (at_place kept l.a a at_a);
           second = kept-last m whole side thousandths steps kept owners pruned b (at_place kept l.b b at_b);
@@ -132,8 +132,8 @@ module _ (m : Map) (whole : IsMap m) (side : SideName) (thousandths : ℕ) (step
         subst (λ (z : BorderLine). (z.a.index < y.a.index) ⊎ ((z.a.index ≡ y.a.index) × (z.b.index < y.b.index))) (sym u.is)
         (subst (λ (z : BorderLine). (u.a.pit.index < z.a.index) ⊎ ((u.a.pit.index ≡ z.a.index) × (u.b.pit.index < z.b.index))) (sym v.is) there)
 
-    pub lines-are : AreBorderLines m side pruned.last pruned.owner lines
-    lines-are = record {
+    pub AreBorderLines-listed : AreBorderLines m side pruned.last pruned.owner lines
+    AreBorderLines-listed = record {
       each = λ line at. (let n = place_of lines line at in
           let u = line-of n.0 line n.1 in
           subst (IsBorderLine m side pruned.last pruned.owner) (sym u.is) (border-line n.0 u.border u.a u.b u.first u.at u.at_a u.at_b u.at_first));

@@ -73,8 +73,8 @@ module _ (m : Map) (side : SideName) (kept : List Rank) where
         subst (λ (z : BorderLine). Contains ys z) (border_line-determined yours there.0 x (hy.each there.0 there.1) is there.2 there.3) there.1
 
   -- there is one list of border lines at most
-  pub lines-unique : (mine yours : Rank → Rank) (xs ys : List BorderLine) → ((r : Rank) → IsPit m side r → mine r ≡ yours r) → AreBorderLines m side kept mine xs → AreBorderLines m side kept yours ys → xs ≡ ys
-  lines-unique mine yours xs ys agree hx hy =
+  pub AreBorderLines-unique : (mine yours : Rank → Rank) (xs ys : List BorderLine) → ((r : Rank) → IsPit m side r → mine r ≡ yours r) → AreBorderLines m side kept mine xs → AreBorderLines m side kept yours ys → xs ≡ ys
+  AreBorderLines-unique mine yours xs ys agree hx hy =
       same_in_order (λ (x : BorderLine) (y : BorderLine). (x.a.index < y.a.index) ⊎ ((x.a.index ≡ y.a.index) × (x.b.index < y.b.index)))
       (λ x y. one_way x.a.index x.b.index y.a.index y.b.index) xs ys hx.in_order hy.in_order
       (λ x. (goes_over mine yours agree xs ys hx hy x, goes_over yours mine (λ r pit. sym (agree r pit)) ys xs hy hx x))

@@ -23,15 +23,15 @@ use Rattle.hd_steep.specs.Found.{HasPlace}
 use Rattle.hd_steep.proofs.Seen.{place-one}
 
 -- the higher of two that are below a level is below it
-pub higher-below : (side : SideName) (x y w : Rank) → below_by side x w ≡ true → below_by side y w ≡ true → below_by side (higher_by side x y) w ≡ true
-higher-below side x y w h k = elim (below_by side x y) as (λ v. below_by side (cond v y x) w ≡ true) [ true ↦ k | false ↦ h ]
+pub higher_by-below : (side : SideName) (x y w : Rank) → below_by side x w ≡ true → below_by side y w ≡ true → below_by side (higher_by side x y) w ≡ true
+higher_by-below side x y w h k = elim (below_by side x y) as (λ v. below_by side (cond v y x) w ≡ true) [ true ↦ k | false ↦ h ]
 
 module _ (m : Map) (side : SideName) (places : List ℕ) (borders : List Border) (are : AreBorders m side places borders) (pit : ℕ → Rank)
     (placed : (x : Rank) → IsPoint m x → (i : ℕ) × HasPlace m places x i)
     (crossed : (x y : Rank) (i j : ℕ) → Near m x y → HasPlace m places x i → HasPlace m places y j → i ≢ j → JoinedBy m side (higher_by side x y) (pit i) (pit j)) where
   -- the pits of a border are joined at its pass
-  pub pass-joins : (l : Border) → Contains borders l → JoinedBy m side l.pass (pit l.a) (pit l.b)
-  pass-joins l at =
+  pub JoinedBy-pass : (l : Border) → Contains borders l → JoinedBy m side l.pass (pit l.a) (pit l.b)
+  JoinedBy-pass l at =
       let r = (are.counted l at).reached in
       let less = are.lesser l at in
       subst (λ (w : Rank). JoinedBy m side w (pit l.a) (pit l.b)) (sym r.2) (crossed r.0.from r.0.to l.a l.b r.1.near r.1.from_in r.1.to_in (λ e. omega arith))
@@ -42,8 +42,8 @@ module _ (m : Map) (side : SideName) (places : List ℕ) (borders : List Border)
   lower-joins w (step {a = i} {b = k} {c = j} s r) =
       let l : Border = s.0 in
       let one : JoinedBy m side l.pass (pit i) (pit k) = elim s.2 [
-        | inl e ↦ subst (λ n. JoinedBy m side l.pass (pit n) (pit k)) e.0 (subst (λ n. JoinedBy m side l.pass (pit l.a) (pit n)) e.1 (pass-joins l s.1))
-        | inr e ↦ subst (λ n. JoinedBy m side l.pass (pit n) (pit k)) e.1 (subst (λ n. JoinedBy m side l.pass (pit l.b) (pit n)) e.0 (joined_both m side l.pass (pit l.a) (pit l.b) (pass-joins l s.1)))
+        | inl e ↦ subst (λ n. JoinedBy m side l.pass (pit n) (pit k)) e.0 (subst (λ n. JoinedBy m side l.pass (pit l.a) (pit n)) e.1 (JoinedBy-pass l s.1))
+        | inr e ↦ subst (λ n. JoinedBy m side l.pass (pit n) (pit k)) e.1 (subst (λ n. JoinedBy m side l.pass (pit l.b) (pit n)) e.0 (joined_both m side l.pass (pit l.a) (pit l.b) (JoinedBy-pass l s.1)))
       ] in
       elim (lower-joins w r) [
         | inl e ↦ inr (l.pass, s.3, subst (λ n. JoinedBy m side l.pass (pit i) (pit n)) e one)
@@ -52,7 +52,7 @@ module _ (m : Map) (side : SideName) (places : List ℕ) (borders : List Border)
             let bounds = higher-bounds side l.pass t in
             inr (
               higher_by side l.pass t,
-              higher-below side l.pass t w s.3 rest.1,
+              higher_by-below side l.pass t w s.3 rest.1,
               joined_along m side (higher_by side l.pass t) (pit i) (pit k) (pit j) (joined_higher m side l.pass (higher_by side l.pass t) (pit i) (pit k) bounds.0 one)
                   (joined_higher m side t (higher_by side l.pass t) (pit k) (pit j) bounds.1 rest.2),
             )
@@ -70,9 +70,9 @@ module _ (m : Map) (side : SideName) (places : List ℕ) (borders : List Border)
   step-lower w x y i j near h k low low' = elim (cases_eq i j) [
     | inl e ↦ subst (λ n. Reach (LowerStep (below_by side) borders w) i n) e here
     | inr ne ↦ elim (cases_lt i j) [
-      | inl less ↦ step (pair-lower w x y i j near h k (higher-below side x y w low low') less) here
+      | inl less ↦ step (pair-lower w x y i j near h k (higher_by-below side x y w low low') less) here
       | inr more ↦ (
-          let s = pair-lower w y x j i (near-sym m x y near) k h (higher-below side y x w low' low) (omega arith) in
+          let s = pair-lower w y x j i (near-sym m x y near) k h (higher_by-below side y x w low' low) (omega arith) in
           step (s.0, s.1, elim s.2 [ inl e ↦ inr e | inr e ↦ inl e ], s.3) here)
     ]
   ]
@@ -87,12 +87,12 @@ module _ (m : Map) (side : SideName) (places : List ℕ) (borders : List Border)
       (path-lower w t low r o.0 j o.1 k)
 
   -- a border joins what lower ones leave apart exactly where its pass is the saddle
-  pub first-saddle : (l : Border) → Contains borders l → HasPlace m places (pit l.a) l.a → HasPlace m places (pit l.b) l.b → (first : Bool) → IsFirstJoin (below_by side) borders l first
+  pub IsFirstJoin-saddle : (l : Border) → Contains borders l → HasPlace m places (pit l.a) l.a → HasPlace m places (pit l.b) l.b → (first : Bool) → IsFirstJoin (below_by side) borders l first
       → (first ≡ true) ↔ IsSaddle m side (pit l.a) (pit l.b) l.pass
-  first-saddle l at own own' first is = (
+  IsFirstJoin-saddle l at own own' first is = (
     λ e. saddle-from_level m side (pit l.a) (pit l.b) l.pass own.point (record {
-      from_low = not_above_level m side l.pass (pit l.a) (pit l.b) apart (pass-joins l at);
-      joined = pass-joins l at;
+      from_low = not_above_level m side l.pass (pit l.a) (pit l.b) apart (JoinedBy-pass l at);
+      joined = JoinedBy-pass l at;
       least = λ t low j. elim (below_by side t l.pass) as (λ v. below_by side t l.pass ≡ v → v ≡ false) [
         | true ↦ λ below. absurd (is.0 e (path-lower l.pass t below j l.a l.b own own'))
         | false ↦ λ f. refl

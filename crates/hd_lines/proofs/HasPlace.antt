@@ -29,12 +29,12 @@ use Rattle.hd_lines.specs.Lines.{IsOwnedBy}
 use Rattle.hd_steep.specs.Found.{HasPlace}
 use Rattle.hd_lines.specs.Places.{AreOwnerPlaces, IsNumbered}
 use Rattle.hd_steep.proofs.Seen.{place-one}
-use Rattle.hd_lines.proofs.Owners.{AreOwners, neighbours-joined, owners-pruned}
+use Rattle.hd_lines.proofs.Owners.{AreOwners, JoinedBy-neighbours, AreOwners-pruned}
 
 -- what has a root is a point
-pub root-point : (m : Map) (side : SideName) (x r : Rank) → IsRoot m side x r → IsPoint m x
-root-point m side x r ([], nexts) = nexts.1.point
-root-point m side x r ((q ∷ path), nexts) = Near-from m x q nexts.0.lower.near
+pub IsRoot-point : (m : Map) (side : SideName) (x r : Rank) → IsRoot m side x r → IsPoint m x
+IsRoot-point m side x r ([], nexts) = nexts.1.point
+IsRoot-point m side x r ((q ∷ path), nexts) = Near-from m x q nexts.0.lower.near
 
 -- the pit of a place
 abbrev pub pit_at : List Kept → ℕ → Rank
@@ -44,8 +44,8 @@ pub pit_at-is : (kept : List Kept) (i : ℕ) (k : Kept) → slice_get kept i ≡
 pit_at-is kept i k at = ap (λ (z : Kept). z.pit) (get_or_from_slice_get kept i k _ at)
 
 module _ (m : Map) (whole : IsMap m) (side : SideName) (thousandths : ℕ) (steps : List Step) (kept : List Kept) (owners : List Owned) (pruned : IsPruned m side thousandths steps kept owners) where
-  pub AreOwners-pruned : AreOwners m side pruned.last pruned.owner
-  AreOwners-pruned = owners-pruned m side thousandths (leavings_of steps) pruned.last pruned.owner pruned.pruning
+  pub AreOwners-kept : AreOwners m side pruned.last pruned.owner
+  AreOwners-kept = AreOwners-pruned m side thousandths (leavings_of steps) pruned.last pruned.owner pruned.pruning
 
   -- the kept pits are those of the last set
   pub kept-last : (k : Kept) → Contains kept k → Contains pruned.last k.pit
@@ -58,13 +58,13 @@ module _ (m : Map) (whole : IsMap m) (side : SideName) (thousandths : ℕ) (step
       (i.0, k.0, i.1, k.2)
 
   kept-pit : (k : Kept) → Contains kept k → IsPit m side k.pit
-  kept-pit k at = AreOwners-pruned.among k.pit (kept-last k at)
+  kept-pit k at = AreOwners-kept.among k.pit (kept-last k at)
 
   -- they stand in position order
   pub kept-rises : AllPairs (λ a b. a.pit.index < b.pit.index) kept
   kept-rises i j d less inside =
       let pit : Kept → Rank = λ k. k.pit in
-      let ordered : AllPairs (λ (a : Rank) (b : Rank). a.index < b.index) (map pit kept) = subst (λ (ps : List Rank). AllPairs (λ (a : Rank) (b : Rank). a.index < b.index) ps) (sym pruned.are_kept.pits) AreOwners-pruned.in_order in
+      let ordered : AllPairs (λ (a : Rank) (b : Rank). a.index < b.index) (map pit kept) = subst (λ (ps : List Rank). AllPairs (λ (a : Rank) (b : Rank). a.index < b.index) ps) (sym pruned.are_kept.pits) AreOwners-kept.in_order in
       let read : (k : ℕ) → k < length kept → get_or (map pit kept) k d.pit ≡ (get_or kept k d).pit = λ k within. get_or-map pit kept k d d.pit within in
       let h = ordered i j d.pit less (subst (λ n. j < n) (sym (length-map kept pit)) inside) in
       subst (λ (a : Rank). a.index < (get_or kept j d).pit.index) (read i (omega arith)) (subst (λ (b : Rank). (get_or (map pit kept) i d.pit).index < b.index) (read j inside) h)
@@ -97,7 +97,7 @@ module _ (m : Map) (whole : IsMap m) (side : SideName) (thousandths : ℕ) (step
   owner-pit : (o : Owned) → Contains owners o → IsPit m side o.owner
   owner-pit o at =
       let p = Contains-map (λ (q : Rank). record { pit = q; owner = pruned.owner q }) pruned.pruning.pits o (subst (λ (os : List Owned). Contains os o) pruned.owned at) in
-      subst (λ (z : Owned). IsPit m side z.owner) p.2 (AreOwners-pruned.among (pruned.owner p.0) (AreOwners-pruned.kept_owner p.0 ((pruned.pruning.are_pits.exactly p.0).0 p.1)))
+      subst (λ (z : Owned). IsPit m side z.owner) p.2 (AreOwners-kept.among (pruned.owner p.0) (AreOwners-kept.kept_owner p.0 ((pruned.pruning.are_pits.exactly p.0).0 p.1)))
 
   module _ (regions : Numbering) (numbered : AreNumbered m side regions) where
     -- the pits of the regions stand with their owners, in the same order
@@ -113,11 +113,11 @@ module _ (m : Map) (whole : IsMap m) (side : SideName) (thousandths : ℕ) (step
     pit-numbered : (p : Rank) → IsPit m side p → IsNumbered regions p.index
     pit-numbered p pit = record { inside = number-inside p pit.point; below = (number_of_point m side regions numbered p pit.point).0 }
 
-    pub kept-numbered : All (λ k. IsNumbered regions k.pit.index) kept
-    kept-numbered k d inside = pit-numbered (get_or kept k d).pit (kept-pit (get_or kept k d) (Contains-get_or kept k d inside))
+    pub IsNumbered-kept : All (λ k. IsNumbered regions k.pit.index) kept
+    IsNumbered-kept k d inside = pit-numbered (get_or kept k d).pit (kept-pit (get_or kept k d) (Contains-get_or kept k d inside))
 
-    pub owners-numbered : All (λ o. IsNumbered regions o.owner.index) owners
-    owners-numbered k d inside = pit-numbered (get_or owners k d).owner (owner-pit (get_or owners k d) (Contains-get_or owners k d inside))
+    pub IsNumbered-owners : All (λ o. IsNumbered regions o.owner.index) owners
+    IsNumbered-owners k d inside = pit-numbered (get_or owners k d).owner (owner-pit (get_or owners k d) (Contains-get_or owners k d inside))
 
     -- a pit is the one with its number, so two pits have two numbers
     number-pit : (p : Rank) → IsPit m side p → slice_get regions.pits (get_or regions.numbers p.index 0) ≡ Some p
@@ -150,38 +150,38 @@ module _ (m : Map) (whole : IsMap m) (side : SideName) (thousandths : ℕ) (step
       pub HasPlace-found : (x : Rank) → IsPoint m x → (i : ℕ) × HasPlace m places x i
       HasPlace-found x point =
           let found = pit_of_point m side regions numbered x point in
-          let k = last-kept (pruned.owner found.0) (AreOwners-pruned.kept_owner found.0 (root-is_pit m side x found.0 found.1)) in
+          let k = last-kept (pruned.owner found.0) (AreOwners-kept.kept_owner found.0 (root-is_pit m side x found.0 found.1)) in
           (k.0, place-is x found.0 k.0 k.1 point found.1 k.2 k.3)
 
       -- what has a place is owned by the kept pit there
-      pub place-owner : (x : Rank) (i : ℕ) → HasPlace m places x i → (k : Kept) × (slice_get kept i ≡ Some k) × IsOwnedBy m side pruned.owner x k.pit
-      place-owner x i h =
+      pub HasPlace-owner : (x : Rank) (i : ℕ) → HasPlace m places x i → (k : Kept) × (slice_get kept i ≡ Some k) × IsOwnedBy m side pruned.owner x k.pit
+      HasPlace-owner x i h =
           let found = pit_of_point m side regions numbered x h.point in
-          let k = last-kept (pruned.owner found.0) (AreOwners-pruned.kept_owner found.0 (root-is_pit m side x found.0 found.1)) in
+          let k = last-kept (pruned.owner found.0) (AreOwners-kept.kept_owner found.0 (root-is_pit m side x found.0 found.1)) in
           let same : k.0 ≡ i = place-one m places x k.0 i (place-is x found.0 k.0 k.1 h.point found.1 k.2 k.3) h in
           (k.1, subst (λ j. slice_get kept j ≡ Some k.1) same k.2, record { root = found.0; is_root = found.1; owned = sym k.3 })
 
-      pub place-owned : (x : Rank) (i : ℕ) (k : Kept) → slice_get kept i ≡ Some k → HasPlace m places x i → IsOwnedBy m side pruned.owner x k.pit
-      place-owned x i k at h = (let o = place-owner x i h in subst (λ (z : Kept). IsOwnedBy m side pruned.owner x z.pit) (same_Some o.0 k (sym o.1 ∙ at)) o.2)
+      pub HasPlace-owned : (x : Rank) (i : ℕ) (k : Kept) → slice_get kept i ≡ Some k → HasPlace m places x i → IsOwnedBy m side pruned.owner x k.pit
+      HasPlace-owned x i k at h = (let o = HasPlace-owner x i h in subst (λ (z : Kept). IsOwnedBy m side pruned.owner x z.pit) (same_Some o.0 k (sym o.1 ∙ at)) o.2)
 
-      pub owned-place : (x : Rank) (i : ℕ) (k : Kept) → slice_get kept i ≡ Some k → IsOwnedBy m side pruned.owner x k.pit → HasPlace m places x i
-      owned-place x i k at o = place-is x o.root i k (root-point m side x o.root o.is_root) o.is_root at (sym o.owned)
+      pub HasPlace-of_owned : (x : Rank) (i : ℕ) (k : Kept) → slice_get kept i ≡ Some k → IsOwnedBy m side pruned.owner x k.pit → HasPlace m places x i
+      HasPlace-of_owned x i k at o = place-is x o.root i k (IsRoot-point m side x o.root o.is_root) o.is_root at (sym o.owned)
 
       -- a kept pit has its own place
-      pub own-place : (i : ℕ) (k : Kept) → slice_get kept i ≡ Some k → HasPlace m places k.pit i
-      own-place i k at =
+      pub HasPlace-own : (i : ℕ) (k : Kept) → slice_get kept i ≡ Some k → HasPlace m places k.pit i
+      HasPlace-own i k at =
           let last = kept-last k (at_place kept i k at) in
-          let pit = AreOwners-pruned.among k.pit last in
-          place-is k.pit k.pit i k pit.point (root-pit m side k.pit pit) at (sym (AreOwners-pruned.own k.pit last))
+          let pit = AreOwners-kept.among k.pit last in
+          place-is k.pit k.pit i k pit.point (root-pit m side k.pit pit) at (sym (AreOwners-kept.own k.pit last))
 
       -- neighbours of two places join the pits there
-      pub places-joined : (x y : Rank) (i j : ℕ) → Near m x y → HasPlace m places x i → HasPlace m places y j → i ≢ j → JoinedBy m side (higher_by side x y) (pit_at kept i) (pit_at kept j)
-      places-joined x y i j near h h' apart =
-          let a = place-owner x i h in
-          let b = place-owner y j h' in
+      pub HasPlace-joined : (x y : Rank) (i j : ℕ) → Near m x y → HasPlace m places x i → HasPlace m places y j → i ≢ j → JoinedBy m side (higher_by side x y) (pit_at kept i) (pit_at kept j)
+      HasPlace-joined x y i j near h h' apart =
+          let a = HasPlace-owner x i h in
+          let b = HasPlace-owner y j h' in
           let ra = a.2 in
           let rb = b.2 in
           let different : pruned.owner ra.root ≢ pruned.owner rb.root = λ e. apart (one_place (λ (z : Kept). z.pit.index) kept kept-once i j a.0 b.0 a.1 b.1 (ap (λ (z : Rank). z.index) (sym ra.owned ∙ e ∙ rb.owned))) in
           subst (λ (z : Rank). JoinedBy m side (higher_by side x y) z (pit_at kept j)) (ra.owned ∙ sym (pit_at-is kept i a.0 a.1))
           (subst (λ (z : Rank). JoinedBy m side (higher_by side x y) (pruned.owner ra.root) z) (rb.owned ∙ sym (pit_at-is kept j b.0 b.1))
-          (neighbours-joined m side pruned.last pruned.owner AreOwners-pruned x y ra.root rb.root near ra.is_root rb.is_root different))
+          (JoinedBy-neighbours m side pruned.last pruned.owner AreOwners-kept x y ra.root rb.root near ra.is_root rb.is_root different))

@@ -9,12 +9,12 @@ use Rattle.hd_steep.specs.declared.border.Border.{Border}
 use Rattle.hd_lines.specs.declared.line.BorderLine.{BorderLine}
 use Rattle.hd_lines.specs.Listed.{AreListed, line_of}
 
-pub listed-none : (kept : List Kept) (borders : List Border) (firsts : List Bool) → AreListed kept borders firsts 0 []
-listed-none kept borders firsts = record { whole = omega arith; each = λ k l a b first less at at_a at_b is. absurd (omega arith) }
+pub AreListed-none : (kept : List Kept) (borders : List Border) (firsts : List Bool) → AreListed kept borders firsts 0 []
+AreListed-none kept borders firsts = record { whole = omega arith; each = λ k l a b first less at at_a at_b is. absurd (omega arith) }
 
-pub listed-more : (kept : List Kept) (borders : List Border) (firsts : List Bool) (n : ℕ) (d : Border) (e : Kept) (f : Bool) (lines : List BorderLine) → AreListed kept borders firsts n lines
+pub AreListed-more : (kept : List Kept) (borders : List Border) (firsts : List Bool) (n : ℕ) (d : Border) (e : Kept) (f : Bool) (lines : List BorderLine) → AreListed kept borders firsts n lines
     → AreListed kept borders firsts (n + 1) (lines ++ line_of (get_or borders n d) (get_or kept (get_or borders n d).a e) (get_or kept (get_or borders n d).b e) (get_or firsts n f) ∷ [])
-listed-more kept borders firsts n d e f lines before =
+AreListed-more kept borders firsts n d e f lines before =
     let x : BorderLine = line_of (get_or borders n d) (get_or kept (get_or borders n d).a e) (get_or kept (get_or borders n d).b e) (get_or firsts n f) in
     record {
       whole = length_push lines x ∙ ap (λ k. k + 1) before.whole;

@@ -22,11 +22,11 @@ use Rattle.hd_lines.specs.NumberedBorders.{AreNumberedBorders, AreJoinedTo, AreL
 use Rattle.hd_lines.specs.FirstJoins.{AreEnds, AreFirstJoins, LowerStep}
 
 -- one border more
-pub numbered-none : (borders : List Border) → AreNumberedBorders borders 0 []
-numbered-none borders = record { each = λ x at. absurd (let inside = at.1 in omega arith); all = λ k l less at. absurd (omega arith) }
+pub AreNumberedBorders-none : (borders : List Border) → AreNumberedBorders borders 0 []
+AreNumberedBorders-none borders = record { each = λ x at. absurd (let inside = at.1 in omega arith); all = λ k l less at. absurd (omega arith) }
 
-pub numbered-more : (borders : List Border) (n : ℕ) (d : Border) (numbered : List NumberedBorder) → n < length borders → AreNumberedBorders borders n numbered → AreNumberedBorders borders (n + 1) (numbered ++ numbered_border n (get_or borders n d) ∷ [])
-numbered-more borders n d numbered inside are =
+pub AreNumberedBorders-more : (borders : List Border) (n : ℕ) (d : Border) (numbered : List NumberedBorder) → n < length borders → AreNumberedBorders borders n numbered → AreNumberedBorders borders (n + 1) (numbered ++ numbered_border n (get_or borders n d) ∷ [])
+AreNumberedBorders-more borders n d numbered inside are =
     let l : Border = get_or borders n d in
     let read : slice_get borders n ≡ Some l = slice_get-get_or borders n d inside in
     record {
@@ -45,16 +45,16 @@ numbered-more borders n d numbered inside are =
 more-steps : (numbered : List NumberedBorder) (n : ℕ) {x y : ℕ} → Reach (FirstStep numbered n) x y → Reach (FirstStep numbered (n + 1)) x y
 more-steps numbered n r = reach-by (FirstStep numbered n) (FirstStep numbered (n + 1)) (λ u v s. step (s.0, s.1, (let less = s.2 in omega arith), s.3, s.4) here) r
 
-pub joined-none : (numbered : List NumberedBorder) (parents : List ℕ) → ((x y : ℕ) → AreOneClass parents x y → x ≡ y) → AreJoinedTo numbered 0 parents
-joined-none numbered parents own x y = (λ h. subst (λ z. Reach (FirstStep numbered 0) x z) (own x y h) here, λ r. same r)
+pub AreJoinedTo-none : (numbered : List NumberedBorder) (parents : List ℕ) → ((x y : ℕ) → AreOneClass parents x y → x ≡ y) → AreJoinedTo numbered 0 parents
+AreJoinedTo-none numbered parents own x y = (λ h. subst (λ z. Reach (FirstStep numbered 0) x z) (own x y h) here, λ r. same r)
   where
     same : {u v : ℕ} → Reach (FirstStep numbered 0) u v → AreOneClass parents u v
     same here = here
     same (step s r) = absurd (let less = s.2 in omega arith)
 
 -- other parents of the same classes
-pub joined-same : (numbered : List NumberedBorder) (n : ℕ) (old new : List ℕ) → ((u v : ℕ) → AreOneClass new u v ↔ AreOneClass old u v) → AreJoinedTo numbered n old → AreJoinedTo numbered n new
-joined-same numbered n old new same joined x y = (λ h. (joined x y).0 ((same x y).0 h), λ r. (same x y).1 ((joined x y).1 r))
+pub AreJoinedTo-same : (numbered : List NumberedBorder) (n : ℕ) (old new : List ℕ) → ((u v : ℕ) → AreOneClass new u v ↔ AreOneClass old u v) → AreJoinedTo numbered n old → AreJoinedTo numbered n new
+AreJoinedTo-same numbered n old new same joined x y = (λ h. (joined x y).0 ((same x y).0 h), λ r. (same x y).1 ((joined x y).1 r))
 
 -- one more joins its two places
 module _ (numbered : List NumberedBorder) (n : ℕ) (c : NumberedBorder) (at : slice_get numbered n ≡ Some c) (old new : List ℕ) (before : AreJoinedTo numbered n old) where
@@ -80,8 +80,8 @@ module _ (numbered : List NumberedBorder) (n : ℕ) (c : NumberedBorder) (at : s
   all-within f here = here
   all-within f (step {a} {b} {c = d} s r) = class-trans new a b d (f a b s) (all-within f r)
 
-  pub joined-apart : Joins old c.a c.b new → AreJoinedTo numbered (n + 1) new
-  joined-apart joins x y = (
+  pub AreJoinedTo-apart : Joins old c.a c.b new → AreJoinedTo numbered (n + 1) new
+  AreJoinedTo-apart joins x y = (
     λ h. reach-by (AreJoined old c.a c.b) (FirstStep numbered (n + 1)) (λ u v j. elim j [
       | inl one ↦ more-steps numbered n ((before u v).0 one)
       | inr ends ↦ elim ends [
@@ -92,15 +92,15 @@ module _ (numbered : List NumberedBorder) (n : ℕ) (c : NumberedBorder) (at : s
     λ r. all-within (within (λ u v one. (joins u v).1 (step (inl one) here)) ((joins c.a c.b).1 (step (inr (inl (refl, refl))) here))) r,
   )
 
-  pub joined-together : AreOneClass old c.a c.b → ((u v : ℕ) → AreOneClass new u v ↔ AreOneClass old u v) → AreJoinedTo numbered (n + 1) new
-  joined-together one same x y = (
+  pub AreJoinedTo-together : AreOneClass old c.a c.b → ((u v : ℕ) → AreOneClass new u v ↔ AreOneClass old u v) → AreJoinedTo numbered (n + 1) new
+  AreJoinedTo-together one same x y = (
     λ h. more-steps numbered n ((before x y).0 ((same x y).0 h)),
     λ r. all-within (within (λ u v h. (same u v).1 h) ((same c.a c.b).1 one)) r,
   )
 
-  pub joined-more : (apart : Bool) → (apart ≡ true → Joins old c.a c.b new) → (apart ≡ false → AreOneClass old c.a c.b) → (apart ≡ false → (u v : ℕ) → AreOneClass new u v ↔ AreOneClass old u v) → AreJoinedTo numbered (n + 1) new
-  joined-more true joins one same = joined-apart (joins refl)
-  joined-more false joins one same = joined-together (one refl) (same refl)
+  pub AreJoinedTo-more : (apart : Bool) → (apart ≡ true → Joins old c.a c.b new) → (apart ≡ false → AreOneClass old c.a c.b) → (apart ≡ false → (u v : ℕ) → AreOneClass new u v ↔ AreOneClass old u v) → AreJoinedTo numbered (n + 1) new
+  AreJoinedTo-more true joins one same = AreJoinedTo-apart (joins refl)
+  AreJoinedTo-more false joins one same = AreJoinedTo-together (one refl) (same refl)
 
 module _ (below : Rank → Rank → Bool) (order : IsStrictOrder below) where
   pub is_lower-weak : IsStrictWeakOrder (is_lower below)
@@ -116,18 +116,18 @@ module _ (below : Rank → Rank → Bool) (order : IsStrictOrder below) where
         let h = sorted_far (is_lower below) is_lower-weak numbered sorted i j x le (slice_get_within numbered j y aty) in
         subst (λ (v : NumberedBorder). IsNotAbove below v.at y.at) (get_or_from_slice_get numbered i x x atx) (subst (λ (v : NumberedBorder). IsNotAbove below (get_or numbered i x).at v.at) (get_or_from_slice_get numbered j y x aty) h)
 
-    pub lower-more : (n : ℕ) (c : NumberedBorder) (level : Rank) → slice_get numbered n ≡ Some c → below c.at level ≡ true → AreLower below numbered n level → AreLower below numbered (n + 1) level
-    lower-more n c level at low before k x less atx = elim (cases_eq k n) [
+    pub AreLower-more : (n : ℕ) (c : NumberedBorder) (level : Rank) → slice_get numbered n ≡ Some c → below c.at level ≡ true → AreLower below numbered n level → AreLower below numbered (n + 1) level
+    AreLower-more n c level at low before k x less atx = elim (cases_eq k n) [
       | inl e ↦ (let is : c ≡ x = same_Some c x (sym at ∙ ap (λ j. slice_get numbered j) (sym e) ∙ atx) in subst (λ (y : NumberedBorder). below y.at level ≡ true) is low)
       | inr ne ↦ before k x (omega arith) atx
     ]
 
     -- where the next is not below the level, none after it is
-    pub borders_split-here : (n : ℕ) (c : NumberedBorder) (level : Rank) → slice_get numbered n ≡ Some c → below c.at level ≡ false → AreLower below numbered n level → BordersSplitAt below numbered n level
-    borders_split-here n c level at high before = record { lower = before; not_lower = λ k x le atx. not_above-trans below order level c.at x.at high (in_places n k c x le at atx) }
+    pub BordersSplitAt-here : (n : ℕ) (c : NumberedBorder) (level : Rank) → slice_get numbered n ≡ Some c → below c.at level ≡ false → AreLower below numbered n level → BordersSplitAt below numbered n level
+    BordersSplitAt-here n c level at high before = record { lower = before; not_lower = λ k x le atx. not_above-trans below order level c.at x.at high (in_places n k c x le at atx) }
 
-    pub borders_split-end : (n : ℕ) (level : Rank) → length numbered ≤ n → AreLower below numbered n level → BordersSplitAt below numbered n level
-    borders_split-end n level all before = record { lower = before; not_lower = λ k x le atx. absurd (let inside = slice_get_within numbered k x atx in omega arith) }
+    pub BordersSplitAt-end : (n : ℕ) (level : Rank) → length numbered ≤ n → AreLower below numbered n level → BordersSplitAt below numbered n level
+    BordersSplitAt-end n level all before = record { lower = before; not_lower = λ k x le atx. absurd (let inside = slice_get_within numbered k x atx in omega arith) }
 
     -- those before a split are those below its level
     steps-lower : (n : ℕ) (level : Rank) → BordersSplitAt below numbered n level → {u v : ℕ} → Reach (FirstStep numbered n) u v → Reach (LowerNumberedStep below numbered level) u v
@@ -142,11 +142,11 @@ module _ (below : Rank → Rank → Bool) (order : IsStrictOrder below) where
         ]) r
 
     -- of the classes of those below a border: its places are apart exactly where no lower ones join them
-    pub first-of : (n : ℕ) (x : NumberedBorder) (old mid new : List ℕ) (one other : ℕ) (first : Bool) → BordersSplitAt below numbered n x.at → AreJoinedTo numbered n old
+    pub IsFirstOf-split : (n : ℕ) (x : NumberedBorder) (old mid new : List ℕ) (one other : ℕ) (first : Bool) → BordersSplitAt below numbered n x.at → AreJoinedTo numbered n old
         → AreOneClass old x.a one → ((u v : ℕ) → AreOneClass mid u v ↔ AreOneClass old u v) → IsLeast mid one
         → AreOneClass mid x.b other → ((u v : ℕ) → AreOneClass new u v ↔ AreOneClass mid u v) → IsLeast new other → ((u : ℕ) → IsLeast new u ↔ IsLeast mid u)
         → (first ≡ true → one ≢ other) → (one ≢ other → first ≡ true) → IsFirstOf below numbered x first
-    first-of n x old mid new one other first split joined a same_mid least_a b same_new least_b leasts is_apart apart_is = (
+    IsFirstOf-split n x old mid new one other first split joined a same_mid least_a b same_new least_b leasts is_apart apart_is = (
       λ e r.
           let together : AreOneClass old x.a x.b = (joined x.a x.b).1 (lower-steps n x.at split r) in
           let b_old : AreOneClass old x.b other = (same_mid x.b other).0 b in
@@ -156,13 +156,13 @@ module _ (below : Rank → Rank → Bool) (order : IsStrictOrder below) where
     )
 
     -- what is below a border is below those after it
-    pub lower-next : (n i : ℕ) (x : NumberedBorder) → slice_get numbered i ≡ Some x → BordersSplitAt below numbered n x.at → (j : ℕ) (y : NumberedBorder) → i + 1 ≤ j → slice_get numbered j ≡ Some y → AreLower below numbered n y.at
-    lower-next n i x at split j y le aty k z less atz = below-along below order z.at x.at y.at (split.lower k z less atz) (in_places i j x y (omega arith) at aty)
+    pub AreLower-next : (n i : ℕ) (x : NumberedBorder) → slice_get numbered i ≡ Some x → BordersSplitAt below numbered n x.at → (j : ℕ) (y : NumberedBorder) → i + 1 ≤ j → slice_get numbered j ≡ Some y → AreLower below numbered n y.at
+    AreLower-next n i x at split j y le aty k z less atz = below-along below order z.at x.at y.at (split.lower k z less atz) (in_places i j x y (omega arith) at aty)
 
     -- one more is marked
-    pub marked-more : ((x y : NumberedBorder) → Contains numbered x → Contains numbered y → x.number ≡ y.number → x ≡ y) → (numbers n : ℕ) (x : NumberedBorder) → slice_get numbered n ≡ Some x → x.number < numbers
+    pub AreMarked-more : ((x y : NumberedBorder) → Contains numbered x → Contains numbered y → x.number ≡ y.number → x ≡ y) → (numbers n : ℕ) (x : NumberedBorder) → slice_get numbered n ≡ Some x → x.number < numbers
         → (firsts : List Bool) (first : Bool) → AreMarked below numbered numbers n firsts → IsFirstOf below numbered x first → AreMarked below numbered numbers (n + 1) (set firsts x.number first)
-    marked-more one numbers n x at inside firsts first before is = record {
+    AreMarked-more one numbers n x at inside firsts first before is = record {
       whole = length-set firsts x.number first ∙ before.whole;
       each = λ k y f less aty atf. elim (cases_eq y.number x.number) [
         | inl e ↦
@@ -185,18 +185,18 @@ module _ (below : Rank → Rank → Bool) (order : IsStrictOrder below) where
     border-numbered : (k : ℕ) (l : Border) → slice_get borders k ≡ Some l → Contains numbered (numbered_border k l)
     border-numbered k l at = Contains-permutation raw numbered (numbered_border k l) same (are.all k l (slice_get_within borders k l at) at)
 
-    pub one-number : (x y : NumberedBorder) → Contains numbered x → Contains numbered y → x.number ≡ y.number → x ≡ y
-    one-number x y atx aty e =
+    pub AreNumberedBorders-one_number : (x y : NumberedBorder) → Contains numbered x → Contains numbered y → x.number ≡ y.number → x ≡ y
+    AreNumberedBorders-one_number x y atx aty e =
         let a = numbered-border x atx in
         let b = numbered-border y aty in
         let l : a.0 ≡ b.0 = same_Some a.0 b.0 (sym a.1 ∙ ap (slice_get borders) e ∙ b.1) in
         a.2 ∙ ap (λ n. numbered_border n a.0) e ∙ ap (numbered_border y.number) l ∙ sym b.2
 
-    pub numbers-within : All (λ x. x.number < length borders) numbered
-    numbers-within k d inside = (let b = numbered-border (get_or numbered k d) (Contains-get_or numbered k d inside) in slice_get_within borders (get_or numbered k d).number b.0 b.1)
+    pub AreNumberedBorders-within : All (λ x. x.number < length borders) numbered
+    AreNumberedBorders-within k d inside = (let b = numbered-border (get_or numbered k d) (Contains-get_or numbered k d inside) in slice_get_within borders (get_or numbered k d).number b.0 b.1)
 
-    pub ends-within : (count : ℕ) → All (λ l. (l.a < count) × (l.b < count)) borders → All (HasEnds count) numbered
-    ends-within count within k d inside =
+    pub HasEnds-within : (count : ℕ) → All (λ l. (l.a < count) × (l.b < count)) borders → All (HasEnds count) numbered
+    HasEnds-within count within k d inside =
         let x : NumberedBorder = get_or numbered k d in
         let b = numbered-border x (Contains-get_or numbered k d inside) in
         subst (HasEnds count) (sym b.2) (All-contains (λ (l : Border). (l.a < count) × (l.b < count)) borders b.0 within (at_place borders x.number b.0 b.1))
@@ -217,8 +217,8 @@ module _ (below : Rank → Rank → Bool) (order : IsStrictOrder below) where
         let p = place_of borders s.0 s.1 in
         step (numbered_border p.0 s.0, border-numbered p.0 s.0 p.1, s.2, s.3) here) r
 
-    pub firsts-from_marked : (firsts : List Bool) → AreMarked below numbered (length borders) (length numbered) firsts → AreFirstJoins below borders firsts
-    firsts-from_marked firsts marked = record {
+    pub AreFirstJoins-from_marked : (firsts : List Bool) → AreMarked below numbered (length borders) (length numbered) firsts → AreFirstJoins below borders firsts
+    AreFirstJoins-from_marked firsts marked = record {
       whole = marked.whole;
       each = λ k l first at is.
           let p = place_of numbered (numbered_border k l) (border-numbered k l at) in

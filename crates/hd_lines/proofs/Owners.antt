@@ -24,8 +24,8 @@ use Rattle.hd_prune.proofs.JoinedByPaths.{JoinedBy, joined_along, joined_both, j
 
 module _ (m : Map) (side : SideName) where
   -- where two points are joined, they have a saddle that is not above the level
-  pub saddle-within : (t a b : Rank) → IsPoint m a → b ≢ a → JoinedBy m side t a b → (s : Rank) × IsSaddle m side a b s × IsNotAbove (below_by side) s t
-  saddle-within t a b point ne j =
+  pub JoinedBy-saddle : (t a b : Rank) → IsPoint m a → b ≢ a → JoinedBy m side t a b → (s : Rank) × IsSaddle m side a b s × IsNotAbove (below_by side) s t
+  JoinedBy-saddle t a b point ne j =
       let low : IsNotAbove (below_by side) a t = not_above_level m side t a b ne j in
       let path = path-from_reach (Near m) (below_by side) (below_by-order side) t low j in
       let s = saddle-exists m side a b path.0 (record { point = point; leads = path.1 }) in
@@ -39,8 +39,8 @@ module _ (m : Map) (side : SideName) where
     pub joined : (t p q : Rank) → IsPit m side p → IsPit m side q → JoinedBy m side t p q → (owner p ≡ owner q) ⊎ JoinedBy m side t p (owner p)
 
   -- at first each pit is its own owner
-  pub owners-first : (pits : List Rank) → ((p : Rank) → Contains pits p → IsPit m side p) → ((p : Rank) → IsPit m side p → Contains pits p) → AllPairs (λ a b. a.index < b.index) pits → AreOwners pits (λ p. p)
-  owners-first pits is_pit listed ordered = record { in_order = ordered; among = is_pit; own = λ q at. refl; kept_owner = listed; joined = λ t p q is is' j. inr here }
+  pub AreOwners-first : (pits : List Rank) → ((p : Rank) → Contains pits p → IsPit m side p) → ((p : Rank) → IsPit m side p → Contains pits p) → AllPairs (λ a b. a.index < b.index) pits → AreOwners pits (λ p. p)
+  AreOwners-first pits is_pit listed ordered = record { in_order = ordered; among = is_pit; own = λ q at. refl; kept_owner = listed; joined = λ t p q is is' j. inr here }
 
   -- a step keeps that
   module _ (thousandths : ℕ) (sz : ℤ) (kept : List Rank) (owner : Rank → Rank) (w : AreOwners kept owner) (x : Leaving) (taken : IsPruneStep m side thousandths sz kept owner x) where
@@ -90,7 +90,7 @@ module _ (m : Map) (side : SideName) where
     taken_along : (t q k : Rank) → Contains kept k → k ≢ p → JoinedBy m side t q p → JoinedBy m side t q k → JoinedBy m side t q o
     taken_along t q k at ne qp qk =
         let pk : JoinedBy m side t p k = joined_along m side t p q k (joined_both m side t q p qp) qk in
-        let u = saddle-within t p k pit.point ne pk in
+        let u = JoinedBy-saddle t p k pit.point ne pk in
         let low : IsNotAbove (below_by side) s t = not_above-trans (below_by side) (below_by-order side) s u.0 t (taken.smallest.nearest.least k u.0 at ne u.1) u.2 in
         joined_along m side t q p o qp (joined_higher m side s t p o low across.0)
 
@@ -129,14 +129,14 @@ module _ (m : Map) (side : SideName) where
   owners-last thousandths sz {kept} {last} {owner} {ends} w (goes_on {x = x} taken rest) = owners-last thousandths sz (owners-step thousandths sz kept owner w x taken) rest
 
   -- and so at its end
-  pub owners-pruned : (thousandths : ℕ) (steps : List Leaving) (last : List Rank) (owner : Rank → Rank) → IsPruning m side thousandths steps last owner → AreOwners last owner
-  owners-pruned thousandths steps last owner pruning =
-      owners-last thousandths pruning.sz (owners-first pruning.pits (λ p at. (pruning.are_pits.exactly p).0 at) (λ p is. (pruning.are_pits.exactly p).1 is) pruning.are_pits.in_order) pruning.prunes
+  pub AreOwners-pruned : (thousandths : ℕ) (steps : List Leaving) (last : List Rank) (owner : Rank → Rank) → IsPruning m side thousandths steps last owner → AreOwners last owner
+  AreOwners-pruned thousandths steps last owner pruning =
+      owners-last thousandths pruning.sz (AreOwners-first pruning.pits (λ p at. (pruning.are_pits.exactly p).0 at) (λ p is. (pruning.are_pits.exactly p).1 is) pruning.are_pits.in_order) pruning.prunes
 
   module _ (last : List Rank) (owner : Rank → Rank) (w : AreOwners last owner) where
     -- the owners of two neighbours are joined at the higher of these, where they are different
-    pub neighbours-joined : (x y r q : Rank) → Near m x y → IsRoot m side x r → IsRoot m side y q → owner r ≢ owner q → JoinedBy m side (higher_by side x y) (owner r) (owner q)
-    neighbours-joined x y r q near root root' apart =
+    pub JoinedBy-neighbours : (x y r q : Rank) → Near m x y → IsRoot m side x r → IsRoot m side y q → owner r ≢ owner q → JoinedBy m side (higher_by side x y) (owner r) (owner q)
+    JoinedBy-neighbours x y r q near root root' apart =
         let t : Rank = higher_by side x y in
         let bounds = higher-bounds side x y in
         let xr : JoinedBy m side t x r = root-reached m side x r t root bounds.0 in

@@ -25,8 +25,8 @@ use Rattle.hd_prune.proofs.JoinedByPaths.{JoinedBy, joined_along, joined_both, j
 use Rattle.hd_lines.specs.declared.line.BorderLine.{BorderLine}
 use Rattle.hd_steep.specs.Pairs.{IsAcross}
 use Rattle.hd_lines.specs.Lines.{AreBorderLines, IsBorderLine, IsOwnedBy}
-use Rattle.hd_lines.proofs.Owners.{AreOwners, neighbours-joined, owners-pruned, saddle-within}
-use Rattle.hd_lines.proofs.FirstJoins.{higher-below}
+use Rattle.hd_lines.proofs.Owners.{AreOwners, JoinedBy-neighbours, AreOwners-pruned, JoinedBy-saddle}
+use Rattle.hd_lines.proofs.FirstJoins.{higher_by-below}
 
 module _ (m : Map) (side : SideName) (last : List Rank) (owner : Rank → Rank) (w : AreOwners m side last owner) where
   -- the pass of a border line is not below the saddle of its pits
@@ -36,8 +36,8 @@ module _ (m : Map) (side : SideName) (last : List Rank) (owner : Rank → Rank) 
       let from = r.1.from_in in
       let to = r.1.to_in in
       let apart : line.a ≢ line.b = λ e. (let less = is.lesser in let same : line.a.index ≡ line.b.index = ap (λ (z : Rank). z.index) e in omega arith) in
-      let joined = neighbours-joined m side last owner w r.0.from r.0.to from.root to.root r.1.near from.is_root to.is_root (λ e. apart (sym from.owned ∙ e ∙ to.owned)) in
-      saddle-within m side line.pass line.a line.b (w.among line.a is.first).point (λ e. apart (sym e))
+      let joined = JoinedBy-neighbours m side last owner w r.0.from r.0.to from.root to.root r.1.near from.is_root to.is_root (λ e. apart (sym from.owned ∙ e ∙ to.owned)) in
+      JoinedBy-saddle m side line.pass line.a line.b (w.among line.a is.first).point (λ e. apart (sym e))
       (subst (λ (t : Rank). JoinedBy m side t line.a line.b) (sym r.2) (subst (λ (a : Rank). JoinedBy m side (higher_by side r.0.from r.0.to) a line.b) from.owned
       (subst (λ (b : Rank). JoinedBy m side (higher_by side r.0.from r.0.to) (owner from.root) b) to.owned joined)))
 
@@ -71,7 +71,7 @@ module _ (m : Map) (side : SideName) (last : List Rank) (owner : Rank → Rank) 
           not_above-trans (below_by side) (below_by-order side) x v u inner.0 outer.1,
           not_above-trans (below_by side) (below_by-order side) y v u inner.1 outer.1,
         ) here in
-        way-to a s b apart rest u (higher-below side t v s low (higher-below side x y s under low')) low' (joined_along m side u a x y (joined_higher m side t u a x outer.0 j) to_y)
+        way-to a s b apart rest u (higher_by-below side t v s low (higher_by-below side x y s under low')) low' (joined_along m side u a x y (joined_higher m side t u a x outer.0 j) to_y)
     | inr e ↦ (x, record { level = t; low = low; near = subst (λ (c : Rank). Near m x c) e st.0; below = under; joined = j })
   ]
 
@@ -88,7 +88,7 @@ module _ (m : Map) (side : SideName) (last : List Rank) (owner : Rank → Rank) 
     -- no kept pit is joined with it below the saddle
     none-below : (t o : Rank) → Contains last o → o ≢ p → below_by side t s ≡ true → JoinedBy m side t p o → ⊥
     none-below t o at_o ne low j =
-        let u = saddle-within m side t p o pit.point ne j in
+        let u = JoinedBy-saddle m side t p o pit.point ne j in
         let high : IsNotAbove (below_by side) s t = not_above-trans (below_by side) (below_by-order side) s u.0 t (nearest.least o u.0 at_o ne u.1) u.2 in
         cc
 
@@ -222,9 +222,9 @@ module _ (m : Map) (side : SideName) (last : List Rank) (owner : Rank → Rank) 
         ]
 
 module _ (m : Map) (side : SideName) (thousandths : ℕ) (steps : List Leaving) (last : List Rank) (owner : Rank → Rank) (lines : List BorderLine) where
-  pub passes-above : IsPruning m side thousandths steps last owner → AreBorderLines m side last owner lines → (line : BorderLine) → Contains lines line → (s : Rank) × IsSaddle m side line.a line.b s × IsNotAbove (below_by side) s line.pass
-  passes-above pruning are line at = pass-above m side last owner (owners-pruned m side thousandths steps last owner pruning) line (are.each line at)
+  pub AreBorderLines-passes_above : IsPruning m side thousandths steps last owner → AreBorderLines m side last owner lines → (line : BorderLine) → Contains lines line → (s : Rank) × IsSaddle m side line.a line.b s × IsNotAbove (below_by side) s line.pass
+  AreBorderLines-passes_above pruning are line at = pass-above m side last owner (AreOwners-pruned m side thousandths steps last owner pruning) line (are.each line at)
 
-  pub nearest-passes : IsMap m → IsPruning m side thousandths steps last owner → AreBorderLines m side last owner lines → (p s : Rank) → Contains last p → IsNearestSaddle m side last p s
+  pub AreBorderLines-nearest_passes : IsMap m → IsPruning m side thousandths steps last owner → AreBorderLines m side last owner lines → (p s : Rank) → Contains last p → IsNearestSaddle m side last p s
       → (line : BorderLine) × Contains lines line × ((line.a ≡ p) ⊎ (line.b ≡ p)) × (line.pass ≡ s) × (line.on_saddle ≡ true)
-  nearest-passes whole pruning are p s at nearest = line-nearest m side last owner (owners-pruned m side thousandths steps last owner pruning) whole p s at nearest lines are
+  AreBorderLines-nearest_passes whole pruning are p s at nearest = line-nearest m side last owner (AreOwners-pruned m side thousandths steps last owner pruning) whole p s at nearest lines are

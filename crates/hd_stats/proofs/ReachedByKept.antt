@@ -25,7 +25,7 @@ use Rattle.hd_prune.specs.Kept.{pits_kept}
 use Rattle.hd_prune.specs.Staying.{AreKeptAlone}
 use Rattle.hd_prune.proofs.MapOwners.{root-reached}
 use Rattle.hd_prune.proofs.JoinedByPaths.{JoinedBy, joined_along, joined_both, joined_higher, not_above_level}
-use Rattle.hd_lines.proofs.Owners.{AreOwners, owners-pruned, saddle-within}
+use Rattle.hd_lines.proofs.Owners.{AreOwners, AreOwners-pruned, JoinedBy-saddle}
 use Rattle.hd_stats.specs.Volumes.{IsReachedBy}
 
 module _ (m : Map) (side : SideName) where
@@ -45,7 +45,7 @@ module _ (m : Map) (side : SideName) where
   -- no pit of the set is joined with another below the nearest saddle of that
   pub none-below : (last : List Rank) (p s : Rank) → IsPoint m p → IsNearestSaddle m side last p s → (t o : Rank) → Contains last o → o ≢ p → below_by side t s ≡ true → JoinedBy m side t p o → ⊥
   none-below last p s point nearest t o at ne low j =
-      let u = saddle-within m side t p o point ne j in
+      let u = JoinedBy-saddle m side t p o point ne j in
       let high : IsNotAbove (below_by side) s t = not_above-trans (below_by side) (below_by-order side) s u.0 t (nearest.least o u.0 at ne u.1) u.2 in
       false≢true (sym high ∙ low)
 
@@ -97,7 +97,7 @@ pub record AreNearest (m : Map) (side : SideName) (kept : List Kept) : Type 0 wh
 -- those of a pruning are
 pub kept-nearest : (m : Map) (side : SideName) (thousandths : ℕ) (kept : List Kept) → AreKeptAlone m side thousandths kept → AreNearest m side kept
 kept-nearest m side thousandths kept alone =
-    let w = owners-pruned m side thousandths alone.steps alone.last alone.owner alone.pruning in
+    let w = AreOwners-pruned m side thousandths alone.steps alone.last alone.owner alone.pruning in
     let are = alone.are_kept in
     record {
       in_order = subst (λ (ps : List Rank). AllPairs (λ a b. a.index < b.index) ps) (sym are.pits) w.in_order;

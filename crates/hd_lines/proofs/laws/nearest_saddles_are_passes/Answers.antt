@@ -1,5 +1,5 @@
-use Rattle.hd_lines.proofs.PassesAndSaddles.{nearest-passes}
+use Rattle.hd_lines.proofs.PassesAndSaddles.{AreBorderLines-nearest_passes}
 use Rattle.hd_lines.proofs.laws.nearest_saddles_are_passes.Goals as goal
 
 pub returns : goal.returns
-returns c = nearest-passes
+returns c = AreBorderLines-nearest_passes

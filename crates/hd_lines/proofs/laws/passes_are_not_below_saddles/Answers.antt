@@ -1,5 +1,5 @@
-use Rattle.hd_lines.proofs.PassesAndSaddles.{passes-above}
+use Rattle.hd_lines.proofs.PassesAndSaddles.{AreBorderLines-passes_above}
 use Rattle.hd_lines.proofs.laws.passes_are_not_below_saddles.Goals as goal
 
 pub returns : goal.returns
-returns c = passes-above
+returns c = AreBorderLines-passes_above

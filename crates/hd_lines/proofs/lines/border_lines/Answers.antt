@@ -10,8 +10,8 @@ use Rattle.hd_steep.specs.Borders.{AreBorders}
 use Rattle.hd_lines.specs.FirstJoins.{AreFirstJoins}
 use Rattle.hd_lines.specs.Listed.{AreListed}
 use Rattle.hd_lines.specs.Places.{AreOwnerPlaces, IsNumbered}
-use Rattle.hd_lines.proofs.BorderLines.{borders-within, lines-are}
-use Rattle.hd_lines.proofs.HasPlace.{kept-few, kept-numbered, kept-numbers, owners-numbered, owners-whole}
+use Rattle.hd_lines.proofs.BorderLines.{borders-within, AreBorderLines-listed}
+use Rattle.hd_lines.proofs.HasPlace.{kept-few, IsNumbered-kept, kept-numbers, IsNumbered-owners, owners-whole}
 use Rattle.hd_lines.proofs.lines.border_lines.Given.{Over}
 use Rattle.hd_lines.proofs.lines.border_lines.Goals as goal
 use Rattle.hd_lines.proofs.lines.border_lines.Goals.{In_ok-borders}
@@ -27,11 +27,11 @@ owner_places-requires-clause-whole g c = ap (length {A = Owned}) c.as_slice.ensu
 
 pub owner_places-requires-clause-kept : goal.owner_places-requires-clause-kept
 owner_places-requires-clause-kept g c = subst (λ (ks : List Kept). All (λ (k : Kept). IsNumbered c.args.regions.now k.pit.index) ks) (sym c.as_slice-kept.ensures)
-    (kept-numbered (g.G.Heights.map c.args.grid.now) (g.met.G.Heights.whole c.args.grid.now) g.S.Side.NAME c.requires.pruned.0 c.args.pruned.now.steps c.args.pruned.now.kept c.args.pruned.now.owners c.requires.pruned.1 c.args.regions.now c.requires.regions)
+    (IsNumbered-kept (g.G.Heights.map c.args.grid.now) (g.met.G.Heights.whole c.args.grid.now) g.S.Side.NAME c.requires.pruned.0 c.args.pruned.now.steps c.args.pruned.now.kept c.args.pruned.now.owners c.requires.pruned.1 c.args.regions.now c.requires.regions)
 
 pub owner_places-requires-clause-owners : goal.owner_places-requires-clause-owners
 owner_places-requires-clause-owners g c = subst (λ (os : List Owned). All (λ (o : Owned). IsNumbered c.args.regions.now o.owner.index) os) (sym c.as_slice.ensures)
-    (owners-numbered (g.G.Heights.map c.args.grid.now) (g.met.G.Heights.whole c.args.grid.now) g.S.Side.NAME c.requires.pruned.0 c.args.pruned.now.steps c.args.pruned.now.kept c.args.pruned.now.owners c.requires.pruned.1 c.args.regions.now c.requires.regions)
+    (IsNumbered-owners (g.G.Heights.map c.args.grid.now) (g.met.G.Heights.whole c.args.grid.now) g.S.Side.NAME c.requires.pruned.0 c.args.pruned.now.steps c.args.pruned.now.kept c.args.pruned.now.owners c.requires.pruned.1 c.args.regions.now c.requires.regions)
 
 pub owner_places-requires-clause-once : goal.owner_places-requires-clause-once
 owner_places-requires-clause-once g c =
@@ -86,7 +86,7 @@ returns g c =
     let joins : AreFirstJoins (below_by g.S.Side.NAME) borders firsts = subst (λ (ls : List Border). AreFirstJoins (below_by g.S.Side.NAME) ls firsts) c.deref-2.ensures.value c.in_ok-firsts.ensures in
     IfOk-weaker c.list_lines.result _ _
     (λ lines listed thousandths pruned.
-    lines-are m (g.met.G.Heights.whole c.args.grid.now) g.S.Side.NAME thousandths c.args.pruned.now.steps kept c.args.pruned.now.owners pruned c.args.regions.now c.requires.regions c.in_ok-places.places.items
+    AreBorderLines-listed m (g.met.G.Heights.whole c.args.grid.now) g.S.Side.NAME thousandths c.args.pruned.now.steps kept c.args.pruned.now.owners pruned c.args.regions.now c.requires.regions c.in_ok-places.places.items
     (placed g (goal.at.returns g c).In_ok-borders) borders (bordered g (goal.at.returns g c).In_ok-borders) firsts joins lines
     (subst (λ (ks : List Kept). AreListed ks borders firsts (length borders) lines) c.as_slice-kept.ensures
     (subst (λ (ls : List Border). AreListed c.as_slice-kept.result.now ls firsts (length ls) lines) c.deref-3.ensures.value

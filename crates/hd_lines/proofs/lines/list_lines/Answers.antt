@@ -4,7 +4,7 @@ use Rattle.hd_prune.specs.declared.step.Kept.{Kept}
 use Rattle.hd_steep.specs.declared.border.Border.{Border}
 use Rattle.hd_lines.specs.declared.line.BorderLine.{BorderLine}
 use Rattle.hd_lines.specs.Listed.{AreListed}
-use Rattle.hd_lines.proofs.Listed.{listed-more, listed-none}
+use Rattle.hd_lines.proofs.Listed.{AreListed-more, AreListed-none}
 use Rattle.hd_lines.proofs.lines.list_lines.Goals as goal
 
 abbrev border : Border
@@ -14,11 +14,11 @@ abbrev none : Kept
 none = record { pit = record { height = pos 0; index = 0 }; nearest = None }
 
 pub borders-init : goal.borders-init
-borders-init c = subst (λ (xs : List BorderLine). AreListed c.args.kept.now c.args.borders.now c.args.firsts.now 0 xs) (sym c.in_ok-lines.ensures) (listed-none c.args.kept.now c.args.borders.now c.args.firsts.now)
+borders-init c = subst (λ (xs : List BorderLine). AreListed c.args.kept.now c.args.borders.now c.args.firsts.now 0 xs) (sym c.in_ok-lines.ensures) (AreListed-none c.args.kept.now c.args.borders.now c.args.firsts.now)
 
 pub borders-preserved : goal.borders-preserved
 borders-preserved c = subst (λ (xs : List BorderLine). AreListed c.args.kept.now c.args.borders.now c.args.firsts.now (c.borders.number + 1) xs) (sym c.in_ok-push.ensures.ok)
-    (listed-more c.args.kept.now c.args.borders.now c.args.firsts.now c.borders.number border none false c.borders.lines c.borders.invariant)
+    (AreListed-more c.args.kept.now c.args.borders.now c.args.firsts.now c.borders.number border none false c.borders.lines c.borders.invariant)
 
 pub returns : goal.returns
 returns c = record {

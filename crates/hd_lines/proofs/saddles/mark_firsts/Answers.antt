@@ -5,7 +5,7 @@ use Rattle.std.proofs.lemmas.Option.{slice_get-get_or}
 use Rattle.hd_map.specs.Rank.{below_by}
 use Rattle.hd_lines.specs.declared.saddles.NumberedBorder.{NumberedBorder}
 use Rattle.hd_lines.specs.NumberedBorders.{HasEnds, IsFirstOf}
-use Rattle.hd_lines.proofs.NumberedBorders.{first-of, joined-none, joined-same, lower-next, marked-more}
+use Rattle.hd_lines.proofs.NumberedBorders.{IsFirstOf-split, AreJoinedTo-none, AreJoinedTo-same, AreLower-next, AreMarked-more}
 use Rattle.hd_lines.proofs.saddles.mark_firsts.Goals as goal
 
 abbrev none : NumberedBorder
@@ -27,7 +27,7 @@ borders-init g c = record {
   falling = c.in_ok-classes.ensures.falling;
   inside = omega arith;
   lower = λ j y le at k x less atx. absurd (omega arith);
-  joined = joined-none c.args.borders.now c.in_ok-classes.classes.parents.items c.in_ok-classes.ensures.own;
+  joined = AreJoinedTo-none c.args.borders.now c.in_ok-classes.classes.parents.items c.in_ok-classes.ensures.own;
 }
 
 pub join_lower-joined-requires-clause-within : goal.join_lower-joined-requires-clause-within
@@ -51,17 +51,17 @@ borders-preserved g c =
     let one : ℕ = c.least_of-one.result in
     let other : ℕ = c.least_of-other.result in
     let first : Bool = not (eqb one other) in
-    let is : IsFirstOf (below_by g.S.Side.NAME) borders x first = first-of (below_by g.S.Side.NAME) g.met.S.Side.order borders c.requires.sorted n x old mid new one other first split c.join_lower-joined.ensures.joined
+    let is : IsFirstOf (below_by g.S.Side.NAME) borders x first = IsFirstOf-split (below_by g.S.Side.NAME) g.met.S.Side.order borders c.requires.sorted n x old mid new one other first split c.join_lower-joined.ensures.joined
     c.least_of-one.ensures.one c.least_of-one.ensures.same c.least_of-one.ensures.least c.least_of-other.ensures.one c.least_of-other.ensures.same c.least_of-other.ensures.least c.least_of-other.ensures.leasts
     (differ-apart one other) (apart-differ one other) in
     record {
-      marked = marked-more (below_by g.S.Side.NAME) g.met.S.Side.order borders c.requires.sorted c.requires.one c.args.numbers i x at (c.requires.numbered i none c.borders-test.true) c.borders.firsts.items first
+      marked = AreMarked-more (below_by g.S.Side.NAME) g.met.S.Side.order borders c.requires.sorted c.requires.one c.args.numbers i x at (c.requires.numbered i none c.borders-test.true) c.borders.firsts.items first
           c.borders.invariant.marked is;
       long = c.least_of-other.ensures.long ∙ c.least_of-one.ensures.long ∙ c.join_lower-joined.ensures.long ∙ c.borders.invariant.long;
       falling = c.least_of-other.ensures.falling;
       inside = c.join_lower-joined.ensures.inside;
-      lower = lower-next (below_by g.S.Side.NAME) g.met.S.Side.order borders c.requires.sorted n i x at split;
-      joined = joined-same borders n mid new c.least_of-other.ensures.same (joined-same borders n old mid c.least_of-one.ensures.same c.join_lower-joined.ensures.joined);
+      lower = AreLower-next (below_by g.S.Side.NAME) g.met.S.Side.order borders c.requires.sorted n i x at split;
+      joined = AreJoinedTo-same borders n mid new c.least_of-other.ensures.same (AreJoinedTo-same borders n old mid c.least_of-one.ensures.same c.join_lower-joined.ensures.joined);
     }
 
 pub returns : goal.returns
