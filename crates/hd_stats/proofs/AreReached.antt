@@ -19,7 +19,7 @@ use Rattle.hd_reach.specs.Within.{LiesWithin}
 use Rattle.hd_reach.proofs.Flooding.{replicate-all, Option-some_or_none}
 use Rattle.hd_reach.proofs.ReachedBelow.{steps_at-low, IsReachedLow-sym, IsLow-end, IsReachedBelow-low as low-reached, IsReachedLow-below, IsReachedLow-steps}
 use Rattle.hd_stats.specs.Volumes.{AreReached, IsReachedBy}
-use Rattle.hd_stats.proofs.ReachedByKept.{AreNearest, kept-apart, nearest-at, pit-listed, pit-read, reached-below, reached-point}
+use Rattle.hd_stats.proofs.ReachedByKept.{AreNearest, IsReachedBy-apart, nearest-at, pit-listed, pit-read, IsReachedBy-below, IsReachedBelow-point}
 
 -- what is noted stands inside the list
 noted-inside : (reached : List (Option ℕ)) (k n : ℕ) → get_or reached k None ≡ Some n → k < length reached
@@ -33,16 +33,16 @@ same-mark n old zero = refl
 same-mark n old (suc j) = same-mark n old j
 
 -- before the first nothing is noted
-pub noted-none : (m : Map) (side : SideName) (kept : List Kept) → AreReached m side kept 0 (replicate (cell_count m.size) None)
-noted-none m side kept = record {
+pub AreReached-none : (m : Map) (side : SideName) (kept : List Kept) → AreReached m side kept 0 (replicate (cell_count m.size) None)
+AreReached-none m side kept = record {
   whole = length-replicate (cell_count m.size) None;
   exactly = λ k n. ((λ e. absurd (let both : None ≡ Some n = sym (replicate-all None (cell_count m.size) k) ∙ e in cc)), (λ x. absurd (let less = x.1 in omega (arith, less))));
 }
 
 -- a kept pit lies below its nearest saddle
-pub pit-low : (m : Map) (side : SideName) (kept : List Kept) (w : AreNearest m side kept) (n : ℕ) (k : Kept) (s : Rank) (from : Pos) → slice_get kept n ≡ Some k → k.nearest ≡ Some s → InGrid m.size from → place_of m.size from ≡ k.pit.index
+pub rank-pit_low : (m : Map) (side : SideName) (kept : List Kept) (w : AreNearest m side kept) (n : ℕ) (k : Kept) (s : Rank) (from : Pos) → slice_get kept n ≡ Some k → k.nearest ≡ Some s → InGrid m.size from → place_of m.size from ≡ k.pit.index
     → (rank m from ≡ k.pit) × LiesWithin m side (Some s) true from
-pit-low m side kept w n k s from is e there place =
+rank-pit_low m side kept w n k s from is e there place =
     let pit = w.pits k.pit (pit-listed m side kept w n k.pit (pit-read m side kept w n k is)) in
     let point = pit.point in
     let at : point.at ≡ from = same_place m.size point.at from point.present.in_grid there (sym (place ∙ ap (λ (r : Rank). r.index) point.rank_is)) in
@@ -53,8 +53,8 @@ pit-low m side kept w n k s from is e there place =
 
 module _ (m : Map) (side : SideName) (whole : IsMap m) (kept : List Kept) (w : AreNearest m side kept) (n : ℕ) (old : List (Option ℕ)) (are : AreReached m side kept n old) (k : Kept) (is : slice_get kept n ≡ Some k) where
   -- one without a nearest saddle reaches nothing
-  pub noted-same : k.nearest ≡ None → AreReached m side kept (n + 1) old
-  noted-same none = record {
+  pub AreReached-same : k.nearest ≡ None → AreReached m side kept (n + 1) old
+  AreReached-same none = record {
     whole = are.whole;
     exactly = λ i j. (
       λ e. (let x = (are.exactly i j).0 e in let less = x.1 in (x.0, omega (arith, less), x.2, x.3)),
@@ -81,13 +81,13 @@ module _ (m : Map) (side : SideName) (whole : IsMap m) (kept : List Kept) (w : A
     not-reached p i noted r =
         let x = (are.exactly (place_of m.size p) i).0 noted in
         let by = x.3 in
-        let one : x.0 ≡ rank m p = same_index m x.0 (rank m p) (reached-point m side by.saddle by.one.pit x.0 by.below) (point_at m p (present p r)) x.2 in
-        let same = kept-apart m side kept w i n (rank m p) (subst (IsReachedBy m side kept i) one by) (reached-by p r) in
+        let one : x.0 ≡ rank m p = same_index m x.0 (rank m p) (IsReachedBelow-point m side by.saddle by.one.pit x.0 by.below) (point_at m p (present p r)) x.2 in
+        let same = IsReachedBy-apart m side kept w i n (rank m p) (subst (IsReachedBy m side kept i) one by) (reached-by p r) in
         let less = x.1 in
         omega (arith, less, same)
 
-    pub noted-blank : AreBlank m (LiesWithin m side (Some s) true) from None old
-    noted-blank p xs l = elim (Option-some_or_none (get_or old (place_of m.size p) None)) [
+    pub AreBlank-noted : AreBlank m (LiesWithin m side (Some s) true) from None old
+    AreBlank-noted p xs l = elim (Option-some_or_none (get_or old (place_of m.size p) None)) [
       | inl some ↦ absurd (not-reached p some.0 some.1 (IsReachedLow-sym m side (Some s) p from (xs, l)))
       | inr none ↦ none
     ]
@@ -114,7 +114,7 @@ module _ (m : Map) (side : SideName) (whole : IsMap m) (kept : List Kept) (w : A
       -- a point that is reached is noted
       noted-point : (i : ℕ) (x : Rank) → i < n + 1 → IsReachedBy m side kept i x → get_or new x.index None ≡ Some i
       noted-point i x below by =
-          let point = reached-point m side by.saddle by.one.pit x by.below in
+          let point = IsReachedBelow-point m side by.saddle by.one.pit x by.below in
           let p : Pos = point.at in
           let there = point.present.in_grid in
           let place : x.index ≡ place_of m.size p = ap (λ (r : Rank). r.index) point.rank_is in
@@ -127,15 +127,15 @@ module _ (m : Map) (side : SideName) (whole : IsMap m) (kept : List Kept) (w : A
                 ]
             | inr more ↦
                 let last : i ≡ n = omega (arith, below, more) in
-                let r = reached-below m side kept w n k s is e x (subst (λ j. IsReachedBy m side kept j x) last by) in
+                let r = IsReachedBy-below m side kept w n k s is e x (subst (λ j. IsReachedBy m side kept j x) last by) in
                 let q = IsReachedLow-below m side (Some s) from x low.present (subst (λ (a : Rank). IsReachedBelow m side (Some s) a x) (sym pit) r) in
                 let same : q.0 ≡ p = same_point m q.0 p (present q.0 q.2) point.present (q.1 ∙ point.rank_is) in
                 let steps = steps_at-low m side (Some s) from known.steps known.are p (subst (IsReachedLow m side (Some s) from) same q.2) in
                 noted-steps p there steps.0 steps.1 ∙ ap Some (sym last)
           ])
 
-      pub noted-more : AreReached m side kept (n + 1) new
-      noted-more = record {
+      pub AreReached-more : AreReached m side kept (n + 1) new
+      AreReached-more = record {
         whole = known.whole;
         exactly = λ i j. (
           λ noted.

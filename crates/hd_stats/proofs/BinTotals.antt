@@ -8,7 +8,7 @@ use Rattle.std.proofs.lemmas.List.Sums.{sum-map, sum_by-cons, sum_by_push}
 use Rattle.std.proofs.lemmas.Option.{get_or_from_slice_get}
 use Rattle.hd_feature.specs.Value.{greatest, least}
 use Rattle.hd_stats.specs.Distribution.{AreCounts, bin_of, counted_in}
-use Rattle.hd_stats.proofs.AddedVolumes.{range-push}
+use Rattle.hd_stats.proofs.AddedVolumes.{range_with_len-push}
 use Rattle.hd_stats.proofs.Bins.{one_at, one_at-other, one_at-same}
 
 -- the bins below n
@@ -16,7 +16,7 @@ abbrev over_bins : (ℕ → ℕ) → ℕ → ℕ
 over_bins g n = sum_by g (range_with_len 0 n)
 
 bins-push : (g : ℕ → ℕ) (n : ℕ) → over_bins g (n + 1) ≡ over_bins g n + g n
-bins-push g n = ap (sum_by g) (range-push 0 n n (omega arith)) ∙ sum_by_push g (range_with_len 0 n) n
+bins-push g n = ap (sum_by g) (range_with_len-push 0 n n (omega arith)) ∙ sum_by_push g (range_with_len 0 n) n
 
 bins-next : (g : ℕ → ℕ) (n : ℕ) → over_bins g (suc n) ≡ over_bins g n + g n
 bins-next g n = ap (over_bins g) (let same : suc n ≡ n + 1 = omega arith in same) ∙ bins-push g n
@@ -66,10 +66,10 @@ bin-within lo hi bins v some = by (int_eq lo hi)
     by false = omega (arith, some)
 
 -- the counts by bin
-pub counts-listed : (values : List ℤ) (bins : ℕ) (counts : List ℕ) → AreCounts values bins counts → counts ≡ map (counted_in values bins) (range_with_len 0 bins)
-counts-listed values bins counts are = fill_by_all (counted_in values bins) counts bins 0 are.many (λ k below. get_or_from_slice_get counts k (counted_in values bins k) 0 (are.each k below))
+pub counted_in-listed : (values : List ℤ) (bins : ℕ) (counts : List ℕ) → AreCounts values bins counts → counts ≡ map (counted_in values bins) (range_with_len 0 bins)
+counted_in-listed values bins counts are = fill_by_all (counted_in values bins) counts bins 0 are.many (λ k below. get_or_from_slice_get counts k (counted_in values bins k) 0 (are.each k below))
 
-pub counts-total : (values : List ℤ) (bins : ℕ) (counts : List ℕ) → 1 ≤ bins → AreCounts values bins counts → sum counts ≡ length values
-counts-total values bins counts some are =
-    ap sum (counts-listed values bins counts are) ∙ sum-map (counted_in values bins) (range_with_len 0 bins)
+pub AreCounts-total : (values : List ℤ) (bins : ℕ) (counts : List ℕ) → 1 ≤ bins → AreCounts values bins counts → sum counts ≡ length values
+AreCounts-total values bins counts some are =
+    ap sum (counted_in-listed values bins counts are) ∙ sum-map (counted_in values bins) (range_with_len 0 bins)
     ∙ values-binned (bin_of (least values) (greatest values) bins) bins (λ v. bin-within (least values) (greatest values) bins v some) values

@@ -18,16 +18,16 @@ use Rattle.hd_stats.specs.declared.name.HeightName.TheVariants.{Sa, Smr, Sp, Sv}
 use Rattle.hd_stats.specs.Distribution.{AreCounts, IsShare, greater}
 use Rattle.hd_stats.specs.Fill.{AreFills, AreSameFills, IsFill, IsVolume}
 use Rattle.hd_stats.specs.Heights.{IsHeightParameter, over, under}
-use Rattle.hd_stats.proofs.BinTotals.{counts-listed}
+use Rattle.hd_stats.proofs.BinTotals.{counted_in-listed}
 
 empty : (values : List ℤ) → values ≡ [] → 0 < length values → ⊥
 empty values none some = (let e : length values ≡ 0 = ap length none in omega (arith, e, some))
 
-pub counts-one : (values : List ℤ) (bins : ℕ) (a b : Option (List ℕ)) → MatchOption a (values ≡ []) (AreCounts values bins) → MatchOption b (values ≡ []) (AreCounts values bins) → a ≡ b
-counts-one values bins (Some a) (Some b) x y = ap Some (counts-listed values bins a x ∙ sym (counts-listed values bins b y))
-counts-one values bins (Some a) None x y = absurd (empty values y x.some)
-counts-one values bins None (Some b) x y = absurd (empty values x y.some)
-counts-one values bins None None x y = refl
+pub AreCounts-unique : (values : List ℤ) (bins : ℕ) (a b : Option (List ℕ)) → MatchOption a (values ≡ []) (AreCounts values bins) → MatchOption b (values ≡ []) (AreCounts values bins) → a ≡ b
+AreCounts-unique values bins (Some a) (Some b) x y = ap Some (counted_in-listed values bins a x ∙ sym (counted_in-listed values bins b y))
+AreCounts-unique values bins (Some a) None x y = absurd (empty values y x.some)
+AreCounts-unique values bins None (Some b) x y = absurd (empty values x y.some)
+AreCounts-unique values bins None None x y = refl
 
 -- what is said of fractions
 abbrev pub FractionsAreDetermined : Type 0
@@ -44,17 +44,17 @@ module _ (fractions : FractionsAreDetermined) where
   under-some Sa heights some = square (length heights) some
   under-some (Smr c) heights some = some
 
-  pub height-one : (name : HeightName) (heights : List ℤ) (a b : Option Frac) → MatchOption a (heights ≡ []) (IsHeightParameter name heights) → MatchOption b (heights ≡ []) (IsHeightParameter name heights) → AreSameValues a b
-  height-one name heights (Some f) (Some g) x y = fractions (over name heights) (under name heights) f.num f.den g.num g.den (under-some name heights x.some) x.fraction y.fraction
-  height-one name heights (Some f) None x y = empty heights y x.some
-  height-one name heights None (Some g) x y = empty heights x y.some
-  height-one name heights None None x y = tt
+  pub IsHeightParameter-unique : (name : HeightName) (heights : List ℤ) (a b : Option Frac) → MatchOption a (heights ≡ []) (IsHeightParameter name heights) → MatchOption b (heights ≡ []) (IsHeightParameter name heights) → AreSameValues a b
+  IsHeightParameter-unique name heights (Some f) (Some g) x y = fractions (over name heights) (under name heights) f.num f.den g.num g.den (under-some name heights x.some) x.fraction y.fraction
+  IsHeightParameter-unique name heights (Some f) None x y = empty heights y x.some
+  IsHeightParameter-unique name heights None (Some g) x y = empty heights x y.some
+  IsHeightParameter-unique name heights None None x y = tt
 
-  pub share-one : (values : List ℤ) (above : ℤ) (a b : Option Frac) → MatchOption a (values ≡ []) (IsShare values above) → MatchOption b (values ≡ []) (IsShare values above) → AreSameValues a b
-  share-one values above (Some f) (Some g) x y = fractions (pos (greater above values)) (length values) f.num f.den g.num g.den x.some x.fraction y.fraction
-  share-one values above (Some f) None x y = empty values y x.some
-  share-one values above None (Some g) x y = empty values x y.some
-  share-one values above None None x y = tt
+  pub IsShare-unique : (values : List ℤ) (above : ℤ) (a b : Option Frac) → MatchOption a (values ≡ []) (IsShare values above) → MatchOption b (values ≡ []) (IsShare values above) → AreSameValues a b
+  IsShare-unique values above (Some f) (Some g) x y = fractions (pos (greater above values)) (length values) f.num f.den g.num g.den x.some x.fraction y.fraction
+  IsShare-unique values above (Some f) None x y = empty values y x.some
+  IsShare-unique values above None (Some g) x y = empty values x y.some
+  IsShare-unique values above None None x y = tt
 
   module _ (m : Map) (side : SideName) where
     volume-one : (p s : Rank) (f g : Frac) → IsVolume m side p s f → IsVolume m side p s g → AreSameValues (Some f) (Some g)
@@ -84,8 +84,8 @@ module _ (fractions : FractionsAreDetermined) where
     each-one (a ∷ more) [] long each = absurd (omega (arith, long))
     each-one (a ∷ more) (b ∷ others) long each = (each 0 a b refl refl, each-one more others (omega (arith, long)) (λ i x y. each (suc i) x y))
 
-    pub fills-one : (kept : List Kept) (a b : List (Option Frac)) → AreFills m side kept a → AreFills m side kept b → AreSameFills a b
-    fills-one kept a b x y =
+    pub AreSameFills-unique : (kept : List Kept) (a b : List (Option Frac)) → AreFills m side kept a → AreFills m side kept b → AreSameFills a b
+    AreSameFills-unique kept a b x y =
         let long = x.whole in
         let long' = y.whole in
         each-one a b (omega (arith, long, long')) (λ i v w is is'.

@@ -36,11 +36,11 @@ difference a b one two = omega (arith, ints, one, two)
 pub product-fits : (h : ℤ) (n : ℕ) → FitsSigned w64 h → n ≤ 4194304 → FitsSigned w128 (h *ℤ pos n)
 product-fits h n fits few = (let small = product h n (size_of_fit h fits) few in fits_signed_from_abs w128 (h *ℤ pos n) (omega (arith, small)))
 
-pub deviation-small : (sums : Sums) (h : ℤ) → FitsSigned w64 h → AreSmall sums 4194304 → unsigned_abs (deviation_by sums h) ≤ 2 ^ 86
-deviation-small sums h fits small =
+pub deviation_by-small : (sums : Sums) (h : ℤ) → FitsSigned w64 h → AreSmall sums 4194304 → unsigned_abs (deviation_by sums h) ≤ 2 ^ 86
+deviation_by-small sums h fits small =
     let one = product h sums.count (size_of_fit h fits) small.count in
     let two = small.total in
     difference (h *ℤ pos sums.count) sums.total (omega (arith, one)) (omega (arith, two))
 
-pub deviation-fits : (sums : Sums) (h : ℤ) → FitsSigned w64 h → AreSmall sums 4194304 → FitsSigned w128 (deviation_by sums h)
-deviation-fits sums h fits small = (let size = deviation-small sums h fits small in fits_signed_from_abs w128 (deviation_by sums h) (omega (arith, size)))
+pub deviation_by-fits : (sums : Sums) (h : ℤ) → FitsSigned w64 h → AreSmall sums 4194304 → FitsSigned w128 (deviation_by sums h)
+deviation_by-fits sums h fits small = (let size = deviation_by-small sums h fits small in fits_signed_from_abs w128 (deviation_by sums h) (omega (arith, size)))

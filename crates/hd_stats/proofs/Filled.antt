@@ -24,7 +24,7 @@ use Rattle.hd_prune.proofs.Lists.{AllPairs-map, Contains-filter, Contains-map, f
 use Rattle.hd_prune.proofs.Ranges.{range-Contains, range-rises}
 use Rattle.hd_stats.specs.Fill.{AreFilled, AreFills, IsFill}
 use Rattle.hd_stats.specs.Volumes.{AreReached, AreValues, AreVolumes, IsReachedBy, IsValueOf, added, difference, is_number, nearest_of}
-use Rattle.hd_stats.proofs.ReachedByKept.{AreNearest, kept-listed, nearest-at, reached-below, reached-point}
+use Rattle.hd_stats.proofs.ReachedByKept.{AreNearest, kept-listed, nearest-at, IsReachedBy-below, IsReachedBelow-point}
 
 -- the height of a present point
 shown : (c : Cell) (masked : Bool) → IsMeasured c → masked ≡ false → shown_height c masked ≡ Some (height_or_zero c)
@@ -75,7 +75,7 @@ module _ (m : Map) (side : SideName) (whole : IsMap m) (kept : List Kept) (w : A
   is-here i k h =
       let x = (are.exactly k i).0 (number-is i (get_or reached k None) h) in
       let by = x.3 in
-      let point = reached-point m side by.saddle by.one.pit x.0 by.below in
+      let point = IsReachedBelow-point m side by.saddle by.one.pit x.0 by.below in
       let at : position_at m.size k ≡ point.at = ap (position_at m.size) (sym x.2) ∙ rank_position m x.0 point.at point.present point.rank_is in
       let is : x.0 ≡ rank_of k = point.rank_is ∙ ap (rank m) (sym at) in
       record { present = subst (Present m) (sym at) point.present; by = subst (λ z. IsReachedBy m side kept i z) is by }
@@ -94,9 +94,9 @@ module _ (m : Map) (side : SideName) (whole : IsMap m) (kept : List Kept) (w : A
         λ h.
             (let a = Contains-map rank_of (filter (reaches i) (range_with_len 0 (length reached))) x h in
             let b = Contains-filter (reaches i) (range_with_len 0 (length reached)) a.0 a.1 in
-            subst (λ z. IsReachedBelow m side (Some s) k.pit z) a.2 (reached-below m side kept w i k s is e (rank_of a.0) (is-here i a.0 b.1).by)),
+            subst (λ z. IsReachedBelow m side (Some s) k.pit z) a.2 (IsReachedBy-below m side kept w i k s is e (rank_of a.0) (is-here i a.0 b.1).by)),
         λ r.
-            (let point = reached-point m side s k.pit x r in
+            (let point = IsReachedBelow-point m side s k.pit x r in
             let inside : x.index < length reached = rw are.whole (point_inside m x point) in
             let noted = (are.exactly x.index i).1 (x, slice_get_within kept i k is, refl, record { one = k; is_one = is; saddle = s; nearest = e; below = r }) in
             let at = filter-Contains (reaches i) (range_with_len 0 (length reached)) x.index (range-Contains (length reached) x.index inside) (is-number i (get_or reached x.index None) noted) in
@@ -135,8 +135,8 @@ module _ (m : Map) (side : SideName) (whole : IsMap m) (kept : List Kept) (w : A
     record { points = filled i; are_filled = are-filled i k of.0 is of.1; fraction = subst (λ n. IsFraction (pos n) 1 f.num f.den) (volume-is i k of.0 is of.1 volumes v) of.2 },
   )
 
-  pub are-fills : (volumes : List ℕ) (values : List (Option Frac)) → AreVolumes m kept reached (length reached) volumes → AreValues kept volumes (length kept) values → AreFills m side kept values
-  are-fills volumes values v of = record {
+  pub AreFills-listed : (volumes : List ℕ) (values : List (Option Frac)) → AreVolumes m kept reached (length reached) volumes → AreValues kept volumes (length kept) values → AreFills m side kept values
+  AreFills-listed volumes values v of = record {
     whole = of.whole;
     each = λ i k value is at. value-fill i k volumes value is v (of.each i k value (slice_get_within kept i k is) is at);
   }

@@ -30,8 +30,8 @@ use Rattle.hd_stats.specs.Volumes.{IsReachedBy}
 
 module _ (m : Map) (side : SideName) where
   -- what is reached below a saddle is joined below it
-  pub reached-joined : (s p x : Rank) → IsReachedBelow m side (Some s) p x → (t : Rank) × (below_by side t s ≡ true) × JoinedBy m side t p x
-  reached-joined s p x r =
+  pub IsReachedBelow-joined : (s p x : Rank) → IsReachedBelow m side (Some s) p x → (t : Rank) × (below_by side t s ≡ true) × JoinedBy m side t p x
+  IsReachedBelow-joined s p x r =
       let top = top_of (below_by side) (below_by-order side) p r.points in (
         top.0,
         All-contains (λ y. below_by side y s ≡ true) (p ∷ r.points) top.0 r.below top.1.one_of,
@@ -39,26 +39,26 @@ module _ (m : Map) (side : SideName) where
       )
 
   -- and is a point
-  pub reached-point : (s p x : Rank) → IsReachedBelow m side (Some s) p x → IsPoint m x
-  reached-point s p x r = (let j = reached-joined s p x r in reach-point m side j.0 r.path.point j.2)
+  pub IsReachedBelow-point : (s p x : Rank) → IsReachedBelow m side (Some s) p x → IsPoint m x
+  IsReachedBelow-point s p x r = (let j = IsReachedBelow-joined s p x r in reach-point m side j.0 r.path.point j.2)
 
   -- no pit of the set is joined with another below the nearest saddle of that
-  pub none-below : (last : List Rank) (p s : Rank) → IsPoint m p → IsNearestSaddle m side last p s → (t o : Rank) → Contains last o → o ≢ p → below_by side t s ≡ true → JoinedBy m side t p o → ⊥
-  none-below last p s point nearest t o at ne low j =
+  pub IsNearestSaddle-none_below : (last : List Rank) (p s : Rank) → IsPoint m p → IsNearestSaddle m side last p s → (t o : Rank) → Contains last o → o ≢ p → below_by side t s ≡ true → JoinedBy m side t p o → ⊥
+  IsNearestSaddle-none_below last p s point nearest t o at ne low j =
       let u = JoinedBy-saddle m side t p o point ne j in
       let high : IsNotAbove (below_by side) s t = not_above-trans (below_by side) (below_by-order side) s u.0 t (nearest.least o u.0 at ne u.1) u.2 in
       false≢true (sym high ∙ low)
 
   -- no point is reached from two pits of the set, each below its nearest saddle
-  pub reached-apart : (last : List Rank) (p q s u x : Rank) → IsPoint m p → IsPoint m q → Contains last p → Contains last q → p ≢ q → IsNearestSaddle m side last p s → IsNearestSaddle m side last q u
+  pub IsReachedBelow-apart : (last : List Rank) (p q s u x : Rank) → IsPoint m p → IsPoint m q → Contains last p → Contains last q → p ≢ q → IsNearestSaddle m side last p s → IsNearestSaddle m side last q u
       → IsReachedBelow m side (Some s) p x → IsReachedBelow m side (Some u) q x → ⊥
-  reached-apart last p q s u x point other at_p at_q ne nearest nearest' r r' =
-      let a = reached-joined s p x r in
-      let b = reached-joined u q x r' in
+  IsReachedBelow-apart last p q s u x point other at_p at_q ne nearest nearest' r r' =
+      let a = IsReachedBelow-joined s p x r in
+      let b = IsReachedBelow-joined u q x r' in
       elim (below_by side a.0 b.0) as (λ v. below_by side a.0 b.0 ≡ v → ⊥) [
-        | true ↦ λ e. none-below last q u other nearest' b.0 p at_p ne b.1
+        | true ↦ λ e. IsNearestSaddle-none_below last q u other nearest' b.0 p at_p ne b.1
             (joined_along m side b.0 q x p b.2 (joined_both m side b.0 p x (joined_higher m side a.0 b.0 p x (below-not_above (below_by side) (below_by-order side) a.0 b.0 e) a.2)))
-        | false ↦ λ e. none-below last p s point nearest a.0 q at_q (λ f. ne (sym f)) a.1
+        | false ↦ λ e. IsNearestSaddle-none_below last p s point nearest a.0 q at_q (λ f. ne (sym f)) a.1
             (joined_along m side a.0 p x q a.2 (joined_both m side a.0 q x (joined_higher m side b.0 a.0 q x e b.2)))
       ] refl
 
@@ -74,9 +74,9 @@ module _ (m : Map) (side : SideName) where
     ]
 
     -- what the pit reaches below its nearest saddle it owns
-    pub owns-reached : (x r : Rank) → IsReachedBelow m side (Some s) p x → IsRoot m side x r → owner r ≡ p
-    owns-reached x r reached root =
-        let j = reached-joined s p x reached in
+    pub IsReachedBelow-owned : (x r : Rank) → IsReachedBelow m side (Some s) p x → IsRoot m side x r → owner r ≡ p
+    IsReachedBelow-owned x r reached root =
+        let j = IsReachedBelow-joined s p x reached in
         let t : Rank = j.0 in
         let is : IsPit m side r = root-is_pit m side x r root in
         let pr : JoinedBy m side t p r = root-joined t x r root j.2 in
@@ -84,7 +84,7 @@ module _ (m : Map) (side : SideName) where
           | inl e ↦ e ∙ w.own p at
           | inr own ↦ elim (same_or_not (below_by side) (below_by-order side) (owner r) p) [
             | inl e ↦ e
-            | inr ne ↦ absurd (none-below last p s pit.point nearest t (owner r) (w.kept_owner r is) ne j.1 (joined_along m side t p r (owner r) pr own))
+            | inr ne ↦ absurd (IsNearestSaddle-none_below last p s pit.point nearest t (owner r) (w.kept_owner r is) ne j.1 (joined_along m side t p r (owner r) pr own))
           ]
         ]
 
@@ -95,8 +95,8 @@ pub record AreNearest (m : Map) (side : SideName) (kept : List Kept) : Type 0 wh
   pub nearest : (k : Kept) → Contains kept k → NearestSaddleIs m side (pits_kept kept) k.pit k.nearest
 
 -- those of a pruning are
-pub kept-nearest : (m : Map) (side : SideName) (thousandths : ℕ) (kept : List Kept) → AreKeptAlone m side thousandths kept → AreNearest m side kept
-kept-nearest m side thousandths kept alone =
+pub AreNearest-kept : (m : Map) (side : SideName) (thousandths : ℕ) (kept : List Kept) → AreKeptAlone m side thousandths kept → AreNearest m side kept
+AreNearest-kept m side thousandths kept alone =
     let w = AreOwners-pruned m side thousandths alone.steps alone.last alone.owner alone.pruning in
     let are = alone.are_kept in
     record {
@@ -136,8 +136,8 @@ module _ (m : Map) (side : SideName) (kept : List Kept) (w : AreNearest m side k
       ]
 
   -- no point is reached from two of them
-  pub kept-apart : (i j : ℕ) (x : Rank) → IsReachedBy m side kept i x → IsReachedBy m side kept j x → i ≡ j
-  kept-apart i j x a b =
+  pub IsReachedBy-apart : (i j : ℕ) (x : Rank) → IsReachedBy m side kept i x → IsReachedBy m side kept j x → i ≡ j
+  IsReachedBy-apart i j x a b =
       let p : Rank = a.one.pit in
       let q : Rank = b.one.pit in
       let is : slice_get pits i ≡ Some p = pit-read i a.one a.is_one in
@@ -146,13 +146,13 @@ module _ (m : Map) (side : SideName) (kept : List Kept) (w : AreNearest m side k
       let at_q = pit-listed j q is' in
       elim (same_or_not (below_by side) (below_by-order side) p q) [
         | inl same ↦ pit-once i j q (is ∙ ap Some same) is'
-        | inr ne ↦ absurd (reached-apart m side pits p q a.saddle b.saddle x (w.pits p at_p).point (w.pits q at_q).point at_p at_q ne
+        | inr ne ↦ absurd (IsReachedBelow-apart m side pits p q a.saddle b.saddle x (w.pits p at_p).point (w.pits q at_q).point at_p at_q ne
             (nearest-at i a.one a.is_one a.saddle a.nearest) (nearest-at j b.one b.is_one b.saddle b.nearest) a.below b.below)
       ]
 
   -- what one with this nearest saddle reaches
-  pub reached-below : (n : ℕ) (k : Kept) (s : Rank) → slice_get kept n ≡ Some k → k.nearest ≡ Some s → (x : Rank) → IsReachedBy m side kept n x → IsReachedBelow m side (Some s) k.pit x
-  reached-below n k s is e x r =
+  pub IsReachedBy-below : (n : ℕ) (k : Kept) (s : Rank) → slice_get kept n ≡ Some k → k.nearest ≡ Some s → (x : Rank) → IsReachedBy m side kept n x → IsReachedBelow m side (Some s) k.pit x
+  IsReachedBy-below n k s is e x r =
       let same : r.one ≡ k = same_Some r.one k (sym r.is_one ∙ is) in
       let level : r.saddle ≡ s = same_Some r.saddle s (sym r.nearest ∙ ap (λ (z : Kept). z.nearest) same ∙ e) in
       subst (λ (z : Kept). IsReachedBelow m side (Some s) z.pit x) same (subst (λ (u : Rank). IsReachedBelow m side (Some u) r.one.pit x) level r.below)

@@ -1,7 +1,7 @@
 use Rattle.std.specs.Int.{w128}
 use Rattle.std.proofs.lemmas.Int.{to_z-of_z}
 use Rattle.hd_stats.specs.Gathering.{deviation_by}
-use Rattle.hd_stats.proofs.Deviations.{height-kept, count-kept, total-kept, product-fits, deviation-fits, deviation-small}
+use Rattle.hd_stats.proofs.Deviations.{height-kept, count-kept, total-kept, product-fits, deviation_by-fits, deviation_by-small}
 use Rattle.hd_stats.proofs.heights.deviation.Goals as goal
 
 pub overflow_mul-result : goal.overflow_mul-result
@@ -15,7 +15,7 @@ overflow_sub-result c =
       count-kept _ _ c.requires.count c.from-2.ensures,
       to_z-of_z w128 _ (product-fits c.args.height c.args.sums.now.count c.ranges.height c.requires.count),
       total-kept c.args.sums.now.total c.requires.total,
-    ) (deviation-fits c.args.sums.now c.args.height c.ranges.height c.requires)
+    ) (deviation_by-fits c.args.sums.now c.args.height c.ranges.height c.requires)
 
 pub returns-clause-small : goal.returns-clause-small
 returns-clause-small c =
@@ -24,5 +24,5 @@ returns-clause-small c =
       count-kept _ _ c.requires.count c.from-2.ensures,
       to_z-of_z w128 _ (product-fits c.args.height c.args.sums.now.count c.ranges.height c.requires.count),
       total-kept c.args.sums.now.total c.requires.total,
-      to_z-of_z w128 (deviation_by c.args.sums.now c.args.height) (deviation-fits c.args.sums.now c.args.height c.ranges.height c.requires),
-    ) (deviation-small c.args.sums.now c.args.height c.ranges.height c.requires)
+      to_z-of_z w128 (deviation_by c.args.sums.now c.args.height) (deviation_by-fits c.args.sums.now c.args.height c.ranges.height c.requires),
+    ) (deviation_by-small c.args.sums.now c.args.height c.ranges.height c.requires)

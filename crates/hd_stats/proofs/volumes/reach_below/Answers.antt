@@ -4,14 +4,14 @@ use Rattle.hd_map.specs.declared.types.Size.{Size}
 use Rattle.hd_map.specs.Map.{InGrid, place_of}
 use Rattle.hd_map.proofs.Points.{point_inside}
 use Rattle.hd_prune.specs.declared.step.Kept.{Kept}
-use Rattle.hd_stats.proofs.AreReached.{noted-blank, noted-more, noted-same, pit-low}
-use Rattle.hd_stats.proofs.ReachedByKept.{AreNearest, kept-few, kept-nearest, pit-listed, pit-read}
+use Rattle.hd_stats.proofs.AreReached.{AreBlank-noted, AreReached-more, AreReached-same, rank-pit_low}
+use Rattle.hd_stats.proofs.ReachedByKept.{AreNearest, kept-few, AreNearest-kept, pit-listed, pit-read}
 use Rattle.hd_stats.proofs.volumes.reach_below.Given.{Over}
 use Rattle.hd_stats.proofs.volumes.reach_below.Goals as goal
 use Rattle.hd_stats.proofs.volumes.reach_below.Goals.{Start}
 
 nearest : (g : Over) (c : Start g) → AreNearest (g.G.Heights.map c.args.grid.now) g.S.Side.NAME c.args.kept.now
-nearest g c = kept-nearest (g.G.Heights.map c.args.grid.now) g.S.Side.NAME c.requires.kept.0 c.args.kept.now c.requires.kept.1
+nearest g c = AreNearest-kept (g.G.Heights.map c.args.grid.now) g.S.Side.NAME c.requires.kept.0 c.args.kept.now c.requires.kept.1
 
 -- the kept pit that is read
 abbrev one : (g : Over) → Start g → Kept
@@ -23,7 +23,7 @@ one-is g c = slice_get-get_or c.args.kept.now c.args.number (record { pit = reco
 pub returns-in_default : goal.returns-in_default
 returns-in_default g c =
     let at = (goal.at.returns-in_default g c).Start in
-    noted-same (g.G.Heights.map c.args.grid.now) g.S.Side.NAME (g.met.G.Heights.whole c.args.grid.now) c.args.kept.now (nearest g at) c.args.number c.args.reached.now.items c.requires.reached (one g at) (one-is g at) c.in_default.is
+    AreReached-same (g.G.Heights.map c.args.grid.now) g.S.Side.NAME (g.met.G.Heights.whole c.args.grid.now) c.args.kept.now (nearest g at) c.args.number c.args.reached.now.items c.requires.reached (one g at) (one-is g at) c.in_default.is
 
 pub position_of-from-requires : goal.position_of-from-requires
 position_of-from-requires g c =
@@ -42,22 +42,22 @@ pub flood-requires-clause-start : goal.flood-requires-clause-start
 flood-requires-clause-start g c =
     let m = g.G.Heights.map c.args.grid.now in
     let at = (goal.at.flood-requires-clause-start g c).Start in
-    (pit-low m g.S.Side.NAME c.args.kept.now (nearest g at) c.args.number (one g at) c.in-Some.saddle c.position_of-from.result (one-is g at) c.in-Some.is
+    (rank-pit_low m g.S.Side.NAME c.args.kept.now (nearest g at) c.args.number (one g at) c.in-Some.saddle c.position_of-from.result (one-is g at) c.in-Some.is
     (subst (λ (s : Size). InGrid s c.position_of-from.result) c.size.ensures c.position_of-from.ensures.in_grid) (ap (λ (s : Size). place_of s c.position_of-from.result) (sym c.size.ensures) ∙ c.position_of-from.ensures.place)).1
 
 pub flood-requires-clause-blank : goal.flood-requires-clause-blank
 flood-requires-clause-blank g c =
     let m = g.G.Heights.map c.args.grid.now in
     let at = (goal.at.flood-requires-clause-blank g c).Start in
-    let low = pit-low m g.S.Side.NAME c.args.kept.now (nearest g at) c.args.number (one g at) c.in-Some.saddle c.position_of-from.result (one-is g at) c.in-Some.is
+    let low = rank-pit_low m g.S.Side.NAME c.args.kept.now (nearest g at) c.args.number (one g at) c.in-Some.saddle c.position_of-from.result (one-is g at) c.in-Some.is
     (subst (λ (s : Size). InGrid s c.position_of-from.result) c.size.ensures c.position_of-from.ensures.in_grid) (ap (λ (s : Size). place_of s c.position_of-from.result) (sym c.size.ensures) ∙ c.position_of-from.ensures.place) in
-    noted-blank m g.S.Side.NAME (g.met.G.Heights.whole c.args.grid.now) c.args.kept.now (nearest g at) c.args.number c.args.reached.now.items c.requires.reached (one g at) (one-is g at) c.in-Some.saddle c.in-Some.is c.position_of-from.result low.0 low.1
+    AreBlank-noted m g.S.Side.NAME (g.met.G.Heights.whole c.args.grid.now) c.args.kept.now (nearest g at) c.args.number c.args.reached.now.items c.requires.reached (one g at) (one-is g at) c.in-Some.saddle c.in-Some.is c.position_of-from.result low.0 low.1
 
 pub returns : goal.returns
 returns g c =
     let m = g.G.Heights.map c.args.grid.now in
     let at = (goal.at.returns g c).Start in
-    let low = pit-low m g.S.Side.NAME c.args.kept.now (nearest g at) c.args.number (one g at) c.in-Some.saddle c.position_of-from.result (one-is g at) c.in-Some.is
+    let low = rank-pit_low m g.S.Side.NAME c.args.kept.now (nearest g at) c.args.number (one g at) c.in-Some.saddle c.position_of-from.result (one-is g at) c.in-Some.is
     (subst (λ (s : Size). InGrid s c.position_of-from.result) c.size.ensures c.position_of-from.ensures.in_grid) (ap (λ (s : Size). place_of s c.position_of-from.result) (sym c.size.ensures) ∙ c.position_of-from.ensures.place) in
-    noted-more m g.S.Side.NAME (g.met.G.Heights.whole c.args.grid.now) c.args.kept.now (nearest g at) c.args.number c.args.reached.now.items c.requires.reached (one g at) (one-is g at) c.in-Some.saddle c.in-Some.is c.position_of-from.result low.0 low.1
+    AreReached-more m g.S.Side.NAME (g.met.G.Heights.whole c.args.grid.now) c.args.kept.now (nearest g at) c.args.number c.args.reached.now.items c.requires.reached (one g at) (one-is g at) c.in-Some.saddle c.in-Some.is c.position_of-from.result low.0 low.1
     c.flood.new.marks.items c.in_ok-flood.ensures
