@@ -50,11 +50,11 @@ pub IsNotOfSurface-stop : {T : Type 0} (stop : Stop) (refusal : Refusal) → IsN
 IsNotOfSurface-stop {T} stop refusal other is = IsNotOfSurface-result {T = T} (Err stop) refusal other is
 
 -- what is judged is no fault
-pub HasJudgeStop-no_read_fault : {T : Type 0} (Is : RunOutcome → Type 0) (result : Result T Stop) → IsJudgedAs {T = T} Is result → result ≢ Err ReadFault
-HasJudgeStop-no_read_fault {T} Is result judged e = subst (λ (r : Result T Stop). IsJudgedAs {T = T} Is r) e judged
+pub IsJudgedAs-no_read_fault : {T : Type 0} (Is : RunOutcome → Type 0) (result : Result T Stop) → IsJudgedAs {T = T} Is result → result ≢ Err ReadFault
+IsJudgedAs-no_read_fault {T} Is result judged e = subst (λ (r : Result T Stop). IsJudgedAs {T = T} Is r) e judged
 
-pub HasJudgeStop-no_write_fault : {T : Type 0} (Is : RunOutcome → Type 0) (result : Result T Stop) → IsJudgedAs {T = T} Is result → result ≢ Err WriteFault
-HasJudgeStop-no_write_fault {T} Is result judged e = subst (λ (r : Result T Stop). IsJudgedAs {T = T} Is r) e judged
+pub IsJudgedAs-no_write_fault : {T : Type 0} (Is : RunOutcome → Type 0) (result : Result T Stop) → IsJudgedAs {T = T} Is result → result ≢ Err WriteFault
+IsJudgedAs-no_write_fault {T} Is result judged e = subst (λ (r : Result T Stop). IsJudgedAs {T = T} Is r) e judged
 
 -- the same stop is no read fault, whatever was to be had
 pub ReadFault-moved : {T U : Type 0} (stop : Stop) → ◌≢◌ {A = Result T Stop} (Err stop) (Err ReadFault) → ◌≢◌ {A = Result U Stop} (Err stop) (Err ReadFault)
