@@ -90,8 +90,8 @@ AreBegun-more m kept n seen lines points in_order inside b =
     }
 
 -- none waits yet
-pub begun-flooding : {S : Type 0} (m : Map) (kept : List Kept) (n : ℕ) (seen : List Bool) (lines : List AuditLine) (heap : List (Waiting S)) → length heap ≡ 0 → AreBegun m kept n seen lines → IsFlooding m lines seen heap 0
-begun-flooding m kept n seen lines [] e b = record {
+pub AreBegun-flooding : {S : Type 0} (m : Map) (kept : List Kept) (n : ℕ) (seen : List Bool) (lines : List AuditLine) (heap : List (Waiting S)) → length heap ≡ 0 → AreBegun m kept n seen lines → IsFlooding m lines seen heap 0
+AreBegun-flooding m kept n seen lines [] e b = record {
   whole = b.whole;
   room = (let room = b.room in omega (arith, room));
   listed = b.listed;
@@ -101,19 +101,19 @@ begun-flooding m kept n seen lines [] e b = record {
   waits_seen = λ w h. absurd (let none : h.0 < 0 = h.1 in omega arith);
   closed = λ k less. absurd (omega arith);
 }
-begun-flooding m kept n seen lines (w ∷ heap) e b = absurd (omega (arith, e))
+AreBegun-flooding m kept n seen lines (w ∷ heap) e b = absurd (omega (arith, e))
 
 -- the lines are of present points
-pub begun-points : (m : Map) (kept : List Kept) (seen : List Bool) (lines : List AuditLine) → All (λ (k : Kept). IsPoint m k.pit) kept → AreBegun m kept (length kept) seen lines → (k : ℕ) → k < length lines → IsPointAt m (line_at lines k).index
-begun-points m kept seen lines points b k less =
+pub AreBegun-points : (m : Map) (kept : List Kept) (seen : List Bool) (lines : List AuditLine) → All (λ (k : Kept). IsPoint m k.pit) kept → AreBegun m kept (length kept) seen lines → (k : ℕ) → k < length lines → IsPointAt m (line_at lines k).index
+AreBegun-points m kept seen lines points b k less =
     let many = b.many in
     let inside : k < length kept = omega (arith, less, many) in
     subst (λ (x : AuditLine). IsPointAt m x.index) (sym (b.are k kept-none inside)) (IsPointAt-point m (get_or kept k kept-none).pit (points k kept-none inside))
 
 -- the first lines are as they are shown
-pub begun-shown : (m : Map) (side : SideName) (thousandths : ℕ) (sz : ℤ) (kept : List Kept) (seen : List Bool) (lines : List AuditLine) → All (λ (k : Kept). IsPoint m k.pit) kept → AreBegun m kept (length kept) seen lines
+pub AreBegun-shown : (m : Map) (side : SideName) (thousandths : ℕ) (sz : ℤ) (kept : List Kept) (seen : List Bool) (lines : List AuditLine) → All (λ (k : Kept). IsPoint m k.pit) kept → AreBegun m kept (length kept) seen lines
     → AreShownTo m side thousandths sz (pits_kept kept) lines (length lines)
-begun-shown m side thousandths sz kept seen lines points b =
+AreBegun-shown m side thousandths sz kept seen lines points b =
     let all : length (pits_kept kept) ≡ length kept = length-map kept (λ (k : Kept). k.pit) in
     let many = b.many in
     let is : (k : ℕ) → k < length kept → line_at lines k ≡ kept_line (get_or kept k kept-none) = λ k less. b.are k kept-none less in

@@ -20,7 +20,7 @@ use Rattle.hd_map.proofs.Points.{Near-to, Near-apart}
 use Rattle.hd_map.proofs.Saddles.{saddle-exists, saddle-above_pit}
 use Rattle.hd_map.proofs.Order.{compare, below-apart, below-not_above}
 use Rattle.hd_audit.specs.Rules.{IsWithin}
-use Rattle.hd_audit.proofs.Within.{within-lower, within-higher, within-goes, Reach-first_step, StepsWithin, ReachesWithin, points-from_reach, reach-more, reach-last, reach-point, reach-back, reach-higher}
+use Rattle.hd_audit.proofs.Within.{IsWithin-lower, IsWithin-higher, goes-within, Reach-first_step, StepsWithin, ReachesWithin, ReachesWithin-points, ReachesWithin-more, ReachesWithin-last, ReachesWithin-point, ReachesWithin-back, ReachesWithin-higher}
 
 -- the pits that no pit undercuts
 abbrev pub AreFirm : Map → SideName → ℕ → ℤ → List Rank → Type 0
@@ -49,14 +49,14 @@ module _ (m : Map) (side : SideName) where
           falls Q go stop n y at (omega (arith, less, less')) (go x y q l);
     }) q
 
-    pub lower_neighbours-none : (Q : Rank → Type 0) → ((x y : Rank) → Q x → LowerNeighbour m side x y → Q y) → ((q : Rank) → IsPit m side q → Q q → ⊥) → (x : Rank) → IsPoint m x → Q x → ⊥
-    lower_neighbours-none Q go stop x point q = falls Q go stop (suc (depth_by side x)) x point (omega arith) q
+    pub LowerNeighbour-none : (Q : Rank → Type 0) → ((x y : Rank) → Q x → LowerNeighbour m side x y → Q y) → ((q : Rank) → IsPit m side q → Q q → ⊥) → (x : Rank) → IsPoint m x → Q x → ⊥
+    LowerNeighbour-none Q go stop x point q = falls Q go stop (suc (depth_by side x)) x point (omega arith) q
 
 module _ (m : Map) (side : SideName) (thousandths : ℕ) (sz : ℤ) where
   -- a pit undercuts a higher one that reaches it within its threshold
-  pub undercuts-from_reach : (r q : Rank) → IsPit m side r → IsPit m side q → below_by side q r ≡ true → ReachesWithin m side thousandths sz r r q → Undercuts m side thousandths sz q r
-  undercuts-from_reach r q pit pit' lower reach =
-      let p = points-from_reach m side thousandths sz r reach in
+  pub Undercuts-from_reach : (r q : Rank) → IsPit m side r → IsPit m side q → below_by side q r ≡ true → ReachesWithin m side thousandths sz r r q → Undercuts m side thousandths sz q r
+  Undercuts-from_reach r q pit pit' lower reach =
+      let p = ReachesWithin-points m side thousandths sz r reach in
       let path : IsPath m r p.0 q = record { point = pit.point; leads = p.1 } in
       let s = saddle-exists m side r q p.0 path in
       let up : below_by side r s.0 ≡ true = saddle-above_pit m side r q s.0 pit (λ e. below-apart (below_by side) (below_by-order side) q r lower (sym e)) s.1 in
@@ -71,33 +71,33 @@ module _ (m : Map) (side : SideName) (thousandths : ℕ) (sz : ℤ) where
         lower = lower;
         saddle = s.0;
         is_saddle = s.1;
-        goes_away = within-goes side thousandths sz r s.0 (below-not_above (below_by side) (below_by-order side) r s.0 up) (within-lower side thousandths sz r t.0 s.0 low within);
+        goes_away = goes-within side thousandths sz r s.0 (below-not_above (below_by side) (below_by-order side) r s.0 up) (IsWithin-lower side thousandths sz r t.0 s.0 low within);
       }
 
   -- where a higher pit reaches what a lower one reaches, the lower one is within the higher
   pit-within : (r q x : Rank) → IsPit m side q → below_by side q r ≡ true → ReachesWithin m side thousandths sz r r x → ReachesWithin m side thousandths sz q q x → IsWithin side thousandths sz r q
   pit-within r q x pit lower mine yours = elim (Reach-first_step yours) [
-    | inl e ↦ elim (reach-last m side thousandths sz r mine) [
+    | inl e ↦ elim (ReachesWithin-last m side thousandths sz r mine) [
       | inl same ↦ absurd (below-apart (below_by side) (below_by-order side) q r lower (e ∙ sym same))
       | inr w ↦ subst (IsWithin side thousandths sz r) (sym e) w
     ]
     | inr s ↦
         let z : Rank = s.0 in
-        let w : IsWithin side thousandths sz r z = within-higher side thousandths sz q r z (below-not_above (below_by side) (below_by-order side) q r lower) s.1.1 in
-        within-lower side thousandths sz r z q (below-not_above (below_by side) (below_by-order side) q z (below_by-pit m side q z pit s.1.0)) w
+        let w : IsWithin side thousandths sz r z = IsWithin-higher side thousandths sz q r z (below-not_above (below_by side) (below_by-order side) q r lower) s.1.1 in
+        IsWithin-lower side thousandths sz r z q (below-not_above (below_by side) (below_by-order side) q z (below_by-pit m side q z pit s.1.0)) w
   ]
 
   -- and undercuts it
   undercuts-where_both : (r q x : Rank) → IsPit m side r → IsPit m side q → below_by side q r ≡ true → ReachesWithin m side thousandths sz r r x → ReachesWithin m side thousandths sz q q x → Undercuts m side thousandths sz q r
   undercuts-where_both r q x pit pit' lower mine yours =
       let w = pit-within r q x pit' lower mine yours in
-      let back = reach-back m side thousandths sz r w (reach-higher m side thousandths sz q r (below-not_above (below_by side) (below_by-order side) q r lower) yours) in
-      undercuts-from_reach r q pit pit' lower (reach-trans (StepsWithin m side thousandths sz r) mine back)
+      let back = ReachesWithin-back m side thousandths sz r w (ReachesWithin-higher m side thousandths sz q r (below-not_above (below_by side) (below_by-order side) q r lower) yours) in
+      Undercuts-from_reach r q pit pit' lower (reach-trans (StepsWithin m side thousandths sz r) mine back)
 
   module _ (whole : IsMap m) (kept : List Rank) (firm : AreFirm m side thousandths sz kept) where
     -- no point is reached from two kept pits
-    pub reached-apart : (r q x : Rank) → Contains kept r → Contains kept q → ReachesWithin m side thousandths sz r r x → ReachesWithin m side thousandths sz q q x → r ≡ q
-    reached-apart r q x in_kept in_kept' mine yours =
+    pub ReachesWithin-apart : (r q x : Rank) → Contains kept r → Contains kept q → ReachesWithin m side thousandths sz r r x → ReachesWithin m side thousandths sz q q x → r ≡ q
+    ReachesWithin-apart r q x in_kept in_kept' mine yours =
         let one = (firm r).0 in_kept in
         let other = (firm q).0 in_kept' in
         elim (compare (below_by side) (below_by-order side) r q) [
@@ -109,20 +109,20 @@ module _ (m : Map) (side : SideName) (thousandths : ℕ) (sz : ℤ) where
         ]
 
     -- what a kept pit reaches is not below it
-    pub reached-not_below : (r x : Rank) → Contains kept r → ReachesWithin m side thousandths sz r r x → IsNotAbove (below_by side) r x
-    reached-not_below r x in_kept reach = elim (below_by side x r) as (λ v. below_by side x r ≡ v → v ≡ false) [
+    pub ReachesWithin-not_below : (r x : Rank) → Contains kept r → ReachesWithin m side thousandths sz r r x → IsNotAbove (below_by side) r x
+    ReachesWithin-not_below r x in_kept reach = elim (below_by side x r) as (λ v. below_by side x r ≡ v → v ≡ false) [
       | true ↦ λ e. absurd (
           let one = (firm r).0 in_kept in
-          let w : IsWithin side thousandths sz r x = elim (reach-last m side thousandths sz r reach) [
+          let w : IsWithin side thousandths sz r x = elim (ReachesWithin-last m side thousandths sz r reach) [
             | inl same ↦ absurd (below-apart (below_by side) (below_by-order side) x r e (sym same))
             | inr w ↦ w
           ] in
-          lower_neighbours-none m side whole (λ y. ReachesWithin m side thousandths sz r r y × (below_by side y r ≡ true) × IsWithin side thousandths sz r y)
+          LowerNeighbour-none m side whole (λ y. ReachesWithin m side thousandths sz r r y × (below_by side y r ≡ true) × IsWithin side thousandths sz r y)
           (λ y z q l.
-          let low = within-lower side thousandths sz r y z (below-not_above (below_by side) (below_by-order side) z y l.below) q.2 in
-          (reach-more m side thousandths sz r r y z q.0 l.near low, (below_by-order side).transitive z y r l.below q.1, low))
-          (λ q pit h. one.1 q (undercuts-from_reach r q one.0 pit h.1 h.0))
-          x (reach-point m side thousandths sz r one.0.point reach) (reach, e, w))
+          let low = IsWithin-lower side thousandths sz r y z (below-not_above (below_by side) (below_by-order side) z y l.below) q.2 in
+          (ReachesWithin-more m side thousandths sz r r y z q.0 l.near low, (below_by-order side).transitive z y r l.below q.1, low))
+          (λ q pit h. one.1 q (Undercuts-from_reach r q one.0 pit h.1 h.0))
+          x (ReachesWithin-point m side thousandths sz r one.0.point reach) (reach, e, w))
       | false ↦ λ e. refl
     ] refl
 
@@ -136,5 +136,5 @@ module _ (m : Map) (side : SideName) (thousandths : ℕ) (sz : ℤ) where
     )) q
 
     -- what each pit hands on to those that undercut it, and holds of no kept pit, holds of no pit
-    pub undercuts-none : (Q : Rank → Type 0) → ((p q : Rank) → IsPit m side p → Q p → Undercuts m side thousandths sz q p → Q q) → ((r : Rank) → Contains kept r → Q r → ⊥) → (p : Rank) → IsPit m side p → Q p → ⊥
-    undercuts-none Q go stop p pit q = digs Q go stop (suc (depth_by side p)) p pit (omega arith) q
+    pub Undercuts-none : (Q : Rank → Type 0) → ((p q : Rank) → IsPit m side p → Q p → Undercuts m side thousandths sz q p → Q q) → ((r : Rank) → Contains kept r → Q r → ⊥) → (p : Rank) → IsPit m side p → Q p → ⊥
+    Undercuts-none Q go stop p pit q = digs Q go stop (suc (depth_by side p)) p pit (omega arith) q

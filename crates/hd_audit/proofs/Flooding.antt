@@ -106,8 +106,8 @@ module _ {S : Type 0} (m : Map) where
     rest-in : (v : Waiting S) → Contains rest v → Contains heap v
     rest-in v h = Contains-permutation (w ∷ rest) heap v (IsPermutation-sym heap (w ∷ rest) popped) (Contains-tail w v rest h)
 
-    pub heap-popped : Contains heap w
-    heap-popped = Contains-permutation (w ∷ rest) heap w (IsPermutation-sym heap (w ∷ rest) popped) (Contains-head w rest)
+    pub Contains-popped : Contains heap w
+    Contains-popped = Contains-permutation (w ∷ rest) heap w (IsPermutation-sym heap (w ∷ rest) popped) (Contains-head w rest)
 
     place-old : (k : ℕ) → k < length lines → point_at m (lines ++ x ∷ []) k ≡ point_at m lines k
     place-old k inside = ap (λ (y : AuditLine). position_at m.size y.index) (line_at-push_old lines x k inside)
@@ -122,7 +122,7 @@ module _ {S : Type 0} (m : Map) where
           room = omega (arith, room, longer, shorter);
           listed = λ k before. elim (cases_lt k (length lines)) [
             | inl old ↦ subst (λ (y : AuditLine). seen_at seen y.index ≡ true) (sym (line_at-push_old lines x k old)) (f.listed k old)
-            | inr last ↦ subst (λ (y : AuditLine). seen_at seen y.index ≡ true) (sym (line_at-push_new lines x k (omega (arith, before, last, longer)))) (subst (λ i. seen_at seen i ≡ true) (sym index) (f.waits_seen w heap-popped))
+            | inr last ↦ subst (λ (y : AuditLine). seen_at seen y.index ≡ true) (sym (line_at-push_new lines x k (omega (arith, before, last, longer)))) (subst (λ i. seen_at seen i ≡ true) (sym index) (f.waits_seen w Contains-popped))
           ];
           found = λ i h. elim (f.found i h) [
             | inl l ↦ inl (l.0, (let less = l.1 in omega (arith, less, longer)), ap (λ (y : AuditLine). y.index) (line_at-push_old lines x l.0 l.1) ∙ l.2)

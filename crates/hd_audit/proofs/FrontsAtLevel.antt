@@ -27,11 +27,11 @@ use Rattle.hd_audit.specs.Listing.{AreShownTo}
 use Rattle.hd_audit.specs.LowestFirst.{lowest_first}
 use Rattle.hd_audit.specs.Orders.{AreInOrder}
 use Rattle.hd_audit.specs.Shown.{AreShownLines}
-use Rattle.hd_audit.proofs.AreBegun.{begun-flooding}
+use Rattle.hd_audit.proofs.AreBegun.{AreBegun-flooding}
 use Rattle.hd_audit.proofs.AreFirm.{AreFirm}
 use Rattle.hd_audit.proofs.Flooding.{IsFlooding-list}
 use Rattle.hd_audit.proofs.Lines.{line_at-push_new}
-use Rattle.hd_audit.proofs.NextLines.{all-shown, cut-point, shown-more, top-lowest}
+use Rattle.hd_audit.proofs.NextLines.{AreShownLines-all, IsPointAt-cut, AreShownTo-more, lowest_first-top}
 
 none_ahead : (n i p : ℕ) → ahead_at (replicate n None) i ≡ Some p → ⊥
 none_ahead zero i p e = cc
@@ -53,7 +53,7 @@ pub IsFront-begin : {S : Type 0} (m : Map) (side : SideName) (kept : List Kept) 
     → IsFront m side lines None seen ahead low 0
 IsFront-begin m side kept n seen lines ahead [] blank empty b = record {
   high = [];
-  flooding = begun-flooding m kept n seen lines [] refl b;
+  flooding = AreBegun-flooding m kept n seen lines [] refl b;
   whole = ap length blank ∙ length-replicate {A = Option ℕ} (cell_count m.size) None;
   noted = λ w h. absurd (nothing [] w refl h);
   only = λ k p e. absurd (none_ahead (cell_count m.size) k p (ap (λ (xs : List (Option ℕ)). ahead_at xs k) (sym blank) ∙ e));
@@ -94,7 +94,7 @@ module _ {S : Type 0} (m : Map) (whole : IsMap m) (side : SideName) (thousandths
       let more : IsPermutation heap (w ∷ (rest ++ f.high)) = IsPermutation-append_left f.high low (w ∷ rest) popped in
       let in_low : Contains low w = Contains-permutation (w ∷ rest) low w (IsPermutation-sym low (w ∷ rest) popped) (Contains-head w rest) in
       let least : (v : Waiting S) → Contains heap v → IsNotAbove (below_by side) (rank_of_waiting w) (rank_of_waiting v) = λ v h. elim (Contains-append_cases low f.high v h) [
-        | inl other ↦ top-lowest side low w v upper other
+        | inl other ↦ lowest_first-top side low w v upper other
         | inr high ↦ below-not_above (below_by side) (below_by-order side) (rank_of_waiting w) (rank_of_waiting v) ((below_by-order side).transitive (rank_of_waiting w) level (rank_of_waiting v) (f.under w in_low) (f.over v high))
       ] in
       let t : IsWaiting m lines w = f.flooding.waiting w (Contains-append_left low f.high w in_low) in
@@ -103,8 +103,8 @@ module _ {S : Type 0} (m : Map) (whole : IsMap m) (side : SideName) (thousandths
         before = t.before;
         few = few-listed heap w (rest ++ f.high) f.flooding more;
         is_point = waiting-point m lines w t;
-        cut = λ c e. cut-point m whole side thousandths sz kept firm lines seen heap f.flooding so w.from c t.before e;
-        shown = shown-more m whole side thousandths sz kept firm lines seen heap f.flooding so w (rest ++ f.high) more least;
+        cut = λ c e. IsPointAt-cut m whole side thousandths sz kept firm lines seen heap f.flooding so w.from c t.before e;
+        shown = AreShownTo-more m whole side thousandths sz kept firm lines seen heap f.flooding so w (rest ++ f.high) more least;
         front = record {
           high = f.high;
           flooding = IsFlooding-list m lines seen heap (rest ++ f.high) w line f.flooding more refl;
@@ -164,8 +164,8 @@ module _ {S : Type 0} (m : Map) (whole : IsMap m) (side : SideName) (thousandths
         before = t.before;
         few = few-listed high w rest flooding popped;
         is_point = waiting-point m lines w t;
-        cut = λ c e. cut-point m whole side thousandths sz kept firm lines seen high flooding so w.from c t.before e;
-        shown = shown-more m whole side thousandths sz kept firm lines seen high flooding so w rest popped least;
+        cut = λ c e. IsPointAt-cut m whole side thousandths sz kept firm lines seen high flooding so w.from c t.before e;
+        shown = AreShownTo-more m whole side thousandths sz kept firm lines seen high flooding so w rest popped least;
         front = front;
       }))
 
@@ -179,7 +179,7 @@ module _ {S : Type 0} (m : Map) (whole : IsMap m) (side : SideName) (thousandths
 
   -- where the points up to the last are passed, all are listed
   pub ArePassed-all : (low : List (Waiting S)) (points : List Rank) → IsFrontAt m side lines seen ahead low → AreInOrder m side points → ((j : ℕ) (d : Rank) → j < length points → ArePassed m side ahead (get_or points j d)) → AreShownLines m side thousandths sz kept lines
-  ArePassed-all low points at order passed = all-shown m whole side thousandths sz kept firm lines seen (low ++ at.front.high) at.front.flooding so (λ w h. elim (Contains-append_cases low at.front.high w h) [
+  ArePassed-all low points at order passed = AreShownLines-all m whole side thousandths sz kept firm lines seen (low ++ at.front.high) at.front.flooding so (λ w h. elim (Contains-append_cases low at.front.high w h) [
     | inl inside ↦ nothing low w at.empty inside
     | inr high ↦
         let point = waiting-point m lines w (at.front.flooding.waiting w h) in

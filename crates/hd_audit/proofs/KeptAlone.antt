@@ -19,8 +19,8 @@ use Rattle.hd_audit.proofs.AreFirm.{AreFirm}
 use Rattle.hd_audit.proofs.ShownRight.{kept-in_order}
 
 module _ (m : Map) (whole : IsMap m) (side : SideName) (thousandths : ℕ) (sz : ℤ) (is : SzIs m sz) (kept : List Kept) (alone : AreKeptAlone m side thousandths kept) where
-  pub alone-firm : AreNotUndercut m side thousandths sz kept
-  alone-firm = subst (AreFirm m side thousandths sz) (sym alone.are_kept.pits) (keeps-undercut m side thousandths sz alone.steps alone.last alone.owner whole alone.pruning is)
+  pub AreNotUndercut-kept : AreNotUndercut m side thousandths sz kept
+  AreNotUndercut-kept = subst (AreFirm m side thousandths sz) (sym alone.are_kept.pits) (keeps-undercut m side thousandths sz alone.steps alone.last alone.owner whole alone.pruning is)
 
   pit-of : (k : ℕ) (d : Kept) → k < length kept → get_or (pits_kept kept) k d.pit ≡ (get_or kept k d).pit
   pit-of k d inside = get_or-map (λ (k : Kept). k.pit) kept k d d.pit inside
@@ -29,7 +29,7 @@ module _ (m : Map) (whole : IsMap m) (side : SideName) (thousandths : ℕ) (sz :
   alone-points k d inside =
       let long : length (pits_kept kept) ≡ length kept = length-map kept (λ (k : Kept). k.pit) in
       let at : Contains (pits_kept kept) (get_or kept k d).pit = (k, omega (arith, inside, long), get_or-map (λ (k : Kept). k.pit) kept k d (get_or kept k d).pit inside) in
-      ((alone-firm (get_or kept k d).pit).0 at).0.point
+      ((AreNotUndercut-kept (get_or kept k d).pit).0 at).0.point
 
   pub alone-in_order : AllPairs (λ (a : Kept) (b : Kept). a.pit.index < b.pit.index) kept
   alone-in_order i j d less inside =

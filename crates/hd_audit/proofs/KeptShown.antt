@@ -22,11 +22,11 @@ use Rattle.hd_check.specs.Judged.{TriedFrom}
 use Rattle.hd_audit.specs.declared.types.AuditLine.{AuditLine}
 use Rattle.hd_audit.specs.Lines.{line_at, point_at, rank_at, IsLineOf, IsListed, HasCut, AreParents}
 use Rattle.hd_audit.specs.Rules.{rules_of, IsWithin, IsEarlierNeighbour, IsKeptPit, IsCutOf, IsChainWithin}
-use Rattle.hd_audit.proofs.Within.{within-lower, ReachesWithin, reach-back, reach-higher, reach-point}
-use Rattle.hd_audit.proofs.AreFirm.{AreFirm, undercuts-from_reach}
+use Rattle.hd_audit.proofs.Within.{IsWithin-lower, ReachesWithin, ReachesWithin-back, ReachesWithin-higher, ReachesWithin-point}
+use Rattle.hd_audit.proofs.AreFirm.{AreFirm, Undercuts-from_reach}
 use Rattle.hd_audit.proofs.ShownLines.{rank_at-index}
 use Rattle.hd_audit.proofs.IsPointAt.{IsPointAt-point}
-use Rattle.hd_audit.proofs.ShownChains.{undercut-within}
+use Rattle.hd_audit.proofs.ShownChains.{Undercuts-within}
 
 -- the place of a line in the list
 line-place : (lines : List AuditLine) (x : AuditLine) → Contains lines x → (k : ℕ) × (k < length lines) × (line_at lines k ≡ x)
@@ -95,7 +95,7 @@ module _ (m : Map) (whole : IsMap m) (side : SideName) (thousandths : ℕ) (sz :
       let root : Rank = rank_at m x.index in
       let own = root-pit x at none in
       let has : HasCut lines (rank_at m x.index).index x.index = (x, record { listed = at; index = sym (index-back x.index) }, own.own) in
-      let point = reach-point m side thousandths sz root own.pit.point reach in
+      let point = ReachesWithin-point m side thousandths sz root own.pit.point reach in
       elim (below_by side q root) as (λ v. below_by side q root ≡ v → v ≡ false) [
         | true ↦ λ e. absurd (cut-along x.index reach has (λ h.
             let low : below_by side q root ≡ false = subst (λ (z : Rank). IsNotAbove (below_by side) root z) (rank_at-index m q point) (cut-not_below q.index x.index h) in
@@ -134,7 +134,7 @@ module _ (m : Map) (whole : IsMap m) (side : SideName) (thousandths : ℕ) (sz :
         (firm root).1 (
           (root-pit x at none).pit,
           λ q under.
-              let low = root-lowest x at none q (undercut-within m whole side thousandths sz kept firm root root q (not_above-refl (below_by side) (below_by-order side) root) under) in
+              let low = root-lowest x at none q (Undercuts-within m whole side thousandths sz kept firm root root q (not_above-refl (below_by side) (below_by-order side) root) under) in
               false≢true (sym low ∙ under.lower),
         )
 
@@ -146,15 +146,15 @@ module _ (m : Map) (whole : IsMap m) (side : SideName) (thousandths : ℕ) (sz :
           let pit = ((firm p).0 at).0 in
           let W : Rank → Type 0 = IsWithin side thousandths sz p in
           let all : All W (map (rank_at m) (i ∷ h.chain)) =
-          All-weaker (λ z. IsNotAbove (below_by side) z h.top) W (λ z low. within-lower side thousandths sz p h.top z low h.within) (map (rank_at m) (i ∷ h.chain)) h.is_top.none_above in
+          All-weaker (λ z. IsNotAbove (below_by side) z h.top) W (λ z low. IsWithin-lower side thousandths sz p h.top z low h.within) (map (rank_at m) (i ∷ h.chain)) h.is_top.none_above in
           let end = chain_end p i h.chain h.are_parents (All-tail W p (map (rank_at m) h.chain) all) in
           let root : Rank = rank_at m end.root.index in
           elim (compare (below_by side) (below_by-order side) root p) [
-            | inl lower ↦ ((firm p).0 at).1 root (undercuts-from_reach m side thousandths sz p root pit (root-pit end.root end.listed end.none).pit lower end.reached)
+            | inl lower ↦ ((firm p).0 at).1 root (Undercuts-from_reach m side thousandths sz p root pit (root-pit end.root end.listed end.none).pit lower end.reached)
             | inr rest ↦ elim rest [
               | inl lower ↦
-                  let back = reach-back m side thousandths sz p (All-head W p (map (rank_at m) h.chain) all) end.reached in
-                  let low = root-lowest end.root end.listed end.none p (reach-higher m side thousandths sz p root (below-not_above (below_by side) (below_by-order side) p root lower) back) in
+                  let back = ReachesWithin-back m side thousandths sz p (All-head W p (map (rank_at m) h.chain) all) end.reached in
+                  let low = root-lowest end.root end.listed end.none p (ReachesWithin-higher m side thousandths sz p root (below-not_above (below_by side) (below_by-order side) p root lower) back) in
                   false≢true (sym low ∙ lower)
               | inr same ↦
                   let index : end.root.index ≡ i = sym (index-back end.root.index) ∙ ap (λ (r : Rank). r.index) same ∙ index-back i in

@@ -26,8 +26,8 @@ use Rattle.hd_audit.specs.LowestFirst.{lowest_first}
 use Rattle.hd_audit.specs.Rules.{IsWithin, rise_over}
 use Rattle.hd_audit.specs.Shown.{AreShownLines, CutIs, IsNextTo, IsReachedLine}
 use Rattle.hd_audit.proofs.AreFirm.{AreFirm}
-use Rattle.hd_audit.proofs.Flooding.{heap-popped}
-use Rattle.hd_audit.proofs.ShownLines.{kept-moved, next_to-moved, rank_at-index, reached-moved}
+use Rattle.hd_audit.proofs.Flooding.{Contains-popped}
+use Rattle.hd_audit.proofs.ShownLines.{IsKeptLine-moved, IsNextTo-moved, rank_at-index, IsReachedLine-moved}
 use Rattle.hd_audit.proofs.Lines.{line_at-push_old, line_at-push_new}
 use Rattle.hd_audit.proofs.CutIs.{CutIs-same, CutIs-left, CutIs-none}
 use Rattle.hd_audit.proofs.IsPointAt.{IsPointAt-point}
@@ -37,9 +37,9 @@ not_lower true b e = cc
 not_lower false b e = refl
 
 -- none that waits is below the top of the heap
-pub top-lowest : {S : Type 0} (side : SideName) (heap : List (Waiting S)) (w v : Waiting S) → IsUpperBound (λ (x : Waiting S) (y : Waiting S). lowest_first (below_by side) (rank_of_waiting x) (rank_of_waiting y)) w heap → Contains heap v
+pub lowest_first-top : {S : Type 0} (side : SideName) (heap : List (Waiting S)) (w v : Waiting S) → IsUpperBound (λ (x : Waiting S) (y : Waiting S). lowest_first (below_by side) (rank_of_waiting x) (rank_of_waiting y)) w heap → Contains heap v
     → IsNotAbove (below_by side) (rank_of_waiting w) (rank_of_waiting v)
-top-lowest {S} side heap w v upper at =
+lowest_first-top {S} side heap w v upper at =
     let a = All-contains (λ (y : Waiting S). is_lt (lowest_first (below_by side) (rank_of_waiting w) (rank_of_waiting y)) ≡ false) heap v (All-from_recursion _ heap upper) at in
     not_lower (below_by side (rank_of_waiting v) (rank_of_waiting w)) (below_by side (rank_of_waiting w) (rank_of_waiting v)) a
 
@@ -53,14 +53,14 @@ next_cut-cases m side thousandths sz kept x c false e within outside = outside (
 module _ {S : Type 0} (m : Map) (whole : IsMap m) (side : SideName) (thousandths : ℕ) (sz : ℤ) (kept : List Rank) (firm : AreFirm m side thousandths sz kept)
     (lines : List AuditLine) (seen : List Bool) (heap : List (Waiting S)) (f : IsFlooding m lines seen heap (length lines)) (so : AreShownTo m side thousandths sz kept lines (length lines)) where
   -- the index of a cut is that of a present point
-  pub cut-point : (j c : ℕ) → j < length lines → (line_at lines j).cut ≡ Some c → IsPointAt m c
-  cut-point j c before e =
+  pub IsPointAt-cut : (j c : ℕ) → j < length lines → (line_at lines j).cut ≡ Some c → IsPointAt m c
+  IsPointAt-cut j c before e =
       let h : CutIs m side thousandths sz kept (rank_at m (line_at lines j).index) (Some c) = subst (λ o. CutIs m side thousandths sz kept (rank_at m (line_at lines j).index) o) e (so.cuts j before) in
       subst (IsPointAt m) h.2 (IsPointAt-point m h.0 ((firm h.0).0 h.1).0.point)
 
   -- where none waits all is listed
-  pub all-shown : ((w : Waiting S) → Contains heap w → ⊥) → AreShownLines m side thousandths sz kept lines
-  all-shown none = record {
+  pub AreShownLines-all : ((w : Waiting S) → Contains heap w → ⊥) → AreShownLines m side thousandths sz kept lines
+  AreShownLines-all none = record {
     enough = so.enough;
     pits = so.pits;
     others = so.others;
@@ -76,11 +76,11 @@ module _ {S : Type 0} (m : Map) (whole : IsMap m) (side : SideName) (thousandths
     abbrev line : AuditLine
     line = next_line m side thousandths sz (line_at lines w.from) (rank_of_waiting w)
 
-    pub top-waits : IsWaiting m lines w
-    top-waits = f.waiting w (heap-popped m lines seen heap rest w line f popped refl)
+    pub IsWaiting-top : IsWaiting m lines w
+    IsWaiting-top = f.waiting w (Contains-popped m lines seen heap rest w line f popped refl)
 
-    pub top-point : IsPoint m (rank_of_waiting w)
-    top-point = let t = top-waits in record { at = t.point; present = t.neighbour.from; rank_is = t.rank_is }
+    pub IsWaiting-point : IsPoint m (rank_of_waiting w)
+    IsWaiting-point = let t = IsWaiting-top in record { at = t.point; present = t.neighbour.from; rank_is = t.rank_is }
 
     same : (i : ℕ) → i < length lines → line_at (lines ++ line ∷ []) i ≡ line_at lines i
     same i less = line_at-push_old lines line i less
@@ -105,7 +105,7 @@ module _ {S : Type 0} (m : Map) (whole : IsMap m) (side : SideName) (thousandths
 
     reached : IsReachedLine m side thousandths sz kept (lines ++ line ∷ []) (length lines)
     reached =
-        let t = top-waits in
+        let t = IsWaiting-top in
         let parent : point_at m (lines ++ line ∷ []) w.from ≡ point_at m lines w.from = ap (λ (x : AuditLine). position_at m.size x.index) (same w.from t.before) in
         record {
           point = t.point;
@@ -116,7 +116,7 @@ module _ {S : Type 0} (m : Map) (whole : IsMap m) (side : SideName) (thousandths
             before = t.before;
             neighbour = subst (λ (p : Pos). Neighbour m t.point p) (sym parent) t.neighbour;
           };
-          lowest = λ q next. lowest t q (next_to-moved m side thousandths sz kept (lines ++ line ∷ []) lines (length lines) back (length lines) q (omega arith) next);
+          lowest = λ q next. lowest t q (IsNextTo-moved m side thousandths sz kept (lines ++ line ∷ []) lines (length lines) back (length lines) q (omega arith) next);
           parent = ap (λ (x : AuditLine). x.parent) here ∙ ap (λ (x : AuditLine). Some x.index) (sym (same w.from t.before));
           first = λ i less near. t.first i less (subst (λ (p : Pos). Neighbour m t.point p) (ap (λ (x : AuditLine). position_at m.size x.index) (same i (let before = t.before in omega arith))) near);
         }
@@ -132,17 +132,17 @@ module _ {S : Type 0} (m : Map) (whole : IsMap m) (side : SideName) (thousandths
         (CutIs-left m whole side thousandths sz kept firm lines (length lines) so t.point w.from t.before t.neighbour unlisted c h)
 
     -- with its line the lines are as they are shown
-    pub shown-more : AreShownTo m side thousandths sz kept (lines ++ line ∷ []) (length (lines ++ line ∷ []))
-    shown-more =
+    pub AreShownTo-more : AreShownTo m side thousandths sz kept (lines ++ line ∷ []) (length (lines ++ line ∷ []))
+    AreShownTo-more =
         let longer = length_push lines line in
         let enough = so.enough in
-        let t = top-waits in
+        let t = IsWaiting-top in
         record {
           enough = omega (arith, longer, enough);
-          pits = λ k less. kept-moved m side thousandths sz kept lines (lines ++ line ∷ []) (length lines) same k (omega (arith, less, enough)) (so.pits k less);
+          pits = λ k less. IsKeptLine-moved m side thousandths sz kept lines (lines ++ line ∷ []) (length lines) same k (omega (arith, less, enough)) (so.pits k less);
           others = λ k above less. elim (cases_lt k (length lines)) [
-            | inl old ↦ reached-moved m side thousandths sz kept lines (lines ++ line ∷ []) (length lines) same k old
-                (λ q next. next_to-moved m side thousandths sz kept (lines ++ line ∷ []) lines (length lines) back k q (omega (arith, old)) next) (so.others k above old)
+            | inl old ↦ IsReachedLine-moved m side thousandths sz kept lines (lines ++ line ∷ []) (length lines) same k old
+                (λ q next. IsNextTo-moved m side thousandths sz kept (lines ++ line ∷ []) lines (length lines) back k q (omega (arith, old)) next) (so.others k above old)
             | inr last ↦ subst (λ i. IsReachedLine m side thousandths sz kept (lines ++ line ∷ []) i) (let e : length lines ≡ k = omega (arith, less, last, longer) in e) reached
           ];
           cuts = λ k less. elim (cases_lt k (length lines)) [
@@ -151,7 +151,7 @@ module _ {S : Type 0} (m : Map) (whole : IsMap m) (side : SideName) (thousandths
                 let e : length lines ≡ k = omega (arith, less, last, longer) in
                 let cut = cut-right t (line_at lines w.from).cut (so.cuts w.from t.before) in
                 let own : CutIs m side thousandths sz kept (rank_of_waiting w) line.cut = subst (λ (r : Rank). CutIs m side thousandths sz kept r (next_cut m side thousandths sz (line_at lines w.from).cut r)) (sym t.rank_is) cut in
-                let there : CutIs m side thousandths sz kept (rank_at m line.index) line.cut = subst (λ (r : Rank). CutIs m side thousandths sz kept r line.cut) (sym (rank_at-index m (rank_of_waiting w) top-point)) own in
+                let there : CutIs m side thousandths sz kept (rank_at m line.index) line.cut = subst (λ (r : Rank). CutIs m side thousandths sz kept r line.cut) (sym (rank_at-index m (rank_of_waiting w) IsWaiting-point)) own in
                 subst (λ (x : AuditLine). CutIs m side thousandths sz kept (rank_at m x.index) x.cut) (sym (ap (line_at (lines ++ line ∷ [])) (sym e) ∙ here)) there
           ];
         }

@@ -25,10 +25,10 @@ use Rattle.hd_audit.specs.Lines.{line_at, point_at, rank_at}
 use Rattle.hd_audit.specs.Rules.{IsTried, IsRight}
 use Rattle.hd_audit.specs.Shown.{AreShownLines, CutIs, IsShown}
 use Rattle.hd_audit.proofs.AreFirm.{AreFirm}
-use Rattle.hd_audit.proofs.ShownLines.{next_to-moved}
+use Rattle.hd_audit.proofs.ShownLines.{IsNextTo-moved}
 use Rattle.hd_audit.proofs.CutIs.{rank-none, CutIs-unique}
-use Rattle.hd_audit.proofs.ShownRules.{IsNewPoint-shown, index-listed, parent-earlier, kept-is_pit, cut-of_kept, IsLeak-none}
-use Rattle.hd_audit.proofs.ShownChains.{chains-within}
+use Rattle.hd_audit.proofs.ShownRules.{IsNewPoint-shown, IsListed-present, IsEarlierNeighbour-shown, IsKeptPit-shown, IsCutOf-shown, IsLeak-none}
+use Rattle.hd_audit.proofs.ShownChains.{IsChainWithin-shown}
 
 -- what is left keeps the order of the pits
 left-in_order : {m : Map} {side : SideName} {thousandths : ℕ} {sz : ℤ} {kept last : List Rank} {owner ends : Rank → Rank} {steps : List Leaving} → Prunes m side thousandths sz kept owner steps last ends
@@ -38,8 +38,8 @@ left-in_order {side = side} {kept = kept} (goes_on {x = x} step rest) h = left-i
 
 module _ (m : Map) (whole : IsMap m) (side : SideName) (thousandths : ℕ) (steps : List Leaving) (last : List Rank) (owner : Rank → Rank) (pruning : IsPruning m side thousandths steps last owner) where
   -- the kept pits are those that none undercuts
-  pub kept-firm : AreFirm m side thousandths pruning.sz last
-  kept-firm = keeps-undercut m side thousandths pruning.sz steps last owner whole pruning pruning.sz_is
+  pub AreFirm-kept : AreFirm m side thousandths pruning.sz last
+  AreFirm-kept = keeps-undercut m side thousandths pruning.sz steps last owner whole pruning pruning.sz_is
 
   -- and stand in order
   pub kept-in_order : AllPairs (λ (a : Rank) (b : Rank). a.index < b.index) last
@@ -48,7 +48,7 @@ module _ (m : Map) (whole : IsMap m) (side : SideName) (thousandths : ℕ) (step
 rules : (m : Map) (a : Audit) → IsMap m → IsShown m a.side a.percent a → IsTried m a Yes
 rules m a whole h =
     let sz = h.pruning.sz in
-    let firm = kept-firm m whole a.side a.percent.thousandths h.steps h.last h.owner h.pruning in
+    let firm = AreFirm-kept m whole a.side a.percent.thousandths h.steps h.last h.owner h.pruning in
     let rises = kept-in_order m whole a.side a.percent.thousandths h.steps h.last h.owner h.pruning in
     let t = a.percent.thousandths in
     record {
@@ -57,16 +57,16 @@ rules m a whole h =
       tried = (
         IsNewPoint-shown m whole a.side t sz h.last firm rises a.lines h.lines,
         (
-          index-listed m whole a.side t sz h.last firm rises a.lines h.lines,
+          IsListed-present m whole a.side t sz h.last firm rises a.lines h.lines,
           (
-            parent-earlier m whole a.side t sz h.last firm rises a.lines h.lines,
+            IsEarlierNeighbour-shown m whole a.side t sz h.last firm rises a.lines h.lines,
             (
-              kept-is_pit m whole a.side t sz h.last firm rises a.lines h.lines,
+              IsKeptPit-shown m whole a.side t sz h.last firm rises a.lines h.lines,
               (
-                cut-of_kept m whole a.side t sz h.last firm rises a.lines h.lines,
+                IsCutOf-shown m whole a.side t sz h.last firm rises a.lines h.lines,
                 (
                   IsLeak-none m whole a.side t sz h.last firm rises a.lines h.lines,
-                  (chains-within m whole a.side t sz h.last firm rises a.lines h.lines, tt),
+                  (IsChainWithin-shown m whole a.side t sz h.last firm rises a.lines h.lines, tt),
                 ),
               ),
             ),
@@ -76,8 +76,8 @@ rules m a whole h =
     }
 
 -- a shown certificate is right
-pub right-from_shown : (m : Map) (side : SideName) (percent : Percent) (a : Audit) → IsMap m → IsShown m side percent a → IsRight m a
-right-from_shown m side percent a whole h =
+pub IsRight-shown : (m : Map) (side : SideName) (percent : Percent) (a : Audit) → IsMap m → IsShown m side percent a → IsRight m a
+IsRight-shown m side percent a whole h =
     let own : IsShown m a.side a.percent a = subst (λ (s : SideName). IsShown m s a.percent a) (sym h.side_is) (subst (λ (p : Percent). IsShown m side p a) (sym h.percent_is) h) in
     subst (λ (d : Adjacency). IsTried (under d m) a Yes) (sym h.adjacency_is) (rules m a whole own)
 
@@ -100,8 +100,8 @@ module _ (m : Map) (whole : IsMap m) (side : SideName) (thousandths : ℕ) (sz :
           let a = one.others k more in_xs in
           let b = other.others k more in_ys in
           let back : (i : ℕ) → i < k → line_at xs i ≡ line_at ys i = λ i less. sym (same i less) in
-          let low = b.lowest a.point (next_to-moved m side thousandths sz kept xs ys k same k a.point (omega arith) a.next_to) in
-          let low' = a.lowest b.point (next_to-moved m side thousandths sz kept ys xs k back k b.point (omega arith) b.next_to) in
+          let low = b.lowest a.point (IsNextTo-moved m side thousandths sz kept xs ys k same k a.point (omega arith) a.next_to) in
+          let low' = a.lowest b.point (IsNextTo-moved m side thousandths sz kept ys xs k back k b.point (omega arith) b.next_to) in
           let ranks : rank m b.point ≡ rank m a.point = (below_by-order side).total (rank m b.point) (rank m a.point) low' low in
           let points : b.point ≡ a.point = same_point m b.point a.point b.next_to.neighbour.from a.next_to.neighbour.from ranks in
           let i : ℕ = a.next_to.listed in
@@ -141,11 +141,11 @@ module _ (m : Map) (whole : IsMap m) (side : SideName) (thousandths : ℕ) (sz :
     not_longer less =
         let same = agree_to (length xs) (omega arith) (omega arith) in
         let line = other.others (length xs) one.enough less in
-        one.all line.point (next_to-moved m side thousandths sz kept ys xs (length xs) (λ i before. sym (same i before)) (length xs) line.point (omega arith) line.next_to)
+        one.all line.point (IsNextTo-moved m side thousandths sz kept ys xs (length xs) (λ i before. sym (same i before)) (length xs) line.point (omega arith) line.next_to)
 
   -- two shown certificates have the same lines
-  pub lines-same : (xs ys : List AuditLine) → AreShownLines m side thousandths sz kept xs → AreShownLines m side thousandths sz kept ys → xs ≡ ys
-  lines-same xs ys one other =
+  pub AreShownLines-unique : (xs ys : List AuditLine) → AreShownLines m side thousandths sz kept xs → AreShownLines m side thousandths sz kept ys → xs ≡ ys
+  AreShownLines-unique xs ys one other =
       let longs : length xs ≡ length ys = elim (cases_lt (length xs) (length ys)) [
         | inl less ↦ absurd (not_longer xs ys one other less)
         | inr le ↦ elim (cases_lt (length ys) (length xs)) [ inl less ↦ absurd (not_longer ys xs other one less) | inr ge ↦ omega arith ]
@@ -159,11 +159,11 @@ same_audit a b p q r s = audit a.side b.side a.percent b.percent a.adjacency b.a
     audit i j p q c d xs ys e f g h = cc
 
 -- a map has one shown certificate of a side and a percent
-pub shown-unique : (m : Map) (side : SideName) (percent : Percent) (a b : Audit) → IsMap m → IsShown m side percent a → IsShown m side percent b → a ≡ b
-shown-unique m side percent a b whole h k =
+pub IsShown-unique : (m : Map) (side : SideName) (percent : Percent) (a b : Audit) → IsMap m → IsShown m side percent a → IsShown m side percent b → a ≡ b
+IsShown-unique m side percent a b whole h k =
     let t = percent.thousandths in
     let sz : k.pruning.sz ≡ h.pruning.sz = sz-unique m k.pruning.sz h.pruning.sz k.pruning.sz_is h.pruning.sz_is in
     let last : k.last ≡ h.last = (pruning-unique m side t k.steps h.steps k.last h.last k.owner h.owner k.pruning h.pruning).1 in
-    let firm = kept-firm m whole side t h.steps h.last h.owner h.pruning in
+    let firm = AreFirm-kept m whole side t h.steps h.last h.owner h.pruning in
     let other : AreShownLines m side t h.pruning.sz h.last b.lines = subst (λ z. AreShownLines m side t z h.last b.lines) sz (subst (λ (ls : List Rank). AreShownLines m side t k.pruning.sz ls b.lines) last k.lines) in
-    same_audit a b (h.side_is ∙ sym k.side_is) (h.percent_is ∙ sym k.percent_is) (h.adjacency_is ∙ sym k.adjacency_is) (lines-same m whole side t h.pruning.sz h.last firm a.lines b.lines h.lines other)
+    same_audit a b (h.side_is ∙ sym k.side_is) (h.percent_is ∙ sym k.percent_is) (h.adjacency_is ∙ sym k.adjacency_is) (AreShownLines-unique m whole side t h.pruning.sz h.last firm a.lines b.lines h.lines other)

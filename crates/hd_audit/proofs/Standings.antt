@@ -21,18 +21,18 @@ use Rattle.hd_audit.specs.Orders.{AreInOrder}
 use Rattle.hd_audit.specs.Standings.{AreStanding, AreStandingTo, Stands, is_seen, passed, seen_of, standing_at}
 
 -- what is seen is so by index
-pub seen-is : (standings : List Standing) (i : ℕ) → seen_at (seen_of standings) i ≡ is_seen (standing_at standings i)
-seen-is [] i = refl
-seen-is (s ∷ standings) zero = refl
-seen-is (s ∷ standings) (suc i) = seen-is standings i
+pub seen_of-standing : (standings : List Standing) (i : ℕ) → seen_at (seen_of standings) i ≡ is_seen (standing_at standings i)
+seen_of-standing [] i = refl
+seen_of-standing (s ∷ standings) zero = refl
+seen_of-standing (s ∷ standings) (suc i) = seen_of-standing standings i
 
-pub none-seen : (n : ℕ) → seen_of (replicate n Absent) ≡ replicate n false
-none-seen zero = refl
-none-seen (suc n) = ap (λ (xs : List Bool). false ∷ xs) (none-seen n)
+pub seen_of-none : (n : ℕ) → seen_of (replicate n Absent) ≡ replicate n false
+seen_of-none zero = refl
+seen_of-none (suc n) = ap (λ (xs : List Bool). false ∷ xs) (seen_of-none n)
 
 -- what is marked as seen stands no more to the level
-pub standing-seen : (m : Map) (side : SideName) (level : Option Rank) (standings : List Standing) (i : ℕ) → AreStanding m side level standings → AreStanding m side level (set standings i Seen)
-standing-seen m side level standings i are = record {
+pub AreStanding-seen : (m : Map) (side : SideName) (level : Option Rank) (standings : List Standing) (i : ℕ) → AreStanding m side level standings → AreStanding m side level (set standings i Seen)
+AreStanding-seen m side level standings i are = record {
   whole = length-set standings i Seen ∙ are.whole;
   each = λ q inside. elim (cases_eq (place_of m.size q) i) [
     | inl here ↦
@@ -45,22 +45,22 @@ standing-seen m side level standings i are = record {
 }
 
 -- an unseen point over the level is noted
-pub offered-over : {S : Type 0} (m : Map) (side : SideName) (at : Pos) (from : ℕ) (level : Option Rank) (standings : List Standing) (ahead : List (Option ℕ)) (low : List (Waiting S)) → InGrid m.size at → AreStanding m side level standings → standing_at standings (place_of m.size at) ≡ Over
+pub OffersIfPresent-over : {S : Type 0} (m : Map) (side : SideName) (at : Pos) (from : ℕ) (level : Option Rank) (standings : List Standing) (ahead : List (Option ℕ)) (low : List (Waiting S)) → InGrid m.size at → AreStanding m side level standings → standing_at standings (place_of m.size at) ≡ Over
     → OffersIfPresent m side at from level (seen_of standings) ahead low (seen_of (set standings (place_of m.size at) Seen)) (set ahead (place_of m.size at) (Some from)) low
-offered-over m side at from level standings ahead low inside are is =
+OffersIfPresent-over m side at from level standings ahead low inside are is =
     let s : Stands m side level at Over = subst (Stands m side level at) is (are.each at inside) in
-    inl (s.0, inr (seen-is standings (place_of m.size at) ∙ ap is_seen is, map-set is_seen standings (place_of m.size at) Seen, inr (s.1, refl, refl)))
+    inl (s.0, inr (seen_of-standing standings (place_of m.size at) ∙ ap is_seen is, map-set is_seen standings (place_of m.size at) Seen, inr (s.1, refl, refl)))
 
 -- one below it is put into the heap
-pub offered-under : {S : Type 0} (m : Map) (side : SideName) (at : Pos) (from : ℕ) (level : Option Rank) (standings : List Standing) (ahead : List (Option ℕ)) (low low' : List (Waiting S)) → InGrid m.size at → AreStanding m side level standings → standing_at standings (place_of m.size at) ≡ Under
+pub OffersIfPresent-under : {S : Type 0} (m : Map) (side : SideName) (at : Pos) (from : ℕ) (level : Option Rank) (standings : List Standing) (ahead : List (Option ℕ)) (low low' : List (Waiting S)) → InGrid m.size at → AreStanding m side level standings → standing_at standings (place_of m.size at) ≡ Under
     → Adds m at from low low' → OffersIfPresent m side at from level (seen_of standings) ahead low (seen_of (set standings (place_of m.size at) Seen)) ahead low'
-offered-under m side at from level standings ahead low low' inside are is adds =
+OffersIfPresent-under m side at from level standings ahead low low' inside are is adds =
     let s : Stands m side level at Under = subst (Stands m side level at) is (are.each at inside) in
-    inl (s.0, inr (seen-is standings (place_of m.size at) ∙ ap is_seen is, map-set is_seen standings (place_of m.size at) Seen, inl (s.1, refl, adds)))
+    inl (s.0, inr (seen_of-standing standings (place_of m.size at) ∙ ap is_seen is, map-set is_seen standings (place_of m.size at) Seen, inl (s.1, refl, adds)))
 
 -- where a point stands below the level it is present
-pub present-under : (m : Map) (side : SideName) (level : Option Rank) (standings : List Standing) (at : Pos) → InGrid m.size at → AreStanding m side level standings → standing_at standings (place_of m.size at) ≡ Under → Present m at
-present-under m side level standings at inside are is = (subst (Stands m side level at) is (are.each at inside)).0
+pub Present-under : (m : Map) (side : SideName) (level : Option Rank) (standings : List Standing) (at : Pos) → InGrid m.size at → AreStanding m side level standings → standing_at standings (place_of m.size at) ≡ Under → Present m at
+Present-under m side level standings at inside are is = (subst (Stands m side level at) is (are.each at inside)).0
 
 none-stands : (n i : ℕ) → standing_at (replicate n Absent) i ≡ Absent
 none-stands zero i = refl
@@ -68,10 +68,10 @@ none-stands (suc n) zero = refl
 none-stands (suc n) (suc i) = none-stands n i
 
 -- none is asked for yet
-pub standing-none : (m : Map) (standings : List Standing) → standings ≡ replicate (cell_count m.size) Absent → AreStandingTo m 0 standings
-standing-none m standings blank = record {
+pub AreStandingTo-none : (m : Map) (standings : List Standing) → standings ≡ replicate (cell_count m.size) Absent → AreStandingTo m 0 standings
+AreStandingTo-none m standings blank = record {
   whole = ap length blank ∙ length-replicate {A = Standing} (cell_count m.size) Absent;
-  blank = ap seen_of blank ∙ none-seen (cell_count m.size);
+  blank = ap seen_of blank ∙ seen_of-none (cell_count m.size);
   each = λ q inside less. absurd (omega (arith, less));
   rest = λ i from. ap (λ xs. standing_at xs i) blank ∙ none-stands (cell_count m.size) i;
 }
@@ -81,8 +81,8 @@ module _ (m : Map) (n : ℕ) (standings : List Standing) (inside : n < cell_coun
   stands-at q here e = sym (position_at-of m.size q here) ∙ ap (position_at m.size) e
 
   -- a present point is over the level
-  pub standing-present : Present m (position_at m.size n) → AreStandingTo m (n + 1) (set standings n Over)
-  standing-present present = record {
+  pub AreStandingTo-present : Present m (position_at m.size n) → AreStandingTo m (n + 1) (set standings n Over)
+  AreStandingTo-present present = record {
     whole = length-set standings n Over ∙ are.whole;
     blank = map-set_same is_seen standings n Over Absent (sym (ap is_seen (are.rest n (omega arith)))) ∙ are.blank;
     each = λ q here less. elim (cases_eq (place_of m.size q) n) [
@@ -93,8 +93,8 @@ module _ (m : Map) (n : ℕ) (standings : List Standing) (inside : n < cell_coun
   }
 
   -- where none is present it stays so
-  pub standing-absent : (Present m (position_at m.size n) → ⊥) → AreStandingTo m (n + 1) standings
-  standing-absent absent = record {
+  pub AreStandingTo-absent : (Present m (position_at m.size n) → ⊥) → AreStandingTo m (n + 1) standings
+  AreStandingTo-absent absent = record {
     whole = are.whole;
     blank = are.blank;
     each = λ q here less. elim (cases_eq (place_of m.size q) n) [
@@ -111,8 +111,8 @@ passed-seen Under = refl
 passed-seen Seen = refl
 
 -- the level changes nothing of what is seen
-pub pass-seen : (standings : List Standing) (i : ℕ) → seen_of (set standings i (passed (standing_at standings i))) ≡ seen_of standings
-pass-seen standings i = map-set_same is_seen standings i (passed (standing_at standings i)) Absent (passed-seen (standing_at standings i))
+pub seen_of-passed : (standings : List Standing) (i : ℕ) → seen_of (set standings i (passed (standing_at standings i))) ≡ seen_of standings
+seen_of-passed standings i = map-set_same is_seen standings i (passed (standing_at standings i)) Absent (passed-seen (standing_at standings i))
 
 module _ (m : Map) (side : SideName) (points : List Rank) (order : AreInOrder m side points) where
   point-of : (q : Pos) → Present m q → IsPoint m (rank m q)
@@ -144,8 +144,8 @@ module _ (m : Map) (side : SideName) (points : List Rank) (order : AreInOrder m 
   stands-first d q Under some stands = absurd (false≢true stands.1)
   stands-first d q Seen some stands = tt
 
-  pub standing-first : (standings : List Standing) (d : Rank) → 0 < length points → AreStanding m side None standings → AreStanding m side (Some (get_or points 0 d)) standings
-  standing-first standings d some are = record { whole = are.whole; each = λ q inside. stands-first d q (standing_at standings (place_of m.size q)) some (are.each q inside) }
+  pub AreStanding-first : (standings : List Standing) (d : Rank) → 0 < length points → AreStanding m side None standings → AreStanding m side (Some (get_or points 0 d)) standings
+  AreStanding-first standings d some are = record { whole = are.whole; each = λ q inside. stands-first d q (standing_at standings (place_of m.size q)) some (are.each q inside) }
 
   -- what is below a point is below the next
   under-next : (k : ℕ) (d : Rank) (r : Rank) → k + 1 < length points → below_by side r (get_or points k d) ≡ true → below_by side r (get_or points (k + 1) d) ≡ true
@@ -179,9 +179,9 @@ module _ (m : Map) (side : SideName) (points : List Rank) (order : AreInOrder m 
   stands-next k d q Seen more apart stands = tt
 
   -- the level goes on from a point to the next
-  pub standing-next : (standings : List Standing) (k i : ℕ) (d : Rank) → k + 1 < length points → i ≡ (get_or points k d).index → AreStanding m side (Some (get_or points k d)) standings
+  pub AreStanding-next : (standings : List Standing) (k i : ℕ) (d : Rank) → k + 1 < length points → i ≡ (get_or points k d).index → AreStanding m side (Some (get_or points k d)) standings
       → AreStanding m side (Some (get_or points (k + 1) d)) (set standings i (passed (standing_at standings i)))
-  standing-next standings k i d more is are =
+  AreStanding-next standings k i d more is are =
       let s : Standing = passed (standing_at standings i) in
       record {
         whole = length-set standings i s ∙ are.whole;

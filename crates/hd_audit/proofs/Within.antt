@@ -62,27 +62,27 @@ rise-trans a b c p q = omega (arith, ints)
 
 module _ (side : SideName) (thousandths : ℕ) (sz : ℤ) where
   -- what is not above what is within c is within c
-  pub within-lower : (c x y : Rank) → IsNotAbove (below_by side) y x → IsWithin side thousandths sz c x → IsWithin side thousandths sz c y
-  within-lower c x y low h = less-along (rise_over side c y) (rise_over side c x) (pos thousandths *ℤ sz) (rise-lower side c x y low) h
+  pub IsWithin-lower : (c x y : Rank) → IsNotAbove (below_by side) y x → IsWithin side thousandths sz c x → IsWithin side thousandths sz c y
+  IsWithin-lower c x y low h = less-along (rise_over side c y) (rise_over side c x) (pos thousandths *ℤ sz) (rise-lower side c x y low) h
 
   -- what is within c is within what c is not above
-  pub within-higher : (c d x : Rank) → IsNotAbove (below_by side) c d → IsWithin side thousandths sz c x → IsWithin side thousandths sz d x
-  within-higher c d x low h = less-along (rise_over side d x) (rise_over side c x) (pos thousandths *ℤ sz) (rise-from_lower side c d x low) h
+  pub IsWithin-higher : (c d x : Rank) → IsNotAbove (below_by side) c d → IsWithin side thousandths sz c x → IsWithin side thousandths sz d x
+  IsWithin-higher c d x low h = less-along (rise_over side d x) (rise_over side c x) (pos thousandths *ℤ sz) (rise-from_lower side c d x low) h
 
   -- where the pit is not above the saddle, the saddle is within the pit exactly where the local height goes
-  pub goes-within : (p s : Rank) → IsNotAbove (below_by side) p s → goes thousandths sz (local_height p s) ≡ true → IsWithin side thousandths sz p s
-  goes-within p s low h = subst (λ z. int_lt (z *ℤ pos 100000) (pos thousandths *ℤ sz) ≡ true) (local-rise side p s low) h
+  pub IsWithin-goes : (p s : Rank) → IsNotAbove (below_by side) p s → goes thousandths sz (local_height p s) ≡ true → IsWithin side thousandths sz p s
+  IsWithin-goes p s low h = subst (λ z. int_lt (z *ℤ pos 100000) (pos thousandths *ℤ sz) ≡ true) (local-rise side p s low) h
 
-  pub within-goes : (p s : Rank) → IsNotAbove (below_by side) p s → IsWithin side thousandths sz p s → goes thousandths sz (local_height p s) ≡ true
-  within-goes p s low h = subst (λ z. int_lt (z *ℤ pos 100000) (pos thousandths *ℤ sz) ≡ true) (sym (local-rise side p s low)) h
+  pub goes-within : (p s : Rank) → IsNotAbove (below_by side) p s → IsWithin side thousandths sz p s → goes thousandths sz (local_height p s) ≡ true
+  goes-within p s low h = subst (λ z. int_lt (z *ℤ pos 100000) (pos thousandths *ℤ sz) ≡ true) (sym (local-rise side p s low)) h
 
   -- where some local height goes, what is not above p is within p
-  pub within-not_above : (n : ℕ) (p y : Rank) → goes thousandths sz n ≡ true → IsNotAbove (below_by side) y p → IsWithin side thousandths sz p y
-  within-not_above n p y h low =
+  pub IsWithin-not_above : (n : ℕ) (p y : Rank) → goes thousandths sz n ≡ true → IsNotAbove (below_by side) y p → IsWithin side thousandths sz p y
+  IsWithin-not_above n p y h low =
       less-along (rise_over side p y) (pos n) (pos thousandths *ℤ sz) (rise-trans (rise_over side p y) (rise_over side p p) (pos n) (rise-lower side p p y low) (no-rise side p n)) h
 
-  pub within_or_not : (c x : Rank) → IsWithin side thousandths sz c x ⊎ (IsWithin side thousandths sz c x → ⊥)
-  within_or_not c x = true_or_not (int_lt (rise_over side c x *ℤ pos 100000) (pos thousandths *ℤ sz))
+  pub IsWithin-or_not : (c x : Rank) → IsWithin side thousandths sz c x ⊎ (IsWithin side thousandths sz c x → ⊥)
+  IsWithin-or_not c x = true_or_not (int_lt (rise_over side c x *ℤ pos 100000) (pos thousandths *ℤ sz))
     where
       true_or_not : (b : Bool) → (b ≡ true) ⊎ (b ≡ true → ⊥)
       true_or_not true = inl refl
@@ -109,41 +109,41 @@ module _ (m : Map) (side : SideName) (thousandths : ℕ) (sz : ℤ) where
   abbrev pub ReachesWithin : Rank → Rank → Rank → Type 0
   ReachesWithin c a b = Reach (StepsWithin c) a b
 
-  pub reach-from_points : (c a x : Rank) (xs : List Rank) → Leads (Near m) a xs x → All (IsWithin side thousandths sz c) xs → ReachesWithin c a x
-  reach-from_points c a x [] l all = subst (λ z. ReachesWithin c a z) l here
-  reach-from_points c a x (y ∷ ys) l all = step (l.0, All-head (IsWithin side thousandths sz c) y ys all) (reach-from_points c y x ys l.1 (All-tail (IsWithin side thousandths sz c) y ys all))
+  pub ReachesWithin-from_points : (c a x : Rank) (xs : List Rank) → Leads (Near m) a xs x → All (IsWithin side thousandths sz c) xs → ReachesWithin c a x
+  ReachesWithin-from_points c a x [] l all = subst (λ z. ReachesWithin c a z) l here
+  ReachesWithin-from_points c a x (y ∷ ys) l all = step (l.0, All-head (IsWithin side thousandths sz c) y ys all) (ReachesWithin-from_points c y x ys l.1 (All-tail (IsWithin side thousandths sz c) y ys all))
 
-  pub points-from_reach : (c : Rank) {a x : Rank} → ReachesWithin c a x → (xs : List Rank) × Leads (Near m) a xs x × All (IsWithin side thousandths sz c) xs
-  points-from_reach c here = ([], refl, All-nil (IsWithin side thousandths sz c))
-  points-from_reach c (step {a} {b} s r) =
-      let rest = points-from_reach c r in
+  pub ReachesWithin-points : (c : Rank) {a x : Rank} → ReachesWithin c a x → (xs : List Rank) × Leads (Near m) a xs x × All (IsWithin side thousandths sz c) xs
+  ReachesWithin-points c here = ([], refl, All-nil (IsWithin side thousandths sz c))
+  ReachesWithin-points c (step {a} {b} s r) =
+      let rest = ReachesWithin-points c r in
       (b ∷ rest.0, (s.0, rest.1), All-cons (IsWithin side thousandths sz c) b rest.0 s.1 rest.2)
 
-  pub reach-from_reached : (c x : Rank) → IsReachedWithin m side thousandths sz c x → ReachesWithin c c x
-  reach-from_reached c x h = reach-from_points c c x h.points h.leads h.within
+  pub ReachesWithin-from_reached : (c x : Rank) → IsReachedWithin m side thousandths sz c x → ReachesWithin c c x
+  ReachesWithin-from_reached c x h = ReachesWithin-from_points c c x h.points h.leads h.within
 
-  pub reached-from_reach : (c x : Rank) → ReachesWithin c c x → IsReachedWithin m side thousandths sz c x
-  reached-from_reach c x r = let p = points-from_reach c r in record { points = p.0; leads = p.1; within = p.2 }
+  pub IsReachedWithin-from_reach : (c x : Rank) → ReachesWithin c c x → IsReachedWithin m side thousandths sz c x
+  IsReachedWithin-from_reach c x r = let p = ReachesWithin-points c r in record { points = p.0; leads = p.1; within = p.2 }
 
   -- one step further
-  pub reach-more : (c a x y : Rank) → ReachesWithin c a x → Near m x y → IsWithin side thousandths sz c y → ReachesWithin c a y
-  reach-more c a x y r near within = reach-trans (StepsWithin c) r (step (near, within) here)
+  pub ReachesWithin-more : (c a x y : Rank) → ReachesWithin c a x → Near m x y → IsWithin side thousandths sz c y → ReachesWithin c a y
+  ReachesWithin-more c a x y r near within = reach-trans (StepsWithin c) r (step (near, within) here)
 
   -- where a way ends is within c, or where it began
-  pub reach-last : (c : Rank) {a b : Rank} → ReachesWithin c a b → (a ≡ b) ⊎ IsWithin side thousandths sz c b
-  reach-last c here = inl refl
-  reach-last c (step {a} {b} s r) = inr (elim (reach-last c r) [ inl e ↦ subst (IsWithin side thousandths sz c) e s.1 | inr w ↦ w ])
+  pub ReachesWithin-last : (c : Rank) {a b : Rank} → ReachesWithin c a b → (a ≡ b) ⊎ IsWithin side thousandths sz c b
+  ReachesWithin-last c here = inl refl
+  ReachesWithin-last c (step {a} {b} s r) = inr (elim (ReachesWithin-last c r) [ inl e ↦ subst (IsWithin side thousandths sz c) e s.1 | inr w ↦ w ])
 
-  pub reach-point : (c : Rank) {a b : Rank} → IsPoint m a → ReachesWithin c a b → IsPoint m b
-  reach-point c point here = point
-  reach-point c point (step {a} {b} s r) = reach-point c (Near-to m a b s.0) r
+  pub ReachesWithin-point : (c : Rank) {a b : Rank} → IsPoint m a → ReachesWithin c a b → IsPoint m b
+  ReachesWithin-point c point here = point
+  ReachesWithin-point c point (step {a} {b} s r) = ReachesWithin-point c (Near-to m a b s.0) r
 
   -- the way back
-  pub reach-back : (c : Rank) {a b : Rank} → IsWithin side thousandths sz c a → ReachesWithin c a b → ReachesWithin c b a
-  reach-back c w here = here
-  reach-back c w (step {a} {b} s r) = reach-trans (StepsWithin c) (reach-back c s.1 r) (step (near-sym m a b s.0, w) here)
+  pub ReachesWithin-back : (c : Rank) {a b : Rank} → IsWithin side thousandths sz c a → ReachesWithin c a b → ReachesWithin c b a
+  ReachesWithin-back c w here = here
+  ReachesWithin-back c w (step {a} {b} s r) = reach-trans (StepsWithin c) (ReachesWithin-back c s.1 r) (step (near-sym m a b s.0, w) here)
 
   -- what c reaches within c is reached within what c is not above
-  pub reach-higher : (c d : Rank) → IsNotAbove (below_by side) c d → {a b : Rank} → ReachesWithin c a b → ReachesWithin d a b
-  reach-higher c d low here = here
-  reach-higher c d low (step {a} {b} s r) = step (s.0, within-higher side thousandths sz c d b low s.1) (reach-higher c d low r)
+  pub ReachesWithin-higher : (c d : Rank) → IsNotAbove (below_by side) c d → {a b : Rank} → ReachesWithin c a b → ReachesWithin d a b
+  ReachesWithin-higher c d low here = here
+  ReachesWithin-higher c d low (step {a} {b} s r) = step (s.0, IsWithin-higher side thousandths sz c d b low s.1) (ReachesWithin-higher c d low r)

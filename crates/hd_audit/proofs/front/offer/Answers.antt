@@ -6,7 +6,7 @@ use Rattle.hd_map.proofs.Points.{place_inside}
 use Rattle.hd_audit.specs.declared.standing.Standing.TheVariants.{Absent, Over, Seen}
 use Rattle.hd_audit.specs.Flooding.{OffersIfPresent}
 use Rattle.hd_audit.specs.Standings.{seen_of, standing_at}
-use Rattle.hd_audit.proofs.Standings.{offered-over}
+use Rattle.hd_audit.proofs.Standings.{OffersIfPresent-over}
 use Rattle.hd_audit.proofs.front.offer.Goals as goal
 
 pub returns-in-Over-clause-offers : goal.returns-in-Over-clause-offers
@@ -22,4 +22,4 @@ returns-in-Over-clause-offers g c =
     let is : standing_at standing (place_of m.size at) ≡ Over = subst (λ i. standing_at standing i ≡ Over) index over in
     subst (λ (ahead : List (Option ℕ)). OffersIfPresent m side at c.args.from c.args.level.now (seen_of standing) front.ahead (heap_items front.low) (seen_of (set standing c.index_of-index.result Seen)) ahead (heap_items front.low)) (sym c.put.ensures)
     (subst (λ i. OffersIfPresent m side at c.args.from c.args.level.now (seen_of standing) front.ahead (heap_items front.low) (seen_of (set standing i Seen)) (set front.ahead i (Some c.args.from)) (heap_items front.low)) (sym index)
-    (offered-over m side at c.args.from c.args.level.now standing front.ahead (heap_items front.low) c.requires.in_grid c.requires.standing is))
+    (OffersIfPresent-over m side at c.args.from c.args.level.now standing front.ahead (heap_items front.low) c.requires.in_grid c.requires.standing is))

@@ -1,5 +1,5 @@
-use Rattle.hd_audit.proofs.ShownRight.{shown-unique}
+use Rattle.hd_audit.proofs.ShownRight.{IsShown-unique}
 use Rattle.hd_audit.proofs.laws.shown_pruning_certificate_is_determined.Goals as goal
 
 pub returns : goal.returns
-returns c = shown-unique
+returns c = IsShown-unique

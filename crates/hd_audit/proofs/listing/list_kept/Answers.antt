@@ -5,7 +5,7 @@ use Rattle.hd_audit.specs.declared.types.AuditLine.{AuditLine}
 use Rattle.hd_audit.specs.Flooding.{AreBegun, kept_line}
 use Rattle.hd_audit.specs.Standings.{is_seen, seen_of}
 use Rattle.hd_audit.proofs.AreBegun.{kept-none, AreBegun-none, AreBegun-more}
-use Rattle.hd_audit.proofs.Standings.{standing-seen}
+use Rattle.hd_audit.proofs.Standings.{AreStanding-seen}
 use Rattle.hd_audit.proofs.listing.list_kept.Goals as goal
 
 pub loop-k-init : goal.loop-k-init
@@ -27,5 +27,5 @@ loop-k-preserved g c =
       begun = subst (λ (seen : List Bool). AreBegun m kept (n + 1) seen c.push.new.self) (sym (map-set is_seen standing i Seen))
           (subst (λ (lines : List AuditLine). AreBegun m kept (n + 1) (set (seen_of standing) i true) lines) (sym pushed)
           (AreBegun-more m kept n (seen_of standing) c.loop-k.lines c.requires.points c.requires.in_order inside c.loop-k.invariant.begun));
-      standing = standing-seen m g.S.Side.NAME None standing i c.loop-k.invariant.standing;
+      standing = AreStanding-seen m g.S.Side.NAME None standing i c.loop-k.invariant.standing;
     }

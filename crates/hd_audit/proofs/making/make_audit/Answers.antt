@@ -7,7 +7,7 @@ use Rattle.hd_prune.specs.Kept.{pits_kept}
 use Rattle.hd_audit.specs.declared.types.Audit.{Audit}
 use Rattle.hd_audit.specs.Shown.{AreShownLines}
 use Rattle.hd_audit.proofs.KeptAlone.{IsShown-alone}
-use Rattle.hd_audit.proofs.ShownRight.{right-from_shown}
+use Rattle.hd_audit.proofs.ShownRight.{IsRight-shown}
 use Rattle.hd_audit.proofs.making.make_audit.Goals as goal
 
 pub shown_lines-requires-clause-sz : goal.shown_lines-requires-clause-sz
@@ -33,4 +33,4 @@ returns-clause-shown g c =
 pub returns-clause-right : goal.returns-clause-right
 returns-clause-right g c =
     let a : Audit = record { side = c.NAME-2.result; percent = c.args.percent; adjacency = c.adjacency.result; lines = c.in_ok-lines.lines } in
-    right-from_shown (g.G.Heights.map c.args.grid.now) g.S.Side.NAME c.args.percent a (g.met.G.Heights.whole c.args.grid.now) (returns-clause-shown g c)
+    IsRight-shown (g.G.Heights.map c.args.grid.now) g.S.Side.NAME c.args.percent a (g.met.G.Heights.whole c.args.grid.now) (returns-clause-shown g c)

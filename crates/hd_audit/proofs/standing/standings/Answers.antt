@@ -6,7 +6,7 @@ use Rattle.hd_map.specs.Map.{Present, cell_count, position_at}
 use Rattle.hd_audit.specs.declared.standing.Standing.TheVariants.{Absent}
 use Rattle.hd_map.proofs.PositionOrder.{at-first, at-inside, at-next, at-position}
 use Rattle.hd_audit.specs.Standings.{AreStandingTo}
-use Rattle.hd_audit.proofs.Standings.{standing-absent, standing-none, standing-present}
+use Rattle.hd_audit.proofs.Standings.{AreStandingTo-absent, AreStandingTo-none, AreStandingTo-present}
 use Rattle.hd_audit.proofs.standing.standings.Goals.{then-is_present, else-is_present}
 use Rattle.hd_audit.proofs.standing.standings.Goals as goal
 
@@ -16,7 +16,7 @@ loop-index-init g c =
     let blank : c.in_ok-standings.standings.items ≡ replicate (cell_count m.size) Absent = search rules in
     record {
       at = at-first m.size (record { x = 0; y = 0 }) refl refl (g.met.G.Heights.whole c.args.grid.now).size.some_points;
-      made = standing-none m c.in_ok-standings.standings.items blank;
+      made = AreStandingTo-none m c.in_ok-standings.standings.items blank;
     }
 
 pub is_present-requires : goal.is_present-requires
@@ -42,10 +42,10 @@ loop-index-preserved g c =
     elim c.if-is_present.branch [
       | then-is_present w ↦ record {
         at = next;
-        made = subst (AreStandingTo m (n + 1)) (sym (ap (λ v. v.items) w.standings-is)) (standing-present m n standings inside old.made (is.0 w.if-is_present.true));
+        made = subst (AreStandingTo m (n + 1)) (sym (ap (λ v. v.items) w.standings-is)) (AreStandingTo-present m n standings inside old.made (is.0 w.if-is_present.true));
       }
       | else-is_present w ↦ record {
         at = next;
-        made = subst (AreStandingTo m (n + 1)) (sym (ap (λ v. v.items) w.standings-is)) (standing-absent m n standings inside old.made (λ here. let yes = is.1 here in let no = w.if-is_present.false in cc));
+        made = subst (AreStandingTo m (n + 1)) (sym (ap (λ v. v.items) w.standings-is)) (AreStandingTo-absent m n standings inside old.made (λ here. let yes = is.1 here in let no = w.if-is_present.false in cc));
       }
     ]
