@@ -421,17 +421,17 @@ module _ (demo : Demo) (status : Status) (old new : Option (List ℕ)) (flushed 
 
 -- the usage text is written, or the sink failed
 module _ (bytes : List ℕ) (status : Status) (old new : Option (List ℕ)) (flushed : Bool) (faults : Count) (end : Finishes bytes Usage status old new flushed faults) where
-  pub usage_status : (status ≡ Usage) ⊎ (status ≡ WriteFault)
-  usage_status = elim end [ inl w ↦ inl w.status_is | inr cut ↦ inr cut.status_is ]
+  pub Finishes-usage_status : (status ≡ Usage) ⊎ (status ≡ WriteFault)
+  Finishes-usage_status = elim end [ inl w ↦ inl w.status_is | inr cut ↦ inr cut.status_is ]
 
-  pub usage_no_read_fault : status ≢ ReadFault
-  usage_no_read_fault is = elim usage_status [ inl e ↦ absurd (cc) | inr e ↦ absurd (cc) ]
+  pub Finishes-usage_no_read_fault : status ≢ ReadFault
+  Finishes-usage_no_read_fault is = elim Finishes-usage_status [ inl e ↦ absurd (cc) | inr e ↦ absurd (cc) ]
 
-  pub usage_flushed : status ≢ WriteFault → IsTrue flushed
-  usage_flushed fine = (finished bytes Usage status old new flushed faults end fine).2
+  pub Finishes-usage_flushed : status ≢ WriteFault → IsTrue flushed
+  Finishes-usage_flushed fine = (finished bytes Usage status old new flushed faults end fine).2
 
-  pub usage_cause : (surface script saved : Count) → Stays surface → Stays script → Stays saved → HasStatusCause status surface script faults saved
-  usage_cause surface script saved a b d =
+  pub Finishes-usage_cause : (surface script saved : Count) → Stays surface → Stays script → Stays saved → HasStatusCause status surface script faults saved
+  Finishes-usage_cause surface script saved a b d =
       finish_cause surface script saved faults.before faults.before faults.now status old new flushed bytes Usage (λ e. cc) (λ e. cc) (a, b, refl, d) end
 
 -- how far the second input is read, by either of its names

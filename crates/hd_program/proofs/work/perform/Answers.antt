@@ -9,7 +9,7 @@ use Rattle.hd_run.specs.Outcome.{IsOutcomeOfCheck, IsOutcomeOfRun}
 use Rattle.hd_run.specs.ReadOrder.{reading}
 use Rattle.hd_run.specs.RunResult.{IsBegun}
 use Rattle.hd_program.specs.Texts.{usage_text}
-use Rattle.hd_program.proofs.Ends.{EndsDemo-cause, EndsAs-demo, EndsDemo-flushed, EndsDemo-no_read_fault, EndsDemo-no_usage, form-some, SavesInTurn-request, EndsRun-cause, EndsAs-run, EndsRun-flushed, EndsRun-no_usage, ReadsInOrder-run, EndsRun-read_fault, EndsRun-saves, EndsRun-unread, ReadsWithin-run, StopsWithin-second, ReadsInOrder-unformed, SavesInTurn-unformed, ReadsInOrder-unnamed, ReadsWithin-unread, usage_cause, EndsAs-usage, usage_flushed, usage_no_read_fault, usage_status}
+use Rattle.hd_program.proofs.Ends.{EndsDemo-cause, EndsAs-demo, EndsDemo-flushed, EndsDemo-no_read_fault, EndsDemo-no_usage, form-some, SavesInTurn-request, EndsRun-cause, EndsAs-run, EndsRun-flushed, EndsRun-no_usage, ReadsInOrder-run, EndsRun-read_fault, EndsRun-saves, EndsRun-unread, ReadsWithin-run, StopsWithin-second, ReadsInOrder-unformed, SavesInTurn-unformed, ReadsInOrder-unnamed, ReadsWithin-unread, Finishes-usage_cause, EndsAs-usage, Finishes-usage_flushed, Finishes-usage_no_read_fault, Finishes-usage_status}
 use Rattle.hd_program.proofs.IsWork.{NoAnswers, IsWork-check, IsWork-run}
 use Rattle.hd_program.proofs.work.perform.Goals as goal
 
@@ -37,16 +37,16 @@ pub returns-in_default-clause-usage : goal.returns-in_default-clause-usage
 returns-in_default-clause-usage g c = λ is. unformed command_for (form_of (map string_bytes c.args.words.now)) c.command_of.result c.command_of.ensures c.in_default.is
 
 pub returns-in_default-clause-unformed : goal.returns-in_default-clause-unformed
-returns-in_default-clause-unformed g c = λ none. usage_status _ _ _ _ _ _ c.finish.ensures
+returns-in_default-clause-unformed g c = λ none. Finishes-usage_status _ _ _ _ _ _ c.finish.ensures
 
 pub returns-in_default-clause-cause : goal.returns-in_default-clause-cause
-returns-in_default-clause-cause g c = usage_cause _ _ _ _ _ _ c.finish.ensures _ _ _ refl refl refl
+returns-in_default-clause-cause g c = Finishes-usage_cause _ _ _ _ _ _ c.finish.ensures _ _ _ refl refl refl
 
 pub returns-in_default-clause-read_fault : goal.returns-in_default-clause-read_fault
-returns-in_default-clause-read_fault g c = λ is. absurd (usage_no_read_fault _ _ _ _ _ _ c.finish.ensures is)
+returns-in_default-clause-read_fault g c = λ is. absurd (Finishes-usage_no_read_fault _ _ _ _ _ _ c.finish.ensures is)
 
 pub returns-in_default-clause-flushed : goal.returns-in_default-clause-flushed
-returns-in_default-clause-flushed g c = λ fine kept. usage_flushed _ _ _ _ _ _ c.finish.ensures fine
+returns-in_default-clause-flushed g c = λ fine kept. Finishes-usage_flushed _ _ _ _ _ _ c.finish.ensures fine
 
 pub run-ran-requires-clause-tile : goal.run-ran-requires-clause-tile
 run-ran-requires-clause-tile g c = subst (λ (job : Job). IsWithinLimits (request_of job)) c.in-Run.is c.in-Ok.ensures.limits
