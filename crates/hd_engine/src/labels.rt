@@ -12,7 +12,7 @@ ghost use Rattle.hd_engine.specs.Workpiece.{state_of};
 use crate::workpiece::Workpiece;
 use hd_list::Memory;
 use hd_map::{Grid, Pos, Side, contains, is_present};
-use hd_pool::{Question, SidePool};
+use hd_pool::SidePool;
 use hd_report::tell_label;
 use hd_session::Answer;
 use hd_survey::{Findings, SideView};
@@ -62,11 +62,11 @@ fn root_of<S: Side, G: Grid>(
     ensures present { IfOk result (Present (G.map tiles.now.grid)) }
     ensures root { IfOk result (λ pit. IsRoot (G.map tiles.now.grid) S.NAME (rank (G.map tiles.now.grid) at) (rank (G.map tiles.now.grid) pit)) }
 {
-    if pool.serves(alloc, tiles, Question::Label)? {
+    if pool.serves(alloc, tiles)? {
         return Ok(pool.view(alloc, tiles).root(at));
     }
     let mut spent = 0;
     let pit = findings.root(alloc, tiles, at, &mut spent)?;
-    pool.spend(spent);
+    pool.count_label(spent);
     Ok(pit)
 }

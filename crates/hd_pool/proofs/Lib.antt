@@ -8,7 +8,4 @@ mod BetweenRoots
 mod Rooted
 mod PitsOf
 mod Touched
-pub mod TileLinks
-pub mod TileBands
-pub mod TileDescents
 pub mod Following

@@ -1,0 +1,94 @@
+// What is found of a side of a grid by its pool, before a report asks for it.
+ghost use Rattle.std.specs.Prelude.{◌≡◌, ◌↔◌, ◌⊎◌, IsTrue, true};
+ghost use Rattle.std.specs.Option.{is_some};
+ghost use Rattle.hd_num.specs.declared.percent.Percent.{Percent as APercent};
+ghost use Rattle.hd_pool.specs.Following.{Follows};
+ghost use Rattle.hd_survey.specs.Findings.{AreFeaturesAt, AreFindings, AreKeptAt, WasPrunedAt};
+ghost use Rattle.hd_engine.specs.declared.by_pool.Need.TheVariants.{Features, Kept, Merges, Pruning, Regions};
+
+use hd_list::Memory;
+use hd_map::{Grid, Heights, Side, presence_of};
+use hd_num::Percent;
+use hd_pool::SidePool;
+use hd_survey::{Findings, SideView};
+use hd_tiles::Tiles;
+use std::alloc::Global;
+
+/// What a report asks for.
+#[derive(Clone, Copy, Debug, PartialEq, Eq)]
+pub(crate) enum Need {
+    /// The regions with the numbers of their points.
+    Regions,
+    /// The merges of the pits.
+    Merges,
+    /// The pits that the pruning at a percent keeps.
+    Kept(Percent),
+    /// The pruning at a percent.
+    Pruning(Percent),
+    /// The regions after the pruning at a percent, by what parameters take of them.
+    Features(Percent),
+}
+
+/// Finds what a report on a side asks for by the pool of the side, unless it is found. Where the pool does not serve, the
+/// report goes over the whole map, which is counted.
+pub(crate) fn find_by_pool<S: Side, G: Grid>(
+    alloc: Global,
+    tiles: &Tiles<G>,
+    pool: &mut SidePool<S>,
+    findings: &mut Findings<S>,
+    need: Need,
+) -> Result<(), Memory>
+    requires follows { Follows (G.map tiles.now.grid) S.NAME tiles.now.tiling.side tiles.now.stamps.items pool.old }
+    requires findings { AreFindings (G.map tiles.now.grid) S.NAME findings.old }
+    ensures follows { Follows (G.map tiles.now.grid) S.NAME tiles.now.tiling.side tiles.now.stamps.items pool.new }
+    ensures findings { AreFindings (G.map tiles.now.grid) S.NAME findings.new }
+{
+    if is_found(findings, need) {
+        return Ok(());
+    }
+    if pool.serves(alloc, tiles)? {
+        return find_by(alloc, tiles, findings, need, &pool.view(alloc, tiles));
+    }
+    pool.count_report(tiles);
+    Ok(())
+}
+
+// Whether what a report asks for was found.
+fn is_found<S: Side>(findings: &Findings<S>, need: Need) -> bool
+    ensures regions { need ≡ Regions → result ≡ is_some findings.now.sizes }
+    ensures merges { need ≡ Merges → result ≡ is_some findings.now.merges }
+    ensures kept { (percent : APercent) → need ≡ Kept percent → IsTrue result ↔ (AreKeptAt percent.thousandths findings.now.kept ⊎ (is_some findings.now.merges ≡ true)) }
+    ensures pruning { (percent : APercent) → need ≡ Pruning percent → IsTrue result ↔ WasPrunedAt percent.thousandths findings.now.pruned }
+    ensures features { (percent : APercent) → need ≡ Features percent → IsTrue result ↔ AreFeaturesAt percent.thousandths findings.now.features }
+{
+    match need {
+        Need::Regions => findings.has_sizes(),
+        Need::Merges => findings.has_merges(),
+        Need::Kept(percent) => findings.has_kept(percent) || findings.has_merges(),
+        Need::Pruning(percent) => findings.has_pruned(percent),
+        Need::Features(percent) => findings.has_features(percent),
+    }
+}
+
+// Finds what a report asks for by a view of the side of a grid. Kept pits are told by the merges.
+fn find_by<S: Side, G: Heights, V: SideView<S>>(
+    alloc: Global,
+    grid: &G,
+    findings: &mut Findings<S>,
+    need: Need,
+    view: &V,
+) -> Result<(), Memory>
+    requires view { V.map view.now ≡ G.map grid.now }
+    requires findings { AreFindings (G.map grid.now) S.NAME findings.old }
+    ensures { AreFindings (G.map grid.now) S.NAME findings.new }
+{
+    match need {
+        Need::Regions => findings.find_sizes_by(view),
+        Need::Merges | Need::Kept(_) => findings.find_merges_by(view),
+        Need::Pruning(percent) => findings.find_pruned_by(alloc, grid, view, percent),
+        Need::Features(percent) => {
+            let range = presence_of(grid).range;
+            findings.find_features_by(alloc, grid, view, percent, range)
+        }
+    }
+}
