@@ -29,8 +29,7 @@ pub(crate) enum Need {
     Features(Percent),
 }
 
-/// Finds what a report on a side asks for by the pool of the side, unless it is found. Where the pool does not serve, the
-/// report goes over the whole map, which is counted.
+/// Finds what a report on a side asks for by the pool of the side, unless it is found or the pool does not serve.
 pub(crate) fn find_by_pool<S: Side, G: Grid>(
     alloc: Global,
     tiles: &Tiles<G>,
@@ -46,11 +45,11 @@ pub(crate) fn find_by_pool<S: Side, G: Grid>(
     if is_found(findings, need) {
         return Ok(());
     }
-    if pool.serves(alloc, tiles)? {
-        return find_by(alloc, tiles, findings, need, &pool.view(alloc, tiles));
+    if !pool.serves_report(alloc, tiles)? {
+        return Ok(());
     }
-    pool.count_report(tiles);
-    Ok(())
+    let view = pool.view(alloc, tiles)?;
+    find_by(alloc, tiles, findings, need, &view)
 }
 
 // Whether what a report asks for was found.

@@ -1,12 +1,12 @@
 -- What is kept of a side of a map in tiles follows the map.
-use Rattle.std.specs.Prelude.{◌≡◌, ◌||◌, ◌&&◌, ℕ, Bool, not, List, Option, Some, None, if◌then◌else◌}
+use Rattle.std.specs.Prelude.{◌≡◌, ◌||◌, ◌&&◌, ◌*◌, ℕ, Bool, not, List, Option, Some, None, if◌then◌else◌}
 use Rattle.std.specs.Option.{ForSome, is_some}
 use Rattle.hd_map.specs.declared.types.SideName.{SideName}
 use Rattle.hd_map.specs.Map.{Map}
 use Rattle.hd_basin.specs.InStep.{IsInStep, IsPoolOf}
 use Rattle.hd_basin.specs.Parts.{Pool}
 use Rattle.hd_pool.specs.declared.outlay.Outlay.{Outlay}
-use Rattle.hd_pool.specs.Outlay.{are_most_touched, asked, is_worth, nothing_spent}
+use Rattle.hd_pool.specs.Outlay.{are_most_touched, is_worth, nothing_spent, paid, reported, touched_after}
 
 -- what is kept of a side: its pool, where it is made, and what was spent towards it
 pub record KeptSide : Type 0 where
@@ -32,15 +32,24 @@ pub record IsReady (m : Map) (side : SideName) (kept : KeptSide) : Type 0 where
   pub is : kept.pool ≡ Some made
   pub whole : IsPoolOf m side made
 
+-- how many points the pool takes in where it is brought up: those of the tiles that were touched since, and without a pool
+-- those of the map
+abbrev pub points_to_take : ℕ → ℕ → List ℕ → KeptSide → ℕ
+points_to_take points t stamps kept = if is_some kept.pool then touched_after kept.outlay.last stamps * (t * t) else points
+
 -- there is a pool of a map of so many points, or one is worth it
 abbrev pub has_or_earns : ℕ → KeptSide → Bool
 has_or_earns points kept = is_some kept.pool || is_worth points kept.outlay
 
--- a question is answered by the pool where there is one, or where one is worth it, unless most tiles were touched since
--- the last question
-abbrev pub is_by_pool : ℕ → List ℕ → KeptSide → Bool
-is_by_pool points stamps kept = has_or_earns points kept && not (are_most_touched kept.outlay.last stamps)
+-- a report is told by the pool where there is one, or where one is worth it, unless most tiles were touched since
+abbrev pub reports_by_pool : ℕ → List ℕ → KeptSide → Bool
+reports_by_pool points stamps kept = has_or_earns points kept && not (are_most_touched kept.outlay.last stamps)
 
 -- in that case all counts from nothing again
-abbrev pub asked_at : ℕ → ℕ → List ℕ → KeptSide → Outlay
-asked_at points changes stamps kept = if has_or_earns points kept && are_most_touched kept.outlay.last stamps then asked changes nothing_spent else asked changes kept.outlay
+abbrev pub after_report : ℕ → ℕ → ℕ → List ℕ → KeptSide → Outlay
+after_report points t changes stamps kept = if reports_by_pool points stamps kept then paid changes (points_to_take points t stamps kept) kept.outlay
+    else reported changes points (if has_or_earns points kept then nothing_spent else kept.outlay)
+
+-- a label is told by the pool where it is worth it to bring it up
+abbrev pub labels_by_pool : ℕ → ℕ → List ℕ → KeptSide → Bool
+labels_by_pool points t stamps kept = is_worth (points_to_take points t stamps kept) kept.outlay

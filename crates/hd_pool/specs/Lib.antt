@@ -4,3 +4,4 @@ pub mod BetweenRoots
 pub mod PitsOf
 pub mod Outlay
 pub mod Following
+pub mod View

@@ -1,27 +1,26 @@
 // The pool of a side of a grid in tiles, and when it answers.
-ghost use Rattle.std.specs.Prelude.{◌≡◌, ◌*◌, ◌<◌, ◌^◌, IfOk, IsTrue, None, OnOk, false};
-ghost use Rattle.hd_map.specs.Map.{cell_count};
+ghost use Rattle.std.specs.Prelude.{◌≡◌, ◌*◌, ◌<◌, ◌^◌, IfOk, IsTrue, None, OnErr, OnOk, false};
+ghost use Rattle.hd_map.specs.Map.{cell_count, Present};
+ghost use Rattle.hd_map.specs.Rank.{rank};
+ghost use Rattle.hd_map.specs.Region.{IsRoot};
 ghost use Rattle.hd_basin.specs.InStep.{IsPoolOf};
-ghost use Rattle.hd_pool.specs.Following.{Follows, IsFollowing, IsReady, asked_at, has_or_earns, is_by_pool, nothing_kept};
-ghost use Rattle.hd_pool.specs.Outlay.{counted};
+ghost use Rattle.hd_pool.specs.Following.{Follows, IsFollowing, IsReady, after_report, has_or_earns, labels_by_pool, nothing_kept, points_to_take, reports_by_pool};
+ghost use Rattle.hd_pool.specs.Outlay.{counted, paid};
 
 use crate::PoolView;
 use crate::outlay::Outlay;
 use hd_basin::Basins;
 use hd_list::Memory;
-use hd_map::{Grid, Heights, Side};
+use hd_map::{Grid, Heights, Pos, Side};
 use hd_tiles::{Steps, Tiles};
 use std::alloc::Global;
 use std::marker::{Brand, Model};
 use std::sync::ledger::{Blank, Ledger};
 
-/// As how many ways over all points of a grid a report counts that finds what it tells by the whole map: measured, it takes
-/// from a fifth of their time to all of it.
-const REPORT: u64 = 1;
-
-/// The pool of a side of a grid in tiles. It is made once answers that went over the whole map after changes took as long as
-/// that takes, and from then on it answers each question. Where changes since the last question touched more than half of
-/// the tiles, it is let go, and all begins again. Contracts see it as what is kept.
+/// The pool of a side of a grid in tiles. Reports go over the whole map until one did so after a change; from then on the
+/// pool tells them. A label is told by the pool where ways that were walked took as many steps as it is worth to bring it
+/// up. Where changes touched more than a fourth of the tiles, a report lets the pool go, and all begins again. Contracts see it
+/// as what is kept.
 #[derive(Drop)]
 pub struct SidePool<S: Side> {
     pool: Option<Basins<S>>,
@@ -47,49 +46,76 @@ impl<S: Side> SidePool<S> {
         }
     }
 
-    /// Tells whether a question about the side is answered by its pool, and brings this up to the grid if so.
-    pub fn serves<G: Grid>(&mut self, alloc: Global, tiles: &Tiles<G>) -> Result<bool, Memory>
+    /// Tells whether a report on the side is told by its pool, and brings this up to the grid if so. If not, the report is
+    /// counted as one that goes over the whole map.
+    pub fn serves_report<G: Grid>(
+        &mut self,
+        alloc: Global,
+        tiles: &Tiles<G>,
+    ) -> Result<bool, Memory>
         requires { Follows (G.map tiles.now.grid) S.NAME tiles.now.tiling.side tiles.now.stamps.items self.old }
         ensures follows { Follows (G.map tiles.now.grid) S.NAME tiles.now.tiling.side tiles.now.stamps.items self.new }
         ensures ready { IfOk result (λ serves. IsTrue serves → IsReady (G.map tiles.now.grid) S.NAME self.new) }
-        ensures rule { IfOk result (λ serves. serves ≡ is_by_pool (cell_count tiles.now.tiling.size) tiles.now.stamps.items self.old) }
+        ensures rule { IfOk result (λ serves. serves ≡ reports_by_pool (cell_count tiles.now.tiling.size) tiles.now.stamps.items self.old) }
         ensures let_go { IfOk result (λ serves. serves ≡ false → self.new.pool ≡ None) }
-        ensures outlay { self.new.outlay ≡ asked_at (cell_count tiles.now.tiling.size) tiles.now.changes tiles.now.stamps.items self.old }
+        ensures outlay { IfOk result (λ serves. self.new.outlay
+            ≡ after_report (cell_count tiles.now.tiling.size) tiles.now.tiling.side tiles.now.changes tiles.now.stamps.items self.old) }
     {
         let changes = tiles.changes();
-        if !self.is_worth(tiles) {
-            self.outlay = self.outlay.asked(changes);
+        let points = points_of(tiles);
+        if !self.has_or_earns(points) {
+            self.outlay = self.outlay.reported(changes, points);
             return Ok(false);
         }
         if self.outlay.is_out_of_date(tiles) {
             self.pool = None;
-            self.outlay = Outlay::new().asked(changes);
+            self.outlay = Outlay::new().reported(changes, points);
             return Ok(false);
         }
-        self.outlay = self.outlay.asked(changes);
         self.bring_up(alloc, tiles)?;
         Ok(true)
     }
 
-    // Whether there is a pool, or one is worth it.
-    fn is_worth<G: Grid>(&self, tiles: &Tiles<G>) -> bool
-        ensures { result ≡ has_or_earns (cell_count tiles.now.tiling.size) self.now }
+    // Whether there is a pool, or one of so many points is worth it.
+    fn has_or_earns(&self, points: u64) -> bool
+        requires { points < 2 ^ 56 }
+        ensures { result ≡ has_or_earns points self.now }
     {
-        self.pool.is_some() || self.outlay.is_worth(points_of(tiles))
+        self.pool.is_some() || self.outlay.is_worth(points)
     }
 
-    /// Counts the points that a label went over, where the pool did not serve.
-    pub fn count_label(&mut self, points: u64)
-        ensures { self.new ≡ record self.old { outlay = counted points self.old.outlay } }
+    /// Tells whether a label of the side is told by its pool, and brings this up to the grid if so.
+    pub fn serves_label<G: Grid>(&mut self, alloc: Global, tiles: &Tiles<G>) -> Result<bool, Memory>
+        requires { Follows (G.map tiles.now.grid) S.NAME tiles.now.tiling.side tiles.now.stamps.items self.old }
+        ensures follows { Follows (G.map tiles.now.grid) S.NAME tiles.now.tiling.side tiles.now.stamps.items self.new }
+        ensures ready { IfOk result (λ serves. IsTrue serves → IsReady (G.map tiles.now.grid) S.NAME self.new) }
+        ensures rule { IfOk result (λ serves. serves ≡ labels_by_pool (cell_count tiles.now.tiling.size) tiles.now.tiling.side tiles.now.stamps.items self.old) }
+        ensures same { IfOk result (λ serves. serves ≡ false → self.new ≡ self.old) }
     {
-        self.outlay = self.outlay.counted(points);
+        if !self.outlay.is_worth(self.points_to_take(tiles)) {
+            return Ok(false);
+        }
+        self.bring_up(alloc, tiles)?;
+        Ok(true)
     }
 
-    /// Counts what a report goes over, where the pool did not serve.
-    pub fn count_report<G: Grid>(&mut self, tiles: &Tiles<G>)
-        ensures { self.new ≡ record self.old { outlay = counted (1 * cell_count tiles.now.tiling.size) self.old.outlay } }
+    /// Counts the steps that the answer to a label took, where the pool did not serve.
+    pub fn count_label<G: Grid>(&mut self, tiles: &Tiles<G>, steps: u64)
+        ensures { self.new ≡ record self.old { outlay = counted tiles.now.changes steps self.old.outlay } }
     {
-        self.outlay = self.outlay.counted(REPORT * points_of(tiles));
+        self.outlay = self.outlay.counted(tiles.changes(), steps);
+    }
+
+    // How many points the pool takes in where it is brought up.
+    fn points_to_take<G: Grid>(&self, tiles: &Tiles<G>) -> u64
+        ensures few { result < 2 ^ 56 }
+        ensures value { result ≡ points_to_take (cell_count tiles.now.tiling.size) tiles.now.tiling.side tiles.now.stamps.items self.now }
+    {
+        if self.pool.is_none() {
+            return points_of(tiles);
+        }
+        let side = tiles.tiling().side();
+        u64::from(self.outlay.touched(tiles)) * u64::from(side * side)
     }
 
     // Brings the pool up to the grid, and makes it first where there is none.
@@ -97,26 +123,60 @@ impl<S: Side> SidePool<S> {
         requires { Follows (G.map tiles.now.grid) S.NAME tiles.now.tiling.side tiles.now.stamps.items self.old }
         ensures follows { Follows (G.map tiles.now.grid) S.NAME tiles.now.tiling.side tiles.now.stamps.items self.new }
         ensures ready { OnOk result (IsReady (G.map tiles.now.grid) S.NAME self.new) }
-        ensures outlay { self.new.outlay ≡ self.old.outlay }
+        ensures outlay { OnOk result (self.new.outlay ≡ paid tiles.now.changes
+            (points_to_take (cell_count tiles.now.tiling.size) tiles.now.tiling.side tiles.now.stamps.items self.old) self.old.outlay) }
     {
+        let points = self.points_to_take(tiles);
         let mut pool = match self.pool.take() {
             Some(pool) => pool,
             None => new_pool(alloc, tiles)?,
         };
         let refreshed = refresh::<S, G, Brand>(&mut pool, tiles, Blank::new(1));
         self.pool = Some(pool);
-        refreshed
+        refreshed?;
+        self.outlay = self.outlay.paid(tiles.changes(), points);
+        Ok(())
     }
 
-    /// The side, by its pool. The pool is that of the grid.
-    pub fn view<'a, G: Heights>(&'a self, alloc: Global, grid: &'a G) -> PoolView<'a, S, G>
+    /// The pit in whose region a present point of a grid lies, by the pool, which is that of the grid.
+    pub fn root<G: Heights>(&self, _grid: &G, at: Pos) -> Pos
+        requires ready { IsReady (G.map _grid.now) S.NAME self.now }
+        requires present { Present (G.map _grid.now) at }
+        ensures present { Present (G.map _grid.now) result }
+        ensures root { IsRoot (G.map _grid.now) S.NAME (rank (G.map _grid.now) at) (rank (G.map _grid.now) result) }
+    {
+        match &self.pool {
+            Some(pool) => root_by::<S, G>(_grid, pool, at),
+            None => unreachable!(),
+        }
+    }
+
+    /// The side, by its pool. The pool is that of the grid. It takes time in proportion to the basins.
+    pub fn view<'a, G: Heights>(
+        &'a self,
+        alloc: Global,
+        grid: &'a G,
+    ) -> Result<PoolView<'a, S, G>, Memory>
         requires { IsReady (G.map grid.now) S.NAME self.now }
-        ensures { result ≡ grid.now }
+        ensures { IfOk result (λ view. view ≡ grid.now) }
     {
         match &self.pool {
             Some(pool) => PoolView::new(alloc, grid, pool),
             None => unreachable!(),
         }
+    }
+}
+
+// The pit in whose region a present point of a grid lies, by its pool.
+fn root_by<S: Side, G: Heights>(_grid: &G, pool: &Basins<S>, at: Pos) -> Pos
+    requires pool { IsPoolOf (G.map _grid.now) S.NAME pool.now }
+    requires present { Present (G.map _grid.now) at }
+    ensures present { Present (G.map _grid.now) result }
+    ensures root { IsRoot (G.map _grid.now) S.NAME (rank (G.map _grid.now) at) (rank (G.map _grid.now) result) }
+{
+    match pool.label(at) {
+        Some(pit) => pit,
+        None => unreachable!(),
     }
 }
 

@@ -98,7 +98,7 @@ fn expect_tallies<S: Side>(
     }
 }
 
-// Whether the pool of a side answers a question.
+// Whether the pool of a side tells a report.
 fn is_served<S: Side>(
     rt: &(impl Abort + AllocGlobal),
     pool: &mut SidePool<S>,
@@ -108,7 +108,7 @@ fn is_served<S: Side>(
     ensures ready { IsTrue result → IsReady (map_of tiles.now.grid) S.NAME pool.new }
     ensures let_go { result ≡ false → pool.new.pool ≡ None }
 {
-    pool.serves(rt.alloc(), tiles).expect(rt, "memory")
+    pool.serves_report(rt.alloc(), tiles).expect(rt, "memory")
 }
 
 // Changes the first point.
@@ -119,7 +119,7 @@ fn set_first(rt: &impl Abort, tiles: &mut Tiles<Surface>) {
         .expect(rt, "a cell of the type");
 }
 
-// Compares what the pool of a side of a surface tells, which answers once enough was counted after a change.
+// Compares what the pool of a side of a surface tells, which serves from the second report after a change on.
 fn expect_side<S: Side>(rt: &(impl Abort + AllocGlobal), surface: Surface, side: u32)
     requires { IsTileSide side }
 {
@@ -130,11 +130,9 @@ fn expect_side<S: Side>(rt: &(impl Abort + AllocGlobal), surface: Surface, side:
     set_first(rt, &mut tiles);
     let serves = is_served(rt, &mut pool, &tiles);
     assert!(rt; !serves);
-    pool.count_report(&tiles);
-    pool.count_label(1_000_000);
     let serves = is_served(rt, &mut pool, &tiles);
     assert!(rt; serves);
-    let view = pool.view(rt.alloc(), &tiles);
+    let view = pool.view(rt.alloc(), &tiles).expect(rt, "memory");
     let labels = roots_of::<S>(rt, tiles.surface());
     let extents = wanted_extents(rt, tiles.surface(), &labels);
     expect_roots(rt, &tiles, &view, &labels);
