@@ -221,9 +221,10 @@ impl<G: Grid> Surveyed<G> {
             Command::Dales => self.find_by_pool(SideName::Dales, Need::Regions),
             Command::Hills => self.find_by_pool(SideName::Hills, Need::Regions),
             Command::Prune { side, percent } => self.find_by_pool(*side, Need::Pruning(*percent)),
-            Command::Tree { side } | Command::Saddle { side, .. } | Command::Lines { side, .. } => {
+            Command::Tree { side } | Command::Saddle { side, .. } => {
                 self.find_by_pool(*side, Need::Merges)
             }
+            Command::Lines { side, .. } => self.find_by_pool(*side, Need::Borders),
             Command::Audit { side, percent } | Command::Fill { side, percent } => {
                 self.find_by_pool(*side, Need::Kept(*percent))
             }
@@ -287,12 +288,15 @@ impl<G: Grid> Surveyed<G> {
     {
         let alloc = self.work.alloc;
         let tiles = self.work.board.grid();
+        let presence = &mut self.survey.presence;
         match side {
             SideName::Dales => {
-                find_by_pool(alloc, tiles, &mut self.dales, &mut self.survey.dales, need)
+                let found = &mut self.survey.dales;
+                find_by_pool(alloc, tiles, &mut self.dales, found, presence, need)
             }
             SideName::Hills => {
-                find_by_pool(alloc, tiles, &mut self.hills, &mut self.survey.hills, need)
+                let found = &mut self.survey.hills;
+                find_by_pool(alloc, tiles, &mut self.hills, found, presence, need)
             }
         }
     }

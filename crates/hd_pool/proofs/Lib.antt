@@ -4,6 +4,7 @@ mod Members
 mod EdgePoints
 mod EdgeHeights
 mod Extents
+mod Presences
 mod BetweenRoots
 mod Rooted
 mod PitsOf

@@ -1,13 +1,14 @@
 // A side of a grid, by its pool of local basins.
 ghost use Rattle.std.specs.Prelude.{◌≡◌, IfOk};
+ghost use Rattle.hd_map.specs.Presence.{IsPresence, present_heights};
 ghost use Rattle.hd_basin.specs.InStep.{IsPoolOf};
 
 use crate::between::passes_between_regions;
 use crate::pits::pits_among;
-use crate::told::{sizes_told, tallies_told};
+use crate::told::{presence_told, sizes_told, tallies_told};
 use hd_basin::{Basins, Roots};
 use hd_list::{List, Memory};
-use hd_map::{Heights, Pos, RegionSize, Side};
+use hd_map::{Heights, Pos, Presence, RegionSize, Side};
 use hd_regions::Tally;
 use hd_survey::{PitMerges, SideView, merges_of_passes};
 use std::alloc::Global;
@@ -46,6 +47,14 @@ impl<'a, S: Side, G: Heights> PoolView<'a, S, G> {
             pool,
             roots,
         })
+    }
+
+    /// How many points of the grid are present, and the range of their heights.
+    pub fn presence(&self) -> Result<Presence, Memory>
+        ensures { IfOk result (IsPresence (present_heights (G.map self.now))) }
+    {
+        let extents = self.pool.extents()?;
+        Ok(presence_told(extents.as_slice()))
     }
 }
 

@@ -264,16 +264,18 @@ impl<S: Side> Findings<S> {
         self.keep_pruned(alloc, grid, pruned, percent)
     }
 
-    /// The same by a view of the side.
+    /// The same by a view of the side. The range is that of the heights of the grid.
     pub fn find_pruned_by<G: Heights, V: SideView<S>>(
         &mut self,
         alloc: Global,
         grid: &G,
         view: &V,
         percent: Percent,
+        range: Option<HeightRange>,
     ) -> Result<(), Memory>
         requires view { V.map view.now ≡ G.map grid.now }
         requires findings { AreFindings (G.map grid.now) S.NAME self.old }
+        requires range { range ≡ range_of (present_heights (G.map grid.now)) }
         ensures findings { AreFindings (G.map grid.now) S.NAME self.new }
         ensures found { OnOk result (WasPrunedAt percent.thousandths self.new.pruned) }
     {
@@ -281,7 +283,7 @@ impl<S: Side> Findings<S> {
             return Ok(());
         }
         self.pruned = None;
-        let pruned = pruned_side_by::<S, G, V>(alloc, grid, view, self, percent)?;
+        let pruned = pruned_side_by::<S, G, V>(alloc, grid, view, self, percent, range)?;
         self.keep_pruned(alloc, grid, pruned, percent)
     }
 
