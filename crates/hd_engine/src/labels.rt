@@ -12,10 +12,10 @@ ghost use Rattle.hd_engine.specs.Workpiece.{state_of};
 use crate::workpiece::Workpiece;
 use hd_list::Memory;
 use hd_map::{Grid, Pos, Side, contains, is_present};
-use hd_pool::{Question, SidePool};
+use hd_pool::SidePool;
 use hd_report::tell_label;
 use hd_session::Answer;
-use hd_survey::{Findings, SideView};
+use hd_survey::Findings;
 use hd_tiles::Tiles;
 use std::alloc::Global;
 
@@ -46,7 +46,7 @@ pub fn show_label<S: Side, G: Grid>(
     Ok(Answer::with_text(text))
 }
 
-// The pit of the region of a present point, by the pool where it serves.
+// The pit of the region of a present point, by the region of each point where it was found, or by the pool where it serves.
 fn root_of<S: Side, G: Grid>(
     alloc: Global,
     tiles: &Tiles<G>,
@@ -62,11 +62,33 @@ fn root_of<S: Side, G: Grid>(
     ensures present { IfOk result (Present (G.map tiles.now.grid)) }
     ensures root { IfOk result (λ pit. IsRoot (G.map tiles.now.grid) S.NAME (rank (G.map tiles.now.grid) at) (rank (G.map tiles.now.grid) pit)) }
 {
-    if pool.serves(alloc, tiles, Question::Label)? {
-        return Ok(pool.view(alloc, tiles).root(at));
+    if findings.has_regions() {
+        return root_by_map(alloc, tiles, pool, findings, at);
     }
+    if pool.serves_label(alloc, tiles)? {
+        return Ok(pool.root(tiles, at));
+    }
+    root_by_map(alloc, tiles, pool, findings, at)
+}
+
+// The same by the map, which is counted.
+fn root_by_map<S: Side, G: Grid>(
+    alloc: Global,
+    tiles: &Tiles<G>,
+    pool: &mut SidePool<S>,
+    findings: &mut Findings<S>,
+    at: Pos,
+) -> Result<Pos, Memory>
+    requires follows { Follows (G.map tiles.now.grid) S.NAME tiles.now.tiling.side tiles.now.stamps.items pool.old }
+    requires findings { AreFindings (G.map tiles.now.grid) S.NAME findings.old }
+    requires present { Present (G.map tiles.now.grid) at }
+    ensures follows { Follows (G.map tiles.now.grid) S.NAME tiles.now.tiling.side tiles.now.stamps.items pool.new }
+    ensures findings { AreFindings (G.map tiles.now.grid) S.NAME findings.new }
+    ensures present { IfOk result (Present (G.map tiles.now.grid)) }
+    ensures root { IfOk result (λ pit. IsRoot (G.map tiles.now.grid) S.NAME (rank (G.map tiles.now.grid) at) (rank (G.map tiles.now.grid) pit)) }
+{
     let mut spent = 0;
     let pit = findings.root(alloc, tiles, at, &mut spent)?;
-    pool.spend(spent);
+    pool.count_label(tiles, spent);
     Ok(pit)
 }

@@ -4,7 +4,7 @@
 //! it says what else holds then.
 #![tactic(auto)]
 
-mod by_pool_or_links;
+mod by_pool;
 mod copies;
 mod file_pieces;
 mod labels;

@@ -112,19 +112,21 @@ pub(crate) fn report_pruning<S: Side, G: Heights>(
     Ok(text)
 }
 
-/// The border lines that the pruning of a side at a percent leaves.
+/// The border lines that the pruning of a side at a percent leaves. The range is that of the heights of the grid.
 pub(crate) fn report_borders<S: Side, G: Heights>(
     alloc: Global,
     grid: &G,
     findings: &mut Findings<S>,
     percent: Percent,
+    range: Option<HeightRange>,
 ) -> Result<List<u8>, Memory>
-    requires { AreFindings (G.map grid.now) S.NAME findings.old }
+    requires findings { AreFindings (G.map grid.now) S.NAME findings.old }
+    requires range { range ≡ range_of (present_heights (G.map grid.now)) }
     ensures findings { AreFindings (G.map grid.now) S.NAME findings.new }
     ensures text { IfOk result (λ text. (lines : Items BorderLine) × ArePrunedLines (G.map grid.now) S.NAME percent.thousandths lines
         × (text ≡ borders_text S.NAME percent.thousandths (G.map grid.now).size lines)) }
 {
-    let lines = pruned_lines::<S, G>(alloc, grid, findings, percent)?;
+    let lines = pruned_lines::<S, G>(alloc, grid, findings, percent, range)?;
     let text = list_borders(alloc, S::NAME, grid.size(), percent, lines.as_slice())?;
     Ok(text)
 }

@@ -11,7 +11,6 @@ use crate::parts::{joined, parted};
 use crate::surveyed::Surveyed;
 use hd_list::Memory;
 use hd_map::{Narrow, Surface, Wide};
-use hd_pool::Choice;
 use hd_sdf_read::SdfFile;
 use hd_session::{Answer, FilePieces, SurfaceSession};
 use std::alloc::Global;
@@ -52,26 +51,10 @@ impl Session {
         requires greatest { tile ≤ 256 }
         ensures { IfOk result (λ s. (s.state ≡ first_state (file_of file)) × (s.asked ≡ 0)) }
     {
-        Session::with_choice(alloc, file, tile, Choice::Free)
-    }
-
-    /// The same, where reports are made by what is chosen. The choice has no effect on any answer.
-    pub fn with_choice(
-        alloc: Global,
-        file: SdfFile,
-        tile: u32,
-        choice: Choice,
-    ) -> Result<Session, Memory>
-        requires least { 8 ≤ tile }
-        requires greatest { tile ≤ 256 }
-        ensures { IfOk result (λ s. (s.state ≡ first_state (file_of file)) × (s.asked ≡ 0)) }
-    {
         let (texts, surface) = parted(file);
         let layout = match surface {
-            Surface::Narrow(grid) => {
-                Layout::Narrow(Surveyed::new(alloc, texts, grid, tile, choice)?)
-            }
-            Surface::Wide(grid) => Layout::Wide(Surveyed::new(alloc, texts, grid, tile, choice)?),
+            Surface::Narrow(grid) => Layout::Narrow(Surveyed::new(alloc, texts, grid, tile)?),
+            Surface::Wide(grid) => Layout::Wide(Surveyed::new(alloc, texts, grid, tile)?),
         };
         Ok(Session { layout, asked: 0 })
     }

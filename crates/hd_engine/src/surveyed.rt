@@ -13,15 +13,19 @@ ghost use Rattle.hd_session.specs.Reply.{refused_for, reply_of};
 ghost use Rattle.hd_engine.specs.Texts.{texts_view};
 ghost use Rattle.hd_tiles.specs.Tile.{IsTileSide};
 
-use crate::by_pool_or_links::{Need, find_by_pool_or_links};
+use crate::by_pool::{Need, find_by_pool};
 use crate::labels::show_label;
 use crate::texts::Texts;
 use crate::workpiece::Workpiece;
 use hd_basin::pool_stays_in_step;
 use hd_edit::Edit;
+use hd_feature::{
+    Kind, Notation, NotationError, Parameter, heights_serve, named, read_notation,
+    read_without_statistic,
+};
 use hd_list::{List, Memory};
 use hd_map::{Adjacency, Down, Grid, Pos, SideName, Up};
-use hd_pool::{Choice, SidePool};
+use hd_pool::SidePool;
 use hd_report::form_cause;
 use hd_script::{Command, LineError, read_line};
 use hd_session::Answer;
@@ -55,13 +59,7 @@ impl<G: Grid> Model for Surveyed<G> {
 impl<G: Grid> Surveyed<G> {
     /// A grid with the texts of its file, in tiles of this side, from 8 to 256 points, with no earlier map and no
     /// element, of which nothing is found yet.
-    pub fn new(
-        alloc: Global,
-        texts: Texts,
-        grid: G,
-        side: u32,
-        choice: Choice,
-    ) -> Result<Surveyed<G>, Memory>
+    pub fn new(alloc: Global, texts: Texts, grid: G, side: u32) -> Result<Surveyed<G>, Memory>
     where
         G: Drop,
         requires side { IsTileSide side }
@@ -72,8 +70,8 @@ impl<G: Grid> Surveyed<G> {
         let tiles = Tiles::from_surface(alloc, grid, side)?;
         let work = Workpiece::new(alloc, texts, tiles)?;
         let survey = Survey::new();
-        let dales = SidePool::new(choice);
-        let hills = SidePool::new(choice);
+        let dales = SidePool::new();
+        let hills = SidePool::new();
         Ok(Surveyed {
             work,
             survey,
@@ -215,37 +213,90 @@ impl<G: Grid> Surveyed<G> {
         }
     }
 
-    // Finds by what is kept of the sides what the report of a command asks for, where that serves.
+    // Finds by the pools of the sides what the report of a command asks for, where they serve.
     fn prepare(&mut self, command: &Command) -> Result<(), Memory>
         ensures { self.new ≡ self.old }
     {
         match command {
-            Command::Dales => self.find_by_pool_or_links(SideName::Dales, Need::Regions),
-            Command::Hills => self.find_by_pool_or_links(SideName::Hills, Need::Regions),
-            Command::Prune { side, percent } => {
-                self.find_by_pool_or_links(*side, Need::Pruning(*percent))
+            Command::Dales => self.find_by_pool(SideName::Dales, Need::Regions),
+            Command::Hills => self.find_by_pool(SideName::Hills, Need::Regions),
+            Command::Prune { side, percent } => self.find_by_pool(*side, Need::Pruning(*percent)),
+            Command::Tree { side } | Command::Saddle { side, .. } => {
+                self.find_by_pool(*side, Need::Merges)
             }
-            Command::Tree { side }
-            | Command::Saddle { side, .. }
-            | Command::Lines { side, .. }
-            | Command::Audit { side, .. }
-            | Command::Fill { side, .. } => self.find_by_pool_or_links(*side, Need::Merges),
+            Command::Lines { side, .. } => self.find_by_pool(*side, Need::Borders),
+            Command::Audit { side, percent } | Command::Fill { side, percent } => {
+                self.find_by_pool(*side, Need::Kept(*percent))
+            }
+            Command::Param { name, height } => {
+                self.prepare_parameter(named(name.as_slice(), *height))
+            }
+            Command::Feature { word } => self.prepare_notation(read_notation(word.as_slice())),
+            Command::Hist { word, .. } | Command::Perc { word, .. } => {
+                self.prepare_notation(read_without_statistic(word.as_slice()))
+            }
             _ => Ok(()),
         }
     }
 
-    // Finds by what is kept of a side what a report asks for, where that serves.
-    fn find_by_pool_or_links(&mut self, side: SideName, need: Need) -> Result<(), Memory>
+    // The same for a parameter, unless it is refused.
+    fn prepare_parameter(
+        &mut self,
+        parameter: Result<Parameter, NotationError>,
+    ) -> Result<(), Memory>
+        ensures { self.new ≡ self.old }
+    {
+        match parameter {
+            Ok(Parameter::One(notation)) => self.find_for(notation),
+            Ok(Parameter::Sum(first, second)) => {
+                self.find_for(first)?;
+                self.find_for(second)
+            }
+            Err(_) => Ok(()),
+        }
+    }
+
+    // The same for a notation, unless it is refused.
+    fn prepare_notation(&mut self, notation: Result<Notation, NotationError>) -> Result<(), Memory>
+        ensures { self.new ≡ self.old }
+    {
+        match notation {
+            Ok(notation) => self.find_for(notation),
+            Err(_) => Ok(()),
+        }
+    }
+
+    // Finds by the pool of a side what a notation asks for, where it serves.
+    fn find_for(&mut self, notation: Notation) -> Result<(), Memory>
+        ensures { self.new ≡ self.old }
+    {
+        let side = match notation.kind {
+            Kind::Hill | Kind::Peak => SideName::Hills,
+            Kind::Dale | Kind::Pit => SideName::Dales,
+        };
+        let need = if heights_serve(&notation) {
+            Need::Kept(notation.percent)
+        } else {
+            Need::Features(notation.percent)
+        };
+        self.find_by_pool(side, need)
+    }
+
+    // Finds by the pool of a side what a report asks for, where it serves.
+    fn find_by_pool(&mut self, side: SideName, need: Need) -> Result<(), Memory>
         ensures { self.new ≡ self.old }
     {
         let alloc = self.work.alloc;
         let tiles = self.work.board.grid();
+        let presence = &mut self.survey.presence;
         match side {
             SideName::Dales => {
-                find_by_pool_or_links(alloc, tiles, &mut self.dales, &mut self.survey.dales, need)
+                let found = &mut self.survey.dales;
+                find_by_pool(alloc, tiles, &mut self.dales, found, presence, need)
             }
             SideName::Hills => {
-                find_by_pool_or_links(alloc, tiles, &mut self.hills, &mut self.survey.hills, need)
+                let found = &mut self.survey.hills;
+                find_by_pool(alloc, tiles, &mut self.hills, found, presence, need)
             }
         }
     }

@@ -281,15 +281,16 @@ impl<G: Grid> Workpiece<G> {
         ensures answer { IfOk result (λ a. IsBordersAnswer (state_of G.map self.now) side percent.thousandths (reply_of a) (state_of G.map self.now)) }
     {
         let grid = self.board.grid();
+        let range = survey.presence(grid).range;
         match side {
             SideName::Dales => {
                 let dales = &mut survey.dales;
-                let text = report_borders::<Down, G>(self.alloc, grid, dales, percent)?;
+                let text = report_borders::<Down, G>(self.alloc, grid, dales, percent, range)?;
                 Ok(Answer::with_text(text))
             }
             SideName::Hills => {
                 let hills = &mut survey.hills;
-                let text = report_borders::<Up, G>(self.alloc, grid, hills, percent)?;
+                let text = report_borders::<Up, G>(self.alloc, grid, hills, percent, range)?;
                 Ok(Answer::with_text(text))
             }
         }

@@ -22,20 +22,20 @@ use Rattle.hd_pool.proofs.EdgePoints.{tested-edge, tested-inner}
 use Rattle.hd_pool.proofs.Members.{member-point, members, point-member, rooted-point}
 
 -- the bounds of some heights, where there are any
-abbrev LeastOf : List ℤ → ℤ → Type 0
+abbrev pub LeastOf : List ℤ → ℤ → Type 0
 LeastOf hs a = Contains hs a × ((h : ℤ) → Contains hs h → a ≤ℤ h)
 
-abbrev GreatestOf : List ℤ → ℤ → Type 0
+abbrev pub GreatestOf : List ℤ → ℤ → Type 0
 GreatestOf hs a = Contains hs a × ((h : ℤ) → Contains hs h → h ≤ℤ a)
 
-abbrev NoneOf : List ℤ → Type 0
+abbrev pub NoneOf : List ℤ → Type 0
 NoneOf hs = (h : ℤ) → Contains hs h → ⊥
 
 both_bounds : (a b c d : ℤ) → a ≡ b → c ≡ d → ◌≡◌ {A = Option HeightRange} (Some (record { least = a; greatest = c })) (Some (record { least = b; greatest = d }))
 both_bounds a b c d e f = cc
 
 -- are their range
-range-of_bounds : (hs : List ℤ) (low high : Option ℤ) → MatchOption low (NoneOf hs) (LeastOf hs) → MatchOption high (NoneOf hs) (GreatestOf hs) → range_between low high ≡ range_of hs
+pub range-of_bounds : (hs : List ℤ) (low high : Option ℤ) → MatchOption low (NoneOf hs) (LeastOf hs) → MatchOption high (NoneOf hs) (GreatestOf hs) → range_between low high ≡ range_of hs
 range-of_bounds [] None high none top = refl
 range-of_bounds [] (Some a) high least top = absurd (Contains-none a least.0)
 range-of_bounds (h ∷ hs) None high none top = absurd (none h (Contains-head h hs))

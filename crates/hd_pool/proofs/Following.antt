@@ -5,9 +5,7 @@ use Rattle.hd_map.specs.Map.{Map}
 use Rattle.hd_tiles.specs.Stamps.{ComesFrom}
 use Rattle.hd_basin.specs.InStep.{IsInStep}
 use Rattle.hd_basin.specs.Parts.{Pool}
-use Rattle.hd_pool.specs.Following.{Follows, IsFollowing, PoolAndLinks, no_pool_nor_links}
-use Rattle.hd_pool.proofs.TileDescents.{descents-onward}
-use Rattle.hd_pool.proofs.TileLinks.{step-onward}
+use Rattle.hd_pool.specs.Following.{Follows, IsFollowing, KeptSide, nothing_kept}
 
 -- pools in step with the map before stay in step
 abbrev pub StayInStep : Map → Map → SideName → List ℕ → List ℕ → Type 0
@@ -25,14 +23,11 @@ following-onward old new side t u before after pool stays same comes was =
     }
 
 -- so does what is kept of the side
-pub follows-onward : (old new : Map) (side : SideName) (t u : ℕ) (before after : List ℕ) (kept : PoolAndLinks) → StayInStep old new side before after
+pub follows-onward : (old new : Map) (side : SideName) (t u : ℕ) (before after : List ℕ) (kept : KeptSide) → StayInStep old new side before after
     → length before ≡ length after → ComesFrom old t before new u after → Follows old side t before kept → Follows new side u after kept
-follows-onward old new side t u before after kept stays same comes was = record {
-  pool = λ p is. following-onward old new side t u before after p stays same comes (was.pool p is);
-  links = λ l is. step-onward old new side t u before after l same comes (was.links l is);
-  descents = λ d is. descents-onward old new side t u before after d same comes (was.descents d is);
-}
+follows-onward old new side t u before after kept stays same comes was =
+    λ p is. following-onward old new side t u before after p stays same comes (was p is)
 
 -- where nothing is kept, nothing has to follow
-pub follows-none : (m : Map) (side : SideName) (t : ℕ) (stamps : List ℕ) (kept : PoolAndLinks) → kept ≡ no_pool_nor_links → Follows m side t stamps kept
-follows-none m side t stamps kept none = rw none (record { pool = λ p is. absurd (cc is); links = λ l is. absurd (cc is); descents = λ d is. absurd (cc is) })
+pub follows-none : (m : Map) (side : SideName) (t : ℕ) (stamps : List ℕ) (kept : KeptSide) → kept ≡ nothing_kept → Follows m side t stamps kept
+follows-none m side t stamps kept none = rw none (λ p is. absurd (cc is))

@@ -4,11 +4,9 @@ mod Members
 mod EdgePoints
 mod EdgeHeights
 mod Extents
+mod Presences
 mod BetweenRoots
 mod Rooted
 mod PitsOf
 mod Touched
-pub mod TileLinks
-pub mod TileBands
-pub mod TileDescents
 pub mod Following

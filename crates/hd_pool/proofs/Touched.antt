@@ -3,7 +3,7 @@ use Rattle.std.proofs.Common.{◌≡◌, ◌+◌, ◌<◌, ◌≤◌, ℕ, Bool,
 use Rattle.std.proofs.lemmas.Bool.{le-ltb, lt-ltb}
 use Rattle.std.proofs.lemmas.List.Sums.{count_by_more_no, count_by_more_yes}
 use Rattle.std.proofs.lemmas.Option.{get_or_from_slice_get, slice_get_within}
-use Rattle.hd_pool.specs.Choice.{touched_after}
+use Rattle.hd_pool.specs.Outlay.{touched_after}
 
 module _ (changes : ℕ) (stamps : List ℕ) (i stamp : ℕ) (read : slice_get stamps i ≡ Some stamp) where
   abbrev is_after : ℕ → Bool

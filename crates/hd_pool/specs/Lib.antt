@@ -2,8 +2,6 @@
 pub mod Told
 pub mod BetweenRoots
 pub mod PitsOf
-pub mod Choice
-pub mod TileLinks
-pub mod TileBands
-pub mod TileDescents
+pub mod Outlay
 pub mod Following
+pub mod View

@@ -5,16 +5,12 @@
 //! it says what else holds then.
 #![tactic(auto)]
 
-mod bands;
 mod between;
-mod choice;
+mod outlay;
 mod pits;
 mod pool_view;
-mod side_descents;
-mod side_links;
 mod side_pool;
 mod told;
 
-pub use choice::{Choice, Question};
 pub use pool_view::PoolView;
 pub use side_pool::SidePool;

@@ -1,44 +1,60 @@
 // A side of a grid, by its pool of local basins.
 ghost use Rattle.std.specs.Prelude.{◌≡◌, IfOk};
+ghost use Rattle.hd_map.specs.Presence.{IsPresence, present_heights};
 ghost use Rattle.hd_basin.specs.InStep.{IsPoolOf};
 
 use crate::between::passes_between_regions;
 use crate::pits::pits_among;
-use crate::told::{sizes_told, tallies_told};
-use hd_basin::Basins;
+use crate::told::{presence_told, sizes_told, tallies_told};
+use hd_basin::{Basins, Roots};
 use hd_list::{List, Memory};
-use hd_map::{Heights, Pos, RegionSize, Side};
+use hd_map::{Heights, Pos, Presence, RegionSize, Side};
 use hd_regions::Tally;
 use hd_survey::{PitMerges, SideView, merges_of_passes};
 use std::alloc::Global;
 use std::marker::Model;
 
-/// A side of a grid, by the pool of its local basins, which is that of the present map. Contracts see it as the
-/// grid.
+/// A side of a grid, by the pool of its local basins, which is that of the present map, and the roots of these. Contracts
+/// see it as the grid.
 #[derive(Drop)]
 pub struct PoolView<'a, S: Side, G: Heights> {
     alloc: Global,
     grid: &'a G,
     pool: &'a Basins<S>,
+    roots: Roots,
 }
 
 impl<'a, S: Side, G: Heights> Model for PoolView<'a, S, G> {
-    ghost use Rattle.hd_basin.specs.InStep.{IsPoolOf};
+    ghost use Rattle.hd_pool.specs.View.{IsViewed};
 
     ghost Value = { G };
 
     ghost view = { λ v. v.grid.now };
 
-    ghost invariant = { λ v. IsPoolOf (G.map v.grid.now) S.NAME v.pool.now };
+    ghost invariant = { λ v. IsViewed (G.map v.grid.now) S.NAME v.pool.now v.roots };
 }
 
 impl<'a, S: Side, G: Heights> PoolView<'a, S, G> {
-    /// A side of a grid, by the pool of its local basins.
-    pub fn new(alloc: Global, grid: &'a G, pool: &'a Basins<S>) -> Self
+    /// A side of a grid, by the pool of its local basins. It takes time in proportion to the basins.
+    pub fn new(alloc: Global, grid: &'a G, pool: &'a Basins<S>) -> Result<Self, Memory>
         requires { IsPoolOf (G.map grid.now) S.NAME pool.now }
-        ensures { result ≡ grid.now }
+        ensures { IfOk result (λ view. view ≡ grid.now) }
     {
-        PoolView { alloc, grid, pool }
+        let roots = pool.find_roots()?;
+        Ok(PoolView {
+            alloc,
+            grid,
+            pool,
+            roots,
+        })
+    }
+
+    /// How many points of the grid are present, and the range of their heights.
+    pub fn presence(&self) -> Result<Presence, Memory>
+        ensures { IfOk result (IsPresence (present_heights (G.map self.now))) }
+    {
+        let extents = self.pool.extents()?;
+        Ok(presence_told(extents.as_slice()))
     }
 }
 
@@ -48,20 +64,19 @@ impl<'a, S: Side, G: Heights> SideView<S> for PoolView<'a, S, G> {
     ghost whole = { λ v. G.whole v };
 
     fn root(&self, at: Pos) -> Pos {
-        match self.pool.label(at) {
+        match self.pool.root(&self.roots, at) {
             Some(pit) => pit,
             None => unreachable!(),
         }
     }
 
     fn merges(&self) -> Result<PitMerges, Memory> {
-        let roots = self.pool.find_roots()?;
         let basins = self.pool.as_graph()?;
         let passes = passes_between_regions::<S, G>(
             self.alloc,
             self.grid,
             self.pool,
-            &roots,
+            &self.roots,
             basins.passes(),
         )?;
         let pits = pits_among(self.alloc, basins.lows())?;

@@ -1,96 +1,121 @@
-// The pool, the first links and the descents of a side of a grid in tiles.
-ghost use Rattle.std.specs.Prelude.{◌≡◌, IfOk, IsTrue, OnOk};
+// The pool of a side of a grid in tiles, and when it answers.
+ghost use Rattle.std.specs.Prelude.{◌≡◌, ◌*◌, ◌<◌, ◌^◌, IfOk, IsTrue, None, OnErr, OnOk, false};
+ghost use Rattle.hd_map.specs.Map.{cell_count, Present};
+ghost use Rattle.hd_map.specs.Rank.{rank};
+ghost use Rattle.hd_map.specs.Region.{IsRoot};
 ghost use Rattle.hd_basin.specs.InStep.{IsPoolOf};
-ghost use Rattle.hd_survey.specs.Findings.{ArePitMerges};
-ghost use Rattle.hd_pool.specs.Following.{Follows, HasDescents, HasLinks, IsFollowing, IsReady, no_pool_nor_links};
+ghost use Rattle.hd_pool.specs.Following.{Follows, IsFollowing, IsReady, after_report, has_or_earns, labels_by_pool, nothing_kept, points_to_take, reports_by_pool};
+ghost use Rattle.hd_pool.specs.Outlay.{counted, paid};
 
 use crate::PoolView;
-use crate::choice::{Choice, Question, is_by_pool, spent_at};
-use crate::side_descents::{SideDescents, descents_of};
-use crate::side_links::{SideLinks, links_of};
+use crate::outlay::Outlay;
 use hd_basin::Basins;
 use hd_list::Memory;
-use hd_map::{Grid, Heights, Side};
-use hd_survey::{GridView, PitMerges};
+use hd_map::{Grid, Heights, Pos, Side};
 use hd_tiles::{Steps, Tiles};
 use std::alloc::Global;
 use std::marker::{Brand, Model};
 use std::sync::ledger::{Blank, Ledger};
 
-/// The pool, the first links and the descents of a side of a grid in tiles, each of which is made and brought up to the
-/// grid where questions are answered by it. Contracts see it as these, where they are kept.
+/// The pool of a side of a grid in tiles. Reports go over the whole map until one did so after a change; from then on the
+/// pool tells them. A label is told by the pool where ways that were walked took as many steps as it is worth to bring it
+/// up. Where changes touched more than a fourth of the tiles, a report lets the pool go, and all begins again. Contracts see it
+/// as what is kept.
 #[derive(Drop)]
 pub struct SidePool<S: Side> {
-    choice: Choice,
     pool: Option<Basins<S>>,
-    links: Option<SideLinks>,
-    descents: Option<SideDescents>,
-    spent: u64,
-    changes: u64,
-    reported: Option<u64>,
+    outlay: Outlay,
 }
 
 impl<S: Side> Model for SidePool<S> {
-    ghost use Rattle.hd_pool.specs.Following.{PoolAndLinks};
+    ghost use Rattle.hd_pool.specs.Following.{KeptSide};
 
-    ghost Value = { PoolAndLinks };
+    ghost Value = { KeptSide };
 
-    ghost view = { λ s. record { pool = s.pool; links = s.links; descents = s.descents } };
+    ghost view = { λ s. record { pool = s.pool; outlay = s.outlay } };
 }
 
 impl<S: Side> SidePool<S> {
-    /// Nothing is kept yet, nothing spent on labels, and no report was asked for.
-    pub fn new(choice: Choice) -> SidePool<S>
-        ensures { result ≡ no_pool_nor_links }
+    /// Nothing is kept, and nothing was asked.
+    pub fn new() -> SidePool<S>
+        ensures { result ≡ nothing_kept }
     {
         SidePool {
-            choice,
             pool: None,
-            links: None,
-            descents: None,
-            spent: 0,
-            changes: 0,
-            reported: None,
+            outlay: Outlay::new(),
         }
     }
 
-    /// Tells whether a question about the side is answered by the pool, and brings it up to the grid if so.
-    pub fn serves<G: Grid>(
+    /// Tells whether a report on the side is told by its pool, and brings this up to the grid if so. If not, the report is
+    /// counted as one that goes over the whole map.
+    pub fn serves_report<G: Grid>(
         &mut self,
         alloc: Global,
         tiles: &Tiles<G>,
-        question: Question,
     ) -> Result<bool, Memory>
         requires { Follows (G.map tiles.now.grid) S.NAME tiles.now.tiling.side tiles.now.stamps.items self.old }
         ensures follows { Follows (G.map tiles.now.grid) S.NAME tiles.now.tiling.side tiles.now.stamps.items self.new }
         ensures ready { IfOk result (λ serves. IsTrue serves → IsReady (G.map tiles.now.grid) S.NAME self.new) }
+        ensures rule { IfOk result (λ serves. serves ≡ reports_by_pool (cell_count tiles.now.tiling.size) tiles.now.stamps.items self.old) }
+        ensures let_go { IfOk result (λ serves. serves ≡ false → self.new.pool ≡ None) }
+        ensures outlay { IfOk result (λ serves. self.new.outlay
+            ≡ after_report (cell_count tiles.now.tiling.size) tiles.now.tiling.side tiles.now.changes tiles.now.stamps.items self.old) }
     {
-        if !self.is_worth(tiles, question) {
+        let changes = tiles.changes();
+        let points = points_of(tiles);
+        if !self.has_or_earns(points) {
+            self.outlay = self.outlay.reported(changes, points);
+            return Ok(false);
+        }
+        if self.outlay.is_out_of_date(tiles) {
+            self.pool = None;
+            self.outlay = Outlay::new().reported(changes, points);
             return Ok(false);
         }
         self.bring_up(alloc, tiles)?;
         Ok(true)
     }
 
-    // Whether a question is to be answered by the pool.
-    fn is_worth<G: Grid>(&mut self, tiles: &Tiles<G>, question: Question) -> bool
-        ensures { self.new ≡ self.old }
+    // Whether there is a pool, or one of so many points is worth it.
+    fn has_or_earns(&self, points: u64) -> bool
+        requires { points < 2 ^ 56 }
+        ensures { result ≡ has_or_earns points self.now }
     {
-        let size = tiles.tiling().size();
-        let points = u64::from(size.points) * u64::from(size.profiles);
-        if !is_by_pool(self.choice, question, self.spent, points) {
-            return false;
-        }
-        self.spent = spent_at(self.spent, self.changes, tiles);
-        self.changes = tiles.changes();
-        is_by_pool(self.choice, question, self.spent, points)
+        self.pool.is_some() || self.outlay.is_worth(points)
     }
 
-    /// Counts what points were gone over for a label.
-    pub fn spend(&mut self, points: u64)
-        ensures { self.new ≡ self.old }
+    /// Tells whether a label of the side is told by its pool, and brings this up to the grid if so.
+    pub fn serves_label<G: Grid>(&mut self, alloc: Global, tiles: &Tiles<G>) -> Result<bool, Memory>
+        requires { Follows (G.map tiles.now.grid) S.NAME tiles.now.tiling.side tiles.now.stamps.items self.old }
+        ensures follows { Follows (G.map tiles.now.grid) S.NAME tiles.now.tiling.side tiles.now.stamps.items self.new }
+        ensures ready { IfOk result (λ serves. IsTrue serves → IsReady (G.map tiles.now.grid) S.NAME self.new) }
+        ensures rule { IfOk result (λ serves. serves ≡ labels_by_pool (cell_count tiles.now.tiling.size) tiles.now.tiling.side tiles.now.stamps.items self.old) }
+        ensures same { IfOk result (λ serves. serves ≡ false → self.new ≡ self.old) }
     {
-        self.spent = self.spent.saturating_add(points);
+        if !self.outlay.is_worth(self.points_to_take(tiles)) {
+            return Ok(false);
+        }
+        self.bring_up(alloc, tiles)?;
+        Ok(true)
+    }
+
+    /// Counts the steps that the answer to a label took, where the pool did not serve.
+    pub fn count_label<G: Grid>(&mut self, tiles: &Tiles<G>, steps: u64)
+        ensures { self.new ≡ record self.old { outlay = counted tiles.now.changes steps self.old.outlay } }
+    {
+        self.outlay = self.outlay.counted(tiles.changes(), steps);
+    }
+
+    // How many points the pool takes in where it is brought up.
+    fn points_to_take<G: Grid>(&self, tiles: &Tiles<G>) -> u64
+        ensures few { result < 2 ^ 56 }
+        ensures value { result ≡ points_to_take (cell_count tiles.now.tiling.size) tiles.now.tiling.side tiles.now.stamps.items self.now }
+    {
+        if self.pool.is_none() {
+            return points_of(tiles);
+        }
+        let side = tiles.tiling().side();
+        u64::from(self.outlay.touched(tiles)) * u64::from(side * side)
     }
 
     // Brings the pool up to the grid, and makes it first where there is none.
@@ -98,96 +123,70 @@ impl<S: Side> SidePool<S> {
         requires { Follows (G.map tiles.now.grid) S.NAME tiles.now.tiling.side tiles.now.stamps.items self.old }
         ensures follows { Follows (G.map tiles.now.grid) S.NAME tiles.now.tiling.side tiles.now.stamps.items self.new }
         ensures ready { OnOk result (IsReady (G.map tiles.now.grid) S.NAME self.new) }
+        ensures outlay { OnOk result (self.new.outlay ≡ paid tiles.now.changes
+            (points_to_take (cell_count tiles.now.tiling.size) tiles.now.tiling.side tiles.now.stamps.items self.old) self.old.outlay) }
     {
+        let points = self.points_to_take(tiles);
         let mut pool = match self.pool.take() {
             Some(pool) => pool,
             None => new_pool(alloc, tiles)?,
         };
         let refreshed = refresh::<S, G, Brand>(&mut pool, tiles, Blank::new(1));
         self.pool = Some(pool);
-        refreshed
-    }
-
-    /// Tells whether the links of the side are kept, and brings them up to the grid if so. They are kept from the first
-    /// report on that is asked for after changes since an earlier one.
-    pub fn keeps_links<G: Grid>(&mut self, alloc: Global, tiles: &Tiles<G>) -> Result<bool, Memory>
-        requires { Follows (G.map tiles.now.grid) S.NAME tiles.now.tiling.side tiles.now.stamps.items self.old }
-        ensures follows { Follows (G.map tiles.now.grid) S.NAME tiles.now.tiling.side tiles.now.stamps.items self.new }
-        ensures links { IfOk result (λ keeps. IsTrue keeps → HasLinks (G.map tiles.now.grid) S.NAME self.new) }
-    {
-        if !self.was_changed(tiles.changes()) {
-            return Ok(false);
-        }
-        let links = links_of::<S, G>(alloc, self.links.take(), tiles)?;
-        self.links = Some(links);
-        Ok(true)
-    }
-
-    // Whether a report was asked for when there were fewer changes.
-    fn was_changed(&mut self, changes: u64) -> bool
-        ensures { self.new ≡ self.old }
-    {
-        let first = self.reported.unwrap_or(changes);
-        self.reported = Some(first);
-        first < changes
-    }
-
-    /// The side, by regions that are found by its links. The links are those of the grid.
-    pub fn view_by_links<'a, G: Heights>(
-        &self,
-        alloc: Global,
-        grid: &'a G,
-    ) -> Result<GridView<'a, S, G>, Memory>
-        requires { HasLinks (G.map grid.now) S.NAME self.now }
-        ensures { IfOk result (λ view. view ≡ grid.now) }
-    {
-        let regions = match &self.links {
-            Some(links) => links.regions::<S, G>(alloc, grid)?,
-            None => unreachable!(),
-        };
-        Ok(GridView::from_regions(alloc, grid, regions))
-    }
-
-    /// Brings the descents of the side up to the grid, and finds all of them first where none are kept.
-    ///
-    /// They take 8 bytes each and 8 a tile. None are kept after `Memory`.
-    pub fn bring_descents_up<G: Grid>(
-        &mut self,
-        alloc: Global,
-        tiles: &Tiles<G>,
-    ) -> Result<(), Memory>
-        requires { Follows (G.map tiles.now.grid) S.NAME tiles.now.tiling.side tiles.now.stamps.items self.old }
-        ensures follows { Follows (G.map tiles.now.grid) S.NAME tiles.now.tiling.side tiles.now.stamps.items self.new }
-        ensures links { self.new.links ≡ self.old.links }
-        ensures descents { OnOk result (HasDescents (G.map tiles.now.grid) S.NAME self.new) }
-    {
-        let descents = descents_of::<S, G>(alloc, self.descents.take(), tiles)?;
-        self.descents = Some(descents);
+        refreshed?;
+        self.outlay = self.outlay.paid(tiles.changes(), points);
         Ok(())
     }
 
-    /// The pits of the side and their merges, by its links and descents, which are those of the grid.
-    pub fn merges_by_links<G: Heights>(&self, alloc: Global, grid: &G) -> Result<PitMerges, Memory>
-        requires links { HasLinks (G.map grid.now) S.NAME self.now }
-        requires descents { HasDescents (G.map grid.now) S.NAME self.now }
-        ensures { IfOk result (ArePitMerges (G.map grid.now) S.NAME) }
+    /// The pit in whose region a present point of a grid lies, by the pool, which is that of the grid.
+    pub fn root<G: Heights>(&self, _grid: &G, at: Pos) -> Pos
+        requires ready { IsReady (G.map _grid.now) S.NAME self.now }
+        requires present { Present (G.map _grid.now) at }
+        ensures present { Present (G.map _grid.now) result }
+        ensures root { IsRoot (G.map _grid.now) S.NAME (rank (G.map _grid.now) at) (rank (G.map _grid.now) result) }
     {
-        match (&self.links, &self.descents) {
-            (Some(links), Some(descents)) => descents.merges::<S, G>(alloc, grid, links),
-            _ => unreachable!(),
+        match &self.pool {
+            Some(pool) => root_by::<S, G>(_grid, pool, at),
+            None => unreachable!(),
         }
     }
 
-    /// The side, by its pool. The pool is that of the grid.
-    pub fn view<'a, G: Heights>(&'a self, alloc: Global, grid: &'a G) -> PoolView<'a, S, G>
+    /// The side, by its pool. The pool is that of the grid. It takes time in proportion to the basins.
+    pub fn view<'a, G: Heights>(
+        &'a self,
+        alloc: Global,
+        grid: &'a G,
+    ) -> Result<PoolView<'a, S, G>, Memory>
         requires { IsReady (G.map grid.now) S.NAME self.now }
-        ensures { result ≡ grid.now }
+        ensures { IfOk result (λ view. view ≡ grid.now) }
     {
         match &self.pool {
             Some(pool) => PoolView::new(alloc, grid, pool),
             None => unreachable!(),
         }
     }
+}
+
+// The pit in whose region a present point of a grid lies, by its pool.
+fn root_by<S: Side, G: Heights>(_grid: &G, pool: &Basins<S>, at: Pos) -> Pos
+    requires pool { IsPoolOf (G.map _grid.now) S.NAME pool.now }
+    requires present { Present (G.map _grid.now) at }
+    ensures present { Present (G.map _grid.now) result }
+    ensures root { IsRoot (G.map _grid.now) S.NAME (rank (G.map _grid.now) at) (rank (G.map _grid.now) result) }
+{
+    match pool.label(at) {
+        Some(pit) => pit,
+        None => unreachable!(),
+    }
+}
+
+// How many points a grid has.
+fn points_of<G: Grid>(tiles: &Tiles<G>) -> u64
+    ensures few { result < 2 ^ 32 }
+    ensures points { result ≡ cell_count tiles.now.tiling.size }
+{
+    let size = tiles.tiling().size();
+    u64::from(size.profiles) * u64::from(size.points)
 }
 
 // A pool for a grid that has seen no tile.

@@ -2,7 +2,7 @@
 use Rattle.std.proofs.Common.{◌≡◌, ◌<◌, ◌+◌, ◌++◌, ℕ, zero, suc, Bool, true, List, [], ◌∷◌, slice_index, ◌⊎◌, inl, inr, ap, ◌∙◌, sym, subst, refl, arith}
 use Rattle.std.specs.Prelude.{Contains}
 use Rattle.std.proofs.lemmas.Bool.{cases_eq, cond_both}
-use Rattle.std.proofs.lemmas.List.Elements.{Contains-push, Contains-push_cases, Contains-append_cases, Contains-append_left, Contains-append_right}
+use Rattle.std.proofs.lemmas.List.Elements.{Contains-push, Contains-push_cases, Contains-append_left}
 use Rattle.hd_map.specs.declared.types.Pos.{Pos}
 use Rattle.hd_map.specs.declared.types.Rank.{Rank}
 use Rattle.hd_map.specs.declared.types.SideName.{SideName}
@@ -15,7 +15,7 @@ use Rattle.hd_map.proofs.Points.{Near-to}
 use Rattle.hd_steep.specs.declared.descent.Descent.{Descent}
 use Rattle.hd_steep.specs.declared.rolling.Rows.{Rows}
 use Rattle.hd_steep.specs.Descended.{Descends, descent_to, indexes_round, with_descents}
-use Rattle.hd_steep.specs.Descents.{AreDescentsFrom, IsDescentFrom, IsReached}
+use Rattle.hd_steep.specs.Descents.{IsDescentFrom, IsReached}
 use Rattle.hd_steep.specs.KeyRows.{AreRowsRound, ranks_of}
 use Rattle.hd_steep.specs.Ring.{ring_of, are_lower, are_lower_heights, is_marked, marks_of, IsOneAtMost}
 use Rattle.hd_steep.specs.Rows.{rank_in}
@@ -117,27 +117,6 @@ module _ (m : Map) (side : SideName) where
     | inl none ↦ absurd (Contains-none d none)
     | inr of ↦ of
   ]
-
-  -- from some points, and from others on their own
-  pub descends_append : (C D : Pos → Type 0) (xs ys : List Descent) → Descends m side C [] xs → Descends m side D [] ys → Descends m side (λ u. C u ⊎ D u) [] (xs ++ ys)
-  descends_append C D xs ys one other = record {
-    from = λ d held. elim (Contains-append_cases xs ys d held) [
-      | inl left ↦ inr (from_more C (λ u. C u ⊎ D u) d (λ u here chosen. inl chosen) (from_none C xs d one left))
-      | inr right ↦ inr (from_more D (λ u. C u ⊎ D u) d (λ u here chosen. inr chosen) (from_none D ys d other right))
-    ];
-    kept = λ d held. absurd (Contains-none d held);
-    all = λ u chosen here z low. elim chosen [
-      | inl c ↦ reached_kept xs (xs ++ ys) (rank m u) z (λ d held. Contains-append_left xs ys d held) (one.all u c here z low)
-      | inr d ↦ reached_kept ys (xs ++ ys) (rank m u) z (λ d held. Contains-append_right xs ys d held) (other.all u d here z low)
-    ];
-  }
-
-  -- from an empty list on they are the descents from these points
-  pub descents_all : (C : Pos → Type 0) (xs : List Descent) → Descends m side C [] xs → AreDescentsFrom m side C xs
-  descents_all C xs descends = record {
-    each = λ d held. from_none C xs d descends held;
-    all = descends.all;
-  }
 
 module _ (m : Map) (side : SideName) (whole : IsMap m) {L : Type 0} (code : Encoding L) (rows : Rows L) (at : Pos) (here : Present m at) (round : AreRowsRound code side m at.y rows)
     (lower : List Bool) where

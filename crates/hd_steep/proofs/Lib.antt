@@ -30,10 +30,8 @@ pub mod Around
 pub mod Heights
 pub mod Enough
 pub mod Crossed
-mod TracedNumbers
 pub mod NumberedCrossings
 pub mod TracedCrossings
-pub mod DescentsStay
 mod ShownKeys
 mod IndexesRound
 mod Descended

@@ -44,10 +44,6 @@ module _ (m : Map) (side : SideName) where
   pub pit_own : (k : ℕ) (p : Rank) → IsPit m side p → p.index ≡ k → IsRootAt m side k k
   pit_own k p pit e = record { at = p; point = pit.point; index_is = sym e; to = p; is_root = root-pit m side p pit; root_is = sym e }
 
-  -- a root is its own root
-  pub root_own : (k root : ℕ) → IsRootAt m side k root → IsRootAt m side root root
-  root_own k root is = pit_own root is.to (root-is_pit m side is.at is.to is.is_root) (sym is.root_is)
-
   -- where a point is its own root, its position is that of a pit
   pub own_position : (k : ℕ) → IsRootAt m side k k → Present m (position_at m.size k) × IsPit m side (rank m (position_at m.size k)) × ((rank m (position_at m.size k)).index ≡ k)
   own_position k is =

@@ -9,7 +9,6 @@ use Rattle.hd_map.specs.declared.types.Pass.{Pass}
 use Rattle.hd_map.specs.declared.types.Pos.{Pos}
 use Rattle.hd_map.specs.declared.types.Rank.{Rank}
 use Rattle.hd_map.specs.declared.types.SideName.{SideName}
-use Rattle.hd_map.specs.Crossings.{AreCrossingsUnder}
 use Rattle.hd_map.specs.Map.{Map, IsMap, Present, position_at}
 use Rattle.hd_map.specs.Path.{Leads}
 use Rattle.hd_map.specs.Pruning.{ArePits}
@@ -17,16 +16,15 @@ use Rattle.hd_map.specs.Rank.{rank, IsPoint}
 use Rattle.hd_map.specs.Region.{LowerNeighbour, AreRegions}
 use Rattle.hd_map.proofs.Items.{Contains-cases, Contains-none}
 use Rattle.hd_map.proofs.Nexts.{root-next}
-use Rattle.hd_map.proofs.Points.{Near-from, Near-to, rank_position}
+use Rattle.hd_map.proofs.Points.{Near-from, Near-to, rank_position, same_index}
 use Rattle.hd_steep.specs.declared.descent.Descent.{Descent}
 use Rattle.hd_steep.specs.Crossed.{AreBeside, Extends, Gathers, IsCrossed, IsPassTo, IsServed}
 use Rattle.hd_steep.specs.Crossings.{HasPits, IsCrossingAlong, IsNumberAt, IsNumberOf, pass_of, passes_of}
 use Rattle.hd_steep.specs.Descended.{Descends}
 use Rattle.hd_steep.specs.Descents.{IsDescent, IsReached, LeadsDown}
 use Rattle.hd_steep.specs.Tracing.{IsTracedAcross, Traced, TracesAcross, traced_passes}
-use Rattle.hd_steep.proofs.Crossed.{crossed_in_one, crossed_kept, crossed_push, crossings_all, extends_none, extends_on, extends_push}
+use Rattle.hd_steep.proofs.Crossed.{crossed_in_one, crossed_kept, crossed_push, extends_none, extends_on, extends_push}
 use Rattle.hd_steep.proofs.NumberedCrossings.{in_one-numbers, pass-to}
-use Rattle.hd_steep.proofs.TracedNumbers.{number_of_rank}
 
 -- crossings that were found without a trace
 abbrev pub untraced : List Rank → List Link → Traced
@@ -67,6 +65,10 @@ module _ (m : Map) (side : SideName) where
   rank_at : (x : Rank) (k : ℕ) → IsPoint m x → k ≡ x.index → x ≡ rank m (position_at m.size k)
   rank_at x k point e = point.rank_is ∙ ap (rank m) (sym (rank_position m x point.at point.present point.rank_is)) ∙ ap (λ i. rank m (position_at m.size i)) (sym e)
 
+  -- a point has the number at its index
+  number_of_rank : (pits : List Rank) (x : Rank) (k n : ℕ) → IsPoint m x → k ≡ x.index → IsNumberAt m side pits k n → IsNumberOf m side pits x n
+  number_of_rank pits x k n point e is = subst (λ (r : Rank). IsNumberOf m side pits r n) (same_index m is.at x is.point point (sym is.index_is ∙ e)) is.number
+
   -- the one descent of a list
   only_descent : (P : Descent → Type 0) (d : Descent) → P d → (e : Descent) → Contains (d ∷ []) e → P e
   only_descent P d holds e h = elim (Contains-cases d e [] h) [
@@ -77,13 +79,13 @@ module _ (m : Map) (side : SideName) where
   -- a descent whose ends have these numbers
   module _ (t : Traced) (d : Descent) (a b : ℕ) (from : IsNumberAt m side t.pits d.from a) (to : IsNumberAt m side t.pits d.to b) where
     from_number : (x y : Rank) → LeadsDown m side d x y → IsNumberOf m side t.pits x a
-    from_number x y leads = number_of_rank m side t.pits x d.from a (Near-from m x y leads.lower.near) leads.from_is from
+    from_number x y leads = number_of_rank t.pits x d.from a (Near-from m x y leads.lower.near) leads.from_is from
 
     to_number : (x y : Rank) → LeadsDown m side d x y → IsNumberOf m side t.pits y b
-    to_number x y leads = number_of_rank m side t.pits y d.to b (Near-to m x y leads.lower.near) leads.to_is to
+    to_number x y leads = number_of_rank t.pits y d.to b (Near-to m x y leads.lower.near) leads.to_is to
 
     -- is traced across where they are the same
-    pub traces_same : (numbers : List ℕ) → a ≡ b → TracesAcross m side (d ∷ []) t (record { pits = t.pits; numbers = numbers; crossings = t.crossings })
+    traces_same : (numbers : List ℕ) → a ≡ b → TracesAcross m side (d ∷ []) t (record { pits = t.pits; numbers = numbers; crossings = t.crossings })
     traces_same numbers same = record {
       same = refl;
       extends = extends_none m side (traced_passes m side t);
@@ -92,7 +94,7 @@ module _ (m : Map) (side : SideName) where
     }
 
     -- and where they are not, by their crossing
-    pub traces_push : (numbers : List ℕ) (at : Rank) → ArePits m side t.pits → IsDescent m side d → at ≡ rank m (position_at m.size d.from) → a ≢ b
+    traces_push : (numbers : List ℕ) (at : Rank) → ArePits m side t.pits → IsDescent m side d → at ≡ rank m (position_at m.size d.from) → a ≢ b
         → TracesAcross m side (d ∷ []) t (record { pits = t.pits; numbers = numbers; crossings = t.crossings ++ record { a = a; b = b; at = at } ∷ [] })
     traces_push numbers at pits is at_is apart =
         let link : Link = record { a = a; b = b; at = at } in
@@ -158,11 +160,3 @@ module _ (m : Map) (side : SideName) where
       extends = extends;
       served = λ u chosen here z low. served_traced u z list here low (descends.all u chosen here z low) across;
     }
-
-    pub traced-crossings : Extends m side [] (traced_passes m side t)
-        → ((u : Pos) → Present m u → (z : Rank) → LowerNeighbour m side (rank m u) z → (list : List Descent) × IsReached m side list (rank m u) z × ((d : Descent) → Contains list d → IsTracedAcross m side t d))
-        → AreCrossingsUnder m side roots (traced_passes m side t)
-    traced-crossings extends all = crossings_all m side whole roots regions (traced_passes m side t) (record {
-      extends = extends;
-      served = λ u chosen here z low. let (list, reached, across) = all u here z low in served_traced u z list here low reached across;
-    })

@@ -1,5 +1,5 @@
 -- Descents: the ways down from points whose lower neighbours fall into several groups.
-use Rattle.std.specs.Prelude.{◌≡◌, ◌⊎◌, ◌<◌, ◌≤◌, ℕ, List, Contains}
+use Rattle.std.specs.Prelude.{◌≡◌, ◌⊎◌, List, Contains}
 use Rattle.hd_map.specs.declared.types.Pos.{Pos}
 use Rattle.hd_map.specs.declared.types.Rank.{Rank}
 use Rattle.hd_map.specs.declared.types.SideName.{SideName}
@@ -9,10 +9,6 @@ use Rattle.hd_map.specs.Rank.{rank}
 use Rattle.hd_map.specs.Region.{IsNext, LowerNeighbour}
 use Rattle.hd_steep.specs.declared.descent.Descent.{Descent}
 use Rattle.hd_steep.specs.Crossed.{AreBeside}
-
--- the positions of the profiles from a first one up to another
-abbrev pub IsInProfiles : ℕ → ℕ → Pos → Type 0
-IsInProfiles first end u = (first ≤ u.y) × (u.y < end)
 
 module _ (m : Map) (side : SideName) where
   -- it leads from x down to its lower neighbour y
@@ -41,8 +37,3 @@ module _ (m : Map) (side : SideName) where
     pub way : List Rank
     pub along : Leads (AreBeside m side x) y way last
     pub by : IsNext m side x last ⊎ Contains descents (record { from = x.index; to = last.index })
-
-  -- they lead down from points at chosen positions, and of these points all lower neighbours are reached
-  pub record AreDescentsFrom (Chosen : Pos → Type 0) (descents : List Descent) : Type 0 where
-    pub each : (d : Descent) → Contains descents d → IsDescentFrom Chosen d
-    pub all : (u : Pos) → Chosen u → Present m u → (z : Rank) → LowerNeighbour m side (rank m u) z → IsReached descents (rank m u) z

@@ -1,10 +1,8 @@
 -- The first links of points by index: each to the lowest of the point and its neighbours.
-use Rattle.std.specs.Prelude.{◌≡◌, ◌≢◌, ◌⊎◌, ◌<◌, ◌+◌, ℕ, List, length, slice_index}
-use Rattle.hd_map.specs.declared.types.Pos.{Pos}
+use Rattle.std.specs.Prelude.{◌≡◌, ◌⊎◌, ◌<◌, ◌+◌, ℕ, List, length, slice_index}
 use Rattle.hd_map.specs.declared.types.Rank.{Rank}
 use Rattle.hd_map.specs.declared.types.SideName.{SideName}
-use Rattle.hd_map.specs.Map.{Map, InGrid, cell_at, mask_at, cell_count, place_of}
-use Rattle.hd_map.specs.Neighbour.{IsNear}
+use Rattle.hd_map.specs.Map.{Map, cell_count}
 use Rattle.hd_map.specs.Rank.{IsPoint}
 use Rattle.hd_map.specs.Region.{IsNext, IsPit}
 use Rattle.hd_steep.specs.Links.{no_link, NoPointAt}
@@ -32,16 +30,3 @@ AreFirstLinksFrom m side first links = (k : ℕ) → k < length links → IsFirs
 pub record AreFirstLinks (m : Map) (side : SideName) (links : List ℕ) : Type 0 where
   pub whole : length links ≡ cell_count m.size
   pub each : (k : ℕ) → k < length links → IsFirstLink m side k (slice_index links k)
-
--- the link at a position is the first one in the map, and all others stay
-pub record IsRenewedAt (m : Map) (side : SideName) (at : Pos) (old new : List ℕ) : Type 0 where
-  pub whole : length new ≡ length old
-  pub here : IsFirstLink m side (place_of m.size at) (slice_index new (place_of m.size at))
-  pub others : (k : ℕ) → k ≢ place_of m.size at → slice_index new k ≡ slice_index old k
-
--- two maps of one size have the same setting, and the same cells and masks at a position and the eight round it
-pub record AgreeRound (m n : Map) (at : Pos) : Type 0 where
-  pub size : m.size ≡ n.size
-  pub adjacency : m.adjacency ≡ n.adjacency
-  pub cells : (q : Pos) → InGrid m.size q → IsNear at.x q.x → IsNear at.y q.y → cell_at m q ≡ cell_at n q
-  pub masks : (q : Pos) → InGrid m.size q → IsNear at.x q.x → IsNear at.y q.y → mask_at m q ≡ mask_at n q

@@ -13,7 +13,6 @@ mod descending;
 mod descent;
 mod ends;
 mod found;
-mod kept_links;
 mod laws;
 mod leading;
 mod links;
@@ -30,12 +29,9 @@ mod put;
 mod rolling;
 mod row;
 mod steep;
-mod tracing;
 
 pub use border::Border;
 pub use crossing::{crossings, passes_of};
-pub use descent::{Descent, descents};
-pub use kept_links::FirstLinks;
 pub use laws::{
     next_is_determined, pit_is_its_own_root, regions_are_determined, root_is_determined,
 };
@@ -45,4 +41,3 @@ pub use numbering::{Regions, find_regions};
 pub use pairs::borders_of;
 pub use passing::passes;
 pub use steep::{next, regions, root};
-pub use tracing::Tracing;

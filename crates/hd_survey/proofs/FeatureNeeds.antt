@@ -23,7 +23,8 @@ use Rattle.hd_prune.specs.Answer.{IsPruned}
 use Rattle.hd_prune.specs.Pruned.{leavings_of}
 use Rattle.hd_prune.specs.Staying.{AreKeptAlone}
 use Rattle.hd_regions.specs.declared.tally.Tally.{Tally}
-use Rattle.hd_survey.specs.Features.{AreFeatures, AreFeaturesWith, AreHeightsAlone, AreHeightsWith, feature_of, feature_with}
+use Rattle.hd_survey.specs.Features.{AreFeaturesWith, AreHeightsAlone, AreHeightsWith, feature_of, feature_with}
+use Rattle.hd_survey.specs.Findings.{AreKeptFeatures}
 use Rattle.hd_survey.specs.Heights.{HasHeights, farthest_apart}
 use Rattle.hd_survey.specs.Owned.{AreOwnedTallies, owned_points}
 use Rattle.hd_survey.specs.Sums.{IsSmall}
@@ -36,14 +37,7 @@ use Rattle.hd_survey.proofs.Owning.{owned_whole, pruned_inside}
 use Rattle.hd_survey.proofs.OwnedTallies.{owned_few}
 use Rattle.hd_prune.proofs.Spans.{range_heights}
 
--- what is known of the list of regions
-pub record Outcome (m : Map) (side : SideName) (thousandths : ℕ) (list : List Region) : Type 0 where
-  pub are : AreFeatures m side thousandths list
-  pub points : All (λ r. r.points ≤ 4194304) list
-  pub heights : All (λ r. unsigned_abs r.lpvh ≤ farthest_apart) list
-  pub few : length list ≤ 4194304
-
--- and of that of their local heights alone
+-- what is known of the list of regions by their local heights alone
 pub record HeightOutcome (m : Map) (side : SideName) (thousandths : ℕ) (list : List Region) : Type 0 where
   pub are : AreHeightsAlone m side thousandths list
   pub points : All (λ r. r.points ≤ 4194304) list
@@ -55,7 +49,7 @@ module _ (m : Map) (side : SideName) (thousandths : ℕ) (whole : IsMap m) (step
   pruned_heights = kept_heights m side thousandths whole (leavings_of steps) pruned.last pruned.owner pruned.pruning kept pruned.are_kept
 
   pub outcome : (tallies all : List Tally) (name : SideName) (range : Option HeightRange) (list : List Region) → AreRegionTallies m side tallies → AreOwnedTallies kept owners tallies all
-      → name ≡ side → range ≡ range_of (present_heights m) → AreFeaturesWith name range kept all (length kept) list → Outcome m side thousandths list
+      → name ≡ side → range ≡ range_of (present_heights m) → AreFeaturesWith name range kept all (length kept) list → AreKeptFeatures m side thousandths list
   outcome tallies all name range list regions owned same_side same_range listed =
       let made : AreFeaturesWith side (range_of (present_heights m)) kept all (length kept) list =
       subst (λ r. AreFeaturesWith side r kept all (length kept) list) same_range (subst (λ s. AreFeaturesWith s range kept all (length kept) list) same_side listed) in

@@ -1,6 +1,7 @@
 -- What reports find of a side of a map.
-use Rattle.std.specs.Prelude.{◌≡◌, ◌<◌, ℕ, List, Option, Some, None, All}
+use Rattle.std.specs.Prelude.{◌≡◌, ◌<◌, ◌≤◌, ℕ, List, Option, Some, None, All, length, unsigned_abs}
 use Rattle.std.specs.Option.{ForSome}
+use Rattle.hd_feature.specs.declared.region.Region.{Region}
 use Rattle.hd_graph.specs.Merges.{AreMerges}
 use Rattle.hd_map.specs.declared.types.RegionSize.{RegionSize}
 use Rattle.hd_map.specs.declared.types.SideName.{SideName}
@@ -13,9 +14,12 @@ use Rattle.hd_prune.specs.declared.step.Kept.{Kept}
 use Rattle.hd_prune.specs.Pruned.{leavings_of}
 use Rattle.hd_prune.specs.Staying.{AreKeptAlone, ranks_of}
 use Rattle.hd_steep.specs.Numbering.{AreNumbered, Numbering}
+use Rattle.hd_survey.specs.declared.features.KeptFeatures.{KeptFeatures}
 use Rattle.hd_survey.specs.declared.kept.KeptPits.{KeptPits}
 use Rattle.hd_survey.specs.declared.merges.PitMerges.{PitMerges}
 use Rattle.hd_survey.specs.declared.pruned.PrunedRegions.{PrunedRegions}
+use Rattle.hd_survey.specs.Features.{AreFeatures}
+use Rattle.hd_survey.specs.Heights.{farthest_apart}
 use Rattle.hd_survey.specs.Inside.{IsStepOn}
 use Rattle.hd_survey.specs.Owned.{ArePrunedRegions}
 use Rattle.hd_survey.specs.Regions.{AreRegionSizes}
@@ -44,6 +48,18 @@ abbrev pub AreKeptAt : ℕ → Option KeptPits → Type 0
 AreKeptAt thousandths None = ⊥
 AreKeptAt thousandths (Some x) = x.percent.thousandths ≡ thousandths
 
+-- the regions of the map after its pruning at a percent, by what parameters take of them
+pub record AreKeptFeatures (m : Map) (side : SideName) (thousandths : ℕ) (list : List Region) : Type 0 where
+  pub are : AreFeatures m side thousandths list
+  pub points : All (λ r. r.points ≤ 4194304) list
+  pub heights : All (λ r. unsigned_abs r.lpvh ≤ farthest_apart) list
+  pub few : length list ≤ 4194304
+
+-- such regions were found, and are those after the pruning at this percent
+abbrev pub AreFeaturesAt : ℕ → Option KeptFeatures → Type 0
+AreFeaturesAt thousandths None = ⊥
+AreFeaturesAt thousandths (Some x) = x.percent.thousandths ≡ thousandths
+
 -- it tells the pruning of the map at a percent, by points of the map
 pub record TellsPruning (m : Map) (side : SideName) (thousandths : ℕ) (x : PrunedRegions) : Type 0 where
   pub are : ArePrunedRegions m side thousandths (leavings_of x.steps) x.kept
@@ -56,12 +72,14 @@ WasPrunedAt thousandths None = ⊥
 WasPrunedAt thousandths (Some x) = x.percent.thousandths ≡ thousandths
 
 -- the regions with the numbers of their points, the merges of the pits, the pits that were kept last, the pruning that
--- was done last, and the region of each point, each where it was found
+-- was done last, the regions after a pruning by what parameters take of them, and the region of each point, each where it
+-- was found
 pub record Found : Type 0 where
   pub sizes : Option (List RegionSize)
   pub merges : Option PitMerges
   pub kept : Option KeptPits
   pub pruned : Option PrunedRegions
+  pub features : Option KeptFeatures
   pub regions : Option Numbering
 
 -- what was found is that of the map on the side
@@ -70,4 +88,5 @@ pub record AreFindings (m : Map) (side : SideName) (found : Found) : Type 0 wher
   pub merges : ForSome found.merges (ArePitMerges m side)
   pub kept : ForSome found.kept (λ x. AreKeptPits m side x.percent.thousandths x.pits)
   pub pruned : ForSome found.pruned (λ x. TellsPruning m side x.percent.thousandths x)
+  pub features : ForSome found.features (λ x. AreKeptFeatures m side x.percent.thousandths x.list)
   pub regions : ForSome found.regions (AreNumbered m side)

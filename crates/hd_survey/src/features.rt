@@ -3,8 +3,8 @@ ghost use Rattle.std.specs.Prelude.{◌≡◌, ◌≤◌, length, All, IfOk, uns
 ghost use Rattle.std.specs.Option.{ForSome};
 ghost use Rattle.hd_map.specs.Presence.{present_heights};
 ghost use Rattle.hd_map.specs.HeightRange.{range_of};
-ghost use Rattle.hd_survey.specs.Findings.{AreFindings};
-ghost use Rattle.hd_survey.specs.Features.{AreFeatures, AreFeaturesWith, AreHeightsAlone, AreHeightsWith, feature_with};
+ghost use Rattle.hd_survey.specs.Findings.{AreFindings, AreKeptFeatures};
+ghost use Rattle.hd_survey.specs.Features.{AreFeaturesWith, AreHeightsAlone, AreHeightsWith, feature_with};
 ghost use Rattle.hd_survey.specs.Heights.{HasHeights, IsHeightRange, farthest_apart};
 
 use crate::findings::Findings;
@@ -21,6 +21,15 @@ use hd_prune::Kept;
 use hd_regions::Tally;
 use std::alloc::Global;
 
+/// The regions after the pruning of a map on a side, by what parameters take of them.
+#[derive(Drop)]
+pub struct KeptFeatures {
+    /// The percent of the pruning.
+    pub percent: Percent,
+    /// The regions of the kept pits, in position order.
+    pub list: List<Region>,
+}
+
 /// The regions of the kept pits after the pruning of a grid at a percent, in position order, by a view of one of
 /// its sides and what was found of it, to which the merges of the pits are added. The range is that of the
 /// heights of the grid.
@@ -35,10 +44,7 @@ pub fn features<S: Side, G: Heights, V: SideView<S>>(
     requires view { V.map view.now ≡ G.map grid.now }
     requires findings { AreFindings (G.map grid.now) S.NAME findings.old }
     requires range { range ≡ range_of (present_heights (G.map grid.now)) }
-    ensures are { IfOk result (AreFeatures (G.map grid.now) S.NAME percent.thousandths) }
-    ensures points { IfOk result (All (λ r. r.points ≤ 4194304)) }
-    ensures heights { IfOk result (All (λ r. unsigned_abs r.lpvh ≤ farthest_apart)) }
-    ensures few { IfOk result (λ list. length list ≤ 4194304) }
+    ensures are { IfOk result (AreKeptFeatures (G.map grid.now) S.NAME percent.thousandths) }
     ensures findings { AreFindings (G.map grid.now) S.NAME findings.new }
 {
     findings.find_merges_by(view)?;

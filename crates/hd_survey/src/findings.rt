@@ -7,8 +7,9 @@ ghost use Rattle.hd_map.specs.HeightRange.{range_of};
 ghost use Rattle.hd_map.specs.Rank.{rank};
 ghost use Rattle.hd_map.specs.Region.{IsRoot};
 ghost use Rattle.hd_prune.specs.Answer.{IsPruned};
-ghost use Rattle.hd_survey.specs.Findings.{AreFindings, AreKeptAt, AreKeptPits, ArePitMerges, WasPrunedAt};
+ghost use Rattle.hd_survey.specs.Findings.{AreFeaturesAt, AreFindings, AreKeptAt, AreKeptFeatures, AreKeptPits, ArePitMerges, WasPrunedAt};
 
+use crate::features::{KeptFeatures, features};
 use crate::grid_view::GridView;
 use crate::kept::{KeptPits, keep_pits};
 use crate::merges::{PitMerges, merges_of_regions};
@@ -16,6 +17,7 @@ use crate::pruned::{PrunedRegions, cells_of, pruned_side, pruned_side_by, region
 use crate::roots::root_at;
 use crate::view::SideView;
 use crate::way::end_of_way;
+use hd_feature::Region;
 use hd_list::{List, Memory};
 use hd_map::{HeightRange, Heights, Pos, RegionSize, Side};
 use hd_num::Percent;
@@ -26,14 +28,16 @@ use std::marker::{Model, PhantomData};
 
 /// What reports found of a side of a map, for later ones on the same map under the same setting: the regions
 /// with the numbers of their points, the merges of the pits, the pits that were kept last, the pruning that was done
-/// last, and the region of each point. It takes at most 168 bytes a pit, and 4 a point for these regions, which are
-/// found only where they are asked for, many points were asked, or all were gone over. Contracts see it as what was found.
+/// last, the regions after a pruning by what parameters take of them, and the region of each point. It takes at most 232
+/// bytes a pit, and 4 a point for these regions, which are found only where they are asked for, many points were asked, or
+/// all were gone over. Contracts see it as what was found.
 #[derive(Drop)]
 pub struct Findings<S: Side> {
     sizes: Option<List<RegionSize>>,
     merges: Option<PitMerges>,
     kept: Option<KeptPits>,
     pruned: Option<PrunedRegions>,
+    features: Option<KeptFeatures>,
     regions: Option<Regions>,
     walked: u64,
     side: PhantomData<S>,
@@ -44,7 +48,7 @@ impl<S: Side> Model for Findings<S> {
 
     ghost Value = { Found };
 
-    ghost view = { λ f. record { sizes = f.sizes; merges = f.merges; kept = f.kept; pruned = f.pruned; regions = f.regions } };
+    ghost view = { λ f. record { sizes = f.sizes; merges = f.merges; kept = f.kept; pruned = f.pruned; features = f.features; regions = f.regions } };
 }
 
 impl<S: Side> Findings<S> {
@@ -57,6 +61,7 @@ impl<S: Side> Findings<S> {
             merges: None,
             kept: None,
             pruned: None,
+            features: None,
             regions: None,
             walked: 0,
             side: PhantomData,
@@ -133,8 +138,8 @@ impl<S: Side> Findings<S> {
         Ok(())
     }
 
-    /// Adds the merges of the pits, which were found elsewhere.
-    pub fn add_merges<G: Heights>(&mut self, _grid: &G, merges: PitMerges)
+    // Adds the merges of the pits.
+    fn add_merges<G: Heights>(&mut self, _grid: &G, merges: PitMerges)
         requires findings { AreFindings (G.map _grid.now) S.NAME self.old }
         requires merges { ArePitMerges (G.map _grid.now) S.NAME merges }
         ensures findings { AreFindings (G.map _grid.now) S.NAME self.new }
@@ -175,7 +180,7 @@ impl<S: Side> Findings<S> {
         ensures findings { AreFindings (G.map grid.now) S.NAME self.new }
         ensures found { OnOk result (AreKeptAt percent.thousandths self.new.kept) }
     {
-        if are_kept_at(&self.kept, percent) {
+        if self.has_kept(percent) {
             return Ok(());
         }
         // Most scripts ask for one percent. Where one asks for a second, more may follow, and the merges stay.
@@ -218,6 +223,16 @@ impl<S: Side> Findings<S> {
         }
     }
 
+    /// Whether the kept pits that were found last are those of the pruning at a percent.
+    pub fn has_kept(&self, percent: Percent) -> bool
+        ensures { IsTrue result ↔ AreKeptAt percent.thousandths self.now.kept }
+    {
+        match &self.kept {
+            Some(kept) => kept.percent.thousandths == percent.thousandths,
+            None => false,
+        }
+    }
+
     /// The kept pits that were found last.
     pub fn kept(&self) -> &KeptPits
         requires { is_some self.now.kept ≡ true }
@@ -249,16 +264,18 @@ impl<S: Side> Findings<S> {
         self.keep_pruned(alloc, grid, pruned, percent)
     }
 
-    /// The same by a view of the side.
+    /// The same by a view of the side. The range is that of the heights of the grid.
     pub fn find_pruned_by<G: Heights, V: SideView<S>>(
         &mut self,
         alloc: Global,
         grid: &G,
         view: &V,
         percent: Percent,
+        range: Option<HeightRange>,
     ) -> Result<(), Memory>
         requires view { V.map view.now ≡ G.map grid.now }
         requires findings { AreFindings (G.map grid.now) S.NAME self.old }
+        requires range { range ≡ range_of (present_heights (G.map grid.now)) }
         ensures findings { AreFindings (G.map grid.now) S.NAME self.new }
         ensures found { OnOk result (WasPrunedAt percent.thousandths self.new.pruned) }
     {
@@ -266,7 +283,7 @@ impl<S: Side> Findings<S> {
             return Ok(());
         }
         self.pruned = None;
-        let pruned = pruned_side_by::<S, G, V>(alloc, grid, view, self, percent)?;
+        let pruned = pruned_side_by::<S, G, V>(alloc, grid, view, self, percent, range)?;
         self.keep_pruned(alloc, grid, pruned, percent)
     }
 
@@ -306,6 +323,62 @@ impl<S: Side> Findings<S> {
     {
         match &self.pruned {
             Some(pruned) => pruned,
+            None => unreachable!(),
+        }
+    }
+
+    /// Finds by a view of the side the regions after the pruning at a percent by what parameters take of them, where they are
+    /// not those that were found last, and for them the merges of the pits. The range is that of the heights of the grid.
+    pub fn find_features_by<G: Heights, V: SideView<S>>(
+        &mut self,
+        alloc: Global,
+        grid: &G,
+        view: &V,
+        percent: Percent,
+        range: Option<HeightRange>,
+    ) -> Result<(), Memory>
+        requires view { V.map view.now ≡ G.map grid.now }
+        requires findings { AreFindings (G.map grid.now) S.NAME self.old }
+        requires range { range ≡ range_of (present_heights (G.map grid.now)) }
+        ensures findings { AreFindings (G.map grid.now) S.NAME self.new }
+        ensures found { OnOk result (AreFeaturesAt percent.thousandths self.new.features) }
+    {
+        if self.has_features(percent) {
+            return Ok(());
+        }
+        self.features = None;
+        let list = features::<S, G, V>(alloc, grid, view, self, percent, range)?;
+        self.keep_features(grid, list, percent);
+        Ok(())
+    }
+
+    // Keeps the regions after the pruning at a percent.
+    fn keep_features<G: Heights>(&mut self, _grid: &G, list: List<Region>, percent: Percent)
+        requires findings { AreFindings (G.map _grid.now) S.NAME self.old }
+        requires features { AreKeptFeatures (G.map _grid.now) S.NAME percent.thousandths list }
+        ensures findings { AreFindings (G.map _grid.now) S.NAME self.new }
+        ensures found { AreFeaturesAt percent.thousandths self.new.features }
+    {
+        self.features = Some(KeptFeatures { percent, list });
+    }
+
+    /// Whether the regions that were found last by what parameters take of them are those after the pruning at a percent.
+    pub fn has_features(&self, percent: Percent) -> bool
+        ensures { IsTrue result ↔ AreFeaturesAt percent.thousandths self.now.features }
+    {
+        match &self.features {
+            Some(features) => features.percent.thousandths == percent.thousandths,
+            None => false,
+        }
+    }
+
+    /// These regions, which were found last.
+    pub fn features(&self) -> &KeptFeatures
+        requires { is_some self.now.features ≡ true }
+        ensures { self.now.features ≡ Some result.now }
+    {
+        match &self.features {
+            Some(features) => features,
             None => unreachable!(),
         }
     }
@@ -389,15 +462,5 @@ impl<S: Side> Findings<S> {
         self.regions = Some(regions);
         *spent = spent.saturating_add(cells_of(grid) as u64);
         Ok(pit)
-    }
-}
-
-// Whether kept pits were found, and are those of the pruning at a percent.
-fn are_kept_at(kept: &Option<KeptPits>, percent: Percent) -> bool
-    ensures { IsTrue result ↔ AreKeptAt percent.thousandths kept.now }
-{
-    match kept {
-        Some(kept) => kept.percent.thousandths == percent.thousandths,
-        None => false,
     }
 }

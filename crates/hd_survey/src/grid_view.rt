@@ -41,20 +41,12 @@ impl<'a, S: Side, G: Heights> GridView<'a, S, G> {
         ensures { IfOk result (λ view. view ≡ grid.now) }
     {
         let regions = find_regions::<S, G>(alloc, grid)?;
-        Ok(GridView::from_regions(alloc, grid, regions))
-    }
-
-    /// A side of a grid, whose regions these are.
-    pub fn from_regions(alloc: Global, grid: &'a G, regions: Regions) -> Self
-        requires { AreNumbered (G.map grid.now) S.NAME regions }
-        ensures { result ≡ grid.now }
-    {
-        GridView {
+        Ok(GridView {
             alloc,
             grid,
             regions,
             side: PhantomData,
-        }
+        })
     }
 
     /// The regions.

@@ -78,9 +78,9 @@ pub fn into_merges<S: Side, G: Heights>(
     merges_of_linked_pits::<S, G>(alloc, grid, lows, links)
 }
 
-/// The pits of a map, in position order, and their merges by the crossings between their regions, which name the pits
-/// by their places.
-pub fn merges_of_crossings<S: Side, G: Heights>(
+// The pits of a map, in position order, and their merges by the crossings between their regions, which name the pits
+// by their places.
+fn merges_of_crossings<S: Side, G: Heights>(
     alloc: Global,
     grid: &G,
     pits: &[Rank],

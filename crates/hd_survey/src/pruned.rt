@@ -45,26 +45,28 @@ pub fn pruned_side<S: Side, G: Heights>(
     ensures findings { AreFindings (G.map grid.now) S.NAME findings.new }
 {
     let view = GridView::<S, G>::new(alloc, grid)?;
-    pruned_side_by::<S, G, GridView<'_, S, G>>(alloc, grid, &view, findings, percent)
+    let range = presence_of(grid).range;
+    pruned_side_by::<S, G, GridView<'_, S, G>>(alloc, grid, &view, findings, percent, range)
 }
 
-/// The same by a view of the side.
+/// The same by a view of the side. The range is that of the heights of the grid.
 pub fn pruned_side_by<S: Side, G: Heights, V: SideView<S>>(
     alloc: Global,
     grid: &G,
     view: &V,
     findings: &mut Findings<S>,
     percent: Percent,
+    range: Option<HeightRange>,
 ) -> Result<Pruned, Memory>
     requires view { V.map view.now ≡ G.map grid.now }
     requires findings { AreFindings (G.map grid.now) S.NAME findings.old }
+    requires range { range ≡ range_of (present_heights (G.map grid.now)) }
     ensures pruned { IfOk result (λ pruned. IsPruned (G.map grid.now) S.NAME percent.thousandths pruned.steps pruned.kept pruned.owners) }
     ensures sizes { OnOk result (is_some findings.new.sizes ≡ true) }
     ensures findings { AreFindings (G.map grid.now) S.NAME findings.new }
 {
     findings.find_merges_by(view)?;
     findings.find_sizes_by(view)?;
-    let range = presence_of(grid).range;
     let merges = findings.merges();
     pruned_pits::<S, G, V>(alloc, grid, view, merges, percent, range)
 }

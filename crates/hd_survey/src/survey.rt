@@ -10,6 +10,8 @@ use hd_stats::{Sums, sums_of};
 /// What reports found of a map and of both its sides, for later ones on the same map under the same setting.
 #[derive(Drop)]
 pub struct Survey {
+    /// How many points are present, and the range of their heights, where that was found.
+    pub presence: Option<Presence>,
     /// The sums over the heights of its present points, where they were found.
     pub sums: Option<Sums>,
     /// Of its dales.
@@ -24,6 +26,7 @@ impl Survey {
         ensures { (m : Map) → IsSurvey m result }
     {
         Survey {
+            presence: None,
             sums: None,
             dales: Findings::new(),
             hills: Findings::new(),
@@ -44,12 +47,15 @@ impl Survey {
         sums
     }
 
-    /// How many points are present, and the range of their heights, by these sums.
+    /// How many points are present, and the range of their heights, which is found where it was not.
     pub fn presence<G: Heights>(&mut self, grid: &G) -> Presence
         requires { IsSurvey (G.map grid.now) self.old }
         ensures presence { IsPresence (present_heights (G.map grid.now)) result }
         ensures survey { IsSurvey (G.map grid.now) self.new }
     {
+        if let Some(presence) = self.presence {
+            return presence;
+        }
         let sums = self.height_sums(grid);
         Presence {
             count: sums.count,

@@ -6,7 +6,7 @@ ghost use Rattle.hd_feature.specs.declared.notation.Statistic.TheVariants.{Mean}
 ghost use Rattle.hd_map.specs.Presence.{IsPresence, present_heights};
 ghost use Rattle.hd_map.specs.HeightRange.{range_of};
 ghost use Rattle.hd_survey.specs.Heights.{farthest_apart};
-ghost use Rattle.hd_survey.specs.Findings.{AreFindings};
+ghost use Rattle.hd_survey.specs.Findings.{AreFeaturesAt, AreFindings, AreKeptFeatures};
 ghost use Rattle.hd_survey.specs.Survey.{IsSurvey};
 ghost use Rattle.hd_survey.specs.Sums.{IsSmall, IsSumOfMeans};
 ghost use Rattle.hd_survey.specs.Values.{AreServing, IsNotationValue, IsParameterValue, IsSum, side_of};
@@ -21,7 +21,7 @@ use hd_feature::{
 };
 use hd_list::{List, Memory};
 use hd_map::{Down, HeightRange, Heights, Presence, Side, Up};
-use hd_num::Frac;
+use hd_num::{Frac, Percent};
 use std::alloc::Global;
 
 /// The value of a parameter of a grid, which is none where no region is significant or no point is
@@ -163,6 +163,25 @@ fn side_features<S: Side, G: Heights>(
     if heights_serve(notation) {
         return heights_alone::<S, G>(alloc, grid, findings, notation.percent, range);
     }
+    if findings.has_features(notation.percent) {
+        return known_features(alloc, grid, findings, notation.percent);
+    }
     let view = GridView::<S, G>::new(alloc, grid)?;
     features::<S, G, GridView<'_, S, G>>(alloc, grid, &view, findings, notation.percent, range)
+}
+
+// The regions after the pruning at a percent, which were found.
+fn known_features<S: Side, G: Heights>(
+    alloc: Global,
+    _grid: &G,
+    findings: &Findings<S>,
+    percent: Percent,
+) -> Result<List<Region>, Memory>
+    requires findings { AreFindings (G.map _grid.now) S.NAME findings.now }
+    requires found { AreFeaturesAt percent.thousandths findings.now.features }
+    ensures { IfOk result (AreKeptFeatures (G.map _grid.now) S.NAME percent.thousandths) }
+{
+    let known = findings.features();
+    let list = List::from_slice(alloc, known.list.as_slice())?;
+    Ok(list)
 }

@@ -18,8 +18,6 @@ mod by_line;
 #[cfg(test)]
 mod check;
 #[cfg(test)]
-mod descents;
-#[cfg(test)]
 mod followed;
 #[cfg(test)]
 mod graph;

@@ -1,12 +1,14 @@
 // A side of a surface in tiles, by the pool that is kept of it, against what is found without tiles.
-ghost use Rattle.std.specs.Prelude.{◌≡◌};
+ghost use Rattle.std.specs.Prelude.{◌≡◌, IsTrue, None, false};
+ghost use Rattle.hd_map.specs.Surface.{map_of};
+ghost use Rattle.hd_pool.specs.Following.{Follows, IsReady};
 ghost use Rattle.hd_tiles.specs.Tile.{IsTileSide};
 
 use crate::basin::noise;
 use crate::told::{place_of, roots_of, wanted_extents};
 use hd_basin::Extent;
-use hd_map::{Down, HeightRange, Side, Surface, Up, is_present, position_of};
-use hd_pool::{Choice, PoolView, Question, SidePool};
+use hd_map::{Cell, Down, Grid, HeightRange, Pos, Side, Surface, Up, is_present, position_of};
+use hd_pool::{PoolView, SidePool};
 use hd_survey::{Findings, PitMerges, SideView};
 use hd_tiles::Tiles;
 use std::process::Abort;
@@ -96,15 +98,41 @@ fn expect_tallies<S: Side>(
     }
 }
 
-// Compares what the pool of a side of a surface tells.
+// Whether the pool of a side tells a report.
+fn is_served<S: Side>(
+    rt: &(impl Abort + AllocGlobal),
+    pool: &mut SidePool<S>,
+    tiles: &Tiles<Surface>,
+) -> bool
+    requires { Follows (map_of tiles.now.grid) S.NAME tiles.now.tiling.side tiles.now.stamps.items pool.old }
+    ensures ready { IsTrue result → IsReady (map_of tiles.now.grid) S.NAME pool.new }
+    ensures let_go { result ≡ false → pool.new.pool ≡ None }
+{
+    pool.serves_report(rt.alloc(), tiles).expect(rt, "memory")
+}
+
+// Changes the first point.
+fn set_first(rt: &impl Abort, tiles: &mut Tiles<Surface>) {
+    assert!(rt; tiles.changes() < 1_000);
+    tiles
+        .set_cell(Pos { x: 0, y: 0 }, Cell::Height(1_000))
+        .expect(rt, "a cell of the type");
+}
+
+// Compares what the pool of a side of a surface tells, which serves from the second report after a change on.
 fn expect_side<S: Side>(rt: &(impl Abort + AllocGlobal), surface: Surface, side: u32)
     requires { IsTileSide side }
 {
-    let tiles = Tiles::from_surface(rt.alloc(), surface, side).expect(rt, "memory");
-    let mut pool = SidePool::<S>::new(Choice::Pool);
-    let serves = pool.serves(rt.alloc(), &tiles, Question::Report);
-    assert!(rt; serves.expect(rt, "memory"));
-    let view = pool.view(rt.alloc(), &tiles);
+    let mut tiles = Tiles::from_surface(rt.alloc(), surface, side).expect(rt, "memory");
+    let mut pool = SidePool::<S>::new();
+    let serves = is_served(rt, &mut pool, &tiles);
+    assert!(rt; !serves);
+    set_first(rt, &mut tiles);
+    let serves = is_served(rt, &mut pool, &tiles);
+    assert!(rt; !serves);
+    let serves = is_served(rt, &mut pool, &tiles);
+    assert!(rt; serves);
+    let view = pool.view(rt.alloc(), &tiles).expect(rt, "memory");
     let labels = roots_of::<S>(rt, tiles.surface());
     let extents = wanted_extents(rt, tiles.surface(), &labels);
     expect_roots(rt, &tiles, &view, &labels);

@@ -5,9 +5,10 @@ use Rattle.hd_map.specs.Map.{Map}
 use Rattle.hd_prune.specs.declared.step.Kept.{Kept}
 use Rattle.hd_regions.specs.declared.tally.Tally.{Tally}
 use Rattle.hd_survey.specs.Features.{AreFeaturesWith}
+use Rattle.hd_survey.specs.Findings.{AreKeptFeatures}
 use Rattle.hd_survey.specs.Heights.{HasHeights}
 use Rattle.hd_survey.specs.Tallies.{AreRegionTallies}
-use Rattle.hd_survey.proofs.FeatureNeeds.{Outcome, outcome, pruned_heights}
+use Rattle.hd_survey.proofs.FeatureNeeds.{outcome, pruned_heights}
 use Rattle.hd_prune.proofs.Spans.{range_heights}
 use Rattle.hd_survey.proofs.Owning.{tallies_have}
 use Rattle.hd_survey.proofs.features.features.Given.{Over}
@@ -35,7 +36,7 @@ pub list_features-requires-clause-range : goal.list_features-requires-clause-ran
 list_features-requires-clause-range g c = λ r is. range_heights (g.G.Heights.map c.args.grid.now) r (g.met.G.Heights.whole c.args.grid.now) (sym c.requires.range ∙ is)
 
 -- what is known of the list, if it is made
-listed : (g : Over) (c : After-list_features g) → IfOk c.list_features.result (Outcome (g.G.Heights.map c.args.grid.now) g.S.Side.NAME c.args.percent.thousandths)
+listed : (g : Over) (c : After-list_features g) → IfOk c.list_features.result (AreKeptFeatures (g.G.Heights.map c.args.grid.now) g.S.Side.NAME c.args.percent.thousandths)
 listed g c =
     let all = c.in_ok-pruned.pruned in
     let owned = c.in_ok-owned.owned.items in
@@ -50,13 +51,4 @@ listed g c =
     c.list_features.ensures
 
 pub returns-clause-are : goal.returns-clause-are
-returns-clause-are g c = IfOk-weaker c.list_features.result _ _ (λ list o. o.are) (listed g (goal.at.returns-clause-are g c).After-list_features)
-
-pub returns-clause-points : goal.returns-clause-points
-returns-clause-points g c = IfOk-weaker c.list_features.result _ _ (λ list o. o.points) (listed g (goal.at.returns-clause-points g c).After-list_features)
-
-pub returns-clause-heights : goal.returns-clause-heights
-returns-clause-heights g c = IfOk-weaker c.list_features.result _ _ (λ list o. o.heights) (listed g (goal.at.returns-clause-heights g c).After-list_features)
-
-pub returns-clause-few : goal.returns-clause-few
-returns-clause-few g c = IfOk-weaker c.list_features.result _ _ (λ list o. o.few) (listed g (goal.at.returns-clause-few g c).After-list_features)
+returns-clause-are g c = listed g (goal.at.returns-clause-are g c).After-list_features

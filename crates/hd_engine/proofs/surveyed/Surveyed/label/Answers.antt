@@ -4,7 +4,7 @@ pub invariant_of-self : goal.invariant_of-self
 invariant_of-self g c =
     let were = c.self.invariant.survey in
     record {
-      survey = record { sums = were.sums; dales = c.show_label.ensures.findings; hills = were.hills };
+      survey = record { presence = were.presence; sums = were.sums; dales = c.show_label.ensures.findings; hills = were.hills };
       dales = c.show_label.ensures.follows;
       hills = c.self.invariant.hills;
     }
@@ -13,7 +13,7 @@ pub invariant_of-self-in-Hills : goal.invariant_of-self-in-Hills
 invariant_of-self-in-Hills g c =
     let were = c.self.invariant.survey in
     record {
-      survey = record { sums = were.sums; dales = were.dales; hills = c.show_label-in-Hills.ensures.findings };
+      survey = record { presence = were.presence; sums = were.sums; dales = were.dales; hills = c.show_label-in-Hills.ensures.findings };
       dales = c.self.invariant.dales;
       hills = c.show_label-in-Hills.ensures.follows;
     }

@@ -20,7 +20,7 @@ passes_between_regions-requires-clause-ends g c = λ p at. (
     let m = g.G.Heights.map c.self.inside.grid.now in
     let side = g.S.Side.NAME in
     let t = c.self.inside.pool.now.side in
-    let is = c.in_ok-basins.ensures m (g.met.G.Heights.whole c.self.inside.grid.now) c.self.invariant in
+    let is = c.in_ok-basins.ensures m (g.met.G.Heights.whole c.self.inside.grid.now) c.self.invariant.is_pool in
     let meeting = (is.passes.each p (subst (λ (ps : List Pass). Contains ps p) c.passes.ensures at)).meeting in
     ((sink-is_sink m side t meeting.from p.a meeting.from_in).point, (sink-is_sink m side t meeting.to p.b meeting.to_in).point))
 
@@ -28,7 +28,7 @@ pub merges_of_passes-requires-clause-pits : goal.merges_of_passes-requires-claus
 merges_of_passes-requires-clause-pits g c =
     let m = g.G.Heights.map c.self.inside.grid.now in
     let side = g.S.Side.NAME in
-    let is = c.in_ok-basins.ensures m (g.met.G.Heights.whole c.self.inside.grid.now) c.self.invariant in
+    let is = c.in_ok-basins.ensures m (g.met.G.Heights.whole c.self.inside.grid.now) c.self.invariant.is_pool in
     let net : Net = c.in_ok-basins.basins in
     let ordered : AreInOrder (pits_of net.lows) c.in_ok-pits.pits = subst (λ (ls : List Low). AreInOrder (pits_of ls) c.in_ok-pits.pits) c.lows.ensures.value c.in_ok-pits.ensures in
     subst (ArePits m side) (sym c.as_slice.ensures)
@@ -40,7 +40,7 @@ merges_of_passes-requires-clause-passes g c =
     let side = g.S.Side.NAME in
     let t = c.self.inside.pool.now.side in
     let whole = g.met.G.Heights.whole c.self.inside.grid.now in
-    let is = c.in_ok-basins.ensures m whole c.self.invariant in
+    let is = c.in_ok-basins.ensures m whole c.self.invariant.is_pool in
     let net : Net = c.in_ok-basins.basins in
     let labels = regions_of m whole side in (
       labels.0,

@@ -13,7 +13,7 @@ sizes_told-requires g c =
     let m = g.G.Heights.map c.self.inside.grid.now in
     let whole = g.met.G.Heights.whole c.self.inside.grid.now in
     subst (λ (es : List Extent). All (λ (e : Extent). e.points < 2 ^ 32) es) (sym c.as_slice.ensures)
-    (points-few m whole g.S.Side.NAME c.in_ok-extents.extents (c.in_ok-extents.ensures m whole c.self.invariant))
+    (points-few m whole g.S.Side.NAME c.in_ok-extents.extents (c.in_ok-extents.ensures m whole c.self.invariant.is_pool))
 
 pub returns : goal.returns
 returns g c =
@@ -23,5 +23,5 @@ returns g c =
     IfOk-weaker c.sizes_told.result _ _
     (λ list are. subst (λ grid. AreRegionSizes (g.G.Heights.map grid) side list) c.self.view_is
     (subst (λ (xs : List RegionSize). AreRegionSizes m side xs) (sym (are ∙ ap (map size_told) c.as_slice.ensures))
-    (sizes-told m whole side c.in_ok-extents.extents (c.in_ok-extents.ensures m whole c.self.invariant))))
+    (sizes-told m whole side c.in_ok-extents.extents (c.in_ok-extents.ensures m whole c.self.invariant.is_pool))))
     c.sizes_told.ensures

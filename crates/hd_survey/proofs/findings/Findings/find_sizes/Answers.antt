@@ -12,7 +12,7 @@ returns-in_ok-into_sizes-clause-findings g c =
     let side = g.S.Side.NAME in
     let sizes = c.in_ok-into_sizes.field-0 in
     let sized : AreRegionSizes m side sizes = subst (λ x. AreRegionSizes (g.G.Heights.map x) side sizes) c.in_ok-view.ensures c.in_ok-into_sizes.ensures in
-    let before : Found = record { sizes = c.self.inside.sizes; merges = c.self.inside.merges; kept = c.self.inside.kept; pruned = c.self.inside.pruned; regions = c.self.inside.regions } in
+    let before : Found = record { sizes = c.self.inside.sizes; merges = c.self.inside.merges; kept = c.self.inside.kept; pruned = c.self.inside.pruned; features = c.self.inside.features; regions = c.self.inside.regions } in
     let were : AreFindings m side before = subst (AreFindings m side) (sym c.self.view_is) c.requires in
     let are = with_sizes m side before sizes were (record { are = sized; inside = sizes_inside m side sizes (g.met.G.Heights.whole c.args.grid.now) sized }) in
     elim c.match-self.branch [
