@@ -29,7 +29,9 @@ pub mod FlatLists
 pub mod ListedOnce
 pub mod PoolGraph
 pub mod ExtentSums
-pub mod GatheredExtents
 pub mod NodeRoots
-pub mod AreRoots
-pub mod ExtentTable
+pub mod AreListed
+pub mod AreNumbered
+pub mod Spotted
+pub mod AreKnown
+pub mod GatheredExtents

@@ -21,7 +21,10 @@ pub mod Inside
 pub mod Seams
 pub mod Lowest
 pub mod Graph
-pub mod ExtentTable
 pub mod Extents
 pub mod Roots
+pub mod Placed
+pub mod Spots
+pub mod Known
+pub mod Gathered
 pub mod Stock

@@ -1,33 +1,44 @@
 // The regions of pits, gathered basin by basin.
-ghost use Rattle.std.specs.Prelude.{◌≡◌, ◌<◌, ◌+◌, ◌^◌, OnOk, length};
+ghost use Rattle.std.specs.Prelude.{◌≡◌, ◌≢◌, ◌<◌, ◌+◌, ◌^◌, All, IfOk, None, Some, length, map, slice_index_or};
 ghost use Rattle.std.specs.Option.{ForSome};
 ghost use Rattle.hd_basin.specs.Adding.{IsGreater, IsLesser};
-ghost use Rattle.hd_basin.specs.ExtentTable.{found};
 ghost use Rattle.hd_basin.specs.Extents.{AddsBasin, IsExtentWith, IsOfBoth};
 
 use crate::adding::{greater, lesser};
-use crate::extent_table::ExtentTable;
 use crate::{Extent, Node};
-use hd_list::Memory;
+use hd_list::{List, Memory};
 use hd_map::Rank;
+use std::alloc::Global;
 
-/// Adds the basin of a node to the region of its pit.
-pub fn add_basin(extents: &mut ExtentTable, pit: Rank, node: Node) -> Result<(), Memory>
-    requires inside { pit.index < length extents.old.numbers }
-    requires few { ForSome (found extents.old pit.index) (λ e. e.points + node.points < 2 ^ 64) }
-    ensures { OnOk result (AddsBasin extents.old extents.new pit node) }
+/// Adds the basin of a node to the region of the pit of a number.
+pub fn add_basin(extents: &mut Vec<Option<Extent>>, number: u32, pit: Rank, node: Node)
+    requires inside { number < length extents.old.items }
+    requires few { ForSome (slice_index_or extents.old.items number None) (λ e. e.points + node.points < 2 ^ 64) }
+    ensures { AddsBasin extents.old.items extents.new.items number pit node }
 {
-    let known = extents.get(pit.index);
-    let extent = extent_with(known, pit, node);
-    extents.put(extent)?;
-    Ok(())
+    let number = number as usize;
+    extents[number] = Some(extent_with(extents[number], pit, node));
+}
+
+/// The extents of all of these, which are all known.
+pub fn listed(alloc: Global, extents: &[Option<Extent>]) -> Result<List<Extent>, Memory>
+    requires { All (λ e. e ≢ None) extents.now }
+    ensures { IfOk result (λ list. map Some list ≡ extents.now) }
+{
+    let mut list = List::with_capacity(alloc, extents.len())?;
+    'extents: for extent in extents {
+        let Some(extent) = extent else {
+            unreachable!();
+        };
+        list.push(*extent)?;
+    }
+    Ok(list)
 }
 
 // What is known of a pit's region with the basin of a node more.
 fn extent_with(known: Option<Extent>, pit: Rank, node: Node) -> Extent
     requires { ForSome known (λ e. e.points + node.points < 2 ^ 64) }
-    ensures value { IsExtentWith known pit node result }
-    ensures pit { ForSome known (λ e. e.pit.index ≡ pit.index) → result.pit.index ≡ pit.index }
+    ensures { IsExtentWith known pit node result }
 {
     match known {
         Some(extent) => Extent {

@@ -2,8 +2,8 @@ use Rattle.std.proofs.Common.{rules, refl, SFits, w64}
 use Rattle.std.proofs.lemmas.Int.{to_z-of_z}
 use Rattle.hd_basin.proofs.extents.extent_with.Goals as goal
 
-pub returns-in-Some-clause-value : goal.returns-in-Some-clause-value
-returns-in-Some-clause-value c =
+pub returns-in-Some : goal.returns-in-Some
+returns-in-Some c =
     let high : SFits w64 c.greater.result = search rules in
     let least : SFits w64 c.lesser.result = search rules in
     let high_a : SFits w64 c.in-Some.extent.high = search rules in
