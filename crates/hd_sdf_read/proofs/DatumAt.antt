@@ -1,7 +1,6 @@
 -- The datum at the front of a text, by its token, and that its cell is of the type.
-use Rattle.std.proofs.Common.{◌≡◌, ◌+◌, ℕ, ℤ, ◌≤ℤ◌, ◌&&◌, ◌||◌, eqb, length, true, false, inl, inr, List, Ok, Err, refl, sym, arith, ◌∙◌}
+use Rattle.std.proofs.Common.{◌≡◌, ◌+◌, ℕ, ℤ, ◌&&◌, ◌||◌, eqb, length, true, false, inl, inr, List, Ok, Err, refl, sym, ◌∙◌}
 use Rattle.std.proofs.lemmas.Bool.{and_parts, cases_Bool}
-use Rattle.std.proofs.lemmas.Int.{ints}
 use Rattle.std.specs.Prelude.{bytes_eq, codes, int_le}
 use Rattle.hd_map.specs.Map.{IsCellOf, greatest_height, least_height}
 use Rattle.hd_map.specs.declared.types.DataType.{DataType}
