@@ -1,5 +1,5 @@
 -- The passes and the seams of a tile that is seen anew, from the seams at its points.
-use Rattle.std.proofs.Common.{◌≡◌, ◌≢◌, ◌≤◌, ◌*◌, ℕ, inl, inr, Bool, true, false, List, Some, get_or, slice_get, refl, sym, ◌∙◌, ap, subst, arith}
+use Rattle.std.proofs.Common.{◌≡◌, ◌≢◌, ◌*◌, ℕ, inl, inr, Bool, true, false, List, Some, get_or, slice_get, refl, sym, ◌∙◌, ap, subst, arith}
 use Rattle.std.specs.Prelude.{AllPairs, Contains, if◌then◌else◌}
 use Rattle.std.proofs.lemmas.List.Elements.{Contains-get_or}
 use Rattle.hd_map.specs.declared.types.Pass.{Pass}
@@ -20,9 +20,12 @@ use Rattle.hd_basin.specs.declared.part.Seam.{Seam}
 use Rattle.hd_basin.specs.Basin.{IsSinkOf, IsBasinMeeting, IsBasinPass, tile_at}
 use Rattle.hd_basin.specs.Built.{IsAsked, IsBuilt, IsKnown, IsNoded, IsRightPass}
 use Rattle.hd_basin.specs.Seams.{AreCandidates, IsCandidate, KeepLowest, pass_between}
-use Rattle.hd_basin.specs.Parts.{IsBetween, IsFresh, IsSeamOf, JoinOthers, place_in_tile}
-use Rattle.hd_basin.specs.Sinks.{IsArea}
-use Rattle.hd_basin.proofs.Areas.{area-in, area-below, area-at, tile-of_point}
+use Rattle.hd_basin.specs.Frames.{HoldsRound}
+use Rattle.hd_basin.specs.Inside.{place_of_frame}
+use Rattle.hd_basin.specs.Parts.{IsBetween, IsFresh, IsSeamOf, JoinOthers}
+use Rattle.hd_basin.proofs.Areas.{tile-of_point}
+use Rattle.hd_basin.proofs.Frames.{frame_step}
+use Rattle.hd_basin.proofs.Views.{round_neighbour}
 use Rattle.hd_basin.proofs.SinkLaws.{sink-unique, sink-is_sink, sink-tile}
 use Rattle.hd_basin.proofs.InStep.{pass-sym}
 
@@ -81,8 +84,8 @@ record IsJoint (m : Map) (side : SideName) (t tile : ℕ) (stamps : List ℕ) (p
   known : IsFresh stamps parts (tile_at m.size t b)
   stamp : slice_get stamps s.with ≡ Some s.stamp
 
-module _ (m : Map) (side : SideName) (t tile : ℕ) (stamps : List ℕ) (parts : List Part) (f : Frame) (some : 1 ≤ t) (area : IsArea m.size t tile f) (stale : IsFresh stamps parts tile → ⊥)
-    (all kept : List Seam) (cand : AreCandidates m side t tile stamps (IsAsked m t stamps parts f (f.columns * f.rows)) all) (k : KeepLowest side all kept) where
+module _ (m : Map) (side : SideName) (t tile : ℕ) (stamps : List ℕ) (parts : List Part) (f : Frame) (holds : HoldsRound m.size t tile f) (stale : IsFresh stamps parts tile → ⊥)
+    (all kept : List Seam) (cand : AreCandidates m side t tile stamps (IsAsked m t tile stamps parts f (f.columns * f.rows)) all) (k : KeepLowest side all kept) where
   abbrev Joint : Seam → Rank → Rank → Rank → Type 0
   Joint = IsJoint m side t tile stamps parts
 
@@ -116,9 +119,10 @@ module _ (m : Map) (side : SideName) (t tile : ℕ) (stamps : List ℕ) (parts :
       let q : Pos = near.to in
       let in_tile : tile_of m.size t p ≡ tile = sym (tile-of_point m t mt.from p near.neighbour.from near.from_rank) ∙ sym (sink-tile m side t mt.from a mt.from_in) ∙ own in
       let there : tile_of m.size t q ≡ tile_at m.size t b = sym (tile-of_point m t mt.to q near.neighbour.to near.to_rank) ∙ sym (sink-tile m side t mt.to b mt.to_in) in
-      let within = area-in m.size t tile f some area p near.neighbour.from.in_grid in_tile in
+      let within = holds q near.neighbour.to.in_grid (round_neighbour m t tile p q in_tile near.neighbour) in
       let is_known : IsKnown m.size t stamps parts q = subst (IsFresh stamps parts) (sym there) known in
-      let asked : IsAsked m t stamps parts f (f.columns * f.rows) p q = record { place = place_in_tile m.size t p; before = area-below m.size t tile f some area p within; at = sym (area-at m.size t tile f some area p within); known = is_known } in
+      let step = frame_step f q within in
+      let asked : IsAsked m t tile stamps parts f (f.columns * f.rows) p q = record { in_tile = in_tile; place = place_of_frame f q; before = step.0; at = sym step.1; known = is_known } in
       let from : IsSinkOf m side t (rank m p) a = subst (λ (r : Rank). IsSinkOf m side t r a) near.from_rank mt.from_in in
       let to : IsSinkOf m side t (rank m q) b = subst (λ (r : Rank). IsSinkOf m side t r b) near.to_rank mt.to_in in
       let c = cand.every p q a b asked near.neighbour from to apart in

@@ -1,9 +1,7 @@
 -- Pairs of neighbours with a point in a tile that is seen anew.
-use Rattle.std.proofs.Common.{◌≡◌, ◌<◌, ◌≤◌, ◌+◌, ◌*◌, ℕ, ◌⊎◌, inl, inr, List, [], ◌∷◌, length, Option, Some, slice_get, refl, sym, ◌∙◌, ap, subst, arith}
-use Rattle.std.specs.Prelude.{Contains}
+use Rattle.std.proofs.Common.{◌≡◌, ◌<◌, ◌≤◌, ◌+◌, ℕ, ◌⊎◌, inl, inr, List, [], ◌∷◌, Option, Some, slice_get, sym, ◌∙◌, ap, subst, arith}
 use Rattle.std.proofs.lemmas.Bool.{cases_lt}
 use Rattle.std.proofs.lemmas.List.Elements.{Contains-push, Contains-push_cases, Contains-append_left}
-use Rattle.std.proofs.lemmas.Option.{same_Some, slice_get-get_or}
 use Rattle.hd_map.specs.declared.types.Pos.{Pos}
 use Rattle.hd_map.specs.declared.types.Size.{Size}
 use Rattle.hd_map.specs.declared.types.SideName.{SideName}
@@ -17,10 +15,8 @@ use Rattle.hd_basin.specs.declared.part.Seam.{Seam}
 use Rattle.hd_basin.specs.Basin.{IsSinkOf}
 use Rattle.hd_basin.specs.Built.{IsAsked, IsAskedNext, IsKnown, NotesPair}
 use Rattle.hd_basin.specs.Seams.{AreCandidates, IsCandidate}
-use Rattle.hd_basin.specs.Parts.{IsFresh, label_of, low_of, node_at, place_in_tile}
-use Rattle.hd_basin.specs.Sinks.{IsArea, at_place}
-use Rattle.hd_basin.specs.Frames.{InFrame}
-use Rattle.hd_basin.proofs.Areas.{area-tile, place-at}
+use Rattle.hd_basin.specs.Parts.{label_of, low_of, node_at, place_in_tile}
+use Rattle.hd_basin.specs.Sinks.{at_place}
 
 -- the label of a position in another tile
 pub other-label : (s : Size) (t : ℕ) (parts : List Part) (p : Pos) (number place : ℕ) (other : Part) → number ≡ tile_of s t p → place ≡ place_in_tile s t p → slice_get parts number ≡ Some other
@@ -30,112 +26,92 @@ other-label s t parts p number place other tile at read =
 
 module _ (m : Map) (side : SideName) (t tile : ℕ) (stamps : List ℕ) (parts : List Part) (f : Frame) where
   abbrev Asked : ℕ → Pos → Pos → Type 0
-  Asked k = IsAsked m t stamps parts f k
+  Asked k = IsAsked m t tile stamps parts f k
 
-  abbrev Next : ℕ → List Pos → ℕ → Pos → Pos → Type 0
-  Next k near i = IsAskedNext m t stamps parts f k near i
+  abbrev Next : ℕ → Frame → ℕ → Pos → Pos → Type 0
+  Next k g i = IsAskedNext m t tile stamps parts f k g i
 
-  -- at a place no neighbour comes first
-  pub pairs-begin : (k : ℕ) (near : List Pos) (all : List Seam) → AreCandidates m side t tile stamps (Asked k) all → AreCandidates m side t tile stamps (Next k near 0) all
-  pairs-begin k near all are = record {
+  -- what was asked is asked further on
+  asked-later : (k n : ℕ) (p q : Pos) → k ≤ n → Asked k p q → Asked n p q
+  asked-later k n p q up a = (let b = a.before in record { in_tile = a.in_tile; place = a.place; before = omega (arith, b, up); at = a.at; known = a.known })
+
+  -- at a place no point of the tile comes first
+  pub pairs-begin : (k : ℕ) (g : Frame) (all : List Seam) → AreCandidates m side t tile stamps (Asked k) all → AreCandidates m side t tile stamps (Next k g 0) all
+  pairs-begin k g all are = record {
     each = λ s within. (let c = are.each s within in (c.0, c.1, inl c.2, c.3));
     every = λ p q a b asked. elim asked [
       | inl was ↦ are.every p q a b was
-      | inr new ↦ absurd (let below = (new.1).1 in omega (arith, below))
+      | inr new ↦ absurd (let below = (new.2).1 in omega (arith, below))
     ];
   }
 
-  -- one more neighbour
-  pub pairs-more : (k : ℕ) (near : List Pos) (i : ℕ) (q : Pos) (old new : List Seam) → slice_get near i ≡ Some q → NotesPair m side t tile stamps parts (at_place f k) q old new
-      → AreCandidates m side t tile stamps (Next k near i) old → AreCandidates m side t tile stamps (Next k near (i + 1)) new
-  pairs-more k near i q old new at notes are = elim notes [
-    | inl none ↦ subst (AreCandidates m side t tile stamps (Next k near (i + 1))) (sym none.0) (record {
+  -- one more point of the tile
+  pub pairs-more : (k : ℕ) (g : Frame) (i : ℕ) (p q : Pos) (old new : List Seam) → p ≡ at_place g i → q ≡ at_place f k → NotesPair m side t tile stamps parts p q old new
+      → AreCandidates m side t tile stamps (Next k g i) old → AreCandidates m side t tile stamps (Next k g (i + 1)) new
+  pairs-more k g i p q old new at near notes are = elim notes [
+    | inl none ↦ subst (AreCandidates m side t tile stamps (Next k g (i + 1))) (sym none.0) (record {
       each = λ s within. (let c = are.each s within in (c.0, c.1, later c.0 c.1 c.2, c.3));
-      every = λ p r a b asked near_ from to apart. elim (earlier p r asked) [
-        | inl was ↦ are.every p r a b was near_ from to apart
-        | inr it ↦ absurd (none.1 a b (subst (λ (x : Pos). IsSinkOf m side t (rank m x) a) it.0 from) (subst (λ (x : Pos). IsSinkOf m side t (rank m x) b) it.1 to) apart (subst (IsKnown m.size t stamps parts) it.1 it.2))
+      every = λ x y a b asked near_ from to apart. elim (earlier x y asked) [
+        | inl was ↦ are.every x y a b was near_ from to apart
+        | inr it ↦ absurd (none.1 a b (subst (λ (z : Pos). Neighbour m z q) it.0 (subst (λ (z : Pos). Neighbour m x z) it.1 near_)) (subst (λ (z : Pos). IsSinkOf m side t (rank m z) a) it.0 from)
+            (subst (λ (z : Pos). IsSinkOf m side t (rank m z) b) it.1 to) apart (subst (IsKnown m.size t stamps parts) it.1 it.2))
       ];
     })
-    | inr one ↦ subst (AreCandidates m side t tile stamps (Next k near (i + 1))) (sym one.1) (record {
+    | inr one ↦ subst (AreCandidates m side t tile stamps (Next k g (i + 1))) (sym one.1) (record {
       each = λ s within. elim (Contains-push_cases old one.0 s within) [
         | inl was ↦ (let c = are.each s was in (c.0, c.1, later c.0 c.1 c.2, c.3))
-        | inr e ↦ (at_place f k, q, inr (refl, (i, omega arith, at), one.3), subst (IsCandidate m side t tile stamps (at_place f k) q) e one.2)
+        | inr e ↦ (p, q, inr (one.2.in_tile, near, (i, omega arith, at), one.3), subst (IsCandidate m side t tile stamps p q) e one.2)
       ];
-      every = λ p r a b asked near_ from to apart. elim (earlier p r asked) [
-        | inl was ↦ (let c = are.every p r a b was near_ from to apart in (c.0, Contains-append_left old (one.0 ∷ []) c.0 c.1, c.2))
-        | inr it ↦ (one.0, Contains-push old one.0, subst (λ (x : Pos). IsCandidate m side t tile stamps x r one.0) (sym it.0) (subst (λ (x : Pos). IsCandidate m side t tile stamps (at_place f k) x one.0) (sym it.1) one.2))
+      every = λ x y a b asked near_ from to apart. elim (earlier x y asked) [
+        | inl was ↦ (let c = are.every x y a b was near_ from to apart in (c.0, Contains-append_left old (one.0 ∷ []) c.0 c.1, c.2))
+        | inr it ↦ (one.0, Contains-push old one.0, subst (λ (z : Pos). IsCandidate m side t tile stamps z y one.0) (sym it.0) (subst (λ (z : Pos). IsCandidate m side t tile stamps p z one.0) (sym it.1) one.2))
       ];
     })
   ]
     where
-      later : (p r : Pos) → Next k near i p r → Next k near (i + 1) p r
-      later p r (inl was) = inl was
-      later p r (inr new) = inr (new.0, (let h = new.1 in let b = h.1 in (h.0, omega (arith, b), h.2)), new.2)
+      later : (x y : Pos) → Next k g i x y → Next k g (i + 1) x y
+      later x y (inl was) = inl was
+      later x y (inr new) = inr (new.0, new.1, (let h = new.2 in let b = h.1 in (h.0, omega (arith, b), h.2)), new.3)
 
-      earlier : (p r : Pos) → Next k near (i + 1) p r → Next k near i p r ⊎ ((p ≡ at_place f k) × (r ≡ q) × IsKnown m.size t stamps parts r)
-      earlier p r (inl was) = inl (inl was)
-      earlier p r (inr new) = elim (cases_lt (new.1).0 i) [
-        | inl before ↦ inl (inr (new.0, ((new.1).0, before, (new.1).2), new.2))
+      earlier : (x y : Pos) → Next k g (i + 1) x y → Next k g i x y ⊎ ((x ≡ p) × (y ≡ q) × IsKnown m.size t stamps parts y)
+      earlier x y (inl was) = inl (inl was)
+      earlier x y (inr new) = elim (cases_lt (new.2).0 i) [
+        | inl before ↦ inl (inr (new.0, new.1, ((new.2).0, before, (new.2).2), new.3))
         | inr last ↦ (
-            let below = (new.1).1 in
-            let same : (new.1).0 ≡ i = omega (arith, below, last) in
-            inr (new.0, same_Some r q (sym (new.1).2 ∙ ap (slice_get near) same ∙ at), new.2))
+            let below = (new.2).1 in
+            let same : (new.2).0 ≡ i = omega (arith, below, last) in
+            inr ((new.2).2 ∙ ap (at_place g) same ∙ sym at, new.1 ∙ sym near, new.3))
       ]
 
-  -- after all neighbours the place is done
-  pub pairs-end : (k : ℕ) (near : List Pos) (all : List Seam) → ((q : Pos) → Neighbour m (at_place f k) q → Contains near q) → AreCandidates m side t tile stamps (Next k near (length near)) all
-      → AreCandidates m side t tile stamps (Asked (k + 1)) all
-  pairs-end k near all listed are = record {
+  -- after all those beside it the place is done
+  pub pairs-end : (k : ℕ) (g : Frame) (n : ℕ) (all : List Seam) → ((p : Pos) → tile_of m.size t p ≡ tile → Neighbour m p (at_place f k) → (h : ℕ) × (h < n) × (p ≡ at_place g h))
+      → AreCandidates m side t tile stamps (Next k g n) all → AreCandidates m side t tile stamps (Asked (k + 1)) all
+  pairs-end k g n all listed are = record {
     each = λ s within. (let c = are.each s within in (c.0, c.1, asked c.0 c.1 c.2, c.3));
     every = λ p q a b ask near_ from to apart. are.every p q a b (next p q ask near_) near_ from to apart;
   }
     where
-      asked : (p q : Pos) → Next k near (length near) p q → Asked (k + 1) p q
-      asked p q (inl was) = (let b = was.before in record { place = was.place; before = omega (arith, b); at = was.at; known = was.known })
-      asked p q (inr new) = record { place = k; before = omega arith; at = new.0; known = new.2 }
+      asked : (p q : Pos) → Next k g n p q → Asked (k + 1) p q
+      asked p q (inl was) = asked-later k (k + 1) p q (omega arith) was
+      asked p q (inr new) = record { in_tile = new.0; place = k; before = omega arith; at = new.1; known = new.3 }
 
-      next : (p q : Pos) → Asked (k + 1) p q → Neighbour m p q → Next k near (length near) p q
+      next : (p q : Pos) → Asked (k + 1) p q → Neighbour m p q → Next k g n p q
       next p q ask near_ = elim (cases_lt ask.place k) [
-        | inl before ↦ inl (record { place = ask.place; before = before; at = ask.at; known = ask.known })
+        | inl before ↦ inl (record { in_tile = ask.in_tile; place = ask.place; before = before; at = ask.at; known = ask.known })
         | inr last ↦ (
             let below = ask.before in
             let same : ask.place ≡ k = omega (arith, below, last) in
-            let at : p ≡ at_place f k = ask.at ∙ ap (at_place f) same in
-            let c = listed q (subst (λ (x : Pos). Neighbour m x q) at near_) in
-            inr (at, (c.0, c.1, slice_get-get_or near c.0 q c.1 ∙ ap (λ (x : Pos). Some x) c.2), ask.known))
+            let at : q ≡ at_place f k = ask.at ∙ ap (at_place f) same in
+            inr (ask.in_tile, at, listed p ask.in_tile (subst (λ (x : Pos). Neighbour m p x) at near_), ask.known))
       ]
 
-  -- and so it is where no point is present
-  pub pairs-absent : (k : ℕ) (all : List Seam) → (Present m (at_place f k) → ⊥) → AreCandidates m side t tile stamps (Asked k) all → AreCandidates m side t tile stamps (Asked (k + 1)) all
-  pairs-absent k all absent are = record {
-    each = λ s within. (let c = are.each s within in (c.0, c.1, (let a = c.2 in let b = a.before in record { place = a.place; before = omega (arith, b); at = a.at; known = a.known }), c.3));
+  -- places none of which has a point of a known basin may be left out
+  pub pairs-skip : (k n : ℕ) (all : List Seam) → k ≤ n → ((j : ℕ) → k ≤ j → j < n → IsKnown m.size t stamps parts (at_place f j) → Present m (at_place f j) → ⊥)
+      → AreCandidates m side t tile stamps (Asked k) all → AreCandidates m side t tile stamps (Asked n) all
+  pairs-skip k n all up none are = record {
+    each = λ s within. (let c = are.each s within in (c.0, c.1, asked-later k n c.0 c.1 up c.2, c.3));
     every = λ p q a b ask near_ from to apart. elim (cases_lt ask.place k) [
-      | inl before ↦ are.every p q a b (record { place = ask.place; before = before; at = ask.at; known = ask.known }) near_ from to apart
-      | inr last ↦ (
-          let below = ask.before in
-          let same : ask.place ≡ k = omega (arith, below, last) in
-          absurd (absent (subst (Present m) (ask.at ∙ ap (at_place f) same) near_.from)))
+      | inl before ↦ are.every p q a b (record { in_tile = ask.in_tile; place = ask.place; before = before; at = ask.at; known = ask.known }) near_ from to apart
+      | inr past ↦ absurd (none ask.place past ask.before (subst (IsKnown m.size t stamps parts) ask.at ask.known) (subst (Present m) ask.at near_.to))
     ];
   }
-
-  -- and where the point is not at the border of the tile
-  pub pairs-inner : 1 ≤ t → IsArea m.size t tile f → (IsFresh stamps parts tile → ⊥) → (i j : ℕ) (all : List Seam) → 0 < i → 0 < j → i + 1 < f.rows → j + 1 < f.columns
-      → AreCandidates m side t tile stamps (Asked (i * f.columns + j)) all → AreCandidates m side t tile stamps (Asked (i * f.columns + j + 1)) all
-  pairs-inner some area stale i j all top left bottom right are =
-      let k : ℕ = i * f.columns + j in
-      record {
-        each = λ s within. (let c = are.each s within in (c.0, c.1, (let a = c.2 in let b = a.before in record { place = a.place; before = omega (arith, b); at = a.at; known = a.known }), c.3));
-        every = λ p q a b ask near_ from to apart. elim (cases_lt ask.place k) [
-          | inl before ↦ are.every p q a b (record { place = ask.place; before = before; at = ask.at; known = ask.known }) near_ from to apart
-          | inr last ↦ (
-              let below = ask.before in
-              let same : ask.place ≡ k = omega (arith, below, last) in
-              let at : p ≡ record { x = f.left + j; y = f.top + i } = ask.at ∙ ap (at_place f) same ∙ place-at f i j (omega (arith, right)) in
-              let x : p.x ≡ f.left + j = ap (λ (z : Pos). z.x) at in
-              let y : p.y ≡ f.top + i = ap (λ (z : Pos). z.y) at in
-              let c = near_.columns in
-              let r = near_.rows in
-              let within : InFrame f q = record { left = omega (arith, x, c, left); right = omega (arith, x, c, right); top = omega (arith, y, r, top); bottom = omega (arith, y, r, bottom) } in
-              absurd (stale (subst (IsFresh stamps parts) (area-tile m.size t tile f some area q within) ask.known)))
-        ];
-      }

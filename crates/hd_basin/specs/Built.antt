@@ -6,7 +6,9 @@ use Rattle.hd_map.specs.declared.types.Rank.{Rank}
 use Rattle.hd_map.specs.declared.types.SideName.{SideName}
 use Rattle.hd_map.specs.declared.types.Size.{Size}
 use Rattle.hd_map.specs.Map.{Map, InGrid, Present}
+use Rattle.hd_map.specs.Neighbour.{Neighbour}
 use Rattle.hd_map.specs.Rank.{rank}
+use Rattle.hd_tiles.specs.declared.tiling.Tiling.{Tiling}
 use Rattle.hd_tiles.specs.Tile.{tile_of, tile_count}
 use Rattle.hd_basin.specs.declared.node.Node.{Node}
 use Rattle.hd_basin.specs.declared.part.Part.{Part}
@@ -15,7 +17,9 @@ use Rattle.hd_basin.specs.Basin.{IsSink, IsSinkOf, IsNode, IsLabel, IsBasinMeeti
 use Rattle.hd_basin.specs.declared.ends.End.{End}
 use Rattle.hd_basin.specs.declared.frame.Frame.{Frame}
 use Rattle.hd_basin.specs.Seams.{IsCandidate}
-use Rattle.hd_basin.specs.Sinks.{at_place}
+use Rattle.hd_basin.specs.Sinks.{IsArea, at_place}
+use Rattle.hd_basin.specs.Frames.{FitsGrid, HoldsRound, IsRoundOnly}
+use Rattle.hd_basin.specs.Views.{ShowSame}
 use Rattle.hd_basin.specs.Parts.{inner_passes, IsBetween, IsFresh, IsSeamOf, JoinOthers, NameNodes, label_of, low_of, node_at, place_in_tile}
 
 -- a pass is that between the basins of its two ends
@@ -72,27 +76,40 @@ pub record IsEnd (m : Map) (side : SideName) (t : ℕ) (stamps : List ℕ) (part
 abbrev pub EndIs : Map → SideName → ℕ → List ℕ → List Part → Pos → Option End → Type 0
 EndIs m side t stamps parts p result = MatchOption result (IsKnown m.size t stamps parts p → Present m p → ⊥) (IsEnd m side t stamps parts p)
 
--- the pair has a point at one of the first places of the tile, and the basin of the other is known
-pub record IsAsked (m : Map) (t : ℕ) (stamps : List ℕ) (parts : List Part) (f : Frame) (k : ℕ) (p q : Pos) : Type 0 where
+-- of the pair one point lies in the tile, and the other, whose basin is known, at one of the first places of a part
+pub record IsAsked (m : Map) (t tile : ℕ) (stamps : List ℕ) (parts : List Part) (f : Frame) (k : ℕ) (p q : Pos) : Type 0 where
+  pub in_tile : tile_of m.size t p ≡ tile
   pub place : ℕ
   pub before : place < k
-  pub at : p ≡ at_place f place
+  pub at : q ≡ at_place f place
   pub known : IsKnown m.size t stamps parts q
 
--- or it is that of the point here and one of its first neighbours
-abbrev pub IsAskedNext : Map → ℕ → List ℕ → List Part → Frame → ℕ → List Pos → ℕ → Pos → Pos → Type 0
-IsAskedNext m t stamps parts f k near i p q = IsAsked m t stamps parts f k p q ⊎ ((p ≡ at_place f k) × ((h : ℕ) × (h < i) × (slice_get near h ≡ Some q)) × IsKnown m.size t stamps parts q)
+-- or it is that of the point here and one at the first places of another part
+abbrev pub IsAskedNext : Map → ℕ → ℕ → List ℕ → List Part → Frame → ℕ → Frame → ℕ → Pos → Pos → Type 0
+IsAskedNext m t tile stamps parts f k g i p q = IsAsked m t tile stamps parts f k p q
+    ⊎ ((tile_of m.size t p ≡ tile) × (q ≡ at_place f k) × ((h : ℕ) × (h < i) × (p ≡ at_place g h)) × IsKnown m.size t stamps parts q)
 
 -- the pair of two neighbours gives one more candidate, or none where it asks for none
 abbrev pub NotesPair : Map → SideName → ℕ → ℕ → List ℕ → List Part → Pos → Pos → List Seam → List Seam → Type 0
 NotesPair m side t tile stamps parts p q old new =
-    ((new ≡ old) × ((a b : Rank) → IsSinkOf m side t (rank m p) a → IsSinkOf m side t (rank m q) b → a ≢ b → IsKnown m.size t stamps parts q → ⊥))
+    ((new ≡ old) × ((a b : Rank) → Neighbour m p q → IsSinkOf m side t (rank m p) a → IsSinkOf m side t (rank m q) b → a ≢ b → IsKnown m.size t stamps parts q → ⊥))
     ⊎ ((s : Seam) × (new ≡ old ++ s ∷ []) × IsCandidate m side t tile stamps p q s × IsKnown m.size t stamps parts q)
 
 -- what is known of the basins while a tile is seen anew: its own, and those of the fresh tiles
-pub record IsSight (m : Map) (side : SideName) (t tile stamp : ℕ) (stamps : List ℕ) (parts : List Part) (part : Part) : Type 0 where
+pub record IsSight (m : Map) (side : SideName) (t tile : ℕ) (stamps : List ℕ) (parts : List Part) (part : Part) : Type 0 where
   pub whole : length parts ≡ tile_count m.size t
   pub count : length stamps ≡ tile_count m.size t
   pub fresh : (p : Pos) → InGrid m.size p → IsFresh stamps parts (tile_of m.size t p) → IsLabel m side t p (label_of m.size t parts p)
   pub noded : IsNoded m side t tile part
-  pub stamp_is : slice_get stamps tile ≡ Some stamp
+
+-- a tile that is not fresh is seen anew by a map that shows it and what is beside it: its positions are those of the area,
+-- and the frame has those beside it too
+pub record IsSeen (m n : Map) (side : SideName) (stamps : List ℕ) (parts : List Part) (part : Part) (tiling : Tiling) (tile : ℕ) (area frame : Frame) : Type 0 where
+  pub size : tiling.size ≡ m.size
+  pub sight : IsSight m side tiling.side tile stamps parts part
+  pub shows : ShowSame m n tiling.side tile
+  pub area_is : IsArea m.size tiling.side tile area
+  pub fits : FitsGrid m.size frame
+  pub holds : HoldsRound m.size tiling.side tile frame
+  pub only : IsRoundOnly m.size tiling.side tile frame
+  pub stale : IsFresh stamps parts tile → ⊥

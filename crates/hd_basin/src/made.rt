@@ -45,5 +45,5 @@ pub fn made<S: Side, T: Looked, L: Ledger>(
     let window = Window::look(alloc, tiles, frame, looks)?;
     let own = window.detached(alloc)?;
     let part = noded::<S, Window, Window>(alloc, &window, &own, frame, tiling, tile, stamp)?;
-    joined::<S, Window, T>(alloc, tiling, parts, tiles, &window, part, tile, stamp)
+    joined::<S, Window, T>(alloc, tiling, parts, tiles, &window, part, tile, frame)
 }

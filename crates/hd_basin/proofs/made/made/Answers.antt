@@ -4,7 +4,7 @@ use Rattle.hd_map.specs.declared.types.Size.{Size}
 use Rattle.hd_map.specs.Map.{Map}
 use Rattle.hd_tiles.specs.Tile.{tile_count}
 use Rattle.hd_basin.specs.declared.frame.Frame.{Frame}
-use Rattle.hd_basin.specs.Frames.{HoldsRound}
+use Rattle.hd_basin.specs.Frames.{FitsGrid, HoldsRound, IsRoundOnly}
 use Rattle.hd_basin.specs.Views.{ShowSame}
 use Rattle.hd_basin.specs.WindowMap.{map_of_window}
 use Rattle.hd_basin.proofs.Frames.{frame-shows, frame-in_grid}
@@ -38,7 +38,6 @@ joined-requires-clause-sight g c =
       count = looked.tiles ∙ ap (tile_count m.size) (sym c.requires.side);
       fresh = c.requires.fresh;
       noded = noded-kept m n g.S.Side.NAME t c.args.tile (keeps-show m n t c.args.tile shows) c.in_ok-part.part c.in_ok-part.ensures.noded;
-      stamp_is = c.requires.stamp;
     }
 
 -- the looks at a rectangle are few
@@ -59,3 +58,12 @@ returns-in_err-own-clause-looks g c = few c.frame_of-frame.result.columns c.fram
 
 pub noded-requires-clause-holds : goal.noded-requires-clause-holds
 noded-requires-clause-holds g c = subst (λ (s : Size). HoldsRound s c.args.tiling.side c.args.tile c.frame_of-frame.result) (c.requires.size ∙ c.in_ok-window.ensures.shows.size) c.frame_of-frame.ensures.holds
+
+pub joined-requires-clause-fits : goal.joined-requires-clause-fits
+joined-requires-clause-fits g c = subst (λ (s : Size). FitsGrid s c.frame_of-frame.result) c.requires.size c.frame_of-frame.ensures.fits
+
+pub joined-requires-clause-holds : goal.joined-requires-clause-holds
+joined-requires-clause-holds g c = subst (λ (s : Size). HoldsRound s c.args.tiling.side c.args.tile c.frame_of-frame.result) c.requires.size c.frame_of-frame.ensures.holds
+
+pub joined-requires-clause-only : goal.joined-requires-clause-only
+joined-requires-clause-only g c = subst (λ (s : Size). IsRoundOnly s c.args.tiling.side c.args.tile c.frame_of-frame.result) c.requires.size c.frame_of-frame.ensures.only

@@ -4,4 +4,7 @@ use Rattle.hd_basin.specs.Seams.{AreCandidates}
 use Rattle.hd_basin.proofs.seams.seams_at.Given as goal
 
 abbrev pub invariant-loop-row : goal.invariant-loop-row
-invariant-loop-row g l = AreCandidates (g.T.Looked.map l.tiles) g.S.Side.NAME l.tiling.side l.tile (g.T.Looked.stamps l.tiles) (IsAsked (g.T.Looked.map l.tiles) l.tiling.side (g.T.Looked.stamps l.tiles) l.parts l.area (l.row * l.area.columns)) l.all.items
+invariant-loop-row g l =
+    let v = l.sight in
+    AreCandidates (g.T.Looked.map v.tiles.now) g.S.Side.NAME v.tiling.side v.tile (g.T.Looked.stamps v.tiles.now)
+    (IsAsked (g.T.Looked.map v.tiles.now) v.tiling.side v.tile (g.T.Looked.stamps v.tiles.now) v.parts.now v.frame (l.row * v.frame.columns)) l.all.items
