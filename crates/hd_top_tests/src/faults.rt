@@ -1,10 +1,8 @@
 // What is written where a call of a source or of a sink fails, and that none is called after the call that decides.
-use crate::trials::{Ended, Given, HELD, PROFILE, PROFILE_DALES, run};
+use crate::runs::{Given, HELD, PROFILE, run};
 use hd_base::{Sink, Source};
 use hd_top::Status;
-use std::alloc::Global;
 use std::process::Abort;
-use std::test::Fail;
 
 const MEASURED: &str = "aBCR-1.0\r
 ManufacID   = Lab 7\r
@@ -29,101 +27,18 @@ BAD 15 16 17 18\r
 Operator: A. N.\r
 ";
 
-const MEASURED_DALES: [&str; 1] = ["dales 2\ndale 0 0 12 5\ndale 3 0 15 2\n"];
-
 // What is saved of it: what stands before the data, the data, and what stands behind them.
 const MEASURED_PARTS: [&str; 3] = [
-    "aBCR-1.0
-ManufacID = Lab 7
-CreateDate = 010120261230
-ModDate = 010120261230
-NumPoints = 4
-NumProfiles = 2
-Xscale = 1.0E-006
-Yscale = 1.0E-006
-Zscale = 1.0E-009
-Zresolution = -1
-Compression = 0
-DataType = 6
-CheckType = 0
-Objective = 50x
-*
-",
-    "12 13 BAD 15
-16 17 18 19
-",
-    "*
-Operator: A. N.
-",
+    "aBCR-1.0\nManufacID = Lab 7\nCreateDate = 010120261230\nModDate = 010120261230\nNumPoints = 4\nNumProfiles = 2\nXscale = 1.0E-006\nYscale = 1.0E-006\nZscale = 1.0E-009\nZresolution = -1\nCompression = 0\nDataType = 6\nCheckType = 0\nObjective = 50x\n*\n",
+    "12 13 BAD 15\n16 17 18 19\n",
+    "*\nOperator: A. N.\n",
 ];
 
 const PROFILE_PARTS: [&str; 3] = [
-    "aBCR-1.0
-ManufacID = demo
-CreateDate = 010120260000
-ModDate = 010120260000
-NumPoints = 3
-NumProfiles = 1
-Xscale = 1e-6
-Yscale = 1e-6
-Zscale = 1e-9
-Zresolution = -1
-Compression = 0
-DataType = 5
-CheckType = 0
-*
-",
-    "0 5 1
-",
-    "*
-",
+    "aBCR-1.0\nManufacID = demo\nCreateDate = 010120260000\nModDate = 010120260000\nNumPoints = 3\nNumProfiles = 1\nXscale = 1e-6\nYscale = 1e-6\nZscale = 1e-9\nZresolution = -1\nCompression = 0\nDataType = 5\nCheckType = 0\n*\n",
+    "0 5 1\n",
+    "*\n",
 ];
-
-const SQUARE: &str =
-    "aBCR-1.0\nNumPoints = 3\nNumProfiles = 3\nXscale = 1e-6\nYscale = 1e-6\nZscale = 1e-9\nDataType = 5\n*\n0 9 1\n4 9 5\n6 2 6\n";
-
-const SQUARE_SADDLE: &str =
-    "certificate D 8\nfrom 0 0\nto 2 0\nsaddle 2 1 5\npath 5\n0 0\n0 1\n1 2\n2 1\n2 0\ncut 3\n0 0\n0 1\n1 2\nend\n";
-
-// Certificates of the profile, of either kind.
-const SADDLE: &str =
-    "certificate D 8\nfrom 0 0\nto 2 0\nsaddle 1 0 5\npath 3\n0 0\n1 0\n2 0\ncut 1\n0 0\nend\n";
-
-const PRUNING: &str = "pruning D 90% 8\npoints 3\n0 - 0\n1 0 -\n2 1 -\nend\n";
-
-const USAGE: [&str; 1] = [
-    "usage: hilldale dales SURFACE
-usage: hilldale run SURFACE SCRIPT [--tile N] [--save OUT]
-usage: hilldale check SURFACE CERT
-usage: hilldale demo W H NUMBER EDITS [--tile N]
-",
-];
-
-const DEMO: [&str; 1] = [
-    "demo 3 1 7 1
-dales 2
-hills 1
-kept dales 2
-kept hills 1
-Spd 1/3
-S10z 4761/1
-edits 1
-dales 1
-hills 2
-kept dales 1
-kept hills 2
-Spd 2/3
-S10z 3847/1
-",
-];
-
-const ACCEPTED: [&str; 1] = ["certificate accepted\n"];
-
-const UNREADABLE: [&str; 1] = ["certificate unreadable: line 1\n"];
-
-const READ_FAULT: [&str; 1] = ["read fault\n"];
-
-const SAVING: &str = "run A B --save C";
 
 // A run: its words; its inputs, of which it reads so many to their ends; and, where no call fails, its status, its answers
 // and the parts that it saves.
@@ -132,7 +47,7 @@ struct Trial<'a> {
     words: &'a str,
     surface: &'a str,
     second: &'a str,
-    inputs: u64,
+    inputs: u32,
     status: Status,
     answers: &'a [&'a str],
     parts: &'a [&'a str],
@@ -140,12 +55,12 @@ struct Trial<'a> {
 
 const TRIALS: [Trial<'static>; 11] = [
     Trial {
-        words: SAVING,
+        words: "run A B --save C",
         surface: MEASURED,
         second: "dales",
         inputs: 2,
         status: Status::Done,
-        answers: &MEASURED_DALES,
+        answers: &["dales 2\ndale 0 0 12 5\ndale 3 0 15 2\n"],
         parts: &MEASURED_PARTS,
     },
     Trial {
@@ -154,16 +69,16 @@ const TRIALS: [Trial<'static>; 11] = [
         second: "",
         inputs: 1,
         status: Status::Done,
-        answers: &MEASURED_DALES,
+        answers: &["dales 2\ndale 0 0 12 5\ndale 3 0 15 2\n"],
         parts: &[],
     },
     Trial {
-        words: SAVING,
+        words: "run A B --save C",
         surface: PROFILE,
         second: "dales\nset 1 0 5\n",
         inputs: 2,
         status: Status::Done,
-        answers: &[PROFILE_DALES, "line 2 ok\n"],
+        answers: &["dales 2\ndale 0 0 0 2\ndale 2 0 1 1\n", "line 2 ok\n"],
         parts: &PROFILE_PARTS,
     },
     Trial {
@@ -174,7 +89,7 @@ const TRIALS: [Trial<'static>; 11] = [
         status: Status::LineRefused,
         answers: &[
             "line 1 ok\n",
-            PROFILE_DALES,
+            "dales 2\ndale 0 0 0 2\ndale 2 0 1 1\n",
             "line 4 refused: unknown command\n",
         ],
         parts: &[],
@@ -185,11 +100,11 @@ const TRIALS: [Trial<'static>; 11] = [
         second: "dales\nset 1 0 5\n",
         inputs: 2,
         status: Status::CertificateRefused,
-        answers: &UNREADABLE,
+        answers: &["certificate unreadable: line 1\n"],
         parts: &[],
     },
     Trial {
-        words: SAVING,
+        words: "run A B --save C",
         surface: "",
         second: "dales\n",
         inputs: 1,
@@ -203,34 +118,36 @@ const TRIALS: [Trial<'static>; 11] = [
         second: "",
         inputs: 0,
         status: Status::Usage,
-        answers: &USAGE,
+        answers: &[
+            "usage: hilldale dales SURFACE\nusage: hilldale run SURFACE SCRIPT [--tile N] [--save OUT]\nusage: hilldale check SURFACE CERT\nusage: hilldale demo W H NUMBER EDITS [--tile N]\n",
+        ],
         parts: &[],
     },
     Trial {
         words: "check A B",
-        surface: SQUARE,
-        second: SQUARE_SADDLE,
+        surface: "aBCR-1.0\nNumPoints = 3\nNumProfiles = 3\nXscale = 1e-6\nYscale = 1e-6\nZscale = 1e-9\nDataType = 5\n*\n0 9 1\n4 9 5\n6 2 6\n",
+        second: "certificate D 8\nfrom 0 0\nto 2 0\nsaddle 2 1 5\npath 5\n0 0\n0 1\n1 2\n2 1\n2 0\ncut 3\n0 0\n0 1\n1 2\nend\n",
         inputs: 2,
         status: Status::Done,
-        answers: &ACCEPTED,
-        parts: &[],
-    },
-    Trial {
-        words: "check A B",
-        surface: PROFILE,
-        second: SADDLE,
-        inputs: 2,
-        status: Status::Done,
-        answers: &ACCEPTED,
+        answers: &["certificate accepted\n"],
         parts: &[],
     },
     Trial {
         words: "check A B",
         surface: PROFILE,
-        second: PRUNING,
+        second: "certificate D 8\nfrom 0 0\nto 2 0\nsaddle 1 0 5\npath 3\n0 0\n1 0\n2 0\ncut 1\n0 0\nend\n",
         inputs: 2,
         status: Status::Done,
-        answers: &ACCEPTED,
+        answers: &["certificate accepted\n"],
+        parts: &[],
+    },
+    Trial {
+        words: "check A B",
+        surface: PROFILE,
+        second: "pruning D 90% 8\npoints 3\n0 - 0\n1 0 -\n2 1 -\nend\n",
+        inputs: 2,
+        status: Status::Done,
+        answers: &["certificate accepted\n"],
         parts: &[],
     },
     Trial {
@@ -239,252 +156,202 @@ const TRIALS: [Trial<'static>; 11] = [
         second: "",
         inputs: 0,
         status: Status::Done,
-        answers: &DEMO,
+        answers: &[
+            "demo 3 1 7 1\ndales 2\nhills 1\nkept dales 2\nkept hills 1\nSpd 1/3\nS10z 4761/1\nedits 1\ndales 1\nhills 2\nkept dales 1\nkept hills 2\nSpd 2/3\nS10z 3847/1\n",
+        ],
         parts: &[],
     },
 ];
 
-// How a run ends: its status, what is printed, what the file to save holds, and how often each source and sink is called.
-#[derive(Drop)]
-struct End {
-    status: Status,
-    printed: String,
-    held: String,
-    calls: [u64; 4],
+// A call: of the surface `A`, the second input `B`, the file to save `C` or the output `-`; what it writes, or none where it
+// opens; and whether it fails.
+#[derive(Clone, Copy)]
+struct Call<'a> {
+    of: char,
+    bytes: Option<&'a [u8]>,
+    fails: bool,
 }
 
-// Pieces of a text: how many of this size it has.
-fn pieces_of(text: &str, piece: usize) -> u64 {
-    text.len().div_ceil(piece.max(1)) as u64
+// Adds a call that does not fail.
+fn push_call<'a>(rt: &impl Abort, calls: &mut Vec<Call<'a>>, of: char, bytes: Option<&'a [u8]>) {
+    let fails = false;
+    calls.push(Call { of, bytes, fails }).expect(rt, "memory");
 }
 
-// How many writes of a piece write these parts, one after the other.
-fn writes_of(parts: &[&str], piece: usize) -> u64 {
-    let mut count = 0u64;
+// Adds the calls that write a text, a piece each.
+fn push_pieces<'a>(
+    rt: &impl Abort,
+    calls: &mut Vec<Call<'a>>,
+    of: char,
+    text: &'a str,
+    piece: usize,
+) {
+    for bytes in text.as_bytes().chunks(piece.max(1)) {
+        push_call(rt, calls, of, Some(bytes));
+    }
+}
+
+// Adds the calls that open a file, read or write its parts, and find the end or flush.
+fn push_file<'a>(
+    rt: &impl Abort,
+    calls: &mut Vec<Call<'a>>,
+    of: char,
+    parts: &[&'a str],
+    piece: usize,
+) {
+    push_call(rt, calls, of, None);
     for part in parts {
-        count = count.saturating_add(pieces_of(part, piece));
+        push_pieces(rt, calls, of, part, piece);
     }
-    count
+    push_call(rt, calls, of, Some(b""));
 }
 
-// What so many writes of a piece write of these parts.
-fn written(alloc: Global, parts: &[&str], piece: usize, writes: u64) -> Result<String, Fail> {
-    let mut text = String::new(alloc);
-    let mut left = writes;
-    for part in parts {
-        let own = pieces_of(part, piece);
-        let bytes = piece.saturating_mul(left.min(own) as usize);
-        text.push_str(part.get(..bytes).unwrap_or(part))?;
-        left = left.saturating_sub(own);
+// The calls of a trial in their order, where none fails.
+fn calls_of<'a>(rt: &(impl Abort + AllocGlobal), trial: &Trial<'a>, piece: usize) -> Vec<Call<'a>> {
+    let mut calls = Vec::new(rt.alloc());
+    if 0 < trial.inputs {
+        push_file(rt, &mut calls, 'A', &[trial.surface], piece);
     }
-    Ok(text)
-}
-
-// All of these parts.
-fn whole(alloc: Global, parts: &[&str]) -> Result<String, Fail> {
-    written(alloc, parts, 1, u64::MAX)
-}
-
-// How often an input is called that is read to its end: an open, a read for each piece, and one that finds the end.
-fn reads_of(text: &str, piece: usize) -> u64 {
-    pieces_of(text, piece).saturating_add(2)
-}
-
-// How often each source and sink is called where none fails. The file to save is opened, written and flushed.
-fn calls_of(trial: &Trial<'_>, piece: usize) -> [u64; 4] {
-    let prints = writes_of(trial.answers, piece).saturating_add(1);
-    let saves = if trial.parts.is_empty() {
-        0
-    } else {
-        writes_of(trial.parts, piece).saturating_add(2)
-    };
-    let surface = reads_of(trial.surface, piece);
-    let second = reads_of(trial.second, piece);
-    match trial.inputs {
-        0 => [0, 0, prints, saves],
-        1 => [surface, 0, prints, saves],
-        _ => [surface, second, prints, saves],
+    if 1 < trial.inputs {
+        push_file(rt, &mut calls, 'B', &[trial.second], piece);
     }
-}
-
-// What the file to save holds after so many of its calls, of which the first opens it.
-fn held(alloc: Global, parts: &[&str], piece: usize, calls: u64) -> Result<String, Fail> {
-    match calls {
-        0 => Ok(String::from_str(alloc, HELD)?),
-        _ => written(alloc, parts, piece, calls - 1),
+    for answer in trial.answers {
+        push_pieces(rt, &mut calls, '-', answer, piece);
     }
+    if !trial.parts.is_empty() {
+        push_file(rt, &mut calls, 'C', trial.parts, piece);
+    }
+    push_call(rt, &mut calls, '-', Some(b""));
+    calls
 }
 
-// Compares how a run ends where a call of each source and sink may fail.
+// The numbers of the calls of one that fail, where its first has this number; and that of the call after the last.
+fn fails_of(rt: &(impl Abort + AllocGlobal), calls: &[Call<'_>], of: char, first: u64) -> Vec<u64> {
+    let mut fails = Vec::new(rt.alloc());
+    let mut number = first;
+    for call in calls {
+        if call.of == of {
+            if call.fails {
+                fails.push(number).expect(rt, "memory");
+            }
+            number = number.saturating_add(1);
+        }
+    }
+    fails.push(number).expect(rt, "memory");
+    fails
+}
+
+// What a sink holds after these calls, where it held these bytes before.
+fn held(rt: &(impl Abort + AllocGlobal), calls: &[Call<'_>], of: char, before: &str) -> Vec<u8> {
+    let mut held = before.as_bytes().to_vec(rt.alloc()).expect(rt, "memory");
+    for call in calls {
+        if call.of == of && !call.fails {
+            match call.bytes {
+                Some(bytes) => held.extend_from_slice(bytes).expect(rt, "memory"),
+                None => held.clear(),
+            }
+        }
+    }
+    held
+}
+
+// Compares how a run ends that is to make these calls and no other: the next of each source and sink would fail.
 fn expect_end(
     rt: &(impl Abort + AllocGlobal),
     given: Given<'_>,
-    failing: [Option<u64>; 4],
-    end: &End,
-) -> Result<(), Fail> {
-    let mut ended = run(rt.alloc(), given, failing, end.calls)?;
-    assert_eq!(rt; ended.status, end.status, "{} {failing:?}", given.words);
-    assert_eq!(rt; ended.out.bytes(), end.printed.as_bytes());
-    assert_eq!(rt; ended.saved.bytes(), end.held.as_bytes());
-    assert!(rt;
-        is_called_no_more(&mut ended),
-        "{} {failing:?}",
-        given.words
-    );
-    Ok(())
+    calls: &[Call<'_>],
+    status: Status,
+) {
+    let surface = fails_of(rt, calls, 'A', 0);
+    let second = fails_of(rt, calls, 'B', 0);
+    let out = fails_of(rt, calls, '-', 0);
+    let saved = fails_of(rt, calls, 'C', 1);
+    let mut ended = run(rt, given, [&surface, &second, &out, &saved]);
+    assert_eq!(rt; ended.status, status, "{}", given.words);
+    assert_eq!(rt; ended.out.bytes(), held(rt, calls, '-', "").as_slice());
+    assert_eq!(rt; ended.saved.bytes(), held(rt, calls, 'C', HELD).as_slice());
+    assert!(rt; ended.surface.open("A").is_err() && ended.second.open("B").is_err());
+    assert!(rt; ended.out.flush().is_err() && ended.saved.flush().is_err());
 }
 
-// Whether the next call of each source and sink fails, which is the one after as many as the run was to make.
-fn is_called_no_more(ended: &mut Ended) -> bool {
-    let reads = ended.surface.open("A").is_err() && ended.second.open("B").is_err();
-    reads && ended.out.flush().is_err() && ended.saved.flush().is_err()
-}
-
-// The run of a trial by pieces of a size.
-fn given_by<'a>(trial: &Trial<'a>, piece: usize) -> Given<'a> {
-    Given {
-        words: trial.words,
-        surface: trial.surface,
-        second: trial.second,
-        piece,
+// Compares how a run ends after these calls, of which the last is a read fault. Where it is not told whole, it is a write
+// fault.
+fn expect_read_fault(rt: &(impl Abort + AllocGlobal), given: Given<'_>, calls: &[Call<'_>]) {
+    let mut telling = Vec::new(rt.alloc());
+    push_pieces(rt, &mut telling, '-', "read fault\n", given.piece);
+    push_call(rt, &mut telling, '-', Some(b""));
+    let mut made = calls.to_vec(rt.alloc()).expect(rt, "memory");
+    for call in &telling {
+        let fails = true;
+        made.push(Call { fails, ..*call }).expect(rt, "memory");
+        expect_end(rt, given, &made, Status::WriteFault);
+        made.pop();
+        made.push(*call).expect(rt, "memory");
     }
+    expect_end(rt, given, &made, Status::ReadFault);
 }
 
-// Lets no call fail.
-fn expect_whole(
-    rt: &(impl Abort + AllocGlobal),
-    trial: &Trial<'_>,
-    piece: usize,
-) -> Result<(), Fail> {
-    let calls = calls_of(trial, piece);
-    let end = End {
-        status: trial.status,
-        printed: whole(rt.alloc(), trial.answers)?,
-        held: held(rt.alloc(), trial.parts, piece, calls[3])?,
-        calls,
-    };
-    expect_end(rt, given_by(trial, piece), [None; 4], &end)
-}
-
-// Compares a read fault at a call of the surface or of the second input, after so many calls of both. Where it is not told
-// whole, it is a write fault.
-fn expect_read_fault(
-    rt: &(impl Abort + AllocGlobal),
-    given: Given<'_>,
-    failing: [Option<u64>; 2],
-    calls: [u64; 2],
-) -> Result<(), Fail> {
-    let writes = writes_of(&READ_FAULT, given.piece);
-    for prints in 1..=writes.saturating_add(2) {
-        let is_told = writes.saturating_add(1) < prints;
-        let (status, last, made) = if is_told {
-            (Status::ReadFault, None, prints - 1)
+// Lets each of these calls fail.
+fn expect_faults(rt: &(impl Abort + AllocGlobal), given: Given<'_>, calls: &[Call<'_>]) {
+    let mut made = Vec::new(rt.alloc());
+    for call in calls {
+        let fails = true;
+        made.push(Call { fails, ..*call }).expect(rt, "memory");
+        if call.of == 'A' || call.of == 'B' {
+            expect_read_fault(rt, given, &made);
         } else {
-            (Status::WriteFault, Some(prints - 1), prints)
-        };
-        let end = End {
-            status,
-            printed: written(rt.alloc(), &READ_FAULT, given.piece, prints - 1)?,
-            held: String::from_str(rt.alloc(), HELD)?,
-            calls: [calls[0], calls[1], made, 0],
-        };
-        expect_end(rt, given, [failing[0], failing[1], last, None], &end)?;
+            expect_end(rt, given, &made, Status::WriteFault);
+        }
+        made.pop();
+        made.push(*call).expect(rt, "memory");
     }
-    Ok(())
 }
 
-// Lets each call of each input fail.
-fn expect_read_faults(
-    rt: &(impl Abort + AllocGlobal),
-    trial: &Trial<'_>,
-    piece: usize,
-) -> Result<(), Fail> {
-    let calls = calls_of(trial, piece);
-    let given = given_by(trial, piece);
-    for call in 0..calls[0] {
-        expect_read_fault(rt, given, [Some(call), None], [call + 1, 0])?;
-    }
-    for call in 0..calls[1] {
-        expect_read_fault(rt, given, [None, Some(call)], [calls[0], call + 1])?;
-    }
-    Ok(())
-}
-
-// Lets each call of the output fail. The file is saved before the last one, a flush.
-fn expect_print_faults(
-    rt: &(impl Abort + AllocGlobal),
-    trial: &Trial<'_>,
-    piece: usize,
-) -> Result<(), Fail> {
-    let calls = calls_of(trial, piece);
-    for call in 0..calls[2] {
-        let saves = if call + 1 == calls[2] { calls[3] } else { 0 };
-        let end = End {
-            status: Status::WriteFault,
-            printed: written(rt.alloc(), trial.answers, piece, call)?,
-            held: held(rt.alloc(), trial.parts, piece, saves)?,
-            calls: [calls[0], calls[1], call + 1, saves],
+// Tries a trial by pieces of several sizes, each call failing by some of them.
+fn expect_trial(rt: &(impl Abort + AllocGlobal), trial: &Trial<'_>) {
+    for piece in [1, 2, 3, 4, 7, 64, 100] {
+        let given = Given {
+            words: trial.words,
+            surface: trial.surface,
+            second: trial.second,
+            piece,
         };
-        let failing = [None, None, Some(call), None];
-        expect_end(rt, given_by(trial, piece), failing, &end)?;
+        let calls = calls_of(rt, trial, piece);
+        expect_end(rt, given, &calls, trial.status);
+        if 3 < piece {
+            expect_faults(rt, given, &calls);
+        }
     }
-    Ok(())
-}
-
-// Lets each call of the file to save fail.
-fn expect_save_faults(
-    rt: &(impl Abort + AllocGlobal),
-    trial: &Trial<'_>,
-    piece: usize,
-) -> Result<(), Fail> {
-    let calls = calls_of(trial, piece);
-    for call in 0..calls[3] {
-        let end = End {
-            status: Status::WriteFault,
-            printed: whole(rt.alloc(), trial.answers)?,
-            held: held(rt.alloc(), trial.parts, piece, call)?,
-            calls: [calls[0], calls[1], calls[2].saturating_sub(1), call + 1],
-        };
-        let failing = [None, None, None, Some(call)];
-        expect_end(rt, given_by(trial, piece), failing, &end)?;
-    }
-    Ok(())
 }
 
 #[test]
-fn each_call_that_fails_ends_the_run(rt: HostRuntime) -> Result<(), Fail> {
+fn each_call_that_fails_ends_the_run(rt: HostRuntime) {
     for trial in &TRIALS {
-        for piece in [1, 2, 3, 7] {
-            expect_whole(&rt, trial, piece)?;
-        }
-        for piece in [4, 64, 100] {
-            expect_whole(&rt, trial, piece)?;
-            expect_read_faults(&rt, trial, piece)?;
-            expect_print_faults(&rt, trial, piece)?;
-            expect_save_faults(&rt, trial, piece)?;
-        }
+        expect_trial(&rt, trial);
     }
-    Ok(())
 }
 
 #[test]
-fn a_file_that_is_not_there_is_a_read_fault(rt: HostRuntime) -> Result<(), Fail> {
-    let all = reads_of(PROFILE, 64);
+fn a_file_that_is_not_there_is_a_read_fault(rt: HostRuntime) {
     let rows = [
-        ("dales C", [1, 0]),
-        ("run A C", [all, 1]),
-        ("run D B --save C", [1, 0]),
-        ("check C B", [1, 0]),
-        ("check A C", [all, 1]),
+        ("dales C", 'A'),
+        ("run A C", 'B'),
+        ("run D B --save C", 'A'),
+        ("check C B", 'A'),
+        ("check A C", 'B'),
     ];
-    for (words, calls) in rows {
+    for (words, of) in rows {
         let given = Given {
             words,
             surface: PROFILE,
             second: "dales",
             piece: 64,
         };
-        expect_read_fault(&rt, given, [None; 2], calls)?;
+        let mut calls = Vec::new(rt.alloc());
+        if of == 'B' {
+            push_file(&rt, &mut calls, 'A', &[PROFILE], 64);
+        }
+        push_call(&rt, &mut calls, of, None);
+        expect_read_fault(&rt, given, &calls);
     }
-    Ok(())
 }

@@ -2,12 +2,8 @@
 #![tactic(auto)]
 
 #[cfg(test)]
-mod demos;
-#[cfg(test)]
 mod faults;
 #[cfg(test)]
-mod refusals;
-#[cfg(test)]
-mod trials;
+mod runs;
 #[cfg(test)]
 mod worked;

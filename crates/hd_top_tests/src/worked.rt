@@ -1,11 +1,9 @@
 // The runs that the program was asked for with what they print, each of which takes memory only where it is ample.
-use crate::trials::{Given, run};
-use std::alloc::Global;
+use crate::runs::{Given, run};
 use std::process::Abort;
-use std::test::Fail;
 
 // Each row has its words, its surface as the code of its type, its points, its profiles and its data, its second input,
-// and its status with what is printed. Bars stand between lines.
+// and its status with what is printed. Bars stand between lines, and `slope` for the heights x + y of 64 by 64 points.
 const ROWS: &str = "dales A
 5 3 1 0 5 1
 dales
@@ -60,6 +58,21 @@ run A B
 5 3 3 0 9 1 | 4 9 5 | 6 2 6
 dales | tree D | saddle D 0 0 2 0
 Done | dales 3 | dale 0 0 0 4 | dale 2 0 1 2 | dale 1 2 2 3 | tree D 2 | saddle 0 1 4 2 0 0 1 2 | saddle 2 1 5 2 0 0 2 0 | certificate D 8 | from 0 0 | to 2 0 | saddle 2 1 5 | path 5 | 0 0 | 0 1 | 1 2 | 2 1 | 2 0 | cut 3 | 0 0 | 0 1 | 1 2 | end
+
+run A B
+5 64 64 slope
+dales | set 7 7 -5 | dales
+Done | dales 1 | dale 0 0 0 4096 | line 2 ok | dales 2 | dale 0 0 0 3812 | dale 7 7 -5 284
+
+run --tile 8 A B
+5 64 64 slope
+dales | set 7 7 -5 | dales
+Done | dales 1 | dale 0 0 0 4096 | line 2 ok | dales 2 | dale 0 0 0 3812 | dale 7 7 -5 284
+
+run A B --tile=256
+5 64 64 slope
+dales | set 7 7 -5 | dales
+Done | dales 1 | dale 0 0 0 4096 | line 2 ok | dales 2 | dale 0 0 0 3812 | dale 7 7 -5 284
 
 run A B --tile 8
 5 48 1 1 2 3 4 5 6 7 8 9 10 11 12 13 14 15 16 17 18 19 20 21 22 23 24 25 26 27 28 29 30 31 32 33 34 35 36 37 38 39 40 41 42 43 44 45 46 47 48
@@ -136,26 +149,6 @@ demo 3 1 7 1
 dales
 Done | demo 3 1 7 1 | dales 2 | hills 1 | kept dales 2 | kept hills 1 | Spd 1/3 | S10z 4761/1 | edits 1 | dales 1 | hills 2 | kept dales 1 | kept hills 2 | Spd 2/3 | S10z 3847/1
 
-demo 03 001 007 1
-5 3 1 0 5 1
-dales
-Done | demo 3 1 7 1 | dales 2 | hills 1 | kept dales 2 | kept hills 1 | Spd 1/3 | S10z 4761/1 | edits 1 | dales 1 | hills 2 | kept dales 1 | kept hills 2 | Spd 2/3 | S10z 3847/1
-
-demo --tile 8 3 1 7 1
-5 3 1 0 5 1
-dales
-Done | demo 3 1 7 1 | dales 2 | hills 1 | kept dales 2 | kept hills 1 | Spd 1/3 | S10z 4761/1 | edits 1 | dales 1 | hills 2 | kept dales 1 | kept hills 2 | Spd 2/3 | S10z 3847/1
-
-demo 3 1 --tile=256 7 1
-5 3 1 0 5 1
-dales
-Done | demo 3 1 7 1 | dales 2 | hills 1 | kept dales 2 | kept hills 1 | Spd 1/3 | S10z 4761/1 | edits 1 | dales 1 | hills 2 | kept dales 1 | kept hills 2 | Spd 2/3 | S10z 3847/1
-
-demo 3 --tile=064 -- 1 7 1
-5 3 1 0 5 1
-dales
-Done | demo 3 1 7 1 | dales 2 | hills 1 | kept dales 2 | kept hills 1 | Spd 1/3 | S10z 4761/1 | edits 1 | dales 1 | hills 2 | kept dales 1 | kept hills 2 | Spd 2/3 | S10z 3847/1
-
 run A B
 5 3 1 0 5 1
 element f 3 1 0 0 0 | dilate f | dales | undo 1 | erode f | dales | undo 1 | close f | hills
@@ -170,106 +163,6 @@ run A B
 5 3 1 0 5 1
 saddle D 0 0 1 0 | bad 1 0 | label H 1 0 | add 2 0 0 0 1 | add 0 0 2 0 10 | dales | plot
 LineRefused | line 1 refused: both points are in one region | line 2 ok | line 3 refused: 1 0 is not present | line 4 refused: empty rectangle | line 5 ok | dales 2 | dale 0 0 10 1 | dale 2 0 11 1 | line 7 refused: unknown command
-
-run A B
-5 2 2 0 9 | 9 1
-neighbours 4 | dales | saddle D 0 0 1 1 | neighbours 8 | dales
-Done | line 1 ok | dales 2 | dale 0 0 0 3 | dale 1 1 1 1 | certificate D 4 | from 0 0 | to 1 1 | saddle 1 0 9 | path 3 | 0 0 | 1 0 | 1 1 | cut 1 | 0 0 | end | line 4 ok | dales 1 | dale 0 0 0 4
-
-run A B
-5 2 2 9 0 | 1 9
-neighbours 6 | dales | neighbours 5
-LineRefused | line 1 ok | dales 2 | dale 1 0 0 3 | dale 0 1 1 1 | line 3 refused: word 2 has not its form
-
-run A B
-7 4 1 0.5 1.25 BAD 2e-1
-dales | info
-Done | dales 2 | dale 0 0 50 2 | dale 3 0 20 1 | info | size 4 1 | type 7 | places 2 | present 3 | range 20 125 | scales 1e-6 1e-6 1e-9
-
-dales A
-3 3 1 0 5 1
-dales
-Done | dales 2 | dale 0 0 0 2 | dale 2 0 1 1
-
-dales A
-3 3 1 1e15 0.1 0
-dales
-SurfaceRefused | surface refused: datum 2 is out of range
-
-run A B
-7 3 1 1.234567E-006 0 -1.5e-7
-dales
-Done | dales 1 | dale 2 0 -150000 3
-
-dales A
-7 3 1 1e-19 0 0
-dales
-SurfaceRefused | surface refused: datum 1 is out of range
-
-dales A
-7 3 1 1,5 0 0
-dales
-SurfaceRefused | surface refused: datum 1 is not a decimal or BAD
-
-run A B
-5 3 1 0 5 1
-audit D 90% | audit D 80%
-Done | pruning D 90% 8 | points 3 | 0 - 0 | 1 0 - | 2 1 - | end | pruning D 80% 8 | points 3 | 0 - 0 | 2 - 2 | 1 0 - | end
-
-check A B
-5 3 1 0 5 1
-pruning D 90% 8 | points 3 | 0 - 0 | 1 0 - | 2 1 - | end
-Done | certificate accepted
-
-check A B
-5 3 1 0 5 1
-pruning D 80% 8 | points 3 | 0 - 0 | 2 - 2 | 1 0 - | end
-Done | certificate accepted
-
-check A B
-5 3 1 0 5 1
-pruning D 90% 8 | points 3 | 0 - 0 | 2 - 2 | 1 0 - | end
-CertificateRefused | certificate refused: rule 17 at 1 0
-
-check A B
-5 3 1 0 5 1
-pruning D 80% 8 | points 3 | 0 - 0 | 1 0 - | 2 1 - | end
-CertificateRefused | certificate refused: rule 18 at 2 0
-
-check A B
-5 3 1 0 5 1
-pruning D 90% 8 | points 2 | 0 - 0 | 1 0 - | end
-CertificateRefused | certificate refused: rule 13 at 2 0
-
-run A B
-5 3 3 0 9 1 | 4 9 5 | 6 2 6
-lines D 0%
-Done | lines D 0% 3 | ridge 0 0 2 0 pairs 4 pass 1 0 9 around | ridge 0 0 1 2 pairs 5 pass 0 1 4 saddle | ridge 2 0 1 2 pairs 2 pass 2 1 5 saddle
-
-run A B
-5 3 1 0 5 1
-lines H 5% | lines D 5%
-Done | lines H 5% 0 | lines D 5% 1 | ridge 0 0 2 0 pairs 1 pass 1 0 5 saddle
-
-run A B
-5 3 1 0 5 1
-height Sp | height Sv | height Sa | height Smr 1 | height Smr
-LineRefused | height Sp 3/1 | height Sv 2/1 | height Sa 2/1 | height Smr 1 2/3 | line 5 refused: the parameter needs a height
-
-run A B
-5 3 1 0 5 1
-hist 2 FC;D;Wolfprune:5%;All;lpvh | perc 4 FC;D;Wolfprune:5%;All;lpvh
-Done | hist 2 FC;D;Wolfprune:5%;All;lpvh 1 1 | perc 4 FC;D;Wolfprune:5%;All;lpvh 1/2
-
-run A B
-5 3 1 0 5 1
-fill D 5% | fill D 90%
-Done | fill D 5% 2 | volume 0 0 5/1 | volume 2 0 4/1 | fill D 90% 1 | volume 0 0 none
-
-run A B
-5 3 1 0 5 1
-hist 0 FC;D;Wolfprune:5%;All;lpvh | perc 1 FC;D;Wolfprune:5%;All;lpvh;Mean
-LineRefused | line 1 refused: word 2 has not its form | line 2 refused: part 7 has not its form
 
 run A
 5 3 1 0 5 1
@@ -296,75 +189,54 @@ Usage | usage: hilldale dales SURFACE | usage: hilldale run SURFACE SCRIPT [--ti
 dales
 Usage | usage: hilldale dales SURFACE | usage: hilldale run SURFACE SCRIPT [--tile N] [--save OUT] | usage: hilldale check SURFACE CERT | usage: hilldale demo W H NUMBER EDITS [--tile N]";
 
-// The lines of a text between which bars stand.
-fn lines_of(alloc: Global, text: &str) -> Result<String, Fail> {
-    Ok(text.replace(alloc, " | ", "\n")?)
-}
-
 // The file of a surface.
-fn file_of(alloc: Global, surface: &str) -> Result<String, Fail> {
-    let (code, rest) = surface.split_once(' ').ok_or("no type")?;
-    let (points, rest) = rest.split_once(' ').ok_or("no points")?;
-    let (profiles, data) = rest.split_once(' ').ok_or("no profiles")?;
-    let data = lines_of(alloc, data)?;
-    Ok(format!(in alloc;
-        "aBCR-1.0\nManufacID = demo\nCreateDate = 010120260000\nModDate = 010120260000\nNumPoints = {points}\nNumProfiles = {profiles}\nXscale = 1e-6\nYscale = 1e-6\nZscale = 1e-9\nZresolution = -1\nCompression = 0\nDataType = {code}\nCheckType = 0\n*\n{data}\n*\n"
-    )?)
+fn file_of(rt: &(impl Abort + AllocGlobal), surface: &str) -> String {
+    let (code, rest) = surface.split_once(' ').expect(rt, "a type");
+    let (points, rest) = rest.split_once(' ').expect(rt, "points");
+    let (profiles, data) = rest.split_once(' ').expect(rt, "profiles");
+    let mut file: String = format!(in rt.alloc();
+        "aBCR-1.0\nManufacID = demo\nCreateDate = 010120260000\nModDate = 010120260000\nNumPoints = {points}\nNumProfiles = {profiles}\nXscale = 1e-6\nYscale = 1e-6\nZscale = 1e-9\nZresolution = -1\nCompression = 0\nDataType = {code}\nCheckType = 0\n*\n"
+    ).expect(rt, "memory");
+    if data == "slope" {
+        for index in 0..4096u32 {
+            write!(file, "{} ", index / 64 + index % 64).expect(rt, "memory");
+        }
+    } else {
+        let lines = data.replace(rt.alloc(), " | ", "\n").expect(rt, "memory");
+        file.push_str(lines.as_str()).expect(rt, "memory");
+    }
+    file.push_str("\n*\n").expect(rt, "memory");
+    file
 }
 
-// The status of a run, and what it prints.
-fn told(alloc: Global, words: &str, surface: &str, second: &str) -> Result<String, Fail> {
+// Compares how the run of a row ends, by pieces of a size.
+fn expect_row(rt: &(impl Abort + AllocGlobal), row: &str, piece: usize) {
+    let (words, rest) = row.split_once('\n').expect(rt, "words");
+    let (surface, rest) = rest.split_once('\n').expect(rt, "a surface");
+    let (second, wanted) = rest.split_once('\n').expect(rt, "a second input");
+    let surface = file_of(rt, surface);
+    let second = second.replace(rt.alloc(), " | ", "\n").expect(rt, "memory");
+    let mut wanted = wanted.replace(rt.alloc(), " | ", "\n").expect(rt, "memory");
+    wanted.push('\n').expect(rt, "memory");
+    let none = [0u64; 0];
     let given = Given {
         words,
-        surface,
-        second,
-        piece: 4096,
+        surface: surface.as_str(),
+        second: second.as_str(),
+        piece,
     };
-    let ended = run(alloc, given, [None; 4], [u64::MAX; 4])?;
-    let text = String::from_utf8(ended.out.bytes().to_vec(alloc)?);
-    let text = text.ok().ok_or("no text")?;
-    Ok(format!(in alloc; "{:?}\n{text}", ended.status)?)
-}
-
-// Compares how the run of a row ends.
-fn expect_row(rt: &(impl Abort + AllocGlobal), row: &str) -> Result<(), Fail> {
-    let (words, rest) = row.split_once('\n').ok_or("no words")?;
-    let (surface, rest) = rest.split_once('\n').ok_or("no surface")?;
-    let (second, wanted) = rest.split_once('\n').ok_or("no second input")?;
-    let surface = file_of(rt.alloc(), surface)?;
-    let second = lines_of(rt.alloc(), second)?;
-    let mut wanted = lines_of(rt.alloc(), wanted)?;
-    wanted.push('\n')?;
-    let found = told(rt.alloc(), words, surface.as_str(), second.as_str())?;
+    let ended = run(rt, given, [&none; 4]);
+    let printed = String::from_utf8(ended.out.bytes().to_vec(rt.alloc()).expect(rt, "memory"));
+    let printed = printed.ok().expect(rt, "text");
+    let found = format!(in rt.alloc(); "{:?}\n{printed}", ended.status).expect(rt, "memory");
     assert_eq!(rt; found.as_str(), wanted.as_str(), "at {row}");
-    Ok(())
 }
 
 #[test]
-fn each_run_prints_what_it_was_asked_for(rt: HostRuntime) -> Result<(), Fail> {
+fn each_run_prints_what_it_was_asked_for(rt: HostRuntime) {
     for row in ROWS.split("\n\n") {
-        expect_row(&rt, row)?;
+        expect_row(&rt, row, 1);
+        expect_row(&rt, row, 4096);
     }
-    expect_row(&rt, "run A B\n5 3 1 0 5 1\n\nDone")
-}
-
-// A row of a surface of 64 by 64 points of height x + y, with these words.
-fn slope_row(alloc: Global, words: &str) -> Result<String, Fail> {
-    let mut row: String = format!(in alloc; "{words}\n5 64 64")?;
-    for index in 0..4096u32 {
-        write!(row, " {}", index / 64 + index % 64)?;
-    }
-    row.push_str(
-        "\ndales | set 7 7 -5 | dales\nDone | dales 1 | dale 0 0 0 4096 | line 2 ok | dales 2 | dale 0 0 0 3812 | dale 7 7 -5 284",
-    )?;
-    Ok(row)
-}
-
-#[test]
-fn a_set_on_a_slope_takes_its_points_for_every_tile(rt: HostRuntime) -> Result<(), Fail> {
-    for words in ["run A B", "run --tile 8 A B", "run A B --tile=256"] {
-        let row = slope_row(rt.alloc(), words)?;
-        expect_row(&rt, row.as_str())?;
-    }
-    Ok(())
+    expect_row(&rt, "run A B\n5 3 1 0 5 1\n\nDone", 4096);
 }
