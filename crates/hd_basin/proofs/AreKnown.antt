@@ -1,10 +1,9 @@
 -- Numbers of pits become known, node by node.
-use Rattle.std.proofs.Common.{◌≡◌, ◌≢◌, ◌<◌, ◌≤◌, ◌+◌, ◌^◌, ◌++◌, ◌∙◌, ◌⊎◌, ℕ, List, [], ◌∷◌, length, get_or, set, take, Option, Some, None, inl, inr, refl, sym, ap, subst, arith, slice_get}
-use Rattle.std.specs.Prelude.{◌↔◌, AllPairs, Contains, MatchOption, pos, slice_index}
-use Rattle.std.specs.List.{flat_map}
+use Rattle.std.proofs.Common.{◌≡◌, ◌≢◌, ◌<◌, ◌+◌, ◌^◌, ◌++◌, ◌∙◌, ◌⊎◌, ℕ, List, [], ◌∷◌, length, get_or, set, take, Option, Some, None, inl, inr, refl, sym, ap, subst, arith, slice_get}
+use Rattle.std.specs.Prelude.{AllPairs, Contains, MatchOption, pos, slice_index}
 use Rattle.std.proofs.lemmas.Bool.{cases_eq, cases_lt}
 use Rattle.std.proofs.lemmas.Grind.{get_or-set_at, get_or_default_zero}
-use Rattle.std.proofs.lemmas.List.{get_or-set_other, length-set, take_all, take_more}
+use Rattle.std.proofs.lemmas.List.{get_or-set_other, length-set, take_more}
 use Rattle.std.proofs.lemmas.List.Elements.{Contains-append_cases, Contains-append_left, Contains-append_right}
 use Rattle.std.proofs.lemmas.Option.{get_or_from_slice_get, slice_get-get_or, slice_get_within}
 use Rattle.hd_map.specs.declared.types.Pos.{Pos}
@@ -15,28 +14,28 @@ use Rattle.hd_map.specs.Pruning.{ArePits}
 use Rattle.hd_map.specs.Region.{IsPit, IsRoot}
 use Rattle.hd_map.proofs.Depth.{depth_by, point_limits}
 use Rattle.hd_map.proofs.Items.{Contains-head, Contains-none}
-use Rattle.hd_map.proofs.Nexts.{root-pit}
 use Rattle.hd_map.proofs.Points.{same_index}
 use Rattle.hd_steep.specs.Crossings.{IsNumberOf, pit_at}
 use Rattle.hd_basin.specs.declared.node.Node.{Node}
 use Rattle.hd_basin.specs.declared.part.Part.{Part}
 use Rattle.hd_basin.specs.declared.spot.Spot.{Spot}
 use Rattle.hd_basin.specs.Basin.{FlowsTo, tile_at}
+use Rattle.hd_basin.specs.Between.{LiesIn}
 use Rattle.hd_basin.specs.Extents.{nodes_in}
 use Rattle.hd_basin.specs.InStep.{HasMap, IsPoolOf}
 use Rattle.hd_basin.specs.Known.{AreKnown, AreKnownTo, AreNoted, FlowsOn, KeepsKnown, LeadTo}
 use Rattle.hd_basin.specs.Parts.{HasNode, Pool, low_or_none, node_of}
-use Rattle.hd_basin.specs.Placed.{AreNumberedPits, HasNumber, unknown}
-use Rattle.hd_basin.specs.Roots.{AreFirsts, AreRoots, IsPitNumber, Rooted, all_nodes, nodes_before}
-use Rattle.hd_basin.specs.Spots.{IsSpot, node_named, place_of_node}
+use Rattle.hd_basin.specs.Placed.{AreNumberedPits, unknown}
+use Rattle.hd_basin.specs.Roots.{AreFirsts, AreRoots, IsPitNumber, Rooted, all_nodes}
+use Rattle.hd_basin.specs.Spots.{IsSpot, node_in, node_named, place_of_node}
 use Rattle.hd_basin.proofs.AreListed.{only}
-use Rattle.hd_basin.proofs.FlatLists.{AllPairs-flat, Contains-at, pair-at}
+use Rattle.hd_basin.proofs.FlatLists.{AllPairs-flat, Contains-at}
 use Rattle.hd_basin.proofs.Flowing.{flows-root_step}
 use Rattle.hd_basin.proofs.NodeRoots.{onward-inside, root-here}
 use Rattle.hd_basin.proofs.PointRoots.{read-contains, way-into, way-own, way-smaller}
 use Rattle.hd_basin.proofs.PoolGraph.{node-point, node-tile}
 use Rattle.hd_basin.proofs.SinkLaws.{pit-sink}
-use Rattle.hd_basin.proofs.Spotted.{all-listed, place-had, spot-had, spot-inside, spot-place, spot-read}
+use Rattle.hd_basin.proofs.Spotted.{all-listed, named-of, place-had, spot-had, spot-inside, spot-place, spot-read}
 
 pub noted-none : (number : ℕ) (old : List ℕ) → AreNoted [] number old old
 noted-none number old = record { whole = refl; each = λ place at. absurd (Contains-none place at); either = λ place. inr refl }
@@ -243,3 +242,26 @@ read-here parts roots are whole firsts numbers is_firsts is_numbers s n at x k f
       number-read roots.numbers (place_of_node parts s) (x + s.number) k place (subst (λ i. place_of_node parts s < i) (sym whole) inside)
           (subst (λ (ns : List ℕ). k ≡ get_or ns (x + s.number) k) is_numbers read),
     )
+
+-- the number that is read for a node is that of the pit in whose region its sink lies
+pub lies-in : (side : SideName) (pool : Pool) (roots : Rooted) → AreRoots side pool roots → (firsts numbers : List ℕ) → firsts ≡ roots.firsts → numbers ≡ roots.numbers
+    → (tile number : ℕ) (part : Part) → slice_get pool.parts tile ≡ Some part → number < length part.nodes → (x k : ℕ) → x ≡ get_or firsts tile x → k ≡ get_or numbers (x + number) k
+    → LiesIn side pool roots.pits (low_or_none (slice_get part.nodes number)) k
+lies-in side pool roots are firsts numbers is_firsts is_numbers tile number part at below x k first read = λ m whole of. (
+    let s : Spot = record { tile = tile; number = number } in
+    let n = named-of pool.parts tile number part at below in
+    let here : slice_get part.nodes number ≡ Some n.0 = ap (λ (o : Option Part). node_in o number) (sym at) ∙ n.1 in
+    let r = read-here pool.parts roots are.firsts are.whole firsts numbers is_firsts is_numbers s n.0 n.1 x k first read in
+    subst (λ (o : Option Node). IsNumberOf m side roots.pits (low_or_none o) k) (sym here)
+    (subst (IsNumberOf m side roots.pits n.0.low) (sym r.1) (are.numbers (place_of_node pool.parts s) n.0 (spot-place pool.parts s n.0 n.1) m whole of)))
+
+-- and it is read in the list
+pub read-inside : (parts : List Part) (roots : Rooted) → AreFirsts parts roots.firsts → length roots.numbers ≡ length (all_nodes parts) → (firsts numbers : List ℕ) → firsts ≡ roots.firsts → numbers ≡ roots.numbers
+    → (tile number : ℕ) (part : Part) → slice_get parts tile ≡ Some part → number < length part.nodes → (x : ℕ) → x ≡ get_or firsts tile x → x + number < length numbers
+read-inside parts roots are whole firsts numbers is_firsts is_numbers tile number part at below x first =
+    let s : Spot = record { tile = tile; number = number } in
+    let n = named-of parts tile number part at below in
+    let place = spot-read parts roots.firsts are s n.0 n.1 x (subst (λ (fs : List ℕ). x ≡ get_or fs tile x) is_firsts first) in
+    let inside = spot-inside parts s n.0 n.1 in
+    let long : length numbers ≡ length (all_nodes parts) = ap length is_numbers ∙ whole in
+    omega (arith, place, inside, long)

@@ -1,14 +1,12 @@
 -- Nodes are listed one by one.
 use Rattle.std.proofs.Common.{◌≡◌, ◌≢◌, ◌<◌, ◌+◌, ◌++◌, ◌∙◌, ◌⊎◌, ℕ, zero, suc, true, false, List, [], ◌∷◌, length, length-append, get_or, take, Option, Some, None, inl, inr, refl, sym, ap, subst, arith, slice_get}
-use Rattle.std.specs.Prelude.{AllPairs, Contains, slice_index}
-use Rattle.std.specs.List.{flat_map}
+use Rattle.std.specs.Prelude.{Contains, slice_index}
 use Rattle.std.specs.Option.{is_none}
 use Rattle.std.proofs.Math.Seq.{get_or-append_seam}
 use Rattle.std.proofs.lemmas.Bool.{cases_lt}
-use Rattle.std.proofs.lemmas.List.{append_assoc, get_or_append_left, take_more, take_all}
+use Rattle.std.proofs.lemmas.List.{get_or_append_left}
 use Rattle.std.proofs.lemmas.List.Elements.{Contains-append_cases, Contains-append_left, Contains-append_right}
-use Rattle.std.proofs.lemmas.List.Kept.{AllPairs-cons}
-use Rattle.std.proofs.lemmas.Option.{get_or_from_slice_get, same_Some, slice_get-get_or, slice_get_within}
+use Rattle.std.proofs.lemmas.Option.{get_or_from_slice_get, same_Some, slice_get_within}
 use Rattle.hd_map.specs.declared.types.Pos.{Pos}
 use Rattle.hd_map.proofs.Items.{Contains-cases, Contains-head, Contains-none}
 use Rattle.hd_basin.specs.declared.node.Node.{Node}
@@ -16,8 +14,8 @@ use Rattle.hd_basin.specs.declared.part.Part.{Part}
 use Rattle.hd_basin.specs.declared.placed.PlacedPit.{PlacedPit}
 use Rattle.hd_basin.specs.Extents.{nodes_in}
 use Rattle.hd_basin.specs.Placed.{AreListed, IsPlaced, unknown}
-use Rattle.hd_basin.specs.Roots.{AreFirsts, all_nodes, nodes_before}
-use Rattle.hd_basin.proofs.FlatLists.{AllPairs-append, flat-more, flat-whole}
+use Rattle.hd_basin.specs.Roots.{all_nodes, nodes_before}
+use Rattle.hd_basin.proofs.FlatLists.{AllPairs-append, flat-more}
 
 -- what stands at a place of a list stands there when more items follow
 pub get-left : {X : Type 0} (xs ys : List X) (k : ℕ) (x : X) → slice_get xs k ≡ Some x → slice_get (xs ++ ys) k ≡ Some x

@@ -1,5 +1,5 @@
 -- Pits in position order get their numbers.
-use Rattle.std.proofs.Common.{◌≡◌, ◌≢◌, ◌<◌, ◌≤◌, ◌+◌, ◌^◌, ◌++◌, ◌∙◌, ℕ, Bool, zero, suc, true, false, List, [], ◌∷◌, length, get_or, map, set, take, Option, Some, None, inl, inr, refl, sym, ap, subst, arith, slice_get}
+use Rattle.std.proofs.Common.{◌≡◌, ◌≢◌, ◌<◌, ◌≤◌, ◌+◌, ◌^◌, ◌∙◌, ℕ, zero, suc, true, false, List, [], ◌∷◌, length, get_or, map, set, take, Some, inl, inr, refl, sym, ap, subst, arith, slice_get}
 use Rattle.std.specs.Prelude.{AllPairs, Contains, nat_lt, slice_index}
 use Rattle.std.specs.Cmp.{IsStrictWeakOrder}
 use Rattle.std.specs.List.Sorted.{IsPermutation, IsSortedBy}
@@ -12,7 +12,7 @@ use Rattle.std.proofs.lemmas.List.Elements.{Contains-append_left, Contains-appen
 use Rattle.std.proofs.lemmas.List.Sorted.{Contains-permutation, IsPermutation-map, IsPermutation-sym, sorted_far}
 use Rattle.std.proofs.lemmas.Map.Keys.{IsDistinct-IsPermutation}
 use Rattle.std.proofs.lemmas.Map.Made.{AllPairs-from_IsDistinct, IsDistinct-from_AllPairs}
-use Rattle.std.proofs.lemmas.Option.{get_or_from_slice_get, same_Some, slice_get-get_or, slice_get_within}
+use Rattle.std.proofs.lemmas.Option.{same_Some, slice_get_within}
 use Rattle.hd_map.specs.declared.types.Rank.{Rank}
 use Rattle.hd_map.proofs.Apart.{length-le_from_apart}
 use Rattle.hd_map.proofs.Items.{Contains-head, Contains-map}
@@ -20,7 +20,7 @@ use Rattle.hd_map.proofs.Places.{pairs-from_map, pairs-of_map}
 use Rattle.hd_basin.specs.declared.node.Node.{Node}
 use Rattle.hd_basin.specs.declared.part.Part.{Part}
 use Rattle.hd_basin.specs.declared.placed.PlacedPit.{PlacedPit}
-use Rattle.hd_basin.specs.Placed.{AreListed, AreNumbered, AreNumberedPits, HasNumber, IsPlaced, comes_first, pit_of, unknown}
+use Rattle.hd_basin.specs.Placed.{AreListed, AreNumbered, AreNumberedPits, HasNumber, IsPlaced, comes_first, pit_of}
 use Rattle.hd_basin.specs.Roots.{AreFirsts, all_nodes}
 use Rattle.hd_basin.proofs.AreListed.{get-split}
 use Rattle.hd_basin.proofs.FlatLists.{AllPairs-map, Contains-at, pair-at}

@@ -35,3 +35,5 @@ pub mod AreNumbered
 pub mod Spotted
 pub mod AreKnown
 pub mod GatheredExtents
+pub mod Rooted
+pub mod BetweenRoots

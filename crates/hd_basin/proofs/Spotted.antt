@@ -1,7 +1,6 @@
 -- Nodes by their tiles and numbers, and their places among all.
 use Rattle.std.proofs.Common.{◌≡◌, ◌<◌, ◌+◌, ◌++◌, ◌∙◌, ℕ, List, [], ◌∷◌, length, length-append, get_or, take, Option, Some, None, refl, sym, ap, subst, arith, slice_get}
 use Rattle.std.specs.Prelude.{Contains}
-use Rattle.std.specs.List.{flat_map}
 use Rattle.std.proofs.lemmas.Grind.{get_or_default_zero}
 use Rattle.std.proofs.lemmas.List.Concat.{get_or-flat_map}
 use Rattle.std.proofs.lemmas.List.Folds.{length-flat_map-take}
@@ -32,7 +31,7 @@ module _ (parts : List Part) (tile number : ℕ) (part : Part) (n : Node) (at : 
       let read : get_or (all_nodes parts) (nodes_before parts tile + number) n ≡ get_or (nodes_in (get_or parts tile part)) number n = get_or-flat_map nodes_in parts tile number part n inside below' in
       let room = length-flat_map-take nodes_in parts tile part inside in
       slice_get-get_or (all_nodes parts) (nodes_before parts tile + number) n (omega (arith, room, below'))
-          ∙ ap (λ (u : Node). Some u) (read ∙ ap (λ (p : Part). get_or p.nodes number n) item ∙ get_or_from_slice_get part.nodes number n n has)
+      ∙ ap (λ (u : Node). Some u) (read ∙ ap (λ (p : Part). get_or p.nodes number n) item ∙ get_or_from_slice_get part.nodes number n n has)
 
 -- the tile after has as many nodes more before it as the tile has
 pub before-more : (parts : List Part) (tile : ℕ) (part : Part) → slice_get parts tile ≡ Some part → nodes_before parts (tile + 1) ≡ nodes_before parts tile + length part.nodes

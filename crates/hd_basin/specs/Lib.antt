@@ -27,4 +27,5 @@ pub mod Placed
 pub mod Spots
 pub mod Known
 pub mod Gathered
+pub mod Between
 pub mod Stock

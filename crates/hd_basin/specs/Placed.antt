@@ -1,5 +1,5 @@
 -- The nodes of all tiles by their places, and the numbers of the pits among them.
-use Rattle.std.specs.Prelude.{◌≡◌, ◌≢◌, ◌<◌, ◌⊎◌, ℕ, Bool, List, All, AllPairs, Contains, Some, None, length, map, nat_lt, slice_get, slice_index}
+use Rattle.std.specs.Prelude.{◌≡◌, ◌≢◌, ◌<◌, ℕ, Bool, List, AllPairs, Contains, Some, None, length, nat_lt, slice_get, slice_index}
 use Rattle.hd_map.specs.declared.types.Rank.{Rank}
 use Rattle.hd_basin.specs.declared.node.Node.{Node}
 use Rattle.hd_basin.specs.declared.part.Part.{Part}

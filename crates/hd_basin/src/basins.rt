@@ -12,16 +12,19 @@ ghost use Rattle.hd_basin.specs.declared.part.Part.{Part};
 ghost use Rattle.hd_basin.specs.Parts.{HasNode, IsFresh, IsSound, node_of, stale_count};
 ghost use Rattle.hd_basin.specs.Built.{IsBuilt};
 ghost use Rattle.hd_basin.specs.Reading.{RootIs, NodeIs, IsGraphOf, AreExtents};
+ghost use Rattle.hd_basin.specs.Between.{AddsAcross, AddsInside, AddsLinks, EndInNodes, IsNodeLow, LiesIn};
+ghost use Rattle.hd_basin.specs.Graph.{pass_of};
 ghost use Rattle.hd_basin.specs.Known.{AreKnown, AreKnownTo, FlowsOn, KeepsKnown, LeadTo};
 ghost use Rattle.hd_basin.specs.Placed.{unknown};
 ghost use Rattle.hd_basin.specs.Roots.{AreRoots, nodes_before};
 ghost use Rattle.hd_basin.specs.Gathered.{AreGatheredTo};
 ghost use Rattle.hd_basin.specs.Spots.{IsSpot, SpotIs, node_named, place_of_node};
 
+use crate::between::push_link;
 use crate::extents::{add_basin, listed};
-use crate::graph::{lows_of, passes_of};
+use crate::graph::{lows_of, passes_of, was_seen_with};
 use crate::made::made;
-use crate::part::Part;
+use crate::part::{Part, Seam};
 use crate::place::place_in_tile;
 use crate::placed::number_pits;
 use crate::roots::{Roots, UNKNOWN};
@@ -30,7 +33,7 @@ use crate::stock::Stock;
 use crate::{Extent, Node, NodeKey};
 use hd_graph::Graph;
 use hd_list::{List, Memory};
-use hd_map::{Link, Pos, Side, Size, position_of};
+use hd_map::{Link, Pos, Rank, Side, Size, position_of};
 use hd_tiles::{Looked, Steps, Tiling};
 use std::alloc::Global;
 use std::marker::{Model, PhantomData};
@@ -238,12 +241,7 @@ impl<S: Side> Basins<S> {
     }
 
     // Gives a node its number, and those on its way.
-    fn number_node(
-        &self,
-        roots: &mut Roots,
-        way: &mut Vec<usize>,
-        spot: Spot,
-    ) -> Result<(), Memory>
+    fn number_node(&self, roots: &mut Roots, way: &mut Vec<usize>, spot: Spot) -> Result<(), Memory>
         requires map { HasMap S.NAME self.now }
         requires spot { IsSpot self.now.parts spot }
         requires known { AreKnown S.NAME self.now roots.old }
@@ -318,7 +316,74 @@ impl<S: Side> Basins<S> {
             → (labels : List (Option ℕ)) → AreRegions m S.NAME labels
             → AreCrossingsUnder m S.NAME labels (passes_of S.NAME roots.now.pits links.items)) }
     {
-        Err(Memory)
+        let mut links = Vec::new(self.alloc);
+        let tiles = self.stock.count();
+        'tiles: for tile in 0..tiles {
+            self.link_inside(&mut links, roots, tile)?;
+            self.link_across(&mut links, roots, tile)?;
+        }
+        Ok(links)
+    }
+
+    // Adds the links of the passes within a tile.
+    fn link_inside(&self, links: &mut Vec<Link>, roots: &Roots, tile: usize) -> Result<(), Memory>
+        requires map { HasMap S.NAME self.now }
+        requires roots { AreRoots S.NAME self.now roots.now }
+        requires tile { tile < length self.now.parts }
+        ensures { OnOk result (AddsInside S.NAME self.now roots.now.pits tile links.old.items links.new.items) }
+    {
+        let part = self.stock.part(tile);
+        let first = roots.firsts[tile];
+        let joins = part.joins();
+        'joins: for join in joins {
+            let a = roots.numbers[first + join.a as usize];
+            let b = roots.numbers[first + join.b as usize];
+            push_link(links, a, b, join.at)?;
+        }
+        Ok(())
+    }
+
+    // Adds the links of the seams of a tile that are not void.
+    fn link_across(&self, links: &mut Vec<Link>, roots: &Roots, tile: usize) -> Result<(), Memory>
+        requires map { HasMap S.NAME self.now }
+        requires roots { AreRoots S.NAME self.now roots.now }
+        requires tile { tile < length self.now.parts }
+        ensures { OnOk result (AddsAcross S.NAME self.now roots.now.pits tile links.old.items links.new.items) }
+    {
+        let part = self.stock.part(tile);
+        let seams = part.seams();
+        'seams: for seam in seams {
+            self.link_seam(links, roots, *seam)?;
+        }
+        Ok(())
+    }
+
+    // Adds the link of a seam, unless it is void.
+    fn link_seam(&self, links: &mut Vec<Link>, roots: &Roots, seam: Seam) -> Result<(), Memory>
+        requires map { HasMap S.NAME self.now }
+        requires roots { AreRoots S.NAME self.now roots.now }
+        requires ends { EndInNodes self.now.parts seam }
+        ensures { OnOk result (AddsLinks S.NAME self.now roots.now.pits (pass_of S.NAME self.now.parts seam) links.old.items links.new.items) }
+    {
+        if was_seen_with(&self.stock, seam.with, seam.stamp) {
+            let a = self.pit_number(roots, seam.pass.a);
+            let b = self.pit_number(roots, seam.pass.b);
+            push_link(links, a, b, seam.pass.at)?;
+        }
+        Ok(())
+    }
+
+    // The number of the pit in whose region the basin of a sink lies.
+    fn pit_number(&self, roots: &Roots, sink: Rank) -> u32
+        requires map { HasMap S.NAME self.now }
+        requires roots { AreRoots S.NAME self.now roots.now }
+        requires sink { IsNodeLow self.now.parts sink }
+        ensures { LiesIn S.NAME self.now roots.now.pits sink result }
+    {
+        match self.spot_at(position_of(self.tiling.size(), sink.index)) {
+            Some(spot) => roots.numbers[roots.firsts[spot.tile] + spot.number],
+            None => unreachable!(),
+        }
     }
 
     // The node of the basin in which the point at a position lies, and none where no point is present.

@@ -6,6 +6,7 @@
 
 mod adding;
 mod basins;
+mod between;
 mod edge;
 mod ends;
 mod extent;

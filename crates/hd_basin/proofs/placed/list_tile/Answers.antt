@@ -11,7 +11,7 @@ numbers-preserved c = λ nodes are. (
     let k = c.numbers.number in
     let n = c.node.result in
     let one : take (k + 1) all ≡ take k all ++ n ∷ [] = take_more all k n (slice_get_within all k n c.node.ensures)
-        ∙ ap (λ (u : Node). take k all ++ u ∷ []) (get_or_from_slice_get all k n n c.node.ensures) in
+    ∙ ap (λ (u : Node). take k all ++ u ∷ []) (get_or_from_slice_get all k n n c.node.ensures) in
     subst (λ (ns : List Node). AreListed ns c.list_node.new.pits.items c.list_node.new.numbers.items)
     (append_assoc nodes (take k all) (n ∷ []) ∙ ap (λ (ns : List Node). nodes ++ ns) (sym one))
     (c.in_ok-list_node.ensures (nodes ++ take k all) (c.numbers.invariant nodes are)))

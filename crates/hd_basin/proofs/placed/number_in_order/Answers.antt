@@ -1,7 +1,6 @@
-use Rattle.std.proofs.Common.{◌≡◌, ◌<◌, ◌+◌, ◌++◌, ◌∷◌, [], ◌∙◌, ap, arith, refl, sym, subst, List, ℕ, get_or, length, map, take}
+use Rattle.std.proofs.Common.{[], arith, refl}
 use Rattle.std.specs.Prelude.{pos}
 use Rattle.std.proofs.lemmas.List.Elements.{Contains-get_or}
-use Rattle.hd_map.specs.declared.types.Rank.{Rank}
 use Rattle.hd_basin.specs.declared.placed.PlacedPit.{PlacedPit}
 use Rattle.hd_basin.specs.Placed.{pit_of}
 use Rattle.hd_basin.proofs.AreNumbered.{numbered-more}

@@ -1,10 +1,10 @@
-use Rattle.std.proofs.Common.{◌≡◌, ◌≤◌, ◌<◌, ◌^◌, ◌∙◌, ap, refl, rules, sym, subst, arith, List, ℕ, length, map}
+use Rattle.std.proofs.Common.{◌≡◌, ◌∙◌, ap, refl, rules, sym, subst, arith, List, length, map}
 use Rattle.std.specs.Prelude.{AllPairs, Contains, ◌≢◌}
-use Rattle.std.specs.List.Sorted.{IsPermutation, IsSortedBy}
+use Rattle.std.specs.List.Sorted.{IsSortedBy}
 use Rattle.std.proofs.lemmas.List.Sorted.{answers_always}
 use Rattle.hd_map.specs.declared.types.Rank.{Rank}
 use Rattle.hd_basin.specs.declared.placed.PlacedPit.{PlacedPit}
-use Rattle.hd_basin.specs.Placed.{AreListed, AreNumbered, AreNumberedPits, comes_first, pit_of}
+use Rattle.hd_basin.specs.Placed.{AreNumbered, AreNumberedPits, comes_first, pit_of}
 use Rattle.hd_basin.specs.Roots.{all_nodes}
 use Rattle.hd_basin.proofs.AreNumbered.{pits-few, pits-numbered, places-apart, places-inside, position-order}
 use Rattle.hd_basin.proofs.placed.number_pits.Goals as goal
@@ -31,7 +31,7 @@ pub returns : goal.returns
 returns c =
     let placed : List PlacedPit = c.sort_unstable_by.new.self.items in
     let numbered : AreNumbered placed c.in_ok-firsts.field-0.numbers.items c.number_in_order.new.numbers.items =
-        subst (λ (ps : List PlacedPit). AreNumbered ps c.in_ok-firsts.field-0.numbers.items c.number_in_order.new.numbers.items) c.deref.ensures.value c.in_ok-pits.ensures.numbers in
+    subst (λ (ps : List PlacedPit). AreNumbered ps c.in_ok-firsts.field-0.numbers.items c.number_in_order.new.numbers.items) c.deref.ensures.value c.in_ok-pits.ensures.numbers in
     let sorted : IsSortedBy comes_first placed = c.sort_unstable_by.ensures.sorted comes_first position-order (answers_always _ _ _ (λ f a r h k. search rules)) in
     let pits : c.in_ok-pits.pits ≡ map pit_of placed = c.in_ok-pits.ensures.pits ∙ ap (map pit_of) c.deref.ensures.value in
     subst (λ (rs : List Rank). AreNumberedPits c.args.stock.now (record { pits = rs; firsts = c.in_ok-firsts.field-0.firsts.items; numbers = c.number_in_order.new.numbers.items })) (sym pits)

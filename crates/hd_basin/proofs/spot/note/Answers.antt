@@ -1,4 +1,4 @@
-use Rattle.std.proofs.Common.{◌<◌, arith}
+use Rattle.std.proofs.Common.{arith}
 use Rattle.std.proofs.lemmas.List.Elements.{Contains-get_or}
 use Rattle.hd_basin.proofs.AreKnown.{noted-more}
 use Rattle.hd_basin.proofs.spot.note.Goals as goal

@@ -1,13 +1,7 @@
-use Rattle.std.proofs.Common.{◌≡◌, ◌≢◌, ◌<◌, ◌+◌, ◌++◌, ◌∷◌, [], ◌∙◌, ℕ, List, Option, Some, ap, arith, get_or, inl, inr, length, refl, slice_get, subst, sym}
-use Rattle.std.specs.Prelude.{Contains, slice_index}
-use Rattle.std.proofs.lemmas.Grind.{get_or_default_zero}
-use Rattle.std.proofs.lemmas.Option.{same_Some}
+use Rattle.std.proofs.Common.{◌≡◌, ◌<◌, ◌++◌, ◌∷◌, [], ◌∙◌, Option, ap, arith, length, refl, subst, sym}
 use Rattle.hd_map.proofs.Depth.{depth_by}
 use Rattle.hd_basin.specs.declared.node.Node.{Node}
-use Rattle.hd_basin.specs.declared.spot.Spot.{Spot}
-use Rattle.hd_basin.specs.Known.{FlowsOn}
 use Rattle.hd_basin.specs.Parts.{low_or_none}
-use Rattle.hd_basin.specs.Placed.{unknown}
 use Rattle.hd_basin.specs.Roots.{AreFirsts, IsPitNumber, Rooted, all_nodes}
 use Rattle.hd_basin.specs.Spots.{node_named, place_of_node}
 use Rattle.hd_basin.proofs.AreKnown.{IsOnWay, falls, read-here, way-next}
@@ -46,8 +40,8 @@ returns-then-number-clause-way g c =
     let read = (read-here c.args.self.now.parts c.args.roots.now c.requires.known.firsts c.requires.known.whole c.roots.inside.firsts.items c.roots.inside.numbers.items
     (ap (λ (r : Rooted). r.firsts) c.roots.view_is) (ap (λ (r : Rooted). r.numbers) c.roots.view_is) c.walk.here c.walk.invariant.node c.walk.invariant.at c.index.result.now c.index-number.result.now c.index.ensures c.index-number.ensures).1 in
     let here : IsPitNumber side pool pits w.node c.index-number.result.now =
-        subst (IsPitNumber side pool pits w.node) (sym read)
-        (c.requires.known.each (place_of_node pool.parts c.walk.here) w.node (spot-place pool.parts c.walk.here w.node w.at) (λ e. c.if-number.true (read ∙ e))) in
+    subst (IsPitNumber side pool pits w.node) (sym read)
+    (c.requires.known.each (place_of_node pool.parts c.walk.here) w.node (spot-place pool.parts c.walk.here w.node w.at) (λ e. c.if-number.true (read ∙ e))) in
     λ at has. (let l = w.lead at has in (l.0, l.1, l.2 c.index-number.result.now here))
 
 pub onward-here-requires-clause-flows : goal.onward-here-requires-clause-flows

@@ -1,12 +1,9 @@
-use Rattle.std.proofs.Common.{◌≡◌, ◌<◌, ◌≤◌, ◌+◌, ◌^◌, ◌∙◌, ℕ, List, Option, Some, None, ap, arith, get_or, length, refl, slice_get, subst, sym, take}
-use Rattle.std.specs.Prelude.{pos, slice_index, slice_index_or}
+use Rattle.std.proofs.Common.{◌≡◌, ◌<◌, ◌+◌, ◌∙◌, List, Option, Some, ap, arith, length, slice_get, subst, sym, take}
 use Rattle.hd_map.specs.declared.types.Rank.{Rank}
 use Rattle.hd_steep.specs.Crossings.{pit_at}
-use Rattle.hd_basin.specs.declared.extent.Extent.{Extent}
-use Rattle.hd_basin.specs.declared.node.Node.{Node}
 use Rattle.hd_basin.specs.declared.part.Part.{Part}
 use Rattle.hd_basin.specs.declared.spot.Spot.{Spot}
-use Rattle.hd_basin.specs.Extents.{AddsBasin, AreGathered}
+use Rattle.hd_basin.specs.Extents.{AreGathered}
 use Rattle.hd_basin.specs.Parts.{Pool}
 use Rattle.hd_basin.specs.Roots.{AreFirsts, Rooted, all_nodes, nodes_before}
 use Rattle.hd_basin.specs.Spots.{node_in, node_named, place_of_node}
@@ -94,7 +91,7 @@ add_basin-requires-clause-few g c =
     let has = c.requires.map in
     let k = (c.requires.roots.numbers (place_of_node parts s) n (spot-place parts s n named) has.map has.whole has.pool_of).inside in
     λ e is. gathered-few g.S.Side.NAME c.args.self.now c.args.roots.now c.requires.roots has.map has.whole has.pool_of (place_of_node parts s) n (spot-place parts s n named)
-        c.index-pit.result.now (subst (λ i. i < length c.args.roots.now.pits) (sym read.1) k) c.numbers.extents.items (c.numbers.invariant has.map has.whole has.pool_of) e is
+    c.index-pit.result.now (subst (λ i. i < length c.args.roots.now.pits) (sym read.1) k) c.numbers.extents.items (c.numbers.invariant has.map has.whole has.pool_of) e is
 
 pub numbers-preserved : goal.numbers-preserved
 numbers-preserved g c =
@@ -108,9 +105,9 @@ numbers-preserved g c =
     (ap (λ (r : Rooted). r.firsts) c.roots.view_is) (ap (λ (r : Rooted). r.numbers) c.roots.view_is) s n named c.index-first.result.now c.index-pit.result.now c.index-first.ensures c.index-pit.ensures in
     let next : place_of_node parts s + 1 ≡ nodes_before parts c.args.tile + (c.numbers.number + 1) = omega arith in
     λ m whole of. subst (λ k. AreGathered m g.S.Side.NAME c.args.self.now.side c.args.roots.now.pits (take k (all_nodes parts)) c.add_basin.new.extents.items) next
-        (gathered-step g.S.Side.NAME c.args.self.now c.args.roots.now c.requires.roots m whole of (place_of_node parts s) n (spot-place parts s n named)
-        c.index-pit.result.now read.1 (pit_at c.pits-pits.result.now c.index-pit.result.now) (ap (λ (ps : List Rank). pit_at ps c.index-pit.result.now) c.pits-pits.ensures)
-        c.numbers.extents.items c.add_basin.new.extents.items c.add_basin.ensures (c.numbers.invariant m whole of))
+    (gathered-step g.S.Side.NAME c.args.self.now c.args.roots.now c.requires.roots m whole of (place_of_node parts s) n (spot-place parts s n named)
+    c.index-pit.result.now read.1 (pit_at c.pits-pits.result.now c.index-pit.result.now) (ap (λ (ps : List Rank). pit_at ps c.index-pit.result.now) c.pits-pits.ensures)
+    c.numbers.extents.items c.add_basin.new.extents.items c.add_basin.ensures (c.numbers.invariant m whole of))
 
 pub returns : goal.returns
 returns g c =

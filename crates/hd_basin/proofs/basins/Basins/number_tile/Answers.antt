@@ -1,11 +1,6 @@
-use Rattle.std.proofs.Common.{◌≡◌, ◌<◌, ◌≤◌, ◌+◌, ◌∙◌, Option, Some, ap, arith, get_or, length, slice_get, subst, sym}
-use Rattle.std.proofs.lemmas.Option.{slice_get-get_or}
-use Rattle.hd_basin.specs.declared.part.Part.{Part}
-use Rattle.hd_basin.specs.declared.spot.Spot.{Spot}
-use Rattle.hd_basin.specs.Known.{AreKnownTo}
+use Rattle.std.proofs.Common.{◌≡◌, ◌+◌, ◌∙◌, Some, ap, arith, slice_get, sym}
 use Rattle.hd_basin.specs.Parts.{Pool}
 use Rattle.hd_basin.specs.Roots.{nodes_before}
-use Rattle.hd_basin.specs.Spots.{node_in, node_named}
 use Rattle.hd_basin.proofs.AreKnown.{known-more}
 use Rattle.hd_basin.proofs.Spotted.{before-more, named-of}
 use Rattle.hd_basin.proofs.basins.Basins.number_tile.Goals as goal
