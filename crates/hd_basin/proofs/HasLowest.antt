@@ -22,7 +22,7 @@ use Rattle.hd_map.proofs.Items.{Contains-map, map-Contains}
 use Rattle.hd_map.proofs.Order.{below-not_above, not_above-refl, not_above-trans}
 use Rattle.hd_basin.specs.declared.part.Seam.{Seam}
 use Rattle.hd_basin.specs.Seams.{HaveSameEnds, KeepLowest}
-use Rattle.hd_basin.specs.Lowest.{HasLowest, NotesLower, is_lower, key_of, lower_of, pair_cmp}
+use Rattle.hd_basin.specs.Lowest.{HasLowest, IsNotedOf, NotesAfter, NotesLower, is_lower, key_of, lower_of, pair_cmp}
 use Rattle.hd_basin.proofs.FlatLists.{AllPairs-map}
 
 pair-total : IsTotalOrder pair_cmp
@@ -116,6 +116,34 @@ module _ (side : SideName) (all : List Seam) (table next : ℕ × ℕ → Option
 -- an update notes the seam
 pub lowest-notes : (side : SideName) (all : List Seam) (old new : BTreeMap (ℕ × ℕ) Seam) (s : Seam) → HasLowest side all (get pair_cmp old) → NotesLower side (get pair_cmp old) (get pair_cmp new) s → HasLowest side (all ++ s ∷ []) (get pair_cmp new)
 lowest-notes side all old new s has notes = lowest-more side all (get pair_cmp old) (get pair_cmp new) s has notes.here notes.others
+
+-- so a covered one does not matter
+pub lowest-covered : (side : SideName) (all : List Seam) (table next : ℕ × ℕ → Option Seam) (known s : Seam) → HasLowest side all table → Contains all known → key_of known ≡ key_of s → IsNotAbove (below_by side) known.pass.at s.pass.at
+    → ((k : ℕ × ℕ) → next k ≡ table k) → HasLowest side (all ++ s ∷ []) next
+lowest-covered side all table next known s has there key low same = record {
+  found = λ k x at. (let f = has.found k x (sym (same k) ∙ at) in (Contains-append_left all (s ∷ []) x f.0, f.1));
+  lowest = λ k x u at within is. elim (Contains-push_cases all s u within) [
+    | inl old ↦ has.lowest k x u (sym (same k) ∙ at) old is
+    | inr e ↦ subst (λ (y : Seam). IsNotAbove (below_by side) x.pass.at y.pass.at) e
+        (not_above-trans (below_by side) (below_by-order side) x.pass.at known.pass.at s.pass.at (has.lowest k x known (sym (same k) ∙ at) there (key ∙ ap key_of e ∙ is)) low)
+  ];
+  each = λ u within. elim (Contains-push_cases all s u within) [
+    | inl old ↦ (let k = has.each u old in (k.0, same (key_of u) ∙ k.1))
+    | inr e ↦ (let k = has.each known there in (k.0, same (key_of u) ∙ ap table (sym (key ∙ ap key_of e)) ∙ k.1))
+  ];
+}
+
+-- a seam is noted after the last one
+pub lowest-after : (side : SideName) (all : List Seam) (old new : BTreeMap (ℕ × ℕ) Seam) (last next : Option Seam) (s : Seam) → HasLowest side all (get pair_cmp old) → IsNotedOf all last
+    → NotesAfter side (get pair_cmp old) (get pair_cmp new) last s next → HasLowest side (all ++ s ∷ []) (get pair_cmp new) × IsNotedOf (all ++ s ∷ []) next
+lowest-after side all old new last next s has of (inl h) = (
+  lowest-covered side all (get pair_cmp old) (get pair_cmp new) h.0.known s has (of h.0.known h.0.is) h.0.key h.0.low h.2,
+  λ x e. Contains-append_left all (s ∷ []) x (of x (sym h.1 ∙ e)),
+)
+lowest-after side all old new last next s has of (inr h) = (
+  lowest-notes side all old new s has h.1,
+  λ x e. subst (Contains (all ++ s ∷ [])) (same_Some s x (sym h.0 ∙ e)) (Contains-push all s),
+)
 
 -- a lower one is kept
 low-new : (side : SideName) (known : Option Seam) (s : Seam) → is_lower side known s ≡ true → lower_of side known s ≡ s

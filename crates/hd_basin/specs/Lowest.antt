@@ -1,5 +1,5 @@
 -- The lowest seam of each two basins, by the indexes of their sinks.
-use Rattle.std.specs.Prelude.{◌≡◌, ℕ, Bool, true, List, Option, Some, None, Contains, if◌then◌else◌}
+use Rattle.std.specs.Prelude.{◌≡◌, ◌⊎◌, ℕ, Bool, true, List, Option, Some, None, Contains, if◌then◌else◌}
 use Rattle.std.specs.declared.cmp.Ordering.{Ordering}
 use Rattle.std.specs.Ordering.{nat_cmp, ordering_then}
 use Rattle.hd_map.specs.declared.types.SideName.{SideName}
@@ -28,6 +28,22 @@ lower_of side None s = s
 pub record NotesLower (side : SideName) (old new : ℕ × ℕ → Option Seam) (s : Seam) : Type 0 where
   pub here : new (key_of s) ≡ Some (lower_of side (old (key_of s)) s)
   pub others : (k : ℕ × ℕ) → (k ≡ key_of s → ⊥) → new k ≡ old k
+
+-- a seam that was noted has the key of another one and is not above it
+pub record IsCovered (side : SideName) (last : Option Seam) (s : Seam) : Type 0 where
+  pub known : Seam
+  pub is : last ≡ Some known
+  pub key : key_of known ≡ key_of s
+  pub low : IsNotAbove (below_by side) known.pass.at s.pass.at
+
+-- the seam is noted, and is the last one, or it is covered by the last one, and all stays
+abbrev pub NotesAfter : SideName → (ℕ × ℕ → Option Seam) → (ℕ × ℕ → Option Seam) → Option Seam → Seam → Option Seam → Type 0
+NotesAfter side old new last s next =
+    (IsCovered side last s × (next ≡ last) × ((k : ℕ × ℕ) → new k ≡ old k)) ⊎ ((next ≡ Some s) × NotesLower side old new s)
+
+-- what was noted last is one of the seams
+abbrev pub IsNotedOf : List Seam → Option Seam → Type 0
+IsNotedOf all last = (s : Seam) → last ≡ Some s → Contains all s
 
 -- under the key of each of the seams is the lowest of those with that key
 pub record HasLowest (side : SideName) (all : List Seam) (table : ℕ × ℕ → Option Seam) : Type 0 where

@@ -43,10 +43,12 @@ pub struct Sight<'a, G: Heights, T: Looked> {
 // The basin of the point at a position, and none where its tile is not fresh and where no point is
 // present.
 fn end_at<S: Side, G: Heights, T: Looked>(sight: &Sight<G, T>, at: Pos) -> Option<End>
-    requires sees { IsSeen (T.map sight.now.tiles.now) (G.map sight.now.window.now) S.NAME (T.stamps sight.now.tiles.now)
-        sight.now.parts.now sight.now.part.now sight.now.tiling sight.now.tile sight.now.area sight.now.frame }
+    requires sees { IsSeen (T.map sight.now.tiles.now) (G.map sight.now.window.now) S.NAME
+        (T.stamps sight.now.tiles.now) sight.now.parts.now sight.now.part.now sight.now.tiling
+        sight.now.tile sight.now.area sight.now.frame }
     requires at { InGrid (T.map sight.now.tiles.now).size at }
-    ensures { EndIs (T.map sight.now.tiles.now) S.NAME sight.now.tiling.side (T.stamps sight.now.tiles.now)
+    ensures { EndIs (T.map sight.now.tiles.now) S.NAME sight.now.tiling.side
+        (T.stamps sight.now.tiles.now)
         sight.now.parts.now at result }
 {
     let number = sight.tiling.tile_of(at);
@@ -71,16 +73,19 @@ fn note_pair<S: Side, G: Heights, T: Looked>(
     end: End,
     all: &mut Vec<Seam>,
 ) -> Result<(), Memory>
-    requires sees { IsSeen (T.map sight.now.tiles.now) (G.map sight.now.window.now) S.NAME (T.stamps sight.now.tiles.now)
-        sight.now.parts.now sight.now.part.now sight.now.tiling sight.now.tile sight.now.area sight.now.frame }
+    requires sees { IsSeen (T.map sight.now.tiles.now) (G.map sight.now.window.now) S.NAME
+        (T.stamps sight.now.tiles.now) sight.now.parts.now sight.now.part.now sight.now.tiling
+        sight.now.tile sight.now.area sight.now.frame }
     requires here { InFrame sight.now.area here }
     requires columns { IsNear here.x near.0.x }
     requires rows { IsNear here.y near.0.y }
     requires rank { near.1 ≡ rank (T.map sight.now.tiles.now) near.0 }
-    requires end { IsEnd (T.map sight.now.tiles.now) S.NAME sight.now.tiling.side (T.stamps sight.now.tiles.now)
+    requires end { IsEnd (T.map sight.now.tiles.now) S.NAME sight.now.tiling.side
+        (T.stamps sight.now.tiles.now)
         sight.now.parts.now near.0 end }
-    ensures { OnOk result (NotesPair (T.map sight.now.tiles.now) S.NAME sight.now.tiling.side sight.now.tile
-        (T.stamps sight.now.tiles.now) sight.now.parts.now here near.0 all.old.items all.new.items) }
+    ensures { OnOk result (NotesPair (T.map sight.now.tiles.now) S.NAME sight.now.tiling.side
+        sight.now.tile (T.stamps sight.now.tiles.now) sight.now.parts.now here near.0
+        all.old.items all.new.items) }
 {
     let Some(own) = sight.part.node_at(place_in(sight.area, here)) else {
         return Ok(());
@@ -102,18 +107,20 @@ fn note_beside<S: Side, G: Heights, T: Looked>(
     near: Pos,
     all: &mut Vec<Seam>,
 ) -> Result<(), Memory>
-    requires sees { IsSeen (T.map sight.now.tiles.now) (G.map sight.now.window.now) S.NAME (T.stamps sight.now.tiles.now)
-        sight.now.parts.now sight.now.part.now sight.now.tiling sight.now.tile sight.now.area sight.now.frame }
+    requires sees { IsSeen (T.map sight.now.tiles.now) (G.map sight.now.window.now) S.NAME
+        (T.stamps sight.now.tiles.now) sight.now.parts.now sight.now.part.now sight.now.tiling
+        sight.now.tile sight.now.area sight.now.frame }
     requires near { InFrame sight.now.frame near }
     requires place { near ≡ at_place sight.now.frame _place }
-    requires before { AreCandidates (T.map sight.now.tiles.now) S.NAME sight.now.tiling.side sight.now.tile
-        (T.stamps sight.now.tiles.now)
-        (IsAsked (T.map sight.now.tiles.now) sight.now.tiling.side sight.now.tile (T.stamps sight.now.tiles.now)
-        sight.now.parts.now sight.now.frame _place) all.old.items }
-    ensures { OnOk result (AreCandidates (T.map sight.now.tiles.now) S.NAME sight.now.tiling.side sight.now.tile
-        (T.stamps sight.now.tiles.now)
-        (IsAsked (T.map sight.now.tiles.now) sight.now.tiling.side sight.now.tile (T.stamps sight.now.tiles.now)
-        sight.now.parts.now sight.now.frame (_place + 1)) all.new.items) }
+    requires before { AreCandidates (T.map sight.now.tiles.now) S.NAME
+        sight.now.tiling.side sight.now.tile (T.stamps sight.now.tiles.now)
+        (IsAsked (T.map sight.now.tiles.now) sight.now.tiling.side sight.now.tile
+        (T.stamps sight.now.tiles.now) sight.now.parts.now sight.now.frame _place) all.old.items }
+    ensures { OnOk result (AreCandidates (T.map sight.now.tiles.now) S.NAME
+        sight.now.tiling.side sight.now.tile (T.stamps sight.now.tiles.now)
+        (IsAsked (T.map sight.now.tiles.now) sight.now.tiling.side sight.now.tile
+        (T.stamps sight.now.tiles.now) sight.now.parts.now sight.now.frame
+        (_place + 1)) all.new.items) }
 {
     let Some(end) = end_at::<S, G, T>(sight, near) else {
         return Ok(());
@@ -133,7 +140,8 @@ fn beside_in(area: Frame, at: Pos) -> Frame
     requires bottom { area.top + area.rows < 65536 }
     requires x { at.x < 65536 }
     requires y { at.y < 65536 }
-    ensures each { (p : Pos) → InFrame result p ↔ (InFrame area p × IsNear p.x at.x × IsNear p.y at.y) }
+    ensures each { (p : Pos)
+        → InFrame result p ↔ (InFrame area p × IsNear p.x at.x × IsNear p.y at.y) }
     ensures columns { result.columns ≤ 3 }
     ensures rows { result.rows ≤ 3 }
     ensures right { result.left + result.columns < 65536 }
@@ -159,19 +167,22 @@ fn note_stretch<S: Side, G: Heights, T: Looked>(
     to: u32,
     all: &mut Vec<Seam>,
 ) -> Result<(), Memory>
-    requires sees { IsSeen (T.map sight.now.tiles.now) (G.map sight.now.window.now) S.NAME (T.stamps sight.now.tiles.now)
-        sight.now.parts.now sight.now.part.now sight.now.tiling sight.now.tile sight.now.area sight.now.frame }
+    requires sees { IsSeen (T.map sight.now.tiles.now) (G.map sight.now.window.now) S.NAME
+        (T.stamps sight.now.tiles.now) sight.now.parts.now sight.now.part.now sight.now.tiling
+        sight.now.tile sight.now.area sight.now.frame }
     requires row { row < sight.now.frame.rows }
     requires from { from ≤ to }
     requires to { to ≤ sight.now.frame.columns }
-    requires before { AreCandidates (T.map sight.now.tiles.now) S.NAME sight.now.tiling.side sight.now.tile
-        (T.stamps sight.now.tiles.now)
-        (IsAsked (T.map sight.now.tiles.now) sight.now.tiling.side sight.now.tile (T.stamps sight.now.tiles.now)
-        sight.now.parts.now sight.now.frame (row * sight.now.frame.columns + from)) all.old.items }
-    ensures { OnOk result (AreCandidates (T.map sight.now.tiles.now) S.NAME sight.now.tiling.side sight.now.tile
-        (T.stamps sight.now.tiles.now)
-        (IsAsked (T.map sight.now.tiles.now) sight.now.tiling.side sight.now.tile (T.stamps sight.now.tiles.now)
-        sight.now.parts.now sight.now.frame (row * sight.now.frame.columns + to)) all.new.items) }
+    requires before { AreCandidates (T.map sight.now.tiles.now) S.NAME
+        sight.now.tiling.side sight.now.tile (T.stamps sight.now.tiles.now)
+        (IsAsked (T.map sight.now.tiles.now) sight.now.tiling.side sight.now.tile
+        (T.stamps sight.now.tiles.now) sight.now.parts.now sight.now.frame
+        (row * sight.now.frame.columns + from)) all.old.items }
+    ensures { OnOk result (AreCandidates (T.map sight.now.tiles.now) S.NAME
+        sight.now.tiling.side sight.now.tile (T.stamps sight.now.tiles.now)
+        (IsAsked (T.map sight.now.tiles.now) sight.now.tiling.side sight.now.tile
+        (T.stamps sight.now.tiles.now) sight.now.parts.now sight.now.frame
+        (row * sight.now.frame.columns + to)) all.new.items) }
 {
     for column in from..to {
         let near = Pos {
@@ -190,17 +201,20 @@ fn note_row<S: Side, G: Heights, T: Looked>(
     row: u32,
     all: &mut Vec<Seam>,
 ) -> Result<(), Memory>
-    requires sees { IsSeen (T.map sight.now.tiles.now) (G.map sight.now.window.now) S.NAME (T.stamps sight.now.tiles.now)
-        sight.now.parts.now sight.now.part.now sight.now.tiling sight.now.tile sight.now.area sight.now.frame }
+    requires sees { IsSeen (T.map sight.now.tiles.now) (G.map sight.now.window.now) S.NAME
+        (T.stamps sight.now.tiles.now) sight.now.parts.now sight.now.part.now sight.now.tiling
+        sight.now.tile sight.now.area sight.now.frame }
     requires row { row < sight.now.frame.rows }
-    requires before { AreCandidates (T.map sight.now.tiles.now) S.NAME sight.now.tiling.side sight.now.tile
-        (T.stamps sight.now.tiles.now)
-        (IsAsked (T.map sight.now.tiles.now) sight.now.tiling.side sight.now.tile (T.stamps sight.now.tiles.now)
-        sight.now.parts.now sight.now.frame (row * sight.now.frame.columns)) all.old.items }
-    ensures { OnOk result (AreCandidates (T.map sight.now.tiles.now) S.NAME sight.now.tiling.side sight.now.tile
-        (T.stamps sight.now.tiles.now)
-        (IsAsked (T.map sight.now.tiles.now) sight.now.tiling.side sight.now.tile (T.stamps sight.now.tiles.now)
-        sight.now.parts.now sight.now.frame ((row + 1) * sight.now.frame.columns)) all.new.items) }
+    requires before { AreCandidates (T.map sight.now.tiles.now) S.NAME
+        sight.now.tiling.side sight.now.tile (T.stamps sight.now.tiles.now)
+        (IsAsked (T.map sight.now.tiles.now) sight.now.tiling.side sight.now.tile
+        (T.stamps sight.now.tiles.now) sight.now.parts.now sight.now.frame
+        (row * sight.now.frame.columns)) all.old.items }
+    ensures { OnOk result (AreCandidates (T.map sight.now.tiles.now) S.NAME
+        sight.now.tiling.side sight.now.tile (T.stamps sight.now.tiles.now)
+        (IsAsked (T.map sight.now.tiles.now) sight.now.tiling.side sight.now.tile
+        (T.stamps sight.now.tiles.now) sight.now.parts.now sight.now.frame
+        ((row + 1) * sight.now.frame.columns)) all.new.items) }
 {
     let Frame { left, columns, .. } = sight.frame;
     let area = sight.area;
@@ -221,12 +235,14 @@ pub fn seams_at<S: Side, G: Heights, T: Looked>(
     alloc: Global,
     sight: &Sight<G, T>,
 ) -> Result<Vec<Seam>, Memory>
-    requires { IsSeen (T.map sight.now.tiles.now) (G.map sight.now.window.now) S.NAME (T.stamps sight.now.tiles.now)
-        sight.now.parts.now sight.now.part.now sight.now.tiling sight.now.tile sight.now.area sight.now.frame }
-    ensures { IfOk result (λ all. AreCandidates (T.map sight.now.tiles.now) S.NAME sight.now.tiling.side sight.now.tile
-        (T.stamps sight.now.tiles.now)
-        (IsAsked (T.map sight.now.tiles.now) sight.now.tiling.side sight.now.tile (T.stamps sight.now.tiles.now)
-        sight.now.parts.now sight.now.frame (sight.now.frame.rows * sight.now.frame.columns)) all.items) }
+    requires { IsSeen (T.map sight.now.tiles.now) (G.map sight.now.window.now) S.NAME
+        (T.stamps sight.now.tiles.now) sight.now.parts.now sight.now.part.now sight.now.tiling
+        sight.now.tile sight.now.area sight.now.frame }
+    ensures { IfOk result (λ all. AreCandidates (T.map sight.now.tiles.now) S.NAME
+        sight.now.tiling.side sight.now.tile (T.stamps sight.now.tiles.now)
+        (IsAsked (T.map sight.now.tiles.now) sight.now.tiling.side sight.now.tile
+        (T.stamps sight.now.tiles.now) sight.now.parts.now sight.now.frame
+        (sight.now.frame.rows * sight.now.frame.columns)) all.items) }
 {
     let mut all = Vec::new(alloc);
     for row in 0..sight.frame.rows {
