@@ -1,5 +1,5 @@
 -- The ranks of the positions of a part of a grid and of those beside it, and the lowest round each point.
-use Rattle.std.specs.Prelude.{◌≡◌, ◌<◌, ◌+◌, ◌*◌, ◌||◌, ℕ, Bool, List, length}
+use Rattle.std.specs.Prelude.{◌≡◌, ◌<◌, ◌+◌, ◌*◌, ◌||◌, ℕ, Bool, false, List, length}
 use Rattle.std.specs.Ordering.{int_eq}
 use Rattle.hd_map.specs.declared.types.Adjacency.{Adjacency}
 use Rattle.hd_map.specs.declared.types.Adjacency.TheVariants.{Four, Six, Eight}
@@ -23,6 +23,10 @@ is_missing side r = int_eq r.height (missing side).height
 -- whether one of three ranks side by side is
 abbrev pub lacks_one : SideName → List Rank → ℕ → Bool
 lacks_one side ranks k = is_missing side (rank_in ranks k) || is_missing side (rank_in ranks (k + 1)) || is_missing side (rank_in ranks (k + 2))
+
+-- each of them is that of a point
+abbrev pub AreAllPoints : SideName → List Rank → Type 0
+AreAllPoints side ranks = (k : ℕ) → k < length ranks → is_missing side (rank_in ranks k) ≡ false
 
 -- the lowest of three ranks
 abbrev pub low_level : SideName → Rank → Rank → Rank → Rank

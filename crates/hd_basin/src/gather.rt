@@ -1,5 +1,6 @@
 // The nodes and the labels of a tile, gathered point by point.
 ghost use Rattle.std.specs.Prelude.{◌≡◌, ◌≢◌, ◌<◌, ◌≤◌, ◌*◌, ◌+◌, ◌^◌, ℕ, IfOk, OnOk, MatchOption, Some, None, if◌then◌else◌, slice_get, length};
+ghost use Rattle.std.specs.Bool.{OnTrue};
 ghost use Rattle.hd_map.specs.Map.{Present};
 ghost use Rattle.hd_tiles.specs.Tile.{tile_count};
 ghost use Rattle.hd_basin.specs.declared.node.Node.{Node};
@@ -7,7 +8,7 @@ ghost use Rattle.hd_basin.specs.Frames.{InFrame};
 ghost use Rattle.hd_basin.specs.Gathering.{Counts, IsGathered};
 ghost use Rattle.hd_basin.specs.Inside.{place_of_frame};
 ghost use Rattle.hd_basin.specs.Parts.{place_in_tile};
-ghost use Rattle.hd_basin.specs.Round.{AreRanks};
+ghost use Rattle.hd_basin.specs.Round.{AreAllPoints, AreRanks};
 ghost use Rattle.hd_basin.specs.Sinks.{AreSunk, IsArea, IsSunk, at_place, no_node};
 ghost use Rattle.hd_map.specs.Rank.{rank};
 ghost use Rattle.hd_map.specs.Region.{IsPit};
@@ -15,7 +16,7 @@ ghost use Rattle.hd_basin.specs.Basin.{FlowsTo};
 
 use crate::Node;
 use crate::adding::add_point;
-use crate::edge::is_edge;
+use crate::edge::{are_all_points, is_edge};
 use crate::flows::flows_of;
 use crate::frame::{Frame, Plot, position_in};
 use crate::links::NO_LINK;
@@ -47,10 +48,12 @@ impl Gathered {
         ranks: &[Rank],
         sinks: &[u32],
         row: u32,
+        whole: bool,
     ) -> Result<(), Memory>
         requires size { plot.tiling.size ≡ (G.map grid.now).size }
         requires area { IsArea (G.map grid.now).size plot.tiling.side plot.tile plot.area }
         requires ranks { AreRanks (G.map grid.now) S.NAME plot.area ((plot.area.rows + 2) * (plot.area.columns + 2)) ranks.now }
+        requires whole { OnTrue whole (AreAllPoints S.NAME ranks.now) }
         requires sunk { AreSunk (G.map grid.now) S.NAME plot.tiling.side plot.area sinks.now }
         requires row { row < plot.area.rows }
         requires before { IsGathered (G.map grid.now) S.NAME plot.tiling.side plot.tile plot.area (row * plot.area.columns) self.old.nodes.items self.old.numbers.items self.old.labels.items }
@@ -63,7 +66,7 @@ impl Gathered {
                 y: area.top + row,
             };
             let sink = sinks[(row * area.columns + column) as usize];
-            self.take::<S, G>(grid, plot, ranks, at, sink)?;
+            self.take::<S, G>(grid, plot, ranks, at, sink, whole)?;
         }
         Ok(())
     }
@@ -77,10 +80,12 @@ impl Gathered {
         ranks: &[Rank],
         at: Pos,
         sink: u32,
+        whole: bool,
     ) -> Result<(), Memory>
         requires size { plot.tiling.size ≡ (G.map grid.now).size }
         requires area { IsArea (G.map grid.now).size plot.tiling.side plot.tile plot.area }
         requires ranks { AreRanks (G.map grid.now) S.NAME plot.area ((plot.area.rows + 2) * (plot.area.columns + 2)) ranks.now }
+        requires whole { OnTrue whole (AreAllPoints S.NAME ranks.now) }
         requires at { InFrame plot.area at }
         requires sunk { IsSunk (G.map grid.now) S.NAME plot.tiling.side plot.area (place_of_frame plot.area at) sink }
         requires before { IsGathered (G.map grid.now) S.NAME plot.tiling.side plot.tile plot.area (place_of_frame plot.area at) self.old.nodes.items self.old.numbers.items self.old.labels.items }
@@ -90,7 +95,7 @@ impl Gathered {
             self.labels.push(NO_NODE)?;
             return Ok(());
         }
-        let label = self.count::<S, G>(grid, plot, ranks, at, sink)?;
+        let label = self.count::<S, G>(grid, plot, ranks, at, sink, whole)?;
         self.labels.push(label)?;
         Ok(())
     }
@@ -104,9 +109,11 @@ impl Gathered {
         ranks: &[Rank],
         at: Pos,
         home: u32,
+        whole: bool,
     ) -> Result<u32, Memory>
         requires size { plot.tiling.size ≡ (G.map grid.now).size }
         requires ranks { AreRanks (G.map grid.now) S.NAME plot.area ((plot.area.rows + 2) * (plot.area.columns + 2)) ranks.now }
+        requires whole { OnTrue whole (AreAllPoints S.NAME ranks.now) }
         requires columns { plot.area.columns ≤ 256 }
         requires rows { plot.area.rows ≤ 256 }
         requires at { Present (G.map grid.now) at }
@@ -125,7 +132,7 @@ impl Gathered {
     {
         let area = plot.area;
         let point = rank_in::<S, G>(grid, area, ranks, at);
-        let edge = is_edge::<S, G>(grid, area, ranks, at);
+        let edge = is_edge::<S, G>(grid, area, ranks, at, whole);
         let number = self.numbers[home as usize];
         if number == NO_NODE {
             let number = self.nodes.len() as u32;
@@ -161,8 +168,9 @@ pub fn gather<S: Side, G: Heights>(
         numbers: vec![in alloc; NO_NODE; count]?,
         labels: Vec::with_capacity(alloc, count)?,
     };
+    let whole = are_all_points::<S>(ranks);
     for row in 0..plot.area.rows {
-        all.take_row::<S, G>(grid, plot, ranks, sinks, row)?;
+        all.take_row::<S, G>(grid, plot, ranks, sinks, row, whole)?;
     }
     Ok(all)
 }
