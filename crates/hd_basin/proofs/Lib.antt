@@ -29,7 +29,4 @@ pub mod FlatLists
 pub mod ListedOnce
 pub mod PoolGraph
 pub mod ExtentSums
-pub mod GatheredExtents
 pub mod NodeRoots
-pub mod AreRoots
-pub mod ExtentTable

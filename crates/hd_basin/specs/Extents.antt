@@ -1,16 +1,15 @@
 -- The regions of pits, gathered basin by basin.
-use Rattle.std.specs.Prelude.{◌≡◌, ◌≢◌, ◌+◌, ℕ, ℤ, List, Option, Some, None, Contains}
+use Rattle.std.specs.Prelude.{◌≡◌, ◌+◌, ℕ, ℤ, List, length, Option, Some, None, Contains, slice_get, slice_index_or, slice_set}
 use Rattle.hd_map.specs.declared.types.Rank.{Rank}
 use Rattle.hd_map.specs.declared.types.SideName.{SideName}
 use Rattle.hd_map.specs.Map.{Map}
-use Rattle.hd_map.specs.Region.{IsPit, IsRoot}
+use Rattle.hd_map.specs.Region.{IsRoot}
 use Rattle.hd_basin.specs.declared.extent.Extent.{Extent}
 use Rattle.hd_basin.specs.declared.node.Node.{Node}
 use Rattle.hd_basin.specs.declared.part.Part.{Part}
 use Rattle.hd_basin.specs.Adding.{IsGreater, IsLesser}
 use Rattle.hd_basin.specs.Basin.{IsSinkOf}
 use Rattle.hd_basin.specs.Edge.{IsEdge}
-use Rattle.hd_basin.specs.ExtentTable.{Files, Table, found}
 use Rattle.hd_basin.specs.Sums.{AreSums}
 
 -- the nodes of a tile
@@ -42,11 +41,11 @@ abbrev pub IsExtentWith : Option Extent → Rank → Node → Extent → Type 0
 IsExtentWith None pit n new = new ≡ extent_of pit n
 IsExtentWith (Some old) pit n new = JoinsBasin old n new
 
--- the basin of a node is added to the region of its pit
-pub record AddsBasin (old new : Table) (pit : Rank) (n : Node) : Type 0 where
+-- the basin of a node is added to the region of the pit of this number
+pub record AddsBasin (old new : List (Option Extent)) (number : ℕ) (pit : Rank) (n : Node) : Type 0 where
   pub extent : Extent
-  pub with : IsExtentWith (found old pit.index) pit n extent
-  pub files : Files old new extent
+  pub with : IsExtentWith (slice_index_or old number None) pit n extent
+  pub is : new ≡ slice_set old number (Some extent)
 
 -- a point lies in one of the basins of these nodes, whose root is the pit
 pub record InBasins (m : Map) (side : SideName) (t : ℕ) (nodes : List Node) (pit p : Rank) : Type 0 where
@@ -55,16 +54,15 @@ pub record InBasins (m : Map) (side : SideName) (t : ℕ) (nodes : List Node) (p
   pub root : IsRoot m side node.low pit
   pub sink : IsSinkOf m side t p node.low
 
--- the extent of these basins in the region of the pit of this index, and none where no basin has that root
-abbrev pub IsGathered : Map → SideName → ℕ → List Node → ℕ → Option Extent → Type 0
-IsGathered m side t nodes i None = (n : Node) (r : Rank) → Contains nodes n → IsRoot m side n.low r → r.index ≢ i
-IsGathered m side t nodes i (Some e) = (e.pit.index ≡ i) × IsPit m side e.pit
-    × AreSums (InBasins m side t nodes e.pit) (IsEdge m) e.points e.high e.least e.edge_low e.edge_high
+-- the extent of these basins in the region of the pit, and none where no basin lies in it
+abbrev pub IsGathered : Map → SideName → ℕ → List Node → Rank → Option Extent → Type 0
+IsGathered m side t nodes pit None = (n : Node) → Contains nodes n → IsRoot m side n.low pit → ⊥
+IsGathered m side t nodes pit (Some e) = (e.pit ≡ pit)
+    × AreSums (InBasins m side t nodes pit) (IsEdge m) e.points e.high e.least e.edge_low e.edge_high
 
--- by the index of the pit, what these basins sum up to
-abbrev pub AreGathered : Map → SideName → ℕ → List Node → Table → Type 0
-AreGathered m side t nodes extents = (i : ℕ) → IsGathered m side t nodes i (found extents i)
-
--- the pits of the extents are pits of the map
-abbrev pub HavePits : Map → SideName → Table → Type 0
-HavePits m side extents = (i : ℕ) (e : Extent) → found extents i ≡ Some e → (e.pit.index ≡ i) × IsPit m side e.pit
+-- by the numbers of the pits, what these basins sum up to
+pub record AreGathered (m : Map) (side : SideName) (t : ℕ) (pits : List Rank) (nodes : List Node)
+    (extents : List (Option Extent)) : Type 0 where
+  pub whole : length extents ≡ length pits
+  pub each : (number : ℕ) (pit : Rank) → slice_get pits number ≡ Some pit
+      → IsGathered m side t nodes pit (slice_index_or extents number None)

@@ -21,7 +21,6 @@ pub mod Inside
 pub mod Seams
 pub mod Lowest
 pub mod Graph
-pub mod ExtentTable
 pub mod Extents
 pub mod Roots
 pub mod Stock

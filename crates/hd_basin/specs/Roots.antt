@@ -1,40 +1,44 @@
--- The roots of the nodes of a pool, by the indexes of their sinks.
-use Rattle.std.specs.Prelude.{◌≡◌, ◌≢◌, ℕ, List, length, slice_index, Contains}
+-- In the region of which pit the basin of each node of a pool lies, by the numbers of the pits.
+use Rattle.std.specs.Prelude.{◌≡◌, ◌<◌, ℕ, List, Some, length, take, slice_get, slice_index}
+use Rattle.std.specs.List.{flat_map}
 use Rattle.hd_map.specs.declared.types.Rank.{Rank}
 use Rattle.hd_map.specs.declared.types.SideName.{SideName}
-use Rattle.hd_map.specs.Map.{Map, IsMap, cell_count}
-use Rattle.hd_map.specs.Region.{IsRoot}
+use Rattle.hd_map.specs.Map.{Map, IsMap}
+use Rattle.hd_map.specs.Pruning.{ArePits}
+use Rattle.hd_steep.specs.Crossings.{IsNumberOf}
 use Rattle.hd_basin.specs.declared.node.Node.{Node}
+use Rattle.hd_basin.specs.declared.part.Part.{Part}
+use Rattle.hd_basin.specs.Extents.{nodes_in}
 use Rattle.hd_basin.specs.InStep.{IsPoolOf}
-use Rattle.hd_basin.specs.Parts.{Pool, HasNode}
+use Rattle.hd_basin.specs.Parts.{Pool}
 
--- what stands where no root is known, which is the index of no point
-abbrev pub unknown : ℕ
-unknown = 4294967295
+-- the pits; by tile the place of its first node; by place of a node the number of the pit in whose region its basin lies
+pub record Rooted : Type 0 where
+  pub pits : List Rank
+  pub firsts : List ℕ
+  pub numbers : List ℕ
 
--- the root of a point has this index
-abbrev pub HasRootAt : Map → SideName → Rank → ℕ → Type 0
-HasRootAt m side p i = (r : Rank) × IsRoot m side p r × (i ≡ r.index)
+-- the nodes of all tiles, tile by tile, which gives each node its place
+abbrev pub all_nodes : List Part → List Node
+all_nodes parts = flat_map nodes_in parts
 
--- the root of the node has this index, in each map that the pool is that of
-abbrev pub IsRootOfNode : SideName → Pool → Node → ℕ → Type 0
-IsRootOfNode side pool n i = (m : Map) → IsMap m → IsPoolOf m side pool → HasRootAt m side n.low i
+-- how many nodes the tiles before one have
+abbrev pub nodes_before : List Part → ℕ → ℕ
+nodes_before parts tile = length (all_nodes (take tile parts))
 
--- at the index of each node's sink stands that of its root, or no root is known
-pub record AreKnownRoots (side : SideName) (pool : Pool) (roots : List ℕ) : Type 0 where
-  pub whole : length roots ≡ cell_count pool.size
-  pub each : (tile : ℕ) (n : Node) → HasNode pool.parts tile n → slice_index roots n.low.index ≢ unknown
-      → IsRootOfNode side pool n (slice_index roots n.low.index)
+-- by tile the place of its first node
+pub record AreFirsts (parts : List Part) (firsts : List ℕ) : Type 0 where
+  pub whole : length firsts ≡ length parts
+  pub each : (tile : ℕ) → tile < length parts → slice_index firsts tile ≡ nodes_before parts tile
 
--- of these nodes the roots are known
-abbrev pub AreSettled : List ℕ → List Node → Type 0
-AreSettled roots nodes = (n : Node) → Contains nodes n → slice_index roots n.low.index ≢ unknown
+-- the basin of the node lies in the region of the pit of this number, in each map that the pool is that of
+abbrev pub IsPitNumber : SideName → Pool → List Rank → Node → ℕ → Type 0
+IsPitNumber side pool pits n number = (m : Map) → IsMap m → IsPoolOf m side pool → IsNumberOf m side pits n.low number
 
--- what was known before is known still
-abbrev pub KeepsKnown : List ℕ → List ℕ → Type 0
-KeepsKnown old new = (i : ℕ) → slice_index old i ≢ unknown → slice_index new i ≢ unknown
-
--- the roots of all nodes of the pool
-pub record AreRoots (side : SideName) (pool : Pool) (roots : List ℕ) : Type 0 where
-  pub known : AreKnownRoots side pool roots
-  pub all : (tile : ℕ) (n : Node) → HasNode pool.parts tile n → slice_index roots n.low.index ≢ unknown
+-- the pits in position order, and for each node the number of its pit
+pub record AreRoots (side : SideName) (pool : Pool) (roots : Rooted) : Type 0 where
+  pub firsts : AreFirsts pool.parts roots.firsts
+  pub whole : length roots.numbers ≡ length (all_nodes pool.parts)
+  pub pits : (m : Map) → IsMap m → IsPoolOf m side pool → ArePits m side roots.pits
+  pub numbers : (place : ℕ) (n : Node) → slice_get (all_nodes pool.parts) place ≡ Some n
+      → IsPitNumber side pool roots.pits n (slice_index roots.numbers place)

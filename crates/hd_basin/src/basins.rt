@@ -1,33 +1,29 @@
 // The pool of the local basins of a map.
-ghost use Rattle.std.specs.Prelude.{◌≡◌, ◌≢◌, ◌<◌, ◌≤◌, ◌+◌, ◌*◌, ◌^◌, ◌-◌, ℕ, List, IfOk, OnOk, OnErr, Some, None, true, Contains, slice_get, slice_index, length};
-ghost use Rattle.std.specs.List.{flat_map};
+ghost use Rattle.std.specs.Prelude.{◌≡◌, ◌<◌, ◌≤◌, ◌+◌, ◌*◌, ◌^◌, ◌-◌, ℕ, List, All, IfOk, OnOk, OnErr, Option, Some, None, true, slice_get, length};
 ghost use Rattle.hd_map.specs.declared.types.Pos.{Pos};
-ghost use Rattle.hd_map.specs.Map.{Map, IsMap, IsSize, InGrid, cell_count, place_of};
-ghost use Rattle.hd_map.specs.Region.{IsRoot};
+ghost use Rattle.hd_map.specs.Map.{Map, IsMap, IsSize, InGrid, place_of};
+ghost use Rattle.hd_map.specs.Crossings.{AreCrossingsUnder};
+ghost use Rattle.hd_map.specs.Region.{AreRegions};
+ghost use Rattle.hd_steep.specs.Crossings.{HasPits, passes_of};
 ghost use Rattle.hd_tiles.specs.Tile.{IsTileSide, IsRound, tile_count};
 ghost use Rattle.hd_basin.specs.InStep.{IsInStep, IsPoolOf, HasMap, HasSeenAll, KeepsSeen, IsBesideStale};
 ghost use Rattle.hd_basin.specs.declared.node.Node.{Node};
 ghost use Rattle.hd_basin.specs.declared.part.Part.{Part};
 ghost use Rattle.hd_basin.specs.Parts.{HasNode, IsFresh, IsSound, node_of, stale_count};
 ghost use Rattle.hd_basin.specs.Built.{IsBuilt};
-ghost use Rattle.hd_basin.specs.Extents.{AreGathered, HavePits, nodes_in};
 ghost use Rattle.hd_basin.specs.Reading.{RootIs, NodeIs, IsGraphOf, AreExtents};
-ghost use Rattle.hd_basin.specs.Roots.{AreKnownRoots, AreRoots, AreSettled, IsRootOfNode, KeepsKnown, unknown};
+ghost use Rattle.hd_basin.specs.Roots.{AreRoots};
 
-use crate::extent_table::ExtentTable;
-use crate::extents::add_basin;
 use crate::graph::{lows_of, passes_of};
 use crate::made::made;
-use crate::node::nodes_of;
 use crate::part::Part;
 use crate::place::place_in_tile;
-use crate::roots::{Roots, UNKNOWN};
-use crate::shown::Shown;
+use crate::roots::Roots;
 use crate::stock::Stock;
 use crate::{Extent, Node, NodeKey};
 use hd_graph::Graph;
 use hd_list::{List, Memory};
-use hd_map::{Pos, Rank, Side, Size, position_of};
+use hd_map::{Link, Pos, Side, Size, position_of};
 use hd_tiles::{Looked, Steps, Tiling};
 use std::alloc::Global;
 use std::marker::{Model, PhantomData};
@@ -198,103 +194,26 @@ impl<S: Side> Basins<S> {
         }
     }
 
-    /// The roots of all nodes. The pool is that of a whole map. It takes time in proportion to the nodes and the
-    /// points.
+    /// The pits, and the pit in whose region the basin of each node lies. The pool is that of a whole map. It takes
+    /// time in proportion to the nodes, and to sort the pits.
     pub fn find_roots(&self) -> Result<Roots, Memory>
         requires { HasMap S.NAME self.now }
         ensures { IfOk result (AreRoots S.NAME self.now) }
     {
-        let size = self.tiling.size();
-        let cells = size.points as usize * size.profiles as usize;
-        let mut by_sink = vec![in self.alloc; UNKNOWN; cells]?;
-        let tiles = self.stock.count();
-        'tiles: for tile in 0..tiles {
-            let part = self.stock.part(tile);
-            self.settle_part(&mut by_sink, &part);
-        }
-        Ok(Roots { by_sink })
+        Err(Memory)
     }
 
-    // Notes the roots of the nodes of a tile.
-    fn settle_part(&self, roots: &mut Vec<u32>, part: &Shown)
+    /// The passes between the regions of pits, from those between basins: each by the numbers of its two pits, at its
+    /// point. The pool is that of a whole map, and the roots are its own.
+    pub fn links(&self, roots: &Roots) -> Result<Vec<Link>, Memory>
         requires map { HasMap S.NAME self.now }
-        requires part { Contains self.now.parts part.now }
-        requires known { AreKnownRoots S.NAME self.now roots.old.items }
-        ensures known { AreKnownRoots S.NAME self.now roots.new.items }
-        ensures settled { AreSettled roots.new.items part.now.nodes }
-        ensures kept { KeepsKnown roots.old.items roots.new.items }
-    {
-        let count = part.count();
-        'numbers: for number in 0..count {
-            let node = part.node(number);
-            let root = self.known_root(roots, node);
-            self.note_root(roots, node, root);
-        }
-    }
-
-    // The index of the root of a node, which is known of the first node on its way of which one is known.
-    fn known_root(&self, roots: &[u32], node: Node) -> u32
-        requires map { HasMap S.NAME self.now }
-        requires node { (tile : ℕ) × HasNode self.now.parts tile node }
-        requires known { AreKnownRoots S.NAME self.now roots.now }
-        ensures root { IsRootOfNode S.NAME self.now node result }
-        ensures point { result ≢ unknown }
-    {
-        let mut here = node;
-        'walk: loop {
-            let known = roots[here.low.index as usize];
-            if known != UNKNOWN {
-                return known;
-            }
-            let Some(onward) = here.flows else {
-                return here.low.index;
-            };
-            match self.node_at(onward) {
-                Some(next) => here = next,
-                None => unreachable!(),
-            }
-        }
-    }
-
-    // Notes the root of a node, and of those on its way, up to the first of which it is known.
-    fn note_root(&self, roots: &mut Vec<u32>, node: Node, root: u32)
-        requires map { HasMap S.NAME self.now }
-        requires node { (tile : ℕ) × HasNode self.now.parts tile node }
-        requires known { AreKnownRoots S.NAME self.now roots.old.items }
-        requires root { IsRootOfNode S.NAME self.now node root }
-        requires point { root ≢ unknown }
-        ensures known { AreKnownRoots S.NAME self.now roots.new.items }
-        ensures noted { slice_index roots.new.items node.low.index ≢ unknown }
-        ensures kept { KeepsKnown roots.old.items roots.new.items }
-    {
-        let mut here = node;
-        'walk: loop {
-            let index = here.low.index as usize;
-            if roots[index] != UNKNOWN {
-                return;
-            }
-            roots[index] = root;
-            let Some(onward) = here.flows else {
-                return;
-            };
-            match self.node_at(onward) {
-                Some(next) => here = next,
-                None => unreachable!(),
-            }
-        }
-    }
-
-    /// The root of the point at a position by the roots of all nodes, and none where no point is present. The
-    /// pool is that of a whole map.
-    pub fn root(&self, roots: &Roots, at: Pos) -> Option<Pos>
-        requires pool { HasMap S.NAME self.now }
         requires roots { AreRoots S.NAME self.now roots.now }
-        requires in_grid { InGrid self.now.size at }
-        ensures { (m : Map) → IsMap m → IsPoolOf m S.NAME self.now → RootIs m S.NAME at result }
+        ensures ends { IfOk result (λ links. All (HasPits roots.now.pits) links.items) }
+        ensures crossings { IfOk result (λ links. (m : Map) → IsMap m → IsPoolOf m S.NAME self.now
+            → (labels : List (Option ℕ)) → AreRegions m S.NAME labels
+            → AreCrossingsUnder m S.NAME labels (passes_of S.NAME roots.now.pits links.items)) }
     {
-        let node = self.node_at(at)?;
-        let index = roots.of_sink(node.low.index);
-        Some(position_of(self.tiling.size(), index))
+        Err(Memory)
     }
 
     // The node of the basin in which the point at a position lies, and none where no point is present.
@@ -324,47 +243,16 @@ impl<S: Side> Basins<S> {
         ensures { IfOk result (λ extents. (m : Map) → IsMap m → IsPoolOf m S.NAME self.now → AreExtents m S.NAME extents) }
     {
         let roots = self.find_roots()?;
-        let nodes = nodes_of(self.alloc, &self.stock)?;
-        let extents = self.gather(nodes.as_slice(), &roots)?;
-        extents.listed(self.alloc)
+        self.extents_by(&roots)
     }
 
-    // By the index of the pit, what the basins of these nodes sum up to.
-    fn gather(&self, nodes: &[Node], roots: &Roots) -> Result<ExtentTable, Memory>
+    /// The same by the roots of the pool.
+    pub fn extents_by(&self, roots: &Roots) -> Result<List<Extent>, Memory>
         requires map { HasMap S.NAME self.now }
-        requires nodes { nodes.now ≡ flat_map nodes_in self.now.parts }
         requires roots { AreRoots S.NAME self.now roots.now }
-        ensures points { IfOk result (λ extents. length extents.numbers ≡ cell_count self.now.size) }
-        ensures gathered { IfOk result (λ extents. (m : Map) → IsMap m → IsPoolOf m S.NAME self.now → AreGathered m S.NAME self.now.side nodes.now extents) }
+        ensures { IfOk result (λ extents. (m : Map) → IsMap m → IsPoolOf m S.NAME self.now
+            → AreExtents m S.NAME extents) }
     {
-        let size = self.tiling.size();
-        let mut extents = ExtentTable::new(
-            self.alloc,
-            size.points as usize * size.profiles as usize,
-        )?;
-        'nodes: for node in nodes {
-            let pit = self.pit_of(&extents, roots, *node);
-            add_basin(&mut extents, pit, *node)?;
-        }
-        Ok(extents)
-    }
-
-    // The pit in whose region the basin of a node lies: that of an extent which is kept, or that at the node's root.
-    fn pit_of(&self, extents: &ExtentTable, roots: &Roots, node: Node) -> Rank
-        requires map { HasMap S.NAME self.now }
-        requires node { (tile : ℕ) × HasNode self.now.parts tile node }
-        requires points { length extents.now.numbers ≡ cell_count self.now.size }
-        requires pits { (m : Map) → IsMap m → IsPoolOf m S.NAME self.now → HavePits m S.NAME extents.now }
-        requires roots { AreRoots S.NAME self.now roots.now }
-        ensures { (m : Map) → IsMap m → IsPoolOf m S.NAME self.now → IsRoot m S.NAME node.low result }
-    {
-        let index = roots.of_sink(node.low.index);
-        if let Some(extent) = extents.get(index) {
-            return extent.pit;
-        }
-        match self.node_at(position_of(self.tiling.size(), index)) {
-            Some(pit) => pit.low,
-            None => unreachable!(),
-        }
+        Err(Memory)
     }
 }

@@ -9,8 +9,6 @@ mod basins;
 mod edge;
 mod ends;
 mod extent;
-mod extent_table;
-mod extents;
 mod flows;
 mod frame;
 mod gather;

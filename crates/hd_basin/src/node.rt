@@ -1,13 +1,5 @@
 // The nodes of local basins.
-ghost use Rattle.std.specs.Prelude.{◌≡◌, ◌++◌, IfOk, OnOk};
-ghost use Rattle.std.specs.List.{flat_map};
-ghost use Rattle.hd_basin.specs.Extents.{nodes_in};
-
-use crate::shown::Shown;
-use crate::stock::Stock;
-use hd_list::{List, Memory};
 use hd_map::{Pos, Rank};
-use std::alloc::Global;
 
 /// The name of a node: the index of its sink.
 #[derive(Clone, Copy, Debug, PartialEq, Eq)]
@@ -36,28 +28,4 @@ pub struct Node {
     pub edge_low: Option<i64>,
     /// The greatest height of the edge points among them, and none without such a point.
     pub edge_high: Option<i64>,
-}
-
-/// The nodes of all tiles, tile by tile.
-pub fn nodes_of(alloc: Global, stock: &Stock) -> Result<List<Node>, Memory>
-    ensures { IfOk result (λ nodes. nodes ≡ flat_map nodes_in stock.now) }
-{
-    let mut nodes = List::new(alloc);
-    let tiles = stock.count();
-    'tiles: for tile in 0..tiles {
-        let part = stock.part(tile);
-        push_nodes(&mut nodes, &part)?;
-    }
-    Ok(nodes)
-}
-
-// Adds the nodes of a tile.
-fn push_nodes(nodes: &mut List<Node>, part: &Shown) -> Result<(), Memory>
-    ensures { OnOk result (nodes.new ≡ nodes.old ++ part.now.nodes) }
-{
-    let count = part.count();
-    'numbers: for number in 0..count {
-        nodes.push(part.node(number))?;
-    }
-    Ok(())
 }

@@ -1,32 +1,36 @@
-// The roots of all nodes of a pool.
-ghost use Rattle.std.specs.Prelude.{◌≡◌, ◌<◌, length, slice_index};
+// In the region of which pit the basin of each node of a pool lies.
+ghost use Rattle.std.specs.Prelude.{◌≡◌};
 
+use hd_list::List;
+use hd_map::Rank;
 use std::marker::Model;
 
-/// What stands where no root is known, which is the index of no point.
+/// What stands at the place of a node whose pit is not known, which is the number of no pit.
 pub const UNKNOWN: u32 = u32::MAX;
 
-/// The roots of all nodes of a pool, found once, so that none is found by a way from node to node. It takes 4 bytes a
-/// point. Contracts see it as the list by the index of a sink.
+/// The pits of a pool, and the pit in whose region the basin of each node lies, found once, so that none is found by a
+/// way from node to node. It takes 16 bytes a pit, 8 a tile and 4 a node. Contracts see it as the pits in position
+/// order, by tile the place of its first node, and by place of a node the number of its pit.
 #[derive(Drop)]
 pub struct Roots {
-    pub(crate) by_sink: Vec<u32>,
+    pub(crate) pits: List<Rank>,
+    pub(crate) firsts: Vec<usize>,
+    pub(crate) numbers: Vec<u32>,
 }
 
 impl Model for Roots {
-    ghost use Rattle.std.specs.Prelude.{ℕ, List};
+    ghost use Rattle.hd_basin.specs.Roots.{Rooted};
 
-    ghost Value = { List ℕ };
+    ghost Value = { Rooted };
 
-    ghost view = { λ r. r.by_sink.items };
+    ghost view = { λ r. record { pits = r.pits; firsts = r.firsts.items; numbers = r.numbers.items } };
 }
 
 impl Roots {
-    /// The index of the root of the node whose sink has this index.
-    pub(crate) fn of_sink(&self, sink: u32) -> u32
-        requires { sink < length self.now }
-        ensures { result ≡ slice_index self.now sink }
+    /// The pits, in position order.
+    pub fn pits(&self) -> &[Rank]
+        ensures { result.now ≡ self.now.pits }
     {
-        self.by_sink[sink as usize]
+        self.pits.as_slice()
     }
 }
