@@ -1,6 +1,5 @@
 use Rattle.std.proofs.Common.{List, subst, sym}
 use Rattle.std.specs.Prelude.{All}
-use Rattle.hd_map.specs.declared.types.Link.{Link}
 use Rattle.hd_map.specs.declared.types.Rank.{Rank}
 use Rattle.hd_map.specs.Pruning.{ArePits}
 use Rattle.hd_steep.specs.Crossings.{HasPits, passes_of}
