@@ -4,7 +4,7 @@ ghost use Rattle.hd_map.specs.Presence.{IsPresence, present_heights};
 ghost use Rattle.hd_basin.specs.InStep.{IsPoolOf};
 
 use crate::told::{presence_told, sizes_told, tallies_told};
-use hd_basin::{Basins, Roots};
+use hd_basin::{Basins, Extent, Roots};
 use hd_list::{List, Memory};
 use hd_map::{Heights, Pos, Presence, RegionSize, Side};
 use hd_regions::Tally;
@@ -20,6 +20,7 @@ pub struct PoolView<'a, S: Side, G: Heights> {
     grid: &'a G,
     pool: &'a Basins<S>,
     roots: Roots,
+    extents: Option<List<Extent>>,
 }
 
 impl<'a, S: Side, G: Heights> Model for PoolView<'a, S, G> {
@@ -29,7 +30,7 @@ impl<'a, S: Side, G: Heights> Model for PoolView<'a, S, G> {
 
     ghost view = { λ v. v.grid.now };
 
-    ghost invariant = { λ v. IsViewed (G.map v.grid.now) S.NAME v.pool.now v.roots };
+    ghost invariant = { λ v. IsViewed (G.map v.grid.now) S.NAME v.pool.now v.roots v.extents };
 }
 
 impl<'a, S: Side, G: Heights> PoolView<'a, S, G> {
@@ -44,6 +45,28 @@ impl<'a, S: Side, G: Heights> PoolView<'a, S, G> {
             grid,
             pool,
             roots,
+            extents: None,
+        })
+    }
+
+    /// The same side, with the extents of its regions found, for more than one call that asks for them.
+    pub fn with_extents(self) -> Result<Self, Memory>
+        ensures { IfOk result (λ view. view ≡ self.entry) }
+    {
+        let extents = self.pool.extents_by(&self.roots)?;
+        let PoolView {
+            alloc,
+            grid,
+            pool,
+            roots,
+            ..
+        } = self;
+        Ok(PoolView {
+            alloc,
+            grid,
+            pool,
+            roots,
+            extents: Some(extents),
         })
     }
 
@@ -51,6 +74,9 @@ impl<'a, S: Side, G: Heights> PoolView<'a, S, G> {
     pub fn presence(&self) -> Result<Presence, Memory>
         ensures { IfOk result (IsPresence (present_heights (G.map self.now))) }
     {
+        if let Some(extents) = &self.extents {
+            return Ok(presence_told(extents.as_slice()));
+        }
         let extents = self.pool.extents_by(&self.roots)?;
         Ok(presence_told(extents.as_slice()))
     }
@@ -74,11 +100,17 @@ impl<'a, S: Side, G: Heights> SideView<S> for PoolView<'a, S, G> {
     }
 
     fn sizes(&self) -> Result<List<RegionSize>, Memory> {
+        if let Some(extents) = &self.extents {
+            return sizes_told(self.alloc, extents.as_slice());
+        }
         let extents = self.pool.extents_by(&self.roots)?;
         sizes_told(self.alloc, extents.as_slice())
     }
 
     fn tallies(&self) -> Result<List<Tally>, Memory> {
+        if let Some(extents) = &self.extents {
+            return tallies_told(self.alloc, extents.as_slice());
+        }
         let extents = self.pool.extents_by(&self.roots)?;
         tallies_told(self.alloc, extents.as_slice())
     }
