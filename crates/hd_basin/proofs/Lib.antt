@@ -30,3 +30,10 @@ pub mod ListedOnce
 pub mod PoolGraph
 pub mod ExtentSums
 pub mod NodeRoots
+pub mod AreListed
+pub mod AreNumbered
+pub mod Spotted
+pub mod AreKnown
+pub mod GatheredExtents
+pub mod Rooted
+pub mod BetweenRoots

@@ -23,4 +23,9 @@ pub mod Lowest
 pub mod Graph
 pub mod Extents
 pub mod Roots
+pub mod Placed
+pub mod Spots
+pub mod Known
+pub mod Gathered
+pub mod Between
 pub mod Stock

@@ -1,5 +1,5 @@
 -- What a pool keeps, tile by tile.
-use Rattle.std.specs.Prelude.{◌≡◌, ◌≢◌, ◌<◌, ◌≤◌, ◌⊎◌, ◌+◌, ◌-◌, ◌*◌, ◌/◌, ◌%◌, ℕ, Bool, false, List, [], ◌∷◌, length, map, min, nat_eq, Option, Some, None, AllPairs, Contains, slice_get, slice_index_or, if◌then◌else◌}
+use Rattle.std.specs.Prelude.{◌≡◌, ◌≢◌, ◌<◌, ◌≤◌, ◌⊎◌, ◌+◌, ◌-◌, ◌*◌, ◌/◌, ◌%◌, ℕ, Bool, false, List, [], ◌∷◌, length, map, min, nat_eq, MatchOption, Option, Some, None, AllPairs, Contains, slice_get, slice_index_or, if◌then◌else◌}
 use Rattle.hd_map.specs.declared.types.Pos.{Pos}
 use Rattle.hd_map.specs.declared.types.Rank.{Rank}
 use Rattle.hd_map.specs.declared.types.Size.{Size}
@@ -32,6 +32,11 @@ place_in_tile s t p = p.y % t * columns_from s t (p.x / t * t) + p.x % t
 abbrev pub node_at : Option Part → ℕ → Option Node
 node_at None place = None
 node_at (Some part) place = slice_get part.nodes (slice_index_or part.labels.items place (length part.nodes))
+
+-- the number of the node that the label at a place of the tile names, and none where there is no label
+abbrev pub NumberIs : Part → ℕ → Option ℕ → Type 0
+NumberIs part place result = MatchOption result (node_at (Some part) place ≡ None)
+    (λ number. (number < length part.nodes) × (slice_get part.nodes number ≡ node_at (Some part) place))
 
 -- the node that the pool has for a position
 abbrev pub node_of : Size → ℕ → List Part → Pos → Option Node

@@ -1,5 +1,5 @@
 // The pool of the local basins of a map.
-ghost use Rattle.std.specs.Prelude.{◌≡◌, ◌<◌, ◌≤◌, ◌+◌, ◌*◌, ◌^◌, ◌-◌, ℕ, List, All, IfOk, OnOk, OnErr, Option, Some, None, true, slice_get, length};
+ghost use Rattle.std.specs.Prelude.{◌≡◌, ◌≢◌, ◌<◌, ◌≤◌, ◌⊎◌, ◌+◌, ◌*◌, ◌^◌, ◌-◌, ℕ, [], List, All, Contains, IfOk, OnOk, OnErr, Option, Some, None, true, slice_get, slice_index, length};
 ghost use Rattle.hd_map.specs.declared.types.Pos.{Pos};
 ghost use Rattle.hd_map.specs.Map.{Map, IsMap, IsSize, InGrid, place_of};
 ghost use Rattle.hd_map.specs.Crossings.{AreCrossingsUnder};
@@ -12,18 +12,28 @@ ghost use Rattle.hd_basin.specs.declared.part.Part.{Part};
 ghost use Rattle.hd_basin.specs.Parts.{HasNode, IsFresh, IsSound, node_of, stale_count};
 ghost use Rattle.hd_basin.specs.Built.{IsBuilt};
 ghost use Rattle.hd_basin.specs.Reading.{RootIs, NodeIs, IsGraphOf, AreExtents};
-ghost use Rattle.hd_basin.specs.Roots.{AreRoots};
+ghost use Rattle.hd_basin.specs.Between.{AddsAcross, AddsInside, AddsLinks, EndInNodes, IsNodeLow, LiesIn};
+ghost use Rattle.hd_basin.specs.Graph.{pass_of};
+ghost use Rattle.hd_basin.specs.Known.{AreKnown, AreKnownTo, FlowsOn, KeepsKnown, LeadTo};
+ghost use Rattle.hd_basin.specs.Placed.{unknown};
+ghost use Rattle.hd_basin.specs.Roots.{AreRoots, nodes_before};
+ghost use Rattle.hd_basin.specs.Gathered.{AreGatheredTo};
+ghost use Rattle.hd_basin.specs.Spots.{IsSpot, SpotIs, node_named, place_of_node};
 
-use crate::graph::{lows_of, passes_of};
+use crate::between::push_link;
+use crate::extents::{add_basin, listed};
+use crate::graph::{lows_of, passes_of, was_seen_with};
 use crate::made::made;
-use crate::part::Part;
+use crate::part::{Part, Seam};
 use crate::place::place_in_tile;
-use crate::roots::Roots;
+use crate::placed::number_pits;
+use crate::roots::{Roots, UNKNOWN};
+use crate::spot::{Spot, note};
 use crate::stock::Stock;
 use crate::{Extent, Node, NodeKey};
 use hd_graph::Graph;
 use hd_list::{List, Memory};
-use hd_map::{Link, Pos, Side, Size, position_of};
+use hd_map::{Link, Pos, Rank, Side, Size, position_of};
 use hd_tiles::{Looked, Steps, Tiling};
 use std::alloc::Global;
 use std::marker::{Model, PhantomData};
@@ -200,7 +210,100 @@ impl<S: Side> Basins<S> {
         requires { HasMap S.NAME self.now }
         ensures { IfOk result (AreRoots S.NAME self.now) }
     {
-        Err(Memory)
+        let mut roots = number_pits(self.alloc, &self.stock)?;
+        let mut way = Vec::new(self.alloc);
+        let tiles = self.stock.count();
+        'tiles: for tile in 0..tiles {
+            self.number_tile(&mut roots, &mut way, tile)?;
+        }
+        Ok(roots)
+    }
+
+    // Gives each node of a tile its number. Each node of the tiles before has one.
+    fn number_tile(
+        &self,
+        roots: &mut Roots,
+        way: &mut Vec<usize>,
+        tile: usize,
+    ) -> Result<(), Memory>
+        requires map { HasMap S.NAME self.now }
+        requires tile { tile < length self.now.parts }
+        requires known { AreKnown S.NAME self.now roots.old }
+        requires before { AreKnownTo roots.old.numbers (nodes_before self.now.parts tile) }
+        ensures known { OnOk result (AreKnown S.NAME self.now roots.new) }
+        ensures through { OnOk result (AreKnownTo roots.new.numbers (nodes_before self.now.parts (tile + 1))) }
+    {
+        let count = self.stock.part(tile).count();
+        'numbers: for number in 0..count {
+            self.number_node(roots, way, Spot { tile, number })?;
+        }
+        Ok(())
+    }
+
+    // Gives a node its number, and those on its way.
+    fn number_node(&self, roots: &mut Roots, way: &mut Vec<usize>, spot: Spot) -> Result<(), Memory>
+        requires map { HasMap S.NAME self.now }
+        requires spot { IsSpot self.now.parts spot }
+        requires known { AreKnown S.NAME self.now roots.old }
+        ensures known { OnOk result (AreKnown S.NAME self.now roots.new) }
+        ensures kept { OnOk result (KeepsKnown roots.old.numbers roots.new.numbers) }
+        ensures numbered { OnOk result (slice_index roots.new.numbers (place_of_node self.now.parts spot) ≢ unknown) }
+    {
+        way.clear();
+        let number = self.follow(roots, way, spot)?;
+        note(&mut roots.numbers, way, number);
+        Ok(())
+    }
+
+    // Goes from node to node to the first that has a number, and lists the places of those before it.
+    fn follow(&self, roots: &Roots, way: &mut Vec<usize>, spot: Spot) -> Result<u32, Memory>
+        requires map { HasMap S.NAME self.now }
+        requires spot { IsSpot self.now.parts spot }
+        requires known { AreKnown S.NAME self.now roots.now }
+        requires empty { way.old.items ≡ [] }
+        ensures way { IfOk result (λ number. LeadTo S.NAME self.now roots.now.pits number way.new.items) }
+        ensures known { IfOk result (λ number. number ≢ unknown) }
+        ensures begins { OnOk result (Contains way.new.items (place_of_node self.now.parts spot)
+            ⊎ (slice_index roots.now.numbers (place_of_node self.now.parts spot) ≢ unknown)) }
+    {
+        let mut here = spot;
+        'walk: loop {
+            let place = roots.firsts[here.tile] + here.number;
+            let number = roots.numbers[place];
+            if number != UNKNOWN {
+                return Ok(number);
+            }
+            way.push(place)?;
+            here = self.onward(here);
+        }
+    }
+
+    // The node to which a node flows that is no pit.
+    fn onward(&self, spot: Spot) -> Spot
+        requires map { HasMap S.NAME self.now }
+        requires spot { IsSpot self.now.parts spot }
+        requires flows { (n : Node) → node_named self.now.parts spot ≡ Some n → n.flows ≢ None }
+        ensures { (n : Node) → node_named self.now.parts spot ≡ Some n → FlowsOn self.now n result }
+    {
+        let node = self.stock.part(spot.tile).node(spot.number);
+        let Some(at) = node.flows else {
+            unreachable!();
+        };
+        match self.spot_at(at) {
+            Some(next) => next,
+            None => unreachable!(),
+        }
+    }
+
+    // The node of the basin in which the point at a position lies, and none where no point is present.
+    fn spot_at(&self, at: Pos) -> Option<Spot>
+        requires { InGrid self.now.size at }
+        ensures { SpotIs self.now at result }
+    {
+        let tile = self.tiling.tile_of(at) as usize;
+        let part = self.stock.part(tile);
+        let number = part.number_at(place_in_tile(self.tiling, at))?;
+        Some(Spot { tile, number })
     }
 
     /// The passes between the regions of pits, from those between basins: each by the numbers of its two pits, at its
@@ -213,7 +316,74 @@ impl<S: Side> Basins<S> {
             → (labels : List (Option ℕ)) → AreRegions m S.NAME labels
             → AreCrossingsUnder m S.NAME labels (passes_of S.NAME roots.now.pits links.items)) }
     {
-        Err(Memory)
+        let mut links = Vec::new(self.alloc);
+        let tiles = self.stock.count();
+        'tiles: for tile in 0..tiles {
+            self.link_inside(&mut links, roots, tile)?;
+            self.link_across(&mut links, roots, tile)?;
+        }
+        Ok(links)
+    }
+
+    // Adds the links of the passes within a tile.
+    fn link_inside(&self, links: &mut Vec<Link>, roots: &Roots, tile: usize) -> Result<(), Memory>
+        requires map { HasMap S.NAME self.now }
+        requires roots { AreRoots S.NAME self.now roots.now }
+        requires tile { tile < length self.now.parts }
+        ensures { OnOk result (AddsInside S.NAME self.now roots.now.pits tile links.old.items links.new.items) }
+    {
+        let part = self.stock.part(tile);
+        let first = roots.firsts[tile];
+        let joins = part.joins();
+        'joins: for join in joins {
+            let a = roots.numbers[first + join.a as usize];
+            let b = roots.numbers[first + join.b as usize];
+            push_link(links, a, b, join.at)?;
+        }
+        Ok(())
+    }
+
+    // Adds the links of the seams of a tile that are not void.
+    fn link_across(&self, links: &mut Vec<Link>, roots: &Roots, tile: usize) -> Result<(), Memory>
+        requires map { HasMap S.NAME self.now }
+        requires roots { AreRoots S.NAME self.now roots.now }
+        requires tile { tile < length self.now.parts }
+        ensures { OnOk result (AddsAcross S.NAME self.now roots.now.pits tile links.old.items links.new.items) }
+    {
+        let part = self.stock.part(tile);
+        let seams = part.seams();
+        'seams: for seam in seams {
+            self.link_seam(links, roots, *seam)?;
+        }
+        Ok(())
+    }
+
+    // Adds the link of a seam, unless it is void.
+    fn link_seam(&self, links: &mut Vec<Link>, roots: &Roots, seam: Seam) -> Result<(), Memory>
+        requires map { HasMap S.NAME self.now }
+        requires roots { AreRoots S.NAME self.now roots.now }
+        requires ends { EndInNodes self.now.parts seam }
+        ensures { OnOk result (AddsLinks S.NAME self.now roots.now.pits (pass_of S.NAME self.now.parts seam) links.old.items links.new.items) }
+    {
+        if was_seen_with(&self.stock, seam.with, seam.stamp) {
+            let a = self.pit_number(roots, seam.pass.a);
+            let b = self.pit_number(roots, seam.pass.b);
+            push_link(links, a, b, seam.pass.at)?;
+        }
+        Ok(())
+    }
+
+    // The number of the pit in whose region the basin of a sink lies.
+    fn pit_number(&self, roots: &Roots, sink: Rank) -> u32
+        requires map { HasMap S.NAME self.now }
+        requires roots { AreRoots S.NAME self.now roots.now }
+        requires sink { IsNodeLow self.now.parts sink }
+        ensures { LiesIn S.NAME self.now roots.now.pits sink result }
+    {
+        match self.spot_at(position_of(self.tiling.size(), sink.index)) {
+            Some(spot) => roots.numbers[roots.firsts[spot.tile] + spot.number],
+            None => unreachable!(),
+        }
     }
 
     // The node of the basin in which the point at a position lies, and none where no point is present.
@@ -253,6 +423,29 @@ impl<S: Side> Basins<S> {
         ensures { IfOk result (λ extents. (m : Map) → IsMap m → IsPoolOf m S.NAME self.now
             → AreExtents m S.NAME extents) }
     {
-        Err(Memory)
+        let mut extents = vec![in self.alloc; None; roots.pits().len()]?;
+        let tiles = self.stock.count();
+        'tiles: for tile in 0..tiles {
+            self.gather_tile(&mut extents, roots, tile);
+        }
+        listed(self.alloc, &extents)
+    }
+
+    // Adds the basins of a tile to the regions of their pits.
+    fn gather_tile(&self, extents: &mut Vec<Option<Extent>>, roots: &Roots, tile: usize)
+        requires map { HasMap S.NAME self.now }
+        requires roots { AreRoots S.NAME self.now roots.now }
+        requires tile { tile < length self.now.parts }
+        requires before { AreGatheredTo S.NAME self.now roots.now.pits (nodes_before self.now.parts tile) extents.old.items }
+        ensures { AreGatheredTo S.NAME self.now roots.now.pits (nodes_before self.now.parts (tile + 1)) extents.new.items }
+    {
+        let part = self.stock.part(tile);
+        let pits = roots.pits();
+        let first = roots.firsts[tile];
+        let count = part.count();
+        'numbers: for number in 0..count {
+            let pit = roots.numbers[first + number];
+            add_basin(extents, pit, pits[pit as usize], part.node(number));
+        }
     }
 }

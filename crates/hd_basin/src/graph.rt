@@ -129,8 +129,8 @@ fn push_seam<S: Side>(passes: &mut List<Pass>, stock: &Stock, seam: Seam) -> Res
     Ok(())
 }
 
-// Whether a tile was seen with this stamp.
-fn was_seen_with(stock: &Stock, tile: u32, stamp: u64) -> bool
+/// Whether a tile was seen with this stamp.
+pub fn was_seen_with(stock: &Stock, tile: u32, stamp: u64) -> bool
     ensures { result ≡ was_seen_with (slice_get stock.now tile) stamp }
 {
     stock.seen(tile) == Some(stamp)

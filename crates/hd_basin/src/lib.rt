@@ -6,9 +6,11 @@
 
 mod adding;
 mod basins;
+mod between;
 mod edge;
 mod ends;
 mod extent;
+mod extents;
 mod flows;
 mod frame;
 mod gather;
@@ -25,11 +27,13 @@ mod node;
 mod noded;
 mod part;
 mod place;
+mod placed;
 mod roots;
 mod round;
 mod seams;
 mod shown;
 mod sinks;
+mod spot;
 mod stock;
 mod window;
 

@@ -1,6 +1,6 @@
 // A tile of a stock, to be read.
 ghost use Rattle.std.specs.Prelude.{◌≡◌, ◌<◌, Some, length, slice_get};
-ghost use Rattle.hd_basin.specs.Parts.{node_at};
+ghost use Rattle.hd_basin.specs.Parts.{NumberIs, node_at};
 ghost use Rattle.hd_basin.specs.Stock.{HaveNodes, part_of};
 
 use crate::Node;
@@ -66,6 +66,18 @@ impl<'a> Shown<'a> {
         match self.kept.keys.get(number as usize) {
             Some(key) => self.nodes.get(*key).copied(),
             None => None,
+        }
+    }
+
+    /// The number of the node that the label at a place of the tile names, and none where there is no label.
+    pub fn number_at(&self, place: u32) -> Option<usize>
+        ensures { NumberIs self.now place result }
+    {
+        let label = *self.kept.labels.get(place as usize)? as usize;
+        if label < self.kept.keys.len() {
+            Some(label)
+        } else {
+            None
         }
     }
 
