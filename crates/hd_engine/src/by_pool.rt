@@ -56,7 +56,7 @@ pub(crate) fn find_by_pool<S: Side, G: Grid>(
         return Ok(());
     }
     let view = pool.view(alloc, tiles)?;
-    find_by(alloc, tiles, findings, presence, need, &view)
+    find_by(alloc, tiles, findings, presence, need, view)
 }
 
 // Whether what a report asks for was found.
@@ -84,28 +84,30 @@ fn find_by<S: Side, G: Heights>(
     findings: &mut Findings<S>,
     presence: &mut Option<Presence>,
     need: Need,
-    view: &PoolView<'_, S, G>,
+    view: PoolView<'_, S, G>,
 ) -> Result<(), Memory>
-    requires view { view.now ≡ grid.now }
+    requires view { view ≡ grid.now }
     requires findings { AreFindings (G.map grid.now) S.NAME findings.old }
     requires presence { ForSome presence.old (IsPresence (present_heights (G.map grid.now))) }
     ensures findings { AreFindings (G.map grid.now) S.NAME findings.new }
     ensures presence { ForSome presence.new (IsPresence (present_heights (G.map grid.now))) }
 {
     match need {
-        Need::Regions => findings.find_sizes_by(view),
-        Need::Merges => findings.find_merges_by(view),
+        Need::Regions => findings.find_sizes_by(&view),
+        Need::Merges => findings.find_merges_by(&view),
         Need::Borders | Need::Kept(_) => {
-            range_by(view, presence)?;
-            findings.find_merges_by(view)
+            range_by(&view, presence)?;
+            findings.find_merges_by(&view)
         }
         Need::Pruning(percent) => {
-            let range = range_by(view, presence)?;
-            findings.find_pruned_by(alloc, grid, view, percent, range)
+            let view = view.with_extents()?;
+            let range = range_by(&view, presence)?;
+            findings.find_pruned_by(alloc, grid, &view, percent, range)
         }
         Need::Features(percent) => {
-            let range = range_by(view, presence)?;
-            findings.find_features_by(alloc, grid, view, percent, range)
+            let view = view.with_extents()?;
+            let range = range_by(&view, presence)?;
+            findings.find_features_by(alloc, grid, &view, percent, range)
         }
     }
 }

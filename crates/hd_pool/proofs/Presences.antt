@@ -17,10 +17,10 @@ use Rattle.hd_map.specs.declared.types.Pos.{Pos}
 use Rattle.hd_map.specs.declared.types.Rank.{Rank}
 use Rattle.hd_map.specs.declared.types.SideName.{SideName}
 use Rattle.hd_map.specs.HeightRange.{range_of}
-use Rattle.hd_map.specs.Map.{Map, IsMap, Present, cell_at, cell_count, height_at, mask_at, most_cells, place_of, position_at}
+use Rattle.hd_map.specs.Map.{Map, IsMap, Present, cell_at, cell_count, height_at, mask_at, place_of, position_at}
 use Rattle.hd_map.specs.Presence.{IsPresence, heights_below, present_heights}
 use Rattle.hd_map.specs.Rank.{IsPoint, rank}
-use Rattle.hd_map.specs.Region.{IsPit, IsRoot}
+use Rattle.hd_map.specs.Region.{IsRoot}
 use Rattle.hd_map.proofs.Items.{AllPairs-first, AllPairs-tail, Contains-cases, Contains-head, Contains-none, Contains-tail}
 use Rattle.hd_map.proofs.Nexts.{root-is_pit, root-unique}
 use Rattle.hd_map.proofs.Points.{point_at, point_inside, position_at-inside, position_at-of, position_at-place, present_or_not, same_index, shown_of}

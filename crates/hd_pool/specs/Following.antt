@@ -1,5 +1,5 @@
 -- What is kept of a side of a map in tiles follows the map.
-use Rattle.std.specs.Prelude.{◌≡◌, ◌||◌, ◌&&◌, ◌*◌, ℕ, Bool, not, List, Option, Some, None, if◌then◌else◌}
+use Rattle.std.specs.Prelude.{◌≡◌, ◌||◌, ◌&&◌, ◌*◌, ◌-◌, ◌^◌, ℕ, Bool, min, nat_eq, not, List, Option, Some, None, if◌then◌else◌}
 use Rattle.std.specs.Option.{ForSome, is_some}
 use Rattle.hd_map.specs.declared.types.SideName.{SideName}
 use Rattle.hd_map.specs.Map.{Map}
@@ -50,6 +50,14 @@ abbrev pub after_report : ℕ → ℕ → ℕ → List ℕ → KeptSide → Outl
 after_report points t changes stamps kept = if reports_by_pool points stamps kept then paid changes (points_to_take points t stamps kept) kept.outlay
     else reported changes points (if has_or_earns points kept then nothing_spent else kept.outlay)
 
+-- nothing changed since the pool was brought up, or it is worth it to take in a tile of this side
+abbrev pub may_take : ℕ → ℕ → KeptSide → Bool
+may_take t changes kept = nat_eq changes kept.outlay.last || is_worth (t * t) kept.outlay
+
+-- a step that was walked where there is a pool counts eight times
+abbrev pub steps_earned : ℕ → KeptSide → ℕ
+steps_earned steps kept = if is_some kept.pool then min (steps * 8) (2 ^ 64 - 1) else steps
+
 -- a label is told by the pool where it is worth it to bring it up
-abbrev pub labels_by_pool : ℕ → ℕ → List ℕ → KeptSide → Bool
-labels_by_pool points t stamps kept = is_worth (points_to_take points t stamps kept) kept.outlay
+abbrev pub labels_by_pool : ℕ → ℕ → ℕ → List ℕ → KeptSide → Bool
+labels_by_pool points t changes stamps kept = may_take t changes kept && is_worth (points_to_take points t stamps kept) kept.outlay

@@ -1,7 +1,5 @@
 -- Definitions that the contracts cite.
 pub mod Told
-pub mod BetweenRoots
-pub mod PitsOf
 pub mod Outlay
 pub mod Following
 pub mod View

@@ -5,9 +5,7 @@
 //! it says what else holds then.
 #![tactic(auto)]
 
-mod between;
 mod outlay;
-mod pits;
 mod pool_view;
 mod side_pool;
 mod told;

@@ -3,14 +3,12 @@ ghost use Rattle.std.specs.Prelude.{◌≡◌, IfOk};
 ghost use Rattle.hd_map.specs.Presence.{IsPresence, present_heights};
 ghost use Rattle.hd_basin.specs.InStep.{IsPoolOf};
 
-use crate::between::passes_between_regions;
-use crate::pits::pits_among;
 use crate::told::{presence_told, sizes_told, tallies_told};
-use hd_basin::{Basins, Roots};
+use hd_basin::{Basins, Extent, Roots};
 use hd_list::{List, Memory};
 use hd_map::{Heights, Pos, Presence, RegionSize, Side};
 use hd_regions::Tally;
-use hd_survey::{PitMerges, SideView, merges_of_passes};
+use hd_survey::{PitMerges, SideView, merges_of_crossings};
 use std::alloc::Global;
 use std::marker::Model;
 
@@ -22,6 +20,7 @@ pub struct PoolView<'a, S: Side, G: Heights> {
     grid: &'a G,
     pool: &'a Basins<S>,
     roots: Roots,
+    extents: Option<List<Extent>>,
 }
 
 impl<'a, S: Side, G: Heights> Model for PoolView<'a, S, G> {
@@ -31,7 +30,7 @@ impl<'a, S: Side, G: Heights> Model for PoolView<'a, S, G> {
 
     ghost view = { λ v. v.grid.now };
 
-    ghost invariant = { λ v. IsViewed (G.map v.grid.now) S.NAME v.pool.now v.roots };
+    ghost invariant = { λ v. IsViewed (G.map v.grid.now) S.NAME v.pool.now v.roots v.extents };
 }
 
 impl<'a, S: Side, G: Heights> PoolView<'a, S, G> {
@@ -46,6 +45,28 @@ impl<'a, S: Side, G: Heights> PoolView<'a, S, G> {
             grid,
             pool,
             roots,
+            extents: None,
+        })
+    }
+
+    /// The same side, with the extents of its regions found, for more than one call that asks for them.
+    pub fn with_extents(self) -> Result<Self, Memory>
+        ensures { IfOk result (λ view. view ≡ self.entry) }
+    {
+        let extents = self.pool.extents_by(&self.roots)?;
+        let PoolView {
+            alloc,
+            grid,
+            pool,
+            roots,
+            ..
+        } = self;
+        Ok(PoolView {
+            alloc,
+            grid,
+            pool,
+            roots,
+            extents: Some(extents),
         })
     }
 
@@ -53,7 +74,10 @@ impl<'a, S: Side, G: Heights> PoolView<'a, S, G> {
     pub fn presence(&self) -> Result<Presence, Memory>
         ensures { IfOk result (IsPresence (present_heights (G.map self.now))) }
     {
-        let extents = self.pool.extents()?;
+        if let Some(extents) = &self.extents {
+            return Ok(presence_told(extents.as_slice()));
+        }
+        let extents = self.pool.extents_by(&self.roots)?;
         Ok(presence_told(extents.as_slice()))
     }
 }
@@ -64,32 +88,30 @@ impl<'a, S: Side, G: Heights> SideView<S> for PoolView<'a, S, G> {
     ghost whole = { λ v. G.whole v };
 
     fn root(&self, at: Pos) -> Pos {
-        match self.pool.root(&self.roots, at) {
+        match self.pool.label(at) {
             Some(pit) => pit,
             None => unreachable!(),
         }
     }
 
     fn merges(&self) -> Result<PitMerges, Memory> {
-        let basins = self.pool.as_graph()?;
-        let passes = passes_between_regions::<S, G>(
-            self.alloc,
-            self.grid,
-            self.pool,
-            &self.roots,
-            basins.passes(),
-        )?;
-        let pits = pits_among(self.alloc, basins.lows())?;
-        merges_of_passes::<S, G>(self.alloc, self.grid, pits.as_slice(), passes)
+        let links = self.pool.links(&self.roots)?;
+        merges_of_crossings::<S, G>(self.alloc, self.grid, self.roots.pits(), links)
     }
 
     fn sizes(&self) -> Result<List<RegionSize>, Memory> {
-        let extents = self.pool.extents()?;
+        if let Some(extents) = &self.extents {
+            return sizes_told(self.alloc, extents.as_slice());
+        }
+        let extents = self.pool.extents_by(&self.roots)?;
         sizes_told(self.alloc, extents.as_slice())
     }
 
     fn tallies(&self) -> Result<List<Tally>, Memory> {
-        let extents = self.pool.extents()?;
+        if let Some(extents) = &self.extents {
+            return tallies_told(self.alloc, extents.as_slice());
+        }
+        let extents = self.pool.extents_by(&self.roots)?;
         tallies_told(self.alloc, extents.as_slice())
     }
 }

@@ -4,7 +4,7 @@ ghost use Rattle.hd_map.specs.Map.{cell_count, Present};
 ghost use Rattle.hd_map.specs.Rank.{rank};
 ghost use Rattle.hd_map.specs.Region.{IsRoot};
 ghost use Rattle.hd_basin.specs.InStep.{IsPoolOf};
-ghost use Rattle.hd_pool.specs.Following.{Follows, IsFollowing, IsReady, after_report, has_or_earns, labels_by_pool, nothing_kept, points_to_take, reports_by_pool};
+ghost use Rattle.hd_pool.specs.Following.{Follows, IsFollowing, IsReady, after_report, has_or_earns, labels_by_pool, may_take, nothing_kept, points_to_take, reports_by_pool, steps_earned};
 ghost use Rattle.hd_pool.specs.Outlay.{counted, paid};
 
 use crate::PoolView;
@@ -16,6 +16,9 @@ use hd_tiles::{Steps, Tiles};
 use std::alloc::Global;
 use std::marker::{Brand, Model};
 use std::sync::ledger::{Blank, Ledger};
+
+/// How many times a step counts that was walked where there is a pool.
+const BESIDE_POOL: u64 = 8;
 
 /// The pool of a side of a grid in tiles. Reports go over the whole map until one did so after a change; from then on the
 /// pool tells them. A label is told by the pool where ways that were walked took as many steps as it is worth to bring it
@@ -89,21 +92,36 @@ impl<S: Side> SidePool<S> {
         requires { Follows (G.map tiles.now.grid) S.NAME tiles.now.tiling.side tiles.now.stamps.items self.old }
         ensures follows { Follows (G.map tiles.now.grid) S.NAME tiles.now.tiling.side tiles.now.stamps.items self.new }
         ensures ready { IfOk result (λ serves. IsTrue serves → IsReady (G.map tiles.now.grid) S.NAME self.new) }
-        ensures rule { IfOk result (λ serves. serves ≡ labels_by_pool (cell_count tiles.now.tiling.size) tiles.now.tiling.side tiles.now.stamps.items self.old) }
+        ensures rule { IfOk result (λ serves. serves
+            ≡ labels_by_pool (cell_count tiles.now.tiling.size) tiles.now.tiling.side tiles.now.changes tiles.now.stamps.items self.old) }
         ensures same { IfOk result (λ serves. serves ≡ false → self.new ≡ self.old) }
     {
-        if !self.outlay.is_worth(self.points_to_take(tiles)) {
+        if !self.may_take(tiles) || !self.outlay.is_worth(self.points_to_take(tiles)) {
             return Ok(false);
         }
         self.bring_up(alloc, tiles)?;
         Ok(true)
     }
 
-    /// Counts the steps that the answer to a label took, where the pool did not serve.
-    pub fn count_label<G: Grid>(&mut self, tiles: &Tiles<G>, steps: u64)
-        ensures { self.new ≡ record self.old { outlay = counted tiles.now.changes steps self.old.outlay } }
+    // Whether nothing changed since the pool was brought up, or one tile is worth it: then the tiles are looked through.
+    fn may_take<G: Grid>(&self, tiles: &Tiles<G>) -> bool
+        ensures { result ≡ may_take tiles.now.tiling.side tiles.now.changes self.now }
     {
-        self.outlay = self.outlay.counted(tiles.changes(), steps);
+        let side = tiles.tiling().side();
+        tiles.changes() == self.outlay.last || self.outlay.is_worth(u64::from(side * side))
+    }
+
+    /// Counts the steps that the answer to a label took, where the pool did not serve. They count more where there is a pool,
+    /// so that where ways are long it is seldom passed over.
+    pub fn count_label<G: Grid>(&mut self, tiles: &Tiles<G>, steps: u64)
+        ensures { self.new ≡ record self.old { outlay = counted tiles.now.changes (steps_earned steps self.old) self.old.outlay } }
+    {
+        let earned = if self.pool.is_some() {
+            steps.saturating_mul(BESIDE_POOL)
+        } else {
+            steps
+        };
+        self.outlay = self.outlay.counted(tiles.changes(), earned);
     }
 
     // How many points the pool takes in where it is brought up.

@@ -34,7 +34,7 @@ pub use findings::Findings;
 pub use grid_view::GridView;
 pub use kept::KeptPits;
 pub use lines::pruned_lines;
-pub use merges::{PitMerges, merges_of_passes};
+pub use merges::{PitMerges, merges_of_crossings};
 pub use pits::lows_of;
 pub use pruned::PrunedRegions;
 pub use saddles::{reached_pits, saddle_between};

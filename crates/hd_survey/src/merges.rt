@@ -8,11 +8,11 @@ ghost use Rattle.hd_survey.specs.PitLinks.{AreLinkedPits, AreRegionCrossings};
 
 use crate::pits::lows_of;
 use hd_graph::{
-    Graph, Low, Merge, merges_by_links, merges_of, merges_rest_on_the_passes,
-    merges_tell_the_saddles, passes_of_basins_are_a_graph, regions_are_basins,
+    Low, Merge, merges_by_links, merges_rest_on_the_passes, merges_tell_the_saddles,
+    passes_of_basins_are_a_graph, regions_are_basins,
 };
 use hd_list::{List, Memory};
-use hd_map::{Heights, Link, Pass, Rank, Side};
+use hd_map::{Heights, Link, Rank, Side};
 use hd_steep::{Regions, crossings};
 use std::alloc::Global;
 
@@ -23,27 +23,6 @@ pub struct PitMerges {
     pub lows: List<Low>,
     /// The merges, which name the pits by their places.
     pub merges: List<Merge>,
-}
-
-/// The pits of a map, in position order, and their merges by the crossings between their regions.
-pub fn merges_of_passes<S: Side, G: Heights>(
-    alloc: Global,
-    _grid: &G,
-    pits: &[Rank],
-    passes: List<Pass>,
-) -> Result<PitMerges, Memory>
-    requires pits { ArePits (G.map _grid.now) S.NAME pits.now }
-    requires passes { AreRegionCrossings (G.map _grid.now) S.NAME passes }
-    ensures { IfOk result (ArePitMerges (G.map _grid.now) S.NAME) }
-{
-    let lows = lows_of(alloc, pits)?;
-    regions_are_basins();
-    passes_of_basins_are_a_graph();
-    merges_tell_the_saddles();
-    let graph = Graph::<S>::new(lows, passes);
-    let merges = merges_of::<S>(alloc, &graph)?;
-    let lows = List::from_slice(alloc, graph.lows())?;
-    Ok(PitMerges { lows, merges })
 }
 
 /// The pits of these regions and their merges.
@@ -78,9 +57,9 @@ pub fn into_merges<S: Side, G: Heights>(
     merges_of_linked_pits::<S, G>(alloc, grid, lows, links)
 }
 
-// The pits of a map, in position order, and their merges by the crossings between their regions, which name the pits
-// by their places.
-fn merges_of_crossings<S: Side, G: Heights>(
+/// The pits of a map, in position order, and their merges by the crossings between their regions, which name the pits
+/// by their places.
+pub fn merges_of_crossings<S: Side, G: Heights>(
     alloc: Global,
     grid: &G,
     pits: &[Rank],
