@@ -23,10 +23,10 @@ pub fn lower_key<S: Side, L: Lane>(first: Low<L>, second: Low<L>) -> Low<L>
     requires second { IsKey L.code second.key }
     ensures { (a b : Rank) → IsLowOf L.code S.NAME a first → IsLowOf L.code S.NAME b second → IsLowOf L.code S.NAME (lower_of S.NAME a b) result }
 {
-    if is_below_earlier::<S, L>(second.key, first.key) {
-        second
-    } else {
-        first
+    let is_second = is_below_earlier::<S, L>(second.key, first.key);
+    Low {
+        key: if is_second { second.key } else { first.key },
+        index: if is_second { second.index } else { first.index },
     }
 }
 
