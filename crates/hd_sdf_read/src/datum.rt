@@ -12,10 +12,24 @@ use crate::token::is_gap;
 use hd_map::Cell;
 use hd_num::{Whole, read_whole};
 
+/// How the digits of a number are read.
+#[derive(Clone, Copy)]
+pub enum Reading {
+    /// At most eight, at once.
+    AtOnce,
+    /// At most eleven, one by one.
+    OneByOne,
+}
+
 /// How far the height at the front of a text is over the least one, if it is in the range, and the text
 /// from the blank or the LF on that follows it. The range goes from so far below 0 to the greatest.
 #[inline(always)]
-pub fn leading_over(below: u32, greatest: u32, text: &[u8]) -> Option<(u32, &[u8])>
+pub fn leading_over(
+    reading: Reading,
+    below: u32,
+    greatest: u32,
+    text: &[u8],
+) -> Option<(u32, &[u8])>
     requires { below + greatest < 2 ^ 32 }
     ensures cell { IfSome result (λ parts. TakesCell (signed_number true below) (pos greatest) text.now parts.1.now (Height (signed_number true below +ℤ pos parts.0))) }
     ensures left { IfSome result (λ parts. 0 < length parts.1.now) }
@@ -24,9 +38,9 @@ pub fn leading_over(below: u32, greatest: u32, text: &[u8]) -> Option<(u32, &[u8
         return None;
     }
     if text[0] == b'-' {
-        return over_below(below, text);
+        return over_below(reading, below, text);
     }
-    let (number, rest) = leading_number(text)?;
+    let (number, rest) = leading_number(reading, text)?;
     if number > u64::from(greatest) {
         return None;
     }
@@ -35,13 +49,13 @@ pub fn leading_over(below: u32, greatest: u32, text: &[u8]) -> Option<(u32, &[u8
 
 // The same, where the text begins with a minus.
 #[inline(always)]
-fn over_below(below: u32, text: &[u8]) -> Option<(u32, &[u8])>
+fn over_below(reading: Reading, below: u32, text: &[u8]) -> Option<(u32, &[u8])>
     requires long { 17 ≤ length text.now }
     requires minus { slice_index text.now 0 ≡ 45 }
     ensures cell { (greatest : ℕ) → IfSome result (λ parts. TakesCell (signed_number true below) (pos greatest) text.now parts.1.now (Height (signed_number true below +ℤ pos parts.0))) }
     ensures left { IfSome result (λ parts. 0 < length parts.1.now) }
 {
-    let (number, rest) = leading_number(&text[1..])?;
+    let (number, rest) = leading_number(reading, &text[1..])?;
     if number > u64::from(below) {
         return None;
     }
@@ -51,16 +65,28 @@ fn over_below(below: u32, text: &[u8]) -> Option<(u32, &[u8])>
 // The number of the digits at the front of a text, if a blank or an LF follows them, and the text after
 // them.
 #[inline(always)]
-fn leading_number(text: &[u8]) -> Option<(u64, &[u8])>
+fn leading_number(reading: Reading, text: &[u8]) -> Option<(u64, &[u8])>
     requires { 16 ≤ length text.now }
     ensures { IfSome result (λ parts. TakesNumber text.now parts.1.now parts.0) }
 {
-    let (count, number) = block_digits(text)?;
+    let (count, number) = leading_digits(reading, text)?;
     let (_, rest) = text.split_at(count);
     if count == 0 || !ends_token(rest) {
         return None;
     }
     Some((number, rest))
+}
+
+// How many digits a text begins with, and the number that they write, where they are not too many.
+#[inline(always)]
+fn leading_digits(reading: Reading, text: &[u8]) -> Option<(usize, u64)>
+    requires { 16 ≤ length text.now }
+    ensures { IfSome result (λ parts. AreDigits text.now parts.0 parts.1) }
+{
+    match reading {
+        Reading::AtOnce => block_digits(text),
+        Reading::OneByOne => few_digits(text),
+    }
 }
 
 /// The text behind a `BAD` at its front, if a blank or an LF follows it.
@@ -73,9 +99,9 @@ pub fn behind_bad(text: &[u8]) -> Option<&[u8]>
     }
 }
 
-/// How many digits a text begins with, and the number that they write, where they are at most eleven
-/// of twelve bytes: so many bytes are looked at one by one with no test for the end of the text.
-pub fn few_digits(text: &[u8]) -> Option<(usize, u64)>
+// How many digits a text begins with, and the number that they write, where they are at most eleven
+// of twelve bytes: so many bytes are looked at one by one with no test for the end of the text.
+fn few_digits(text: &[u8]) -> Option<(usize, u64)>
     ensures { IfSome result (λ parts. AreDigits text.now parts.0 parts.1) }
 {
     if text.len() < 12 {

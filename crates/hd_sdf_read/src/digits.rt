@@ -4,10 +4,9 @@ ghost use Rattle.std.specs.Int.Digits.{AllBelowBase, number_from_digits};
 ghost use Rattle.std.specs.Simd.Lanes.{mask_l, number_l};
 ghost use Rattle.hd_sdf_read.specs.WholeTokens.{AreDigits};
 
-use crate::datum::few_digits;
 use std::simd::prelude::*;
 
-/// How many digits a text begins with, and the number that they write, where they are at most eleven.
+/// How many digits a text begins with, and the number that they write, where they are from one to eight.
 #[inline(always)]
 pub fn block_digits(text: &[u8]) -> Option<(usize, u64)>
     requires { 16 ≤ length text.now }
@@ -17,7 +16,7 @@ pub fn block_digits(text: &[u8]) -> Option<(usize, u64)>
     let others = no_digits(digits);
     let count = others.trailing_zeros();
     if count == 0 || count > 8 {
-        return few_digits(text);
+        return None;
     }
     let first = u64x2::from_le_bytes(digits).to_array()[0];
     Some((count as usize, value_of_first(first, count)))

@@ -6,7 +6,7 @@ ghost use Rattle.hd_num.specs.Whole.{signed_number};
 ghost use Rattle.hd_sdf_read.specs.ShortWords.{AreData, IsDatum, TakesBatch, height_over};
 ghost use Rattle.hd_sdf_read.specs.Tokens.{is_gap};
 
-use crate::datum::{behind_bad, leading_over};
+use crate::datum::{Reading, behind_bad, leading_over};
 use crate::token::skip_gaps;
 use hd_list::Memory;
 use hd_map::{Cells, Mark};
@@ -87,7 +87,7 @@ fn next_cell(below: u32, greatest: u32, text: &[u8]) -> Option<(u32, Mark, &[u8]
     ensures datum { IfSome result (λ parts. IsDatum (signed_number true below) (pos greatest) text.now parts.2.now (cell_from (height_over below) parts.0 parts.1)) }
 {
     let word = &text[1..];
-    if let Some((over, rest)) = leading_over(below, greatest, word) {
+    if let Some((over, rest)) = leading_over(Reading::AtOnce, below, greatest, word) {
         return Some((over, Mark::Shown, rest));
     }
     let (over, mark, rest) = word_cell(below, greatest, skip_gaps(word))?;
@@ -103,6 +103,9 @@ fn word_cell(below: u32, greatest: u32, word: &[u8]) -> Option<(u32, Mark, &[u8]
     if let Some(rest) = behind_bad(word) {
         return Some((0, Mark::Unmeasured, rest));
     }
-    let (over, rest) = leading_over(below, greatest, word)?;
+    if let Some((over, rest)) = leading_over(Reading::AtOnce, below, greatest, word) {
+        return Some((over, Mark::Shown, rest));
+    }
+    let (over, rest) = leading_over(Reading::OneByOne, below, greatest, word)?;
     Some((over, Mark::Shown, rest))
 }

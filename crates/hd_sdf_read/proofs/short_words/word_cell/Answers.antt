@@ -9,6 +9,11 @@ pub returns-in-Some-clause-datum : goal.returns-in-Some-clause-datum
 returns-in-Some-clause-datum c =
     IsDatum-bad (signed_number true c.args.below) (pos c.args.greatest) c.args.word.now c.in-Some.rest.now c.in-Some.ensures.0 c.in-Some.ensures.1 c.in-Some.ensures.2
 
+pub returns-in-Some-leading_over-clause-datum : goal.returns-in-Some-leading_over-clause-datum
+returns-in-Some-leading_over-clause-datum c =
+    height_datum (signed_number true c.args.below) (pos c.args.greatest) c.args.word.now c.in-Some-leading_over.rest.now (Height (height_over c.args.below c.in-Some-leading_over.over))
+    c.in-Some-leading_over.ensures.cell c.in-Some-leading_over.ensures.left
+
 pub returns-clause-datum : goal.returns-clause-datum
 returns-clause-datum c =
     IsDatum-height (signed_number true c.args.below) (pos c.args.greatest) c.args.word.now c.in_ok-over.rest.now (Height (height_over c.args.below c.in_ok-over.over)) c.in_ok-over.ensures.cell c.in_ok-over.ensures.left
