@@ -1,9 +1,9 @@
 -- The shown path and the shown cut.
-use Rattle.std.proofs.Common.{◌≡◌, ◌<◌, ◌≤◌, ◌+◌, ◌-◌, ℕ, zero, suc, Bool, true, false, List, [], ◌∷◌, length, get_or, map, Option, Some, None, inl, inr, ap, ◌∙◌, refl, sym, subst, arith}
+use Rattle.std.proofs.Common.{◌≡◌, ◌<◌, ◌≤◌, ◌+◌, ◌-◌, ℕ, zero, suc, true, false, List, [], ◌∷◌, length, get_or, map, Option, Some, None, inl, inr, ap, ◌∙◌, refl, sym, subst, arith}
 use Rattle.std.specs.Prelude.{not, Result, Ok, Err, IfOk}
 use Rattle.std.proofs.lemmas.List.{get_or-map, length-map}
 use Rattle.std.proofs.lemmas.List.Elements.{All-head, All-tail}
-use Rattle.std.proofs.lemmas.Bool.{cases_lt, false≢true}
+use Rattle.std.proofs.lemmas.Bool.{cases_lt, not-true}
 use Rattle.hd_map.specs.declared.types.Pos.{Pos}
 use Rattle.hd_map.specs.declared.types.Rank.{Rank}
 use Rattle.hd_map.specs.declared.types.SideName.{SideName}
@@ -42,10 +42,6 @@ Some-unique o a b e f = let g : Some a ≡ Some b = sym e ∙ f in cc
 pub IfOk-map : {T E : Type 0} (P Q : T → Type 0) (r : Result T E) → ((x : T) → P x → Q x) → IfOk r P → IfOk r Q
 IfOk-map P Q (Ok x) f h = f x h
 IfOk-map P Q (Err e) f h = tt
-
-not_true : (b : Bool) → not b ≡ true → b ≡ false
-not_true true h = absurd (false≢true h)
-not_true false h = refl
 
 module _ (m : Map) (IsOpen : Pos → Type 0) (start : Pos) (goal : Option Pos) (steps : List (Option ℕ)) (are : AreSteps m IsOpen start goal steps) where
   -- so many steps are wanted
@@ -142,7 +138,7 @@ module _ (m : Map) (side : SideName) (s : Rank) where
   open_of p here low = record { present = here; low = ap not low }
 
   low_of : (p : Pos) → NotAbove p → IsNotAbove (below_by side) (rank m p) s
-  low_of p is_open = not_true (below_by side s (rank m p)) is_open.low
+  low_of p is_open = not-true (below_by side s (rank m p)) is_open.low
 
   -- a path of ranks none of which is above the saddle is a path of open points
   pub OpenStep-path : (a : Pos) (xs : List Rank) (b : Pos) → Present m a → Present m b → Leads (Near m) (rank m a) xs (rank m b) → NoneAbove (below_by side) s (rank m a ∷ xs)

@@ -3,39 +3,12 @@ use Rattle.std.proofs.Common.{◌≡◌, ◌<◌, ◌+◌, ℕ, zero, suc, List,
 use Rattle.std.specs.Prelude.{slice_index_or}
 use Rattle.std.specs.List.{flat_map}
 use Rattle.hd_num.specs.Text.{AppendsPrefix}
+use Rattle.hd_num.proofs.AppendsPrefix.{prefix_first, prefix_then}
 use Rattle.hd_check.specs.Text.{line_text}
-
--- a prefix of the first text is one of both
-prefix_front : (k : ℕ) (t u : List ℕ) → (j : ℕ) × (take k t ≡ take j (t ++ u))
-prefix_front k [] u = (0, take_none k)
-  where
-    take_none : (k : ℕ) → take {A = ℕ} k [] ≡ []
-    take_none zero = refl
-    take_none (suc k) = refl
-prefix_front zero (x ∷ t) u = (0, refl)
-prefix_front (suc k) (x ∷ t) u = let r = prefix_front k t u in (suc r.0, ap (λ (xs : List ℕ). x ∷ xs) r.1)
-
--- a prefix of the second after the first is one of both
-prefix_back : (k : ℕ) (t u : List ℕ) → (j : ℕ) × (t ++ take k u ≡ take j (t ++ u))
-prefix_back k [] u = (k, refl)
-prefix_back k (x ∷ t) u = let r = prefix_back k t u in (suc r.0, ap (λ (xs : List ℕ). x ∷ xs) r.1)
-
--- a refusal in the first text is one in both
-pub AppendsPrefix-first : (old new t u : List ℕ) → AppendsPrefix old new t → AppendsPrefix old new (t ++ u)
-AppendsPrefix-first old new t u p = let r = prefix_front p.0 t u in (r.0, p.1 ∙ ap (λ (xs : List ℕ). old ++ xs) r.1)
-
-prefix_after : (old mid new t u : List ℕ) → mid ≡ old ++ t → AppendsPrefix mid new u → AppendsPrefix old new (t ++ u)
-prefix_after old mid new t u is p =
-    let r = prefix_back p.0 t u in
-    (r.0, p.1 ∙ ap (λ (xs : List ℕ). xs ++ take p.0 u) is ∙ append_assoc old t (take p.0 u) ∙ ap (λ (xs : List ℕ). old ++ xs) r.1)
 
 -- the last text
 pub append-last : (old mid new t u : List ℕ) → mid ≡ old ++ t → new ≡ mid ++ u → new ≡ old ++ (t ++ u)
 append-last old mid new t u is a = a ∙ ap (λ (xs : List ℕ). xs ++ u) is ∙ append_assoc old t u
-
--- a refusal in the second
-pub AppendsPrefix-then : (old mid new t u : List ℕ) → mid ≡ old ++ t → AppendsPrefix mid new u → AppendsPrefix old new (t ++ u)
-AppendsPrefix-then old mid new t u is p = prefix_after old mid new t u is p
 
 module _ {A : Type 0} (line : A → List ℕ) (d : A) where
   -- the lines before an item, its line, and those after it
@@ -66,7 +39,7 @@ module _ {A : Type 0} (line : A → List ℕ) (d : A) where
   AppendsPrefix-flat_map old out new xs k inside so_far part =
       let here : List ℕ = line (slice_index_or xs k d) in
       let more : List ℕ = flat_map line (drop (suc k) xs) in
-      rw (lines_at xs k inside) (AppendsPrefix-then old out new (flat_map line (take k xs)) (here ++ more) so_far (AppendsPrefix-first out new here more part))
+      rw (lines_at xs k inside) (prefix_then old out new (flat_map line (take k xs)) (here ++ more) so_far (prefix_first out new here more part))
 
 module _ {A : Type 0} (words : A → List (List ℕ)) where
   -- the lines of items, by their words

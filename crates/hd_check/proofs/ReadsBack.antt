@@ -20,6 +20,7 @@ use Rattle.hd_map.specs.declared.types.SideName.TheVariants.{Dales, Hills}
 use Rattle.hd_num.specs.Lines.{is_blank, is_filled, is_line_feed, lines_of, without_empty_last, words_of}
 use Rattle.hd_num.specs.Whole.{i64_of}
 use Rattle.hd_num.proofs.WholeReadsBack.{count_of-decimal, IsNumeralModel-digits, whole_of-signed_decimal}
+use Rattle.hd_num.proofs.LinePieces.{without_empty_last-cons}
 use Rattle.hd_check.specs.declared.types.Certificate.{Certificate}
 use Rattle.hd_check.specs.declared.words.CertificateHead.{CertificateHead}
 use Rattle.hd_check.specs.Reading.{Lines, Read, after_cut, after_from, after_path, after_head, after_saddle, after_to, and_then, certificate_of, count_form, head_form, items_in, line_as, line_gives, point_form, point_of_counts, saddle_form, saddle_of_parts, value_of}
@@ -130,12 +131,8 @@ pub lines_of-first : (w : List ℕ) (ws : List (List ℕ)) (rest : List ℕ) →
 lines_of-first w ws rest are =
     ap (λ (t : List ℕ). map words_of (lines_of t)) (line_joined (w ∷ ws) rest)
     ∙ ap (λ (ps : List (List ℕ)). map words_of (without_empty_last ps)) (split_line w ws rest are)
-    ∙ ap (map words_of) (not_last (joined (w ∷ ws)) (slice_split is_line_feed rest) (omega (arith, length-slice_split is_line_feed rest)))
+    ∙ ap (map words_of) (without_empty_last-cons (joined (w ∷ ws)) (slice_split is_line_feed rest) (omega (arith, length-slice_split is_line_feed rest)))
     ∙ ap (λ (us : List (List ℕ)). us ∷ map words_of (lines_of rest)) (words_joined w ws are)
-  where
-    not_last : (p : List ℕ) (ps : List (List ℕ)) → 0 < length ps → without_empty_last (p ∷ ps) ≡ p ∷ without_empty_last ps
-    not_last p [] some = absurd (omega arith)
-    not_last p (q ∷ ps) some = refl
 
 -- digits are a word
 pub is_clear-digit : (b : ℕ) → is_ascii_digit b ≡ true → is_clear b ≡ true

@@ -20,10 +20,6 @@ last_after-push i (n ∷ notes) note = last_after-push (i + n.distance) notes no
 pub All-before : {X : Type 0} (P : X → Type 0) (xs : List X) (x : X) → All P (xs ++ x ∷ []) → All P xs
 All-before P xs x h k d below = subst P (get_or_append_left xs (x ∷ []) d k below) (h k d (omega (arith, below, length_push xs x)))
 
-pub length-none : {X : Type 0} (xs : List X) → length xs ≡ 0 → xs ≡ []
-length-none [] e = refl
-length-none (x ∷ xs) e = absurd (omega (arith, e))
-
 -- a height more is told as the last change, where no other change is noted
 pub changes_after-noted : (first last : ℕ) (old new : List HeightNote) (others : List Change) (note : HeightNote) (change : Change) → last ≡ last_after first old → new ≡ old ++ note ∷ [] → note_at last note ≡ change → others ≡ []
     → changes_after first new ++ others ≡ (changes_after first old ++ others) ++ change ∷ []

@@ -4,7 +4,7 @@ use Rattle.std.specs.Prelude.{MatchOption, MatchResult, not, nat_le, nat_lt, if�
 use Rattle.std.specs.List.{position_or_len}
 use Rattle.std.specs.Option.{option_map}
 use Rattle.std.proofs.Math.ListN.{length-set}
-use Rattle.std.proofs.lemmas.Bool.{cases_eq, false_from_ne_true}
+use Rattle.std.proofs.lemmas.Bool.{cases_eq, false_from_ne_true, not-false}
 use Rattle.std.proofs.lemmas.Bool.Decides.{nat_tests}
 use Rattle.std.proofs.lemmas.List.{get_or-set_same, get_or-set_other}
 use Rattle.std.proofs.lemmas.List.Sums.{position_or_len_is, fails_before_first}
@@ -51,11 +51,6 @@ place_or_none : (b : Bool) (k : ℕ) (size : Size) → ◌≡◌ {A = Option Edi
 place_or_none true k size e = cc
 place_or_none false k size e = refl
 
--- what does not fail passes
-passes_from : (b : Bool) → not b ≡ false → b ≡ true
-passes_from true e = refl
-passes_from false e = cc
-
 -- a choice between one thing and itself
 pub if-same : {X : Type 0} (b : Bool) (x : X) → (if b then x else x) ≡ x
 if-same true x = refl
@@ -66,7 +61,7 @@ pub AreCellsOf-no_refusal : (m : Map) (cells : List Cell) → height_refusal m c
 AreCellsOf-no_refusal m cells none k inside =
     let out : Cell → Bool = λ c. not (cell_in_range m.data_type c) in
     let past : nat_lt (position_or_len out cells) (length cells) ≡ false = place_or_none (nat_lt (position_or_len out cells) (length cells)) (position_or_len out cells) m.size none in
-    IsCellOf-in_range m.data_type (get_or cells k Bad) (passes_from (cell_in_range m.data_type (get_or cells k Bad)) (fails_before_first out cells k Bad (grind (arith, nat_tests))))
+    IsCellOf-in_range m.data_type (get_or cells k Bad) (not-false (cell_in_range m.data_type (get_or cells k Bad)) (fails_before_first out cells k Bad (grind (arith, nat_tests))))
 
 -- an unmeasured cell is of each type
 bad_of_type : (t : DataType) → IsCellOf t Bad

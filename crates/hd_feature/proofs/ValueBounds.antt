@@ -1,5 +1,5 @@
 -- How great sums and means are.
-use Rattle.std.proofs.Common.{◌≡◌, ℕ, ℤ, pos, ◌+◌, ◌*◌, ◌<◌, ◌≤◌, ◌+ℤ◌, unsigned_abs, List, [], ◌∷◌, length, map, filter, fold, All, Bool, le_trans, mul-le-mul_right, suc-mul, subst, subst₂, arith}
+use Rattle.std.proofs.Common.{◌≡◌, ℕ, ℤ, pos, ◌+◌, ◌*◌, ◌<◌, ◌≤◌, ◌+ℤ◌, unsigned_abs, List, [], ◌∷◌, length, map, filter, fold, All, Bool, le_trans, mul-le-mul_right, suc-mul, subst, subst₂, arith, zero-add}
 use Rattle.std.proofs.lemmas.Int.{ints}
 use Rattle.std.proofs.lemmas.List.{length-map}
 use Rattle.std.proofs.lemmas.List.Elements.{All-filter, All-head, All-map, All-tail}
@@ -35,10 +35,7 @@ pub total-small : (p : Region → Bool) (f : Region → ℤ) (rs : List Region) 
 total-small p f rs m all =
     let each = All-map (λ x. unsigned_abs x ≤ m) f (filter p rs) (All-filter p (λ r. unsigned_abs (f r) ≤ m) rs all) in
     let sum = total_from (pos 0) (map f (filter p rs)) m each in
-    le_trans (subst (λ n. unsigned_abs (total (map f (filter p rs))) ≤ n) (zero_more (length (map f (filter p rs)) * m)) sum) (mul-le-mul_right m (filter-few p f rs))
-  where
-    zero_more : (n : ℕ) → 0 + n ≡ n
-    zero_more n = omega arith
+    le_trans (subst (λ n. unsigned_abs (total (map f (filter p rs))) ≤ n) (zero-add (length (map f (filter p rs)) * m)) sum) (mul-le-mul_right m (filter-few p f rs))
 
 -- the mean of their local heights
 pub IsStatistic-small : ((n : ℤ) (d : ℕ) (a : ℤ) (b : ℕ) → 0 < d → IsFraction n d a b → (unsigned_abs a ≤ unsigned_abs n) × (b ≤ d))

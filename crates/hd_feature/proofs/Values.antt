@@ -11,11 +11,6 @@ use Rattle.hd_feature.specs.declared.notation.Statistic.TheVariants as statistic
 use Rattle.hd_feature.specs.declared.region.Region.{Region}
 use Rattle.hd_feature.specs.Value.{AreSameValues, IsValue, attributes, over, under}
 
--- a list without elements
-pub length-none : {X : Type 0} (xs : List X) → length xs ≡ 0 → xs ≡ []
-length-none [] e = refl
-length-none (x ∷ xs) e = absurd (omega (arith, e))
-
 map_one : (f : Region → ℤ) (b : Bool) (x : Region) → map f (cond b (x ∷ []) []) ≡ cond b (f x ∷ []) []
 map_one f true x = refl
 map_one f false x = refl

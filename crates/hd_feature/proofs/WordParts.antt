@@ -1,17 +1,12 @@
 -- The parts of a word: one without a separator, and one too many.
-use Rattle.std.proofs.Common.{◌≡◌, ℕ, suc, ◌<◌, List, [], ◌∷◌, length, get_or, Bool, true, false, Result, Err, Option, Some, None, is_some, true≢false, refl, ap, ◌∙◌, arith}
-use Rattle.std.specs.List.{slice_split, onto_first}
-use Rattle.std.proofs.lemmas.List.Splits.{length-slice_split, slice_split-cons_no}
+use Rattle.std.proofs.Common.{◌≡◌, ℕ, ◌<◌, List, [], ◌∷◌, length, true, Result, Err, Option, Some, None, is_some, true≢false, refl, arith}
+use Rattle.std.specs.List.{slice_split}
+use Rattle.std.proofs.lemmas.List.Splits.{length-slice_split}
 use denote.Bor.{Bor}
 use Rattle.hd_feature.specs.declared.notation.Notation.{Notation}
 use Rattle.hd_feature.specs.declared.notation.NotationError.{NotationError}
 use Rattle.hd_feature.specs.declared.notation.NotationError.TheVariants.{BadPart}
 use Rattle.hd_feature.specs.Parts.{is_separator, parts_left, no_part}
-
--- a text without the byte is one part
-pub slice_split-one : (test : ℕ → Bool) (xs : List ℕ) → ((k : ℕ) → k < length xs → test (get_or xs k 0) ≡ false) → slice_split test xs ≡ xs ∷ []
-slice_split-one test [] none = refl
-slice_split-one test (x ∷ xs) none = slice_split-cons_no test x xs (none 0 (omega arith)) ∙ ap (onto_first x) (slice_split-one test xs (λ k lt. none (suc k) (omega arith)))
 
 -- a text has a part, which is one too many
 pub no_part-left : (number : ℕ) (rest : Option (Bor (List ℕ))) (made : Result Notation NotationError) → true ≡ is_some rest → no_part number (parts_left rest) made ≡ Err (BadPart number)

@@ -1,22 +1,19 @@
 -- The stops of a flood line: their lows have different indexes, and there are no more of them than lows.
-use Rattle.std.proofs.Common.{◌≡◌, ◌≢◌, ◌∙◌, ℕ, ◌<◌, ◌≤◌, ◌^◌, true, List, length, map, Some, inl, inr, refl, sym, ap, subst, arith, slice_get}
+use Rattle.std.proofs.Common.{◌≡◌, ◌≢◌, ◌∙◌, ℕ, ◌<◌, ◌≤◌, ◌^◌, List, length, map, Some, refl, sym, ap, subst, arith, slice_get}
 use Rattle.std.specs.Prelude.{AllPairs, Contains}
-use Rattle.std.proofs.Math.Dec.{eqb}
-use Rattle.std.proofs.lemmas.Bool.Decides.{Decides-eqb, eqb_tells}
+use Rattle.std.proofs.lemmas.Bool.Decides.{Decides-eqb}
 use Rattle.std.proofs.lemmas.Cmp.{nat_eq_equiv}
 use Rattle.std.proofs.lemmas.List.{length-map}
 use Rattle.std.proofs.lemmas.Map.Made.{IsDistinct-from_AllPairs, length-le_from_is_member}
 use Rattle.std.proofs.lemmas.Map.Views.{Contains-from_any, list_any-from_Contains}
 use Rattle.std.proofs.lemmas.Option.{same_Some}
+use Rattle.std.proofs.lemmas.Bool.{eqb-true}
 use Rattle.hd_map.proofs.Items.{Contains-map, map-Contains}
 use Rattle.hd_graph.specs.declared.graph.Low.{Low}
 use Rattle.hd_graph.specs.declared.line.Stop.{Stop}
 use Rattle.hd_graph.specs.Line.{AreStopsOf, EachOnce, IsLine}
 use Rattle.hd_graph.proofs.NumberedLinks.{one_low}
 use Rattle.hd_map.proofs.Places.{at_place, one_place, pairs-of_map, pairs_from_places, place_of}
-
-same_number : (a b : ℕ) → eqb a b ≡ true → a ≡ b
-same_number a b t = elim (eqb_tells a b) [ inl p ↦ p.1 | inr p ↦ absurd (let f = p.0 in cc) ]
 
 module _ (lows : List Low) (different : AllPairs (λ x y. x.rank.index ≢ y.rank.index) lows) (line : List Stop) (are : AreStopsOf lows line) (once : EachOnce line) where
   low_for : (x : Stop) → Contains line x → Contains lows (record { rank = x.low; pit = x.pit })
@@ -39,7 +36,7 @@ module _ (lows : List Low) (different : AllPairs (λ x y. x.rank.index ≢ y.ran
       let apart : AllPairs (λ a b. a ≢ b) xs = pairs-of_map (λ (x : Stop). x.low.index) line (pairs_from_places (λ (x : Stop). x.low.index) line one_index) in
       let few = length-le_from_is_member nat_eq_equiv xs ys (IsDistinct-from_AllPairs Decides-eqb xs apart)
       (λ q h.
-      let s = Contains-map (λ (x : Stop). x.low.index) line q (Contains-from_any same_number q xs h) in
+      let s = Contains-map (λ (x : Stop). x.low.index) line q (Contains-from_any eqb-true q xs h) in
       list_any-from_Contains nat_eq_equiv q ys (subst (λ n. Contains ys n) s.2 (map-Contains (λ (x : Low). x.rank.index) lows (record { rank = (s.0).low; pit = (s.0).pit }) (low_for s.0 s.1)))) in
       let long = length-map line (λ (x : Stop). x.low.index) in
       let long' = length-map lows (λ (x : Low). x.rank.index) in

@@ -17,6 +17,7 @@ use Rattle.hd_num.specs.Decimal.{IsSplit, IsValueOf, IsBounded, decimal_of, digi
 use Rattle.hd_num.specs.Whole.{count_of, is_numeral, signed_number}
 use Rattle.hd_num.proofs.LinePieces.{AgreeOn}
 use Rattle.hd_num.proofs.WholeReadsBack.{IsNumeralModel-digits}
+use Rattle.hd_num.proofs.Numerals.{digit_value-ascii}
 
 -- digits after a number and one more
 value_push : (n : ℕ) (ds : List ℕ) (c : ℕ) → digits_value_after 10 n (ds ++ c ∷ []) ≡ digits_value_after 10 n ds * 10 + digit_value c
@@ -27,10 +28,6 @@ value_push n (d ∷ ds) c = value_push (n * 10 + digit_value d) ds c
 pub digits_value_after-append : (n : ℕ) (xs ys : List ℕ) → digits_value_after 10 n (xs ++ ys) ≡ digits_value_after 10 (digits_value_after 10 n xs) ys
 digits_value_after-append n [] ys = refl
 digits_value_after-append n (x ∷ xs) ys = digits_value_after-append (n * 10 + digit_value x) xs ys
-
--- the value of an ASCII digit
-digit_value-ascii : (c : ℕ) → is_ascii_digit c ≡ true → digit_value c ≡ c - 48
-digit_value-ascii c h = grind (arith, nat_tests)
 
 -- one more digit after a number, up to a top
 pub digits_value_after-capped : (top before : ℕ) (text : List ℕ) (i value : ℕ) → i < length text → is_ascii_digit (get_or text i 0) ≡ true

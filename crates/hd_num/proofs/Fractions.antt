@@ -52,19 +52,17 @@ divides_other a b c coprime some h =
 cancel : (m n k : ℕ) → 0 < k → m * k ≡ n * k → m ≡ n
 cancel m n k some e = sym (mul-div_cancel m some) ∙ ap (λ x. x / k) e ∙ mul-div_cancel n some
 
+-- a number is not less than 0
+signs_apart : (x y : ℕ) → 0 < y → pos x ≡ neg_ℤ (pos y) → ⊥
+signs_apart x y h e = omega (arith, ints)
+
 cancel_signed : (a b : ℤ) (k : ℕ) → 0 < k → a *ℤ pos k ≡ b *ℤ pos k → a ≡ b
 cancel_signed (pos m) (pos n) k some e = ap pos (cancel m n k some (same (m * k) (n * k) e))
   where
     same : (x y : ℕ) → pos x ≡ pos y → x ≡ y
     same x y h = omega (arith, ints)
-cancel_signed (pos m) (negsuc n) k some e = absurd (apart (m * k) (suc n * k) (mul-pos (omega arith) some) e)
-  where
-    apart : (x y : ℕ) → 0 < y → pos x ≡ neg_ℤ (pos y) → ⊥
-    apart x y h e = omega (arith, ints)
-cancel_signed (negsuc m) (pos n) k some e = absurd (apart (n * k) (suc m * k) (mul-pos (omega arith) some) (sym e))
-  where
-    apart : (x y : ℕ) → 0 < y → pos x ≡ neg_ℤ (pos y) → ⊥
-    apart x y h e = omega (arith, ints)
+cancel_signed (pos m) (negsuc n) k some e = absurd (signs_apart (m * k) (suc n * k) (mul-pos (omega arith) some) e)
+cancel_signed (negsuc m) (pos n) k some e = absurd (signs_apart (n * k) (suc m * k) (mul-pos (omega arith) some) (sym e))
 cancel_signed (negsuc m) (negsuc n) k some e = ap (λ x. neg_ℤ (pos x)) (cancel (suc m) (suc n) k some (same (suc m * k) (suc n * k) e))
   where
     same : (x y : ℕ) → neg_ℤ (pos x) ≡ neg_ℤ (pos y) → x ≡ y
@@ -88,17 +86,17 @@ IsFraction-determined n d a b a' b' some f g =
     crossed = cancel (unsigned_abs a * b') (unsigned_abs a' * b) d some
         (mul_right_comm (unsigned_abs a) b' d ∙ ap (λ x. x * b') (sym (sizes a b f.value)) ∙ mul_right_comm (unsigned_abs n) b b' ∙ ap (λ x. x * b) (sizes a' b' g.value) ∙ mul_right_comm (unsigned_abs a') d b)
 
-size_of_signed : (minus : Bool) (m : ℕ) → unsigned_abs (signed_number minus m) ≡ m
+pub size_of_signed : (minus : Bool) (m : ℕ) → unsigned_abs (signed_number minus m) ≡ m
 size_of_signed false m = refl
 size_of_signed true zero = refl
 size_of_signed true (suc m) = refl
 
-product_of_signed : (minus : Bool) (m k : ℕ) → signed_number minus m *ℤ pos k ≡ signed_number minus (m * k)
+pub product_of_signed : (minus : Bool) (m k : ℕ) → signed_number minus m *ℤ pos k ≡ signed_number minus (m * k)
 product_of_signed false m k = refl
 product_of_signed true zero k = (let none : zero * k ≡ 0 = omega arith in ap pos none ∙ sym (ap (λ x. neg_ℤ (pos x)) none))
 product_of_signed true (suc m) k = refl
 
-signed_of_size : (n : ℤ) → n ≡ signed_number (int_lt n (pos 0)) (unsigned_abs n)
+pub signed_of_size : (n : ℤ) → n ≡ signed_number (int_lt n (pos 0)) (unsigned_abs n)
 signed_of_size (pos n) = grind (arith, ints)
 signed_of_size (negsuc n) = refl
 

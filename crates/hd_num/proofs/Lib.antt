@@ -1,3 +1,4 @@
+pub mod AppendsPrefix
 pub mod Decimals
 pub mod Fractions
 pub mod Integers

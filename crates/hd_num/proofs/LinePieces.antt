@@ -16,7 +16,7 @@ use Rattle.hd_num.specs.Span.{IsBefore, IsPart, text_at}
 use Rattle.hd_num.specs.declared.span.Span.{Span}
 
 -- bytes of which none passes are one piece
-split_none : (test : ℕ → Bool) (xs : List ℕ) → ((k : ℕ) → k < length xs → test (get_or xs k 0) ≡ false) → slice_split test xs ≡ xs ∷ []
+pub split_none : (test : ℕ → Bool) (xs : List ℕ) → ((k : ℕ) → k < length xs → test (get_or xs k 0) ≡ false) → slice_split test xs ≡ xs ∷ []
 split_none test [] none = refl
 split_none test (x ∷ xs) none = slice_split-cons_no test x xs (none 0 (omega arith)) ∙ ap (onto_first x) (split_none test xs (λ k lt. none (suc k) (omega arith)))
 
@@ -102,7 +102,7 @@ is_filled-piece bytes from end some within =
     ap not (ne_eqb (length (slice_range bytes from end)) 0 (λ none. omega (arith, none, length-take (end - from) (drop from bytes), length-drop from bytes)))
 
 -- a piece before others stays
-without_empty_last-cons : (piece : List ℕ) (parts : List (List ℕ)) → 0 < length parts → without_empty_last (piece ∷ parts) ≡ piece ∷ without_empty_last parts
+pub without_empty_last-cons : (piece : List ℕ) (parts : List (List ℕ)) → 0 < length parts → without_empty_last (piece ∷ parts) ≡ piece ∷ without_empty_last parts
 without_empty_last-cons piece [] some = absurd (omega arith)
 without_empty_last-cons piece (next ∷ more) some = refl
 

@@ -10,7 +10,7 @@ use Rattle.std.proofs.lemmas.Str.Parse.{digits_value_short}
 use Rattle.hd_num.proofs.WholeReadsBack.{IsNumeralModel-digits}
 
 -- the value of an ASCII digit
-digit_value-ascii : (c : ℕ) → is_ascii_digit c ≡ true → digit_value c ≡ c - 48
+pub digit_value-ascii : (c : ℕ) → is_ascii_digit c ≡ true → digit_value c ≡ c - 48
 digit_value-ascii c h = grind (arith, nat_tests)
 
 -- one more digit

@@ -1,5 +1,5 @@
 -- The text of a percent is read as that percent.
-use Rattle.std.proofs.Common.{◌≡◌, ◌+◌, ◌-◌, ◌*◌, ◌/◌, ◌%◌, ◌≤◌, ◌<◌, ◌&&◌, ◌==◌, ℕ, Bool, true, List, [], ◌∷◌, ◌++◌, length, take, drop, Option, Some, None, if◌then◌else◌, inl, inr, refl, sym, ap, ap₂, ◌∙◌, arith, append_assoc, length-append}
+use Rattle.std.proofs.Common.{◌≡◌, ◌+◌, ◌-◌, ◌*◌, ◌/◌, ◌%◌, ◌≤◌, ◌<◌, ◌&&◌, ◌==◌, ℕ, Bool, true, List, [], ◌∷◌, ◌++◌, length, take, drop, Option, Some, None, if◌then◌else◌, inl, inr, refl, sym, ap, ap₂, ◌∙◌, arith, append_assoc, length-append, add-zero, zero-add}
 use Rattle.std.specs.Prelude.{decimal, nat_le, nat_lt, slice_index_or}
 use Rattle.std.specs.Char.{digit_value, is_ascii_digit}
 use Rattle.std.specs.Int.{is_in_range}
@@ -21,24 +21,21 @@ value_back : (a : ℕ) → a < 10 → digit_value (48 + a) ≡ a
 value_back a small = grind (arith, nat_tests)
 
 -- one, two and three digits as a fraction
-zero_before : (a : ℕ) → 0 + a ≡ a
-zero_before a = omega arith
-
 one_digit : (a : ℕ) → a < 10 → fraction_of ((48 + a) ∷ []) ≡ Some (a * 100)
-one_digit a small = ap₂ (λ (b : Bool) (v : ℕ). if b && true then Some ((0 + v) * 100) else None) (digit_back a small) (value_back a small) ∙ ap (λ (n : ℕ). Some (n * 100)) (zero_before a)
+one_digit a small = ap₂ (λ (b : Bool) (v : ℕ). if b && true then Some ((0 + v) * 100) else None) (digit_back a small) (value_back a small) ∙ ap (λ (n : ℕ). Some (n * 100)) (zero-add a)
 
 two_digits : (a b : ℕ) → a < 10 → b < 10 → fraction_of ((48 + a) ∷ (48 + b) ∷ []) ≡ Some ((a * 10 + b) * 10)
 two_digits a b small less =
     ap₂ (λ (p : Bool) (v : ℕ). if p && (is_ascii_digit (48 + b) && true) then Some (((0 + v) * 10 + digit_value (48 + b)) * 10) else None) (digit_back a small) (value_back a small)
     ∙ ap₂ (λ (p : Bool) (v : ℕ). if p && true then Some (((0 + a) * 10 + v) * 10) else None) (digit_back b less) (value_back b less)
-    ∙ ap (λ (n : ℕ). Some ((n * 10 + b) * 10)) (zero_before a)
+    ∙ ap (λ (n : ℕ). Some ((n * 10 + b) * 10)) (zero-add a)
 
 three : (a b c : ℕ) → a < 10 → b < 10 → c < 10 → fraction_of ((48 + a) ∷ (48 + b) ∷ (48 + c) ∷ []) ≡ Some (((a * 10 + b) * 10 + c) * 1)
 three a b c small less few =
     ap₂ (λ (p : Bool) (v : ℕ). if p && (is_ascii_digit (48 + b) && (is_ascii_digit (48 + c) && true)) then Some ((((0 + v) * 10 + digit_value (48 + b)) * 10 + digit_value (48 + c)) * 1) else None) (digit_back a small) (value_back a small)
     ∙ ap₂ (λ (p : Bool) (v : ℕ). if p && (is_ascii_digit (48 + c) && true) then Some ((((0 + a) * 10 + v) * 10 + digit_value (48 + c)) * 1) else None) (digit_back b less) (value_back b less)
     ∙ ap₂ (λ (p : Bool) (v : ℕ). if p && true then Some ((((0 + a) * 10 + b) * 10 + v) * 1) else None) (digit_back c few) (value_back c few)
-    ∙ ap (λ (n : ℕ). Some (((n * 10 + b) * 10 + c) * 1)) (zero_before a)
+    ∙ ap (λ (n : ℕ). Some (((n * 10 + b) * 10 + c) * 1)) (zero-add a)
 
 -- thousandths after the point
 fraction_back : (f : ℕ) → f < 1000 → fraction_of (take (digits_left f) (three_digits f)) ≡ Some f
@@ -88,22 +85,19 @@ few_back w small =
 -- digits are read as wholes alone
 wholes_alone : (ds : List ℕ) → list_all is_ascii_digit ds ≡ true → (before_first is_point (ds ++ []) ≡ ds) × (thousandths_of (ds ++ []) ≡ Some 0)
 wholes_alone ds all =
-    let at : position_or_len is_point (ds ++ []) ≡ length ds = position_or_len-past_digits is_point is_point-digit ds [] all ∙ add_none (length ds) in
+    let at : position_or_len is_point (ds ++ []) ≡ length ds = position_or_len-past_digits is_point is_point-digit ds [] all ∙ add-zero (length ds) in
     let front : before_first is_point (ds ++ []) ≡ ds = ap (λ (n : ℕ). take n (ds ++ [])) at ∙ take-append_seam ds [] in
     let short : length (ds ++ []) ≤ length ds = omega (arith, length-append {A = ℕ} ds []) in (
       front,
       ap (λ (xs : List ℕ). if nat_lt (length xs) (length (ds ++ [])) then fraction_of (after_first is_point (ds ++ [])) else Some 0) front
           ∙ ap (λ (b : Bool). if b then fraction_of (after_first is_point (ds ++ [])) else Some 0) (le-ltb (length ds) (length (ds ++ [])) short),
     )
-  where
-    add_none : (n : ℕ) → n + 0 ≡ n
-    add_none n = omega arith
 
 -- what follows a point is read as thousandths
 wholes_point : (ds fs : List ℕ) → list_all is_ascii_digit ds ≡ true → (before_first is_point (ds ++ 46 ∷ fs) ≡ ds) × (thousandths_of (ds ++ 46 ∷ fs) ≡ fraction_of fs)
 wholes_point ds fs all =
     let text : List ℕ = ds ++ 46 ∷ fs in
-    let at : position_or_len is_point text ≡ length ds = position_or_len-past_digits is_point is_point-digit ds (46 ∷ fs) all ∙ add_none (length ds) in
+    let at : position_or_len is_point text ≡ length ds = position_or_len-past_digits is_point is_point-digit ds (46 ∷ fs) all ∙ add-zero (length ds) in
     let front : before_first is_point text ≡ ds = ap (λ (n : ℕ). take n text) at ∙ take-append_seam ds (46 ∷ fs) in
     let back : after_first is_point text ≡ fs = ap (λ (n : ℕ). drop (n + 1) text) at ∙ drop-append-add ds (46 ∷ fs) 1 in
     let long : length ds < length text = omega (arith, length-append {A = ℕ} ds (46 ∷ fs)) in (
@@ -111,9 +105,6 @@ wholes_point ds fs all =
       ap (λ (xs : List ℕ). if nat_lt (length xs) (length text) then fraction_of (after_first is_point text) else Some 0) front
           ∙ ap (λ (b : Bool). if b then fraction_of (after_first is_point text) else Some 0) (lt-ltb (length ds) (length text) long) ∙ ap fraction_of back,
     )
-  where
-    add_none : (n : ℕ) → n + 0 ≡ n
-    add_none n = omega arith
 
 -- the wholes and the thousandths of a text
 after_wholes : (ds : List ℕ) (f : ℕ) → list_all is_ascii_digit ds ≡ true → f < 1000 → (before_first is_point (ds ++ fraction_text f) ≡ ds) × (thousandths_of (ds ++ fraction_text f) ≡ Some f)

@@ -1,6 +1,6 @@
 -- One to three digits, and the texts of percents.
-use Rattle.std.proofs.Common.{◌≡◌, ℕ, zero, suc, ◌+◌, ◌<◌, ◌≤◌, ◌^◌, List, [], ◌∷◌, ◌++◌, length, take, Bool, true, false, not, ◌&&◌, ◌==◌, ltb, Option, Some, None, Ok, Err, if◌then◌else◌, inl, inr, subst, refl, sym, ap, ◌∙◌, arith, append_assoc}
-use Rattle.std.specs.Prelude.{IfSome, Result, OnOk, OnErr, ℤ, pos, negsuc, ◌*ℤ◌, int_lt, FitsSigned}
+use Rattle.std.proofs.Common.{◌≡◌, ℕ, suc, ◌<◌, ◌≤◌, ◌^◌, List, [], ◌∷◌, length, Bool, true, false, not, ◌&&◌, ◌==◌, ltb, Option, Some, None, Ok, Err, if◌then◌else◌, inl, inr, subst, refl, sym, ap, ◌∙◌, arith}
+use Rattle.std.specs.Prelude.{IfSome, Result, OnErr, ℤ, pos, negsuc, ◌*ℤ◌, int_lt, FitsSigned}
 use mir.Syntax.{w64, w128}
 use mir.Val.{to_z, of_z}
 use Rattle.std.specs.Int.RustNames.{unsigned_abs}
@@ -9,11 +9,9 @@ use Rattle.std.specs.Char.{is_ascii_digit}
 use Rattle.std.specs.Int.{is_in_range}
 use Rattle.std.specs.List.{list_all}
 use Rattle.std.specs.Str.Parse.{digits_value}
-use Rattle.std.proofs.lemmas.Bool.{lt-ltb, cases_Bool, cases_lt, and_from, and_parts}
-use Rattle.std.proofs.lemmas.List.{take_all}
+use Rattle.std.proofs.lemmas.Bool.{lt-ltb, cases_Bool, and_from, and_parts, and_right}
 use Rattle.std.proofs.lemmas.Bool.Decides.{nat_tests}
 use Rattle.hd_num.specs.Percent.{are_few_digits, few_digits_of, is_percent_less}
-use Rattle.hd_num.specs.Text.{AppendsPrefix}
 use Rattle.hd_num.specs.Whole.{count_of, is_numeral}
 use Rattle.hd_num.proofs.Decimals.{digits_value-small}
 
@@ -32,15 +30,11 @@ few_test x xs h =
           let small = digits_value-small (x ∷ xs) e h in
           let fits : ltb (digits_value 10 (x ∷ xs)) (2 ^ 32) ≡ true = lt-ltb _ _ (omega (arith, small)) in
           and_from (is_numeral (x ∷ xs)) (ltb (digits_value 10 (x ∷ xs)) (2 ^ 32)) (and_from (not (suc (length xs) == 0)) (list_all is_ascii_digit (x ∷ xs)) some e) fits ∙ sym (and_from _ _ few e)
-      | inr e ↦ falls (not (suc (length xs) == 0)) (list_all is_ascii_digit (x ∷ xs)) (ltb (digits_value 10 (x ∷ xs)) (2 ^ 32)) e ∙ sym (fails _ _ e)
+      | inr e ↦ falls (not (suc (length xs) == 0)) (list_all is_ascii_digit (x ∷ xs)) (ltb (digits_value 10 (x ∷ xs)) (2 ^ 32)) e ∙ sym (and_right _ _ e)
     ]
   where
-    fails : (a b : Bool) → b ≡ false → (a && b) ≡ false
-    fails true b e = e
-    fails false b e = refl
-
     falls : (a b c : Bool) → b ≡ false → ((a && b) && c) ≡ false
-    falls a b c e = ap (λ v. v && c) (fails a b e)
+    falls a b c e = ap (λ v. v && c) (and_right a b e)
 
 -- few digits are a count
 pub few_digits_of-is_count : (text : List ℕ) → length text ≤ 3 → count_of text ≡ few_digits_of text
@@ -56,32 +50,6 @@ few_digits_of-small text o h e = subst (λ p. IfSome p (λ n. n < 1000)) (sym e)
   | true ↦ λ f. few_below text f h
   | false ↦ λ f. tt
 ] refl)
-
--- a prefix of the first of two texts
-pub AppendsPrefix-first : (old new a b : List ℕ) → AppendsPrefix old new a → AppendsPrefix old new (a ++ b)
-AppendsPrefix-first old new a b h = elim (cases_lt h.0 (length a)) [
-  | inl few ↦ (h.0, h.1 ∙ ap (λ t. old ++ t) (sym (take_append_short h.0 a b (omega arith))))
-  | inr many ↦ (length a, h.1 ∙ ap (λ t. old ++ t) (take_all h.0 a (omega arith) ∙ sym (take_append_first a b)))
-]
-  where
-    take_append_short : (k : ℕ) (xs ys : List ℕ) → k ≤ length xs → take k (xs ++ ys) ≡ take k xs
-    take_append_short zero xs ys le = refl
-    take_append_short (suc k) [] ys le = absurd (omega arith)
-    take_append_short (suc k) (x ∷ xs) ys le = ap (λ t. x ∷ t) (take_append_short k xs ys (omega arith))
-
-    take_append_first : (xs ys : List ℕ) → take (length xs) (xs ++ ys) ≡ xs
-    take_append_first [] ys = refl
-    take_append_first (x ∷ xs) ys = ap (λ t. x ∷ t) (take_append_first xs ys)
-
--- a prefix of the second, after the first
-pub AppendsPrefix-then : (old mid new a b : List ℕ) → mid ≡ old ++ a → AppendsPrefix mid new b → AppendsPrefix old new (a ++ b)
-AppendsPrefix-then old mid new a b e h = (length a + h.0, h.1 ∙ ap (λ t. t ++ take h.0 b) e ∙ append_assoc old a (take h.0 b) ∙ ap (λ t. old ++ t) (sym (take_append_then a b h.0)))
-  where
-    take_append_then : (xs ys : List ℕ) (k : ℕ) → take (length xs + k) (xs ++ ys) ≡ xs ++ take k ys
-    take_append_then [] ys k = (let e : 0 + k ≡ k = omega arith in ap (λ n. take n ys) e)
-    take_append_then (x ∷ xs) ys k =
-        let e : length (x ∷ xs) + k ≡ suc (length xs + k) = omega arith in
-        ap (λ n. take n (x ∷ xs ++ ys)) e ∙ ap (λ t. x ∷ t) (take_append_then xs ys k)
 
 pub unsigned_abs-small : (z : ℤ) → FitsSigned w64 z → unsigned_abs z ≤ 2 ^ 63
 unsigned_abs-small (pos n) h = omega (arith, ints)
@@ -105,12 +73,3 @@ is_percent_less-kept l s t a b c ea eb ec hl hs ht =
 pub OnErr-told : {A B : Type 0} {P : Type 0} (r : Result A B) → P → OnErr r P
 OnErr-told (Ok x) p = tt
 OnErr-told (Err e) p = p
-
-pub OnErr-map : {A B : Type 0} {P Q : Type 0} (r : Result A B) → (P → Q) → OnErr r P → OnErr r Q
-OnErr-map (Ok x) f p = tt
-OnErr-map (Err e) f p = f p
-
--- what holds after success
-pub OnOk-map : {A B : Type 0} {P Q : Type 0} (r : Result A B) → (P → Q) → OnOk r P → OnOk r Q
-OnOk-map (Ok x) f p = f p
-OnOk-map (Err e) f p = tt

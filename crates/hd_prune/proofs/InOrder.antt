@@ -14,9 +14,9 @@ use Rattle.hd_map.specs.Map.{Map}
 use Rattle.hd_map.specs.Order.{IsStrictOrder}
 use Rattle.hd_map.specs.Rank.{IsPoint}
 use Rattle.hd_map.proofs.Order.{is_same, is_same-decides, is_same-flips}
+use Rattle.hd_map.proofs.Points.{same_index}
 use Rattle.hd_graph.specs.declared.graph.Low.{Low}
 use Rattle.hd_prune.specs.declared.step.Owned.{Owned}
-use Rattle.hd_prune.proofs.Links.{one_point}
 use Rattle.hd_prune.specs.Pruned.{AreInOrder, index_less, owned_by}
 use Rattle.hd_prune.specs.Staying.{ranks_of}
 
@@ -45,7 +45,7 @@ in_order-rises m below order raw pits apart h points =
     let once = IsDistinct-IsPermutation (is_same below order) (is_same-flips below order) raw pits h.same (IsDistinct-from_AllPairs (is_same-decides below order) raw apart) in
     let differ = AllPairs-from_IsDistinct (is_same-decides below order) pits once in
     λ i j d lt len. at_least (get_or pits i d).index (get_or pits j d).index (sorted_far index_less index-order pits h.sorted i j d (omega arith) len)
-    (λ e. differ i j d lt len (one_point m (get_or pits i d) (get_or pits j d) (points (get_or pits i d) (Contains-get_or pits i d (omega arith))) (points (get_or pits j d) (Contains-get_or pits j d len)) e))
+    (λ e. differ i j d lt len (same_index m (get_or pits i d) (get_or pits j d) (points (get_or pits i d) (Contains-get_or pits i d (omega arith))) (points (get_or pits j d) (Contains-get_or pits j d len)) e))
 
 -- one more owner
 pub owned-more : (owner : Rank → Rank) (lows : List Low) (i : ℕ) (d : Low) (o : Rank) (old new all : List Owned) → i < length lows → new ≡ old ++ record { pit = (get_or lows i d).rank; owner = o } ∷ [] → o ≡ owner (get_or lows i d).rank →

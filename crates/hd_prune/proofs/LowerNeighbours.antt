@@ -1,29 +1,18 @@
 -- The neighbours of a point of a map, and those of them that are below it, in a list.
 use Rattle.std.proofs.Common.{◌≡◌, ℕ, zero, suc, ◌<◌, ◌≤◌, ◌+◌, ◌/◌, ◌%◌, ◌⊎◌, inl, inr, Bool, List, [], ◌∷◌, ◌++◌, map, sym, ◌∙◌, subst, arith}
 use Rattle.std.specs.Prelude.{Contains, ◌↔◌, filter}
-use Rattle.std.proofs.lemmas.Bool.{cases_lt, cases_eq}
+use Rattle.std.proofs.lemmas.Bool.{cases_eq}
 use Rattle.hd_map.specs.declared.types.Pos.{Pos}
 use Rattle.hd_map.specs.declared.types.Rank.{Rank}
 use Rattle.hd_map.specs.declared.types.SideName.{SideName}
-use Rattle.hd_map.specs.declared.types.Size.{Size}
-use Rattle.hd_map.specs.Map.{Map, InGrid, Present}
+use Rattle.hd_map.specs.Map.{Map, Present}
 use Rattle.hd_map.specs.Neighbour.{Neighbour}
 use Rattle.hd_map.specs.Rank.{below_by, IsPoint, rank}
 use Rattle.hd_map.specs.Region.{LowerNeighbour}
-use Rattle.hd_map.proofs.Decided.{beside_or_not}
+use Rattle.hd_map.proofs.Decided.{beside_or_not, in_grid_or_not}
 use Rattle.hd_map.proofs.Gather.{Gathered, same_pos, gathered_push, gathered_none, gathered_apart, gathered_centre, gathered_all}
 use Rattle.hd_map.proofs.Points.{present_or_not, same_point}
 use Rattle.hd_prune.proofs.Lists.{Contains-none, Contains-filter, filter-Contains, Contains-map, map-Contains}
-
--- each position is in the grid, or outside
-in_grid_or_not : (s : Size) (p : Pos) → InGrid s p ⊎ (InGrid s p → ⊥)
-in_grid_or_not s p = elim (cases_lt p.x s.points) [
-  | inl column ↦ elim (cases_lt p.y s.profiles) [
-    | inl profile ↦ inl (record { column = column; profile = profile })
-    | inr past ↦ inr (λ h. omega (arith, h.profile))
-  ]
-  | inr past ↦ inr (λ h. omega (arith, h.column))
-]
 
 -- a present point whose column and profile are one less than these, or none
 shown_before : (m : Map) (x y : ℕ) → ((q : Pos) × (q.x + 1 ≡ x) × (q.y + 1 ≡ y) × Present m q) ⊎ ((q : Pos) → q.x + 1 ≡ x → q.y + 1 ≡ y → Present m q → ⊥)

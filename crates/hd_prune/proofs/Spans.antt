@@ -1,11 +1,12 @@
 -- The range of the heights of a map, and how far they span.
 use Rattle.std.proofs.Common.{◌≡◌, ◌<◌, ◌≤◌, ◌++◌, ◌∙◌, ℕ, ℤ, zero, suc, List, [], ◌∷◌, Option, Some, None, ◌⊎◌, inl, inr, refl, ap, sym, subst, arith, add-one, SFits, w64}
-use Rattle.std.specs.Prelude.{All, Contains, fold, pos, ◌-ℤ◌, ◌≤ℤ◌}
+use Rattle.std.specs.Prelude.{Contains, fold, pos, ◌-ℤ◌, ◌≤ℤ◌}
 use Rattle.std.specs.Int.{int_min, int_max}
 use Rattle.std.specs.List.{cons_option}
 use Rattle.std.proofs.lemmas.Bool.{cases_lt}
 use Rattle.std.proofs.lemmas.Int.{ints, fold-int_min_bounds, fold-int_min_reached, fold-int_max_bounds, fold-int_max_reached}
-use Rattle.std.proofs.lemmas.List.Elements.{Contains-push, Contains-append_left, Contains-append_cases}
+use Rattle.std.proofs.lemmas.List.Elements.{Contains-push, Contains-append_left, Contains-append_cases, All-contains}
+use Rattle.std.proofs.lemmas.Option.{same_Some}
 use Rattle.hd_map.specs.declared.types.Pos.{Pos}
 use Rattle.hd_map.specs.declared.types.Rank.{Rank}
 use Rattle.hd_map.specs.Map.{Map, IsMap, Present, cell_at, mask_at, cell_count, place_of, position_at, height_or_zero, height_at}
@@ -59,9 +60,6 @@ point_of m (suc n) h whole within there =
           (rank m at, point_at m at here, is.2)
     ]
 
-range-some_same : (a b : HeightRange) → ◌≡◌ {A = Option HeightRange} (Some a) (Some b) → a ≡ b
-range-some_same a b e = cc
-
 none_some : (a : HeightRange) → ◌≡◌ {A = Option HeightRange} (Some a) None → ⊥
 none_some a e = cc
 
@@ -75,13 +73,10 @@ reached : (h : ℤ) (heights : List ℤ) (r : ℤ) → (r ≡ h) ⊎ Contains he
 reached h heights r (inl same) = subst (Contains (h ∷ heights)) (sym same) (Contains-head h heights)
 reached h heights r (inr later) = Contains-tail h r heights later
 
-All-at : (P : ℤ → Type 0) (heights : List ℤ) (h : ℤ) → All P heights → Contains heights h → P h
-All-at P heights h all there = subst P there.2 (all there.0 h there.1)
-
 pub range_is : (heights : List ℤ) (range : HeightRange) → range_of heights ≡ Some range → IsRange heights range
 range_is [] range is = absurd (none_some range (sym is))
 range_is (first ∷ heights) range is =
-    let e : record { least = fold int_min first heights; greatest = fold int_max first heights } ≡ range = range-some_same _ range is in
+    let e : record { least = fold int_min first heights; greatest = fold int_max first heights } ≡ range = same_Some _ range is in
     let least : range.least ≡ fold int_min first heights = ap (λ (x : HeightRange). x.least) (sym e) in
     let greatest : range.greatest ≡ fold int_max first heights = ap (λ (x : HeightRange). x.greatest) (sym e) in
     let low = fold-int_min_bounds first heights range.least least in
@@ -91,7 +86,7 @@ range_is (first ∷ heights) range is =
       greatest_in = reached first heights range.greatest (fold-int_max_reached first heights range.greatest greatest);
       bounds = λ h there. elim (Contains-cases first h heights there) [
         | inl same ↦ subst (λ z. (range.least ≤ℤ z) × (z ≤ℤ range.greatest)) (sym same) (low.0, high.0)
-        | inr later ↦ (All-at (λ z. range.least ≤ℤ z) heights h low.1 later, All-at (λ z. z ≤ℤ range.greatest) heights h high.1 later)
+        | inr later ↦ (All-contains (λ z. range.least ≤ℤ z) heights h low.1 later, All-contains (λ z. z ≤ℤ range.greatest) heights h high.1 later)
       ];
     }
 

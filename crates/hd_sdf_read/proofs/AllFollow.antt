@@ -2,7 +2,7 @@
 use Rattle.std.proofs.Common.{◌≡◌, ◌+◌, ◌≤◌, ℕ, Bool, true, false, not, List, [], ◌∷◌, ◌++◌, length, cond, leb, Option, Some, None, refl, sym, ap, subst, arith, ◌∙◌, inl, inr, length-append, append_assoc, append-nil}
 use Rattle.std.specs.Prelude.{is_none}
 use Rattle.std.specs.List.{list_all, list_any}
-use Rattle.std.proofs.lemmas.Bool.{and_from, and_parts, or_from, or_parts, cases_Bool, leb-true}
+use Rattle.std.proofs.lemmas.Bool.{and_from, and_parts, or_from, or_parts, cases_Bool, leb-true, not-true}
 use Rattle.std.proofs.lemmas.List.Elements.{filter-append}
 use Rattle.std.proofs.lemmas.List.Folds.{list_any-append}
 use Rattle.hd_sdf_read.specs.declared.keys.Form.{Form}
@@ -11,7 +11,7 @@ use Rattle.hd_sdf_read.specs.declared.file.Extra.{Extra}
 use Rattle.hd_sdf_read.specs.Entries.{extra_entries, has_key, offence, value_offence}
 use Rattle.hd_sdf_read.specs.File.{are_apart, is_entry, is_extra}
 use Rattle.hd_sdf_read.specs.Keys.{form_in, form_of, same_key}
-use Rattle.hd_sdf_read.proofs.GoodEntries.{not-true, same_key-turned}
+use Rattle.hd_sdf_read.proofs.GoodEntries.{same_key-turned}
 
 -- each entry has its form, and no offence after those before it
 abbrev pub AllFollow : List Extra → List Extra → Type 0

@@ -1,9 +1,8 @@
 -- Data that are kept as cells stand for those that were read.
-use Rattle.std.proofs.Common.{◌≡◌, ◌+◌, ◌-◌, ◌*◌, ◌^◌, ◌≤◌, ◌*ℤ◌, ℕ, ℤ, zero, suc, pos, negsuc, int_lt, unsigned_abs, Bool, true, false, ◌&&◌, ◌||◌, List, [], ◌∷◌, ◌++◌, length, Ok, Err, inl, inr, refl, sym, ap, ap₂, subst, arith, ◌∙◌, length-append}
+use Rattle.std.proofs.Common.{◌≡◌, ◌+◌, ◌-◌, ◌*◌, ◌^◌, ◌≤◌, ◌*ℤ◌, ℕ, ℤ, zero, suc, pos, int_lt, unsigned_abs, Bool, true, false, ◌&&◌, ◌||◌, List, [], ◌∷◌, ◌++◌, length, Ok, Err, inl, inr, refl, sym, ap, ap₂, subst, arith, ◌∙◌, length-append}
 use Rattle.std.specs.Prelude.{Result, nat_le}
 use Rattle.std.specs.List.{list_all}
 use Rattle.std.proofs.lemmas.Bool.{cases_Bool, cases_lt, le-leb, lt-leb}
-use Rattle.std.proofs.lemmas.Int.{ints}
 use Rattle.std.proofs.lemmas.List.{length-map, map-append}
 use Rattle.hd_map.specs.declared.types.Cell.{Cell}
 use Rattle.hd_map.specs.declared.types.Cell.TheVariants.{Bad, Height}
@@ -12,6 +11,7 @@ use Rattle.hd_map.specs.declared.types.Size.{Size}
 use Rattle.hd_map.specs.Cells.{wide_cells_in}
 use Rattle.hd_map.specs.Map.{cell_count}
 use Rattle.hd_num.specs.Whole.{signed_number}
+use Rattle.hd_num.proofs.Fractions.{product_of_signed, signed_of_size}
 use Rattle.hd_sdf_read.specs.declared.error.SdfError.{SdfError}
 use Rattle.hd_sdf_read.specs.declared.error.SdfError.TheVariants.{DatumRange, TooFewData}
 use Rattle.hd_sdf_read.specs.declared.scaled.Datum.{Datum}
@@ -23,7 +23,7 @@ use Rattle.hd_sdf_read.specs.Grammar.{decimal_map}
 use Rattle.hd_sdf_read.specs.Reads.{◌>>=◌}
 use Rattle.hd_sdf_read.specs.Scaling.{IsScaled}
 use Rattle.hd_sdf_read.specs.Tokens.{after_token, is_absent, is_star, token_of}
-use Rattle.hd_sdf_read.proofs.Scaling.{steps_at-in_range, most_places_in-push, steps_at-out_of_range, signed_number-times, steps_at-grow}
+use Rattle.hd_sdf_read.proofs.Scaling.{steps_at-in_range, most_places_in-push, steps_at-out_of_range, steps_at-grow}
 
 -- data that nothing behind them can tell apart
 pub record AreAlike (xs ys : List Datum) : Type 0 where
@@ -103,11 +103,6 @@ unfolding decimal_in
 decimal_in-alike size t text xs ys alike =
     ap (λ n. (decimals_from xs (cell_count size - n) text >>= decimal_map size t) >>= trailed size) alike.count ∙ alike_from size t (cell_count size - length ys) text xs ys alike
 
--- a height by its sign and how far it is from 0
-sign_back : (h : ℤ) → signed_number (int_lt h (pos 0)) (unsigned_abs h) ≡ h
-sign_back (pos n) = let plus : int_lt (pos n) (pos 0) ≡ false = grind (arith, ints) in ap (λ b. signed_number b n) plus
-sign_back (negsuc n) = refl
-
 -- a datum is kept as its cell
 cell_kept : (p q : ℕ) (d : Datum) → places_in d ≤ p → p ≤ q → cell_at q d ≡ cell_at q (datum_for p (cell_at p d))
 cell_kept p q Unmeasured few more = refl
@@ -116,7 +111,7 @@ cell_kept p q (Measured negative units own) few more =
     let h : ℤ = signed_number negative m in
     let k : ℕ = 10 ^ (q - p) in
     ap (λ n. Height (signed_number negative n)) (steps_at-grow units own p q few more)
-    ∙ ap Height (sym (signed_number-times negative m k) ∙ ap (λ z. z *ℤ pos k) (sym (sign_back h)) ∙ signed_number-times (int_lt h (pos 0)) (unsigned_abs h) k)
+    ∙ ap Height (sym (product_of_signed negative m k) ∙ ap (λ z. z *ℤ pos k) (signed_of_size h) ∙ product_of_signed (int_lt h (pos 0)) (unsigned_abs h) k)
 
 cells_kept : (p q : ℕ) (ds : List Datum) → most_places_in ds ≤ p → p ≤ q → cells_at q ds ≡ cells_at q (data_for p (cells_at p ds))
 cells_kept p q [] few more = refl

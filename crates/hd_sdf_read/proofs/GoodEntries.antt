@@ -2,7 +2,7 @@
 use Rattle.std.proofs.Common.{◌≡◌, ◌+◌, ◌<◌, ◌≤◌, ◌||◌, ◌&&◌, ℕ, Bool, true, false, not, List, [], ◌∷◌, ◌++◌, length, get_or, eqb, ltb, leb, cond, map, Option, Some, None, refl, sym, ap, subst, arith, ◌∙◌, inl, inr, length-append, length-take}
 use Rattle.std.specs.Prelude.{bytes_eq, codes, is_none, unwrap_or}
 use Rattle.std.specs.List.{after_first, before_first, list_all, list_any, position_or_len}
-use Rattle.std.proofs.lemmas.Bool.{and_from, and_left, and_parts, and_right, cases_Bool, cases_lt, le-ltb, lt-ltb, or_parts}
+use Rattle.std.proofs.lemmas.Bool.{and_from, and_left, and_parts, and_right, cases_Bool, cases_lt, le-ltb, lt-ltb, not-true, or_parts}
 use Rattle.std.proofs.lemmas.List.{get_or-take}
 use Rattle.std.proofs.lemmas.List.Elements.{filter-append}
 use Rattle.std.proofs.lemmas.List.Folds.{list_all-append, list_any-append}
@@ -90,11 +90,6 @@ same_key-turned a b c same =
     let turned : bytes_eq high low ≡ bytes_eq low high =
     same_from_decides {P = low ≡ high} (bytes_eq high low) (bytes_eq low high) (Decides-like {P = high ≡ low} (bytes_eq high low) (λ e. sym e) (λ e. sym e) (bytes_eq-Decides high low)) (bytes_eq-Decides low high) in
     turned ∙ same
-
--- what is not so is not
-pub not-true : (b : Bool) → not b ≡ true → b ≡ false
-not-true true h = sym h
-not-true false h = refl
 
 -- one more key that is not there yet
 apart_push : (before : List Extra) (e : Extra) → are_apart before ≡ true → has_key e.key before ≡ false → are_apart (before ++ e ∷ []) ≡ true

@@ -1,10 +1,9 @@
 -- Decimals as cells, in steps of the last of so many places.
-use Rattle.std.proofs.Common.{◌≡◌, ◌+◌, ◌-◌, ◌*◌, ◌/◌, ◌^◌, ◌<◌, ◌≤◌, ◌*ℤ◌, ℕ, zero, suc, pos, neg_ℤ, max, unsigned_abs, Bool, true, false, List, [], ◌∷◌, ◌++◌, length, map, Ok, Err, cond, inl, inr, refl, sym, ap, ap₂, ◌∙◌, arith, length-append, mul_assoc, mul_comm}
+use Rattle.std.proofs.Common.{◌≡◌, ◌+◌, ◌-◌, ◌*◌, ◌/◌, ◌^◌, ◌<◌, ◌≤◌, ℕ, zero, suc, pos, max, unsigned_abs, Bool, true, false, List, [], ◌∷◌, ◌++◌, length, map, Ok, Err, cond, inl, inr, refl, sym, ap, ap₂, ◌∙◌, arith, length-append, mul_assoc, mul_comm}
 use Rattle.std.specs.Prelude.{nat_le}
 use Rattle.std.specs.List.{list_all}
 use mir.Syntax.{w64}
 use mir.Val.{to_z}
-use Rattle.std.proofs.Math.IntN.{negsuc-*ℤ-pos, pos-*ℤ-pos}
 use Rattle.std.proofs.Math.Nat.{le-div_iff_mul-le, mul-le-mul_right, one-le-pow, pow-le-pow_right}
 use Rattle.std.proofs.lemmas.Bool.{and_from, and_left, and_right, cases_lt, le-leb, lt-leb}
 use Rattle.std.proofs.lemmas.Int.{ints, unsigned_abs-mul}
@@ -18,6 +17,7 @@ use Rattle.hd_map.specs.Cells.{wide_cells_in}
 use Rattle.hd_map.specs.Map.{AreCellsOf, IsCellOf}
 use Rattle.hd_map.specs.Packing.{multiplied}
 use Rattle.hd_num.specs.Whole.{signed_number}
+use Rattle.hd_num.proofs.Fractions.{product_of_signed, size_of_signed}
 use Rattle.hd_sdf_read.specs.declared.scaled.Datum.{Datum}
 use Rattle.hd_sdf_read.specs.declared.scaled.Scaled.{Scaled}
 use Rattle.hd_sdf_read.specs.declared.scaled.Datum.TheVariants.{Unmeasured, Measured}
@@ -26,22 +26,10 @@ use Rattle.hd_sdf_read.specs.Decimals.{IsSmall, are_in_range, cell_at, cells_at,
 use Rattle.hd_sdf_read.specs.Keys.{has_decimals, with_places}
 use Rattle.hd_sdf_read.specs.Scaling.{Grows, IsBeyond, IsRefined, Refines, IsScaled}
 
--- a number with a sign is as far from 0 as without it
-pub signed_number-size : (negative : Bool) (n : ℕ) → unsigned_abs (signed_number negative n) ≡ n
-signed_number-size false n = refl
-signed_number-size true zero = refl
-signed_number-size true (suc n) = refl
-
--- so many times a number with a sign
-pub signed_number-times : (negative : Bool) (n k : ℕ) → signed_number negative n *ℤ pos k ≡ signed_number negative (n * k)
-signed_number-times false n k = pos-*ℤ-pos n k
-signed_number-times true zero k = let none : 0 * k ≡ 0 = omega arith in pos-*ℤ-pos zero k ∙ ap pos none ∙ sym (ap (λ n. neg_ℤ (pos n)) none)
-signed_number-times true (suc n) k = negsuc-*ℤ-pos n k
-
 -- a cell is as far from 0 as its datum
 size_at : (places : ℕ) (d : Datum) → size_of (cell_at places d) ≡ steps_at places d
 size_at places Unmeasured = refl
-size_at places (Measured negative units own) = signed_number-size negative (units * 10 ^ (places - own))
+size_at places (Measured negative units own) = size_of_signed negative (units * 10 ^ (places - own))
 
 -- steps of a later place are smaller
 pub steps_at-grow : (units own p q : ℕ) → own ≤ p → p ≤ q → units * 10 ^ (q - own) ≡ units * 10 ^ (p - own) * 10 ^ (q - p)
@@ -52,7 +40,7 @@ steps_at-grow units own p q few more =
 cell_grow : (p q : ℕ) (d : Datum) → places_in d ≤ p → p ≤ q → multiplied (pos (10 ^ (q - p))) (cell_at p d) ≡ cell_at q d
 cell_grow p q Unmeasured few more = refl
 cell_grow p q (Measured negative units own) few more =
-    ap Height (signed_number-times negative (units * 10 ^ (p - own)) (10 ^ (q - p)) ∙ ap (signed_number negative) (sym (steps_at-grow units own p q few more)))
+    ap Height (product_of_signed negative (units * 10 ^ (p - own)) (10 ^ (q - p)) ∙ ap (signed_number negative) (sym (steps_at-grow units own p q few more)))
 
 pub cells_at-grow : (p q : ℕ) (ds : List Datum) → most_places_in ds ≤ p → p ≤ q → map (multiplied (pos (10 ^ (q - p)))) (cells_at p ds) ≡ cells_at q ds
 cells_at-grow p q [] few more = refl

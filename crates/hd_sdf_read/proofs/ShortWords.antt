@@ -2,7 +2,7 @@
 use Rattle.std.proofs.Common.{◌≡◌, ◌+◌, ◌-◌, ◌<◌, ◌≤◌, ℕ, ℤ, zero, suc, Bool, true, false, not, eqb, List, [], ◌∷◌, ◌++◌, length, map, replicate, set, take, drop, get_or, Ok, inl, inr, refl, sym, ap, ap₂, subst, arith, ◌∙◌, append-nil, append_assoc, length-append, length-drop}
 use Rattle.std.specs.Prelude.{codes}
 use Rattle.std.specs.List.{list_all, position_or_len}
-use Rattle.std.proofs.lemmas.Bool.{cases_Bool}
+use Rattle.std.proofs.lemmas.Bool.{cases_Bool, not-false}
 use Rattle.std.proofs.lemmas.List.{get_or-drop, length-take-le, map-append, replicate_more, take_more_set}
 use Rattle.std.proofs.lemmas.List.Sums.{prefix_len_stops}
 use Rattle.std.proofs.lemmas.Simd.{length-zip2}
@@ -44,16 +44,11 @@ number_front : (word rest : List ℕ) (height : ℤ) → TakesHeight word rest h
 number_front [] rest height takes = refl
 number_front (byte ∷ bytes) rest height takes = rw (no_gap byte bytes rest height takes) refl
 
--- a gap ends a number
-passing : (b : Bool) → not b ≡ false → b ≡ true
-passing true fails = refl
-passing false fails = cc
-
 ends_at_gap : (word rest : List ℕ) (height : ℤ) → TakesHeight word rest height → 0 < length rest → is_gap (get_or rest 0 0) ≡ true
 ends_at_gap word rest height takes left =
     let end : ℕ = position_or_len is_gap word in
     let size : length rest ≡ length word - end = ap length (sym takes.after) ∙ length-drop end word in
-    let here : is_gap (get_or word end 0) ≡ true = passing (is_gap (get_or word end 0)) (prefix_len_stops (λ byte. not (is_gap byte)) word 0 (omega (arith, size, left))) in
+    let here : is_gap (get_or word end 0) ≡ true = not-false (is_gap (get_or word end 0)) (prefix_len_stops (λ byte. not (is_gap byte)) word 0 (omega (arith, size, left))) in
     let place : end + 0 ≡ end = omega arith in
     ap (λ (t : List ℕ). is_gap (get_or t 0 0)) (sym takes.after) ∙ ap is_gap (get_or-drop end word 0 0 ∙ ap (λ k. get_or word k 0) place) ∙ here
 

@@ -2,14 +2,13 @@
 use Rattle.std.proofs.Common.{◌≡◌, ◌-◌, ◌<◌, ◌≤◌, ◌||◌, ◌&&◌, ℕ, suc, true, false, not, List, [], ◌∷◌, ◌++◌, length, get_or, eqb, ltb, leb, cond, refl, sym, ap, ap₂, subst, arith, ◌∙◌, inl, inr, length-append, append-nil, append_assoc, ne_eqb}
 use Rattle.std.specs.Prelude.{bytes_eq, codes}
 use Rattle.std.specs.List.{list_any}
-use Rattle.std.proofs.lemmas.Bool.{and_from, and_parts, cases_Bool, le-ltb, leb-true, lt-ltb, or_from}
+use Rattle.std.proofs.lemmas.Bool.{and_from, and_parts, cases_Bool, le-ltb, leb-true, lt-ltb, not-true, or_from}
 use Rattle.std.proofs.lemmas.List.{get_or-append_right, get_or_append_left}
 use Rattle.std.proofs.lemmas.List.Folds.{list_any-append}
 use Rattle.std.proofs.lemmas.Slice.Eq.{bytes_eq-Decides}
 use Rattle.hd_num.specs.Lines.{is_blank, is_line_feed, trimmed}
 use Rattle.hd_sdf_read.specs.Entries.{Ends, Keyed, Skipped, Unread, entry, entry_of, is_comment, is_equals, is_key, is_value, keyed, kind_of, kind_of_text}
 use Rattle.hd_sdf_read.specs.File.{is_header_key, is_header_value, is_trimmed_line}
-use Rattle.hd_sdf_read.proofs.GoodEntries.{not-true}
 use Rattle.hd_sdf_read.proofs.Trims.{IsTrimmed, IsTrimmed-trimmed_by, IsTrimmed-same}
 use Rattle.hd_sdf_write.specs.Canonical.{entry_text}
 use Rattle.hd_sdf_read.proofs.TextFronts.{after_first-front, before_first-front, trimmed_by-around}

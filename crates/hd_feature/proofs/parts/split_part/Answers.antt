@@ -3,8 +3,8 @@ use Rattle.std.specs.List.{position_or_len}
 use Rattle.std.proofs.lemmas.List.{take_rest}
 use Rattle.std.proofs.lemmas.List.Splits.{slice_split_first}
 use Rattle.std.proofs.lemmas.List.Sums.{position_or_len_is}
+use Rattle.hd_num.proofs.Pieces.{split_none}
 use Rattle.hd_feature.specs.Parts.{is_separator, parts_of}
-use Rattle.hd_feature.proofs.WordParts.{slice_split-one}
 use Rattle.hd_feature.proofs.parts.split_part.Goals as goal
 
 pub returns-then-byte-eq59 : goal.returns-then-byte-eq59
@@ -16,4 +16,4 @@ returns-then-byte-eq59 c =
     ∙ ap (λ t. take c.bytes.place text ∷ parts_of t) (sym (take_rest text (c.bytes.place + 1)))
 
 pub returns : goal.returns
-returns c = slice_split-one is_separator c.args.text.now (λ k lt. c.bytes.invariant k (omega arith))
+returns c = split_none is_separator c.args.text.now (λ k lt. c.bytes.invariant k (omega arith))

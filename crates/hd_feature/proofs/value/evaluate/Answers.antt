@@ -1,14 +1,14 @@
 use Rattle.std.proofs.Common.{◌≡◌, ◌∙◌, ◌<◌, length, sym, subst, inl, rules, arith}
+use Rattle.std.proofs.lemmas.List.{nil_from_length}
 use Rattle.hd_num.specs.Frac.{IsFraction}
 use Rattle.hd_feature.specs.Value.{attributes, over, under}
-use Rattle.hd_feature.proofs.Values.{length-none}
 use Rattle.hd_feature.proofs.value.evaluate.Goals as goal
 
 pub returns-then-is_empty : goal.returns-then-is_empty
 returns-then-is_empty c =
     let are : c.in_ok-values.values.items ≡ attributes c.args.notation.now c.args.regions.now = search rules in
     let none : length c.in_ok-values.values.items ≡ 0 = search (rules, arith) in
-    inl (sym are ∙ length-none c.in_ok-values.values.items none)
+    inl (sym are ∙ nil_from_length c.in_ok-values.values.items none)
 
 pub returns : goal.returns
 returns c =

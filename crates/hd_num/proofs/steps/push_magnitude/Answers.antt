@@ -1,10 +1,12 @@
 use Rattle.std.proofs.Common.{◌^◌, ◌/◌, ◌%◌, ◌∷◌, ◌∙◌, ap, subst}
 use Rattle.std.specs.Prelude.{decimal}
+use Rattle.std.proofs.lemmas.Result.{on_err_weaker}
 use Rattle.hd_num.specs.Steps.{padded}
 use Rattle.hd_num.specs.Text.{AppendsPrefix}
-use Rattle.hd_num.proofs.Percents.{AppendsPrefix-first, AppendsPrefix-then, OnErr-told, OnErr-map}
+use Rattle.hd_num.proofs.Percents.{OnErr-told}
 use Rattle.hd_num.proofs.StepsText.{magnitude_text-with_places, ten_power-rest, ten_power-some}
 use Rattle.hd_num.proofs.steps.push_magnitude.Goals as goal
+use Rattle.hd_num.proofs.AppendsPrefix.{prefix_first, prefix_then}
 
 pub nonzero_div-magnitude : goal.nonzero_div-magnitude
 nonzero_div-magnitude c = ten_power-some c.pow-unit.result c.from.result c.pow-unit.ensures
@@ -21,13 +23,13 @@ returns-in_err-push_unsigned-clause-err c =
     let whole = magnitude_text-with_places c.args.magnitude unit c.args.places (c.pow-unit.ensures ∙ ap (λ n. 10 ^ n) c.from.ensures) c.requires.some in
     OnErr-told c.from_residual.result
     (subst (AppendsPrefix c.args.out.now c.push_unsigned.new.out) whole
-    (AppendsPrefix-first c.args.out.now c.push_unsigned.new.out (decimal (c.args.magnitude / unit)) (46 ∷ padded c.args.places (c.args.magnitude % unit)) c.in_err-push_unsigned.ensures.err))
+    (prefix_first c.args.out.now c.push_unsigned.new.out (decimal (c.args.magnitude / unit)) (46 ∷ padded c.args.places (c.args.magnitude % unit)) c.in_err-push_unsigned.ensures.err))
 
 pub returns-clause-err : goal.returns-clause-err
 returns-clause-err c =
     let unit = c.pow-unit.result in
     let whole = magnitude_text-with_places c.args.magnitude unit c.args.places (c.pow-unit.ensures ∙ ap (λ n. 10 ^ n) c.from.ensures) c.requires.some in
-    OnErr-map c.push_places.result
+    on_err_weaker c.push_places.result
     (λ h. subst (AppendsPrefix c.args.out.now c.push_places.new.out) whole
-    (AppendsPrefix-then c.args.out.now c.push_unsigned.new.out c.push_places.new.out (decimal (c.args.magnitude / unit)) (46 ∷ padded c.args.places (c.args.magnitude % unit)) c.in_ok-push_unsigned.ensures.ok h))
+    (prefix_then c.args.out.now c.push_unsigned.new.out c.push_places.new.out (decimal (c.args.magnitude / unit)) (46 ∷ padded c.args.places (c.args.magnitude % unit)) c.in_ok-push_unsigned.ensures.ok h))
     c.push_places.ensures.err

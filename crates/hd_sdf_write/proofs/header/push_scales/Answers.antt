@@ -1,5 +1,5 @@
 use Rattle.std.proofs.Common.{◌++◌, ap, codes, ◌∙◌}
-use Rattle.hd_num.proofs.Percents.{OnOk-map}
+use Rattle.std.proofs.lemmas.Result.{on_ok_weaker}
 use Rattle.hd_sdf_write.specs.Canonical.{entry_line, scale_lines}
 use Rattle.hd_sdf_write.proofs.JoinedTexts.{four_texts}
 use Rattle.hd_sdf_write.proofs.header.push_scales.Goals as goal
@@ -8,7 +8,7 @@ pub returns : goal.returns
 unfolding scale_lines
 returns g c =
     let texts = c.args.texts.now in
-    OnOk-map c.push_entry-4.result (λ last.
+    on_ok_weaker c.push_entry-4.result (λ last.
     four_texts c.args.out.now c.push_entry.new.out c.push_entry-2.new.out c.push_entry-3.new.out
     (entry_line (codes "Xscale") texts.x_scale.now.literal) (entry_line (codes "Yscale") texts.y_scale.now.literal) (entry_line (codes "Zscale") texts.z_scale.now.literal)
     (c.in_ok-push_entry.ensures ∙ ap (λ v. c.args.out.now ++ entry_line (codes "Xscale") v) c.as_slice.ensures)

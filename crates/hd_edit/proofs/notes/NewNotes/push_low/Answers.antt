@@ -1,11 +1,12 @@
 use Rattle.std.proofs.Common.{◌==◌, false, true≢false, ◌<◌, ◌+◌, ◌++◌, ◌∷◌, [], ◌≡◌, ◌∙◌, ℕ, ap, sym, subst, arith, length, length-append, vec_len}
 use Rattle.std.proofs.lemmas.Bool.{eqb-true}
+use Rattle.std.proofs.lemmas.List.{nil_from_length}
 use Rattle.hd_edit.specs.declared.change.Change.{Change}
 use Rattle.hd_edit.specs.declared.change.Was.TheVariants as was
 use Rattle.hd_edit.specs.NewNotes.{NewNotesState}
 use Rattle.hd_edit.specs.SevenBytes.{widened}
 use Rattle.hd_edit.specs.Notes.{BeginsUnfit, changes_after, last_after}
-use Rattle.hd_edit.proofs.HeightNotes.{changes_after-noted, last_after-push, changes_after-length, length-none, BeginsUnfit-none, BeginsUnfit-push}
+use Rattle.hd_edit.proofs.HeightNotes.{changes_after-noted, last_after-push, changes_after-length, BeginsUnfit-none, BeginsUnfit-push}
 use Rattle.hd_edit.proofs.notes.NewNotes.push_low.Goals as goal
 
 pub invariant_of-self : goal.invariant_of-self
@@ -28,7 +29,7 @@ push_reserved-requires-2 c =
 pub invariant_of-self-2 : goal.invariant_of-self-2
 invariant_of-self-2 c =
     let inside = c.self.inside in
-    let none : inside.others.items ≡ [] = length-none inside.others.items (sym inside.others.ok.0 ∙ eqb-true (vec_len inside.others) 0 (sym c.if-not-is_empty.ensures)) in (
+    let none : inside.others.items ≡ [] = nil_from_length inside.others.items (sym inside.others.ok.0 ∙ eqb-true (vec_len inside.others) 0 (sym c.if-not-is_empty.ensures)) in (
       sym c.in-Some.ensures ∙ ap (λ (i : ℕ). i + c.in-Some.distance) c.self.invariant.0
           ∙ sym (last_after-push inside.first inside.heights.items (record { distance = c.in-Some.distance; over = c.args.over })) ∙ sym (ap (last_after inside.first) c.push_reserved-2.ensures.items),
       c.self.invariant.1 ∙ sym c.push_reserved-2.ensures.capacity,
@@ -39,7 +40,7 @@ pub returns-clause-changes : goal.returns-clause-changes
 returns-clause-changes c =
     let inside = c.self.inside in
     let change : Change = record { index = c.args.index; was = was.Height (widened c.args.over) } in
-    let none : inside.others.items ≡ [] = length-none inside.others.items (sym inside.others.ok.0 ∙ eqb-true (vec_len inside.others) 0 (sym c.if-not-is_empty.ensures)) in
+    let none : inside.others.items ≡ [] = nil_from_length inside.others.items (sym inside.others.ok.0 ∙ eqb-true (vec_len inside.others) 0 (sym c.if-not-is_empty.ensures)) in
     let at : ℕ → Change = λ i. record { index = i; was = was.Height (widened c.args.over) } in
     let told = ap at c.in-Some.ensures in
     changes_after-noted inside.first inside.last inside.heights.items c.push_reserved-2.new.self.items inside.others.items (record { distance = c.in-Some.distance; over = c.args.over }) change c.self.invariant.0 c.push_reserved-2.ensures.items told none
