@@ -3,7 +3,7 @@ use Rattle.std.specs.List.{position_or_len}
 use Rattle.std.proofs.lemmas.List.{take_rest}
 use Rattle.std.proofs.lemmas.List.Splits.{slice_split_first}
 use Rattle.std.proofs.lemmas.List.Sums.{position_or_len_is}
-use Rattle.hd_num.proofs.Pieces.{split_none}
+use Rattle.hd_num.proofs.LinePieces.{split_none}
 use Rattle.hd_feature.specs.Parts.{is_separator, parts_of}
 use Rattle.hd_feature.proofs.parts.split_part.Goals as goal
 
