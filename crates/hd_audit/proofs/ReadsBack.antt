@@ -21,7 +21,8 @@ use Rattle.hd_check.proofs.ReadsBack.{AreLines, IsWord, adjacency_word-clear, co
 use Rattle.hd_audit.specs.declared.types.Audit.{Audit}
 use Rattle.hd_audit.specs.declared.types.AuditLine.{AuditLine}
 use Rattle.hd_audit.specs.declared.words.AuditHead.{AuditHead}
-use Rattle.hd_audit.specs.Reading.{after_head, after_points, audit_of, count_or_none, given, head_form, head_of_parts, line_of_parts, point_form}
+use Rattle.hd_audit.specs.Stages.{after_head, after_points}
+use Rattle.hd_audit.specs.Reading.{audit_of, count_or_none, given, head_form, head_of_parts, line_of_parts, point_form}
 use Rattle.hd_audit.specs.Text.{audit_lines, audit_text, count_word, point_words}
 use Rattle.hd_audit.specs.Writable.{IsWritable, IsWritableLine}
 

@@ -1,7 +1,6 @@
 -- A certificate is read on by a line.
 use Rattle.std.proofs.Common.{◌≡◌, ◌≢◌, ◌+◌, ◌-◌, ◌<◌, ℕ, suc, List, [], ◌∷◌, ◌++◌, length, map, Option, Some, None, Ok, Err, refl, sym, ap, ◌∙◌, append_assoc, arith}
 use Rattle.std.proofs.lemmas.List.{length-append}
-use Rattle.hd_check.specs.declared.types.CertificateError.{CertificateError}
 use Rattle.hd_check.specs.declared.types.CertificateError.TheVariants.{BadLine}
 use Rattle.hd_check.specs.Reading.{Lines, Read, and_then, line_gives}
 use Rattle.hd_num.specs.Lines.{lines_of, words_of}
@@ -10,8 +9,8 @@ use Rattle.hd_audit.specs.declared.types.Audit.{Audit}
 use Rattle.hd_audit.specs.declared.types.AuditLine.{AuditLine}
 use Rattle.hd_audit.specs.declared.words.AuditHead as words
 use Rattle.hd_audit.specs.Plain.{BeginsWithLine}
-use Rattle.hd_audit.specs.Reading.{after_points, point_form, points_in}
-use Rattle.hd_audit.specs.Stages.{Leads, go_on, numbered, words_in}
+use Rattle.hd_audit.specs.Reading.{point_form, points_in}
+use Rattle.hd_audit.specs.Stages.{after_points, Leads, go_on, numbered, words_in}
 
 -- the certificate, or the first line that has not its form, where so many points are to come after these
 abbrev pub points_on : words.AuditHead → List AuditLine → ℕ → Lines → Read Audit

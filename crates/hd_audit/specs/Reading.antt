@@ -15,9 +15,7 @@ use Rattle.hd_audit.specs.declared.types.AuditLine.{AuditLine}
 -- a side, a percent and a setting, where each has its form
 abbrev pub head_of_parts : Option SideName → Option Percent → Option Adjacency → Option AuditHead
 head_of_parts (Some side) (Some percent) (Some adjacency) = Some (record { side = side; percent = percent; adjacency = adjacency })
-head_of_parts (Some side) (Some percent) None = None
-head_of_parts (Some side) None adjacency = None
-head_of_parts None percent adjacency = None
+head_of_parts side percent adjacency = None
 
 -- `pruning`, a side, a percent and a setting
 abbrev pub head_of : List ℕ → List ℕ → List ℕ → List ℕ → Option AuditHead
@@ -25,12 +23,8 @@ head_of name side percent adjacency = if bytes_eq name (codes "pruning") then he
 
 -- `pruning S P N`
 abbrev pub head_form : List (List ℕ) → Option AuditHead
-head_form [] = None
-head_form (a ∷ []) = None
-head_form (a ∷ b ∷ []) = None
-head_form (a ∷ b ∷ c ∷ []) = None
 head_form (name ∷ side ∷ percent ∷ adjacency ∷ []) = head_of name side percent adjacency
-head_form (a ∷ b ∷ c ∷ d ∷ e ∷ more) = None
+head_form words = None
 
 -- a count that is there
 abbrev pub given : Option ℕ → Option (Option ℕ)
@@ -44,17 +38,12 @@ count_or_none word = if bytes_eq word (codes "-") then Some None else given (cou
 -- a line, where its words have their form
 abbrev pub line_of_parts : Option ℕ → Option (Option ℕ) → Option (Option ℕ) → Option AuditLine
 line_of_parts (Some index) (Some parent) (Some cut) = Some (record { index = index; parent = parent; cut = cut })
-line_of_parts (Some index) (Some parent) None = None
-line_of_parts (Some index) None cut = None
-line_of_parts None parent cut = None
+line_of_parts index parent cut = None
 
 -- `INDEX PARENT CUT`
 abbrev pub point_form : List (List ℕ) → Option AuditLine
-point_form [] = None
-point_form (a ∷ []) = None
-point_form (a ∷ b ∷ []) = None
 point_form (index ∷ parent ∷ cut ∷ []) = line_of_parts (count_of index) (count_or_none parent) (count_or_none cut)
-point_form (a ∷ b ∷ c ∷ d ∷ more) = None
+point_form words = None
 
 -- so many lines `INDEX PARENT CUT`
 abbrev pub points_in : ℕ → Lines → Read (List AuditLine)
@@ -64,17 +53,10 @@ points_in n rest = items_in point_form n rest
 abbrev pub counted_in : Lines → Read (List AuditLine)
 counted_in rest = and_then (line_as (count_form (codes "points")) rest) points_in
 
--- the last lines of a certificate, after the others
-abbrev pub after_points : AuditHead → List AuditLine → Lines → Read Audit
-after_points head lines rest = and_then (end_in rest) (λ _ rest. Ok (record { side = head.side; percent = head.percent; adjacency = head.adjacency; lines = lines }, rest))
-
--- its points and what follows
-abbrev pub after_head : AuditHead → Lines → Read Audit
-after_head head rest = and_then (counted_in rest) (after_points head)
-
 -- the lines of a certificate, in their order
 abbrev pub audit_in : Lines → Read Audit
-audit_in rest = and_then (line_as head_form rest) after_head
+audit_in rest = and_then (line_as head_form rest) (λ head rest. and_then (counted_in rest) (λ lines rest. and_then (end_in rest) (λ _ rest.
+    Ok (record { side = head.side; percent = head.percent; adjacency = head.adjacency; lines = lines }, rest))))
 
 -- the certificate that a text holds, or the first line that has not its form in its place
 abbrev pub audit_of : List ℕ → Result Audit CertificateError

@@ -2,12 +2,14 @@
 use Rattle.std.specs.Prelude.{◌≡◌, ◌+◌, ◌≤◌, ◌⊎◌, ◌++◌, ℕ, List, [], ◌∷◌, length, map, Result, Ok, Err}
 use Rattle.hd_check.specs.declared.types.CertificateError.{CertificateError}
 use Rattle.hd_check.specs.declared.types.CertificateError.TheVariants.{Memory}
-use Rattle.hd_check.specs.Reading.{Lines, Read, and_then, blank_lines_in}
+use Rattle.hd_check.specs.Reading.{Lines, Read, and_then, blank_lines_in, end_in}
 use Rattle.hd_num.specs.Lines.{lines_of, words_of}
 use Rattle.hd_audit.specs.declared.stage.Stage.{Stage}
 use Rattle.hd_audit.specs.declared.stage.Stage.TheVariants as stages
 use Rattle.hd_audit.specs.declared.types.Audit.{Audit}
-use Rattle.hd_audit.specs.Reading.{after_head, after_points, audit_in, points_in}
+use Rattle.hd_audit.specs.declared.types.AuditLine.{AuditLine}
+use Rattle.hd_audit.specs.declared.words.AuditHead.{AuditHead}
+use Rattle.hd_audit.specs.Reading.{audit_in, counted_in, points_in}
 
 -- the words of each line of a text
 abbrev pub words_in : List ℕ → List (List (List ℕ))
@@ -16,6 +18,14 @@ words_in text = map words_of (lines_of text)
 -- these lines, the first of which has this number
 abbrev pub numbered : ℕ → List (List (List ℕ)) → Lines
 numbered number lines = record { number = number; lines = lines }
+
+-- the last lines of a certificate, after the others
+abbrev pub after_points : AuditHead → List AuditLine → Lines → Read Audit
+after_points head lines rest = and_then (end_in rest) (λ _ rest. Ok (record { side = head.side; percent = head.percent; adjacency = head.adjacency; lines = lines }, rest))
+
+-- its points and what follows
+abbrev pub after_head : AuditHead → Lines → Read Audit
+after_head head rest = and_then (counted_in rest) (after_points head)
 
 -- the certificate, or the first line that has not its form, where these lines follow those that are read
 abbrev pub go_on : Stage → Lines → Read Audit

@@ -1,10 +1,38 @@
--- Reading so many items, and lines without words.
-use Rattle.std.proofs.Common.{◌≡◌, ◌≤◌, ◌<◌, ◌+◌, ◌-◌, ℕ, suc, List, [], ◌∷◌, ◌++◌, Option, Ok, Err, refl, sym, ap, ◌∙◌, append_assoc, arith}
+-- Reading a certificate line by line: so many items, and lines without words.
+use Rattle.std.proofs.Common.{◌≡◌, ◌<◌, ◌+◌, ◌-◌, ℕ, suc, List, [], ◌∷◌, ◌++◌, Option, Ok, Err, refl, sym, ap, ◌∙◌, append_assoc, arith}
 use Rattle.hd_check.specs.declared.lines.LinePlace.{LinePlace}
 use Rattle.hd_check.specs.declared.types.CertificateError.{CertificateError}
-use Rattle.hd_check.specs.declared.types.CertificateError.TheVariants.{BadLine}
-use Rattle.hd_check.specs.Reading.{Lines, Read, and_then, items_in, line_as, blank_lines_in}
+use Rattle.std.specs.Prelude.{ℤ, codes}
+use Rattle.hd_map.specs.declared.types.Pos.{Pos}
+use Rattle.hd_check.specs.declared.types.Certificate.{Certificate}
+use Rattle.hd_check.specs.declared.words.CertificateHead.{CertificateHead}
+use Rattle.hd_check.specs.Reading.{Lines, Read, and_then, counted_in, end_in, end_point_form, items_in, line_as, blank_lines_in, path_in, saddle_form}
 use Rattle.hd_check.specs.Places.{IsPlace, lines_at}
+
+-- the last lines of a certificate, after the others
+abbrev pub after_cut : CertificateHead → Pos → Pos → Option (Pos × ℤ) → List Pos → List Pos → Lines → Read Certificate
+after_cut head from to saddle path cut rest = and_then (end_in rest) (λ _ rest.
+    Ok (record { side = head.side; adjacency = head.adjacency; from = from; to = to; saddle = saddle; path = path; cut = cut }, rest))
+
+-- its cut and what follows
+abbrev pub after_path : CertificateHead → Pos → Pos → Option (Pos × ℤ) → List Pos → Lines → Read Certificate
+after_path head from to saddle path rest = and_then (counted_in (codes "cut") rest) (after_cut head from to saddle path)
+
+-- its path and what follows
+abbrev pub after_saddle : CertificateHead → Pos → Pos → Option (Pos × ℤ) → Lines → Read Certificate
+after_saddle head from to saddle rest = and_then (path_in saddle rest) (after_path head from to saddle)
+
+-- its saddle and what follows
+abbrev pub after_to : CertificateHead → Pos → Pos → Lines → Read Certificate
+after_to head from to rest = and_then (line_as saddle_form rest) (after_saddle head from to)
+
+-- its second pit and what follows
+abbrev pub after_from : CertificateHead → Pos → Lines → Read Certificate
+after_from head from rest = and_then (line_as (end_point_form (codes "to")) rest) (after_to head from)
+
+-- its first pit and what follows
+abbrev pub after_head : CertificateHead → Lines → Read Certificate
+after_head head rest = and_then (line_as (end_point_form (codes "from")) rest) (after_from head)
 
 module _ {A : Type 0} (form : List (List ℕ) → Option A) where
   -- items, and then those that are read

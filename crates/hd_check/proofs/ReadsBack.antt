@@ -23,7 +23,8 @@ use Rattle.hd_num.proofs.WholeReadsBack.{count_of-decimal, IsNumeralModel-digits
 use Rattle.hd_num.proofs.LinePieces.{without_empty_last-cons}
 use Rattle.hd_check.specs.declared.types.Certificate.{Certificate}
 use Rattle.hd_check.specs.declared.words.CertificateHead.{CertificateHead}
-use Rattle.hd_check.specs.Reading.{Lines, Read, after_cut, after_from, after_path, after_head, after_saddle, after_to, and_then, certificate_of, count_form, head_form, items_in, line_as, line_gives, point_form, point_of_counts, saddle_form, saddle_of_parts, value_of}
+use Rattle.hd_check.specs.Reading.{Lines, Read, and_then, certificate_of, count_form, head_form, items_in, line_as, line_gives, point_form, point_of_counts, saddle_form, saddle_of_parts, value_of}
+use Rattle.hd_check.proofs.ReadingSteps.{after_cut, after_from, after_head, after_path, after_saddle, after_to}
 use Rattle.hd_check.specs.Text.{adjacency_word, certificate_lines, certificate_text, line_text, point_words, saddle_lines, side_word}
 use Rattle.hd_check.specs.Writable.{IsWritable, IsWritablePoint, IsWritableSaddle, AreWritable}
 

@@ -51,8 +51,7 @@ adjacency_of word = if bytes_eq word (codes "4") then Some Four else if bytes_eq
 -- a side and a setting, where both have their form
 abbrev pub head_of_parts : Option SideName → Option Adjacency → Option CertificateHead
 head_of_parts (Some side) (Some adjacency) = Some (record { side = side; adjacency = adjacency })
-head_of_parts (Some side) None = None
-head_of_parts None adjacency = None
+head_of_parts side adjacency = None
 
 -- `certificate`, a side and a setting
 abbrev pub head_of : List ℕ → List ℕ → List ℕ → Option CertificateHead
@@ -60,24 +59,18 @@ head_of name side adjacency = if bytes_eq name (codes "certificate") then head_o
 
 -- `certificate S N`
 abbrev pub head_form : List (List ℕ) → Option CertificateHead
-head_form [] = None
-head_form (a ∷ []) = None
-head_form (a ∷ b ∷ []) = None
 head_form (name ∷ side ∷ adjacency ∷ []) = head_of name side adjacency
-head_form (a ∷ b ∷ c ∷ d ∷ more) = None
+head_form words = None
 
 -- a point, where both numbers are counts
 abbrev pub point_of_counts : Option ℕ → Option ℕ → Option Pos
 point_of_counts (Some x) (Some y) = Some (record { x = x; y = y })
-point_of_counts (Some x) None = None
-point_of_counts None y = None
+point_of_counts x y = None
 
 -- `X Y`
 abbrev pub point_form : List (List ℕ) → Option Pos
-point_form [] = None
-point_form (a ∷ []) = None
 point_form (x ∷ y ∷ []) = point_of_counts (count_of x) (count_of y)
-point_form (a ∷ b ∷ c ∷ more) = None
+point_form words = None
 
 -- `from X Y` or `to X Y`, by the first word
 abbrev pub end_point_form : List ℕ → List (List ℕ) → Option Pos
@@ -87,8 +80,7 @@ end_point_form key (name ∷ words) = if bytes_eq name key then point_form words
 -- a saddle, where its point and its height have their form
 abbrev pub saddle_of_parts : Option Pos → Option ℤ → Option (Option (Pos × ℤ))
 saddle_of_parts (Some p) (Some h) = Some (Some (p, h))
-saddle_of_parts (Some p) None = None
-saddle_of_parts None h = None
+saddle_of_parts p h = None
 
 -- `none`
 abbrev pub none_of : List ℕ → Option (Option (Pos × ℤ))
@@ -100,11 +92,9 @@ saddle_of_words x y height = saddle_of_parts (point_of_counts (count_of x) (coun
 
 -- `none`, or `X Y HEIGHT`
 abbrev pub saddle_words : List (List ℕ) → Option (Option (Pos × ℤ))
-saddle_words [] = None
 saddle_words (word ∷ []) = none_of word
-saddle_words (a ∷ b ∷ []) = None
 saddle_words (x ∷ y ∷ height ∷ []) = saddle_of_words x y height
-saddle_words (a ∷ b ∷ c ∷ d ∷ more) = None
+saddle_words words = None
 
 -- `saddle none` or `saddle X Y HEIGHT`
 abbrev pub saddle_form : List (List ℕ) → Option (Option (Pos × ℤ))
@@ -113,16 +103,13 @@ saddle_form (name ∷ words) = if bytes_eq name (codes "saddle") then saddle_wor
 
 -- `path N` or `cut N`, by the first word
 abbrev pub count_form : List ℕ → List (List ℕ) → Option ℕ
-count_form key [] = None
-count_form key (a ∷ []) = None
 count_form key (name ∷ count ∷ []) = if bytes_eq name key then count_of count else None
-count_form key (a ∷ b ∷ c ∷ more) = None
+count_form key words = None
 
 -- `end`
 abbrev pub end_form : List (List ℕ) → Option (Unit {0})
-end_form [] = None
 end_form (name ∷ []) = if bytes_eq name (codes "end") then Some tt else None
-end_form (a ∷ b ∷ more) = None
+end_form words = None
 
 -- so many lines of a form
 abbrev pub items_in : {A : Type 0} → (List (List ℕ) → Option A) → ℕ → Lines → Read (List A)
@@ -152,34 +139,16 @@ blank_lines_in number ((word ∷ words) ∷ more) = Err (BadLine number)
 abbrev pub end_in : Lines → Read (Unit {0})
 end_in rest = and_then (line_as end_form rest) (λ _ rest. blank_lines_in rest.number rest.lines)
 
--- the last lines of a certificate, after the others
-abbrev pub after_cut : CertificateHead → Pos → Pos → Option (Pos × ℤ) → List Pos → List Pos → Lines → Read Certificate
-after_cut head from to saddle path cut rest = and_then (end_in rest) (λ _ rest.
-    Ok (record { side = head.side; adjacency = head.adjacency; from = from; to = to; saddle = saddle; path = path; cut = cut }, rest))
-
--- its cut and what follows
-abbrev pub after_path : CertificateHead → Pos → Pos → Option (Pos × ℤ) → List Pos → Lines → Read Certificate
-after_path head from to saddle path rest = and_then (counted_in (codes "cut") rest) (after_cut head from to saddle path)
-
--- its path and what follows
-abbrev pub after_saddle : CertificateHead → Pos → Pos → Option (Pos × ℤ) → Lines → Read Certificate
-after_saddle head from to saddle rest = and_then (path_in saddle rest) (after_path head from to saddle)
-
--- its saddle and what follows
-abbrev pub after_to : CertificateHead → Pos → Pos → Lines → Read Certificate
-after_to head from to rest = and_then (line_as saddle_form rest) (after_saddle head from to)
-
--- its second pit and what follows
-abbrev pub after_from : CertificateHead → Pos → Lines → Read Certificate
-after_from head from rest = and_then (line_as (end_point_form (codes "to")) rest) (after_to head from)
-
--- its first pit and what follows
-abbrev pub after_head : CertificateHead → Lines → Read Certificate
-after_head head rest = and_then (line_as (end_point_form (codes "from")) rest) (after_from head)
-
 -- the lines of a certificate, in their order
 abbrev pub certificate_in : Lines → Read Certificate
-certificate_in rest = and_then (line_as head_form rest) after_head
+certificate_in rest = and_then (line_as head_form rest) (λ head rest.
+    and_then (line_as (end_point_form (codes "from")) rest) (λ from rest.
+    and_then (line_as (end_point_form (codes "to")) rest) (λ to rest.
+    and_then (line_as saddle_form rest) (λ saddle rest.
+    and_then (path_in saddle rest) (λ path rest.
+    and_then (counted_in (codes "cut") rest) (λ cut rest.
+    and_then (end_in rest) (λ _ rest.
+    Ok (record { side = head.side; adjacency = head.adjacency; from = from; to = to; saddle = saddle; path = path; cut = cut }, rest))))))))
 
 -- what was read, without the lines that are left
 abbrev pub value_of : {A : Type 0} → Read A → Result A CertificateError

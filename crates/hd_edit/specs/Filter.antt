@@ -6,7 +6,7 @@ use Rattle.hd_morph.specs.Element.{ElementTable}
 use Rattle.hd_morph.specs.declared.filter.Filter.{Filter}
 use Rattle.hd_morph.specs.Answer.{AreFilteredCells, IsOutOfRange, with_cells}
 use Rattle.hd_edit.specs.declared.edit.EditError.{EditError}
-use Rattle.hd_edit.specs.declared.edit.EditError.TheVariants.{Memory, Outside, HeightRange, EmptyRect, NoElement}
+use Rattle.hd_edit.specs.declared.edit.EditError.TheVariants.{HeightRange, NoElement}
 
 -- a map with its cells filtered; the masks stay
 pub record IsFilteredMap (filter : Filter) (m : Map) (e : ElementTable) (new : Map) : Type 0 where
@@ -16,11 +16,8 @@ pub record IsFilteredMap (filter : Filter) (m : Map) (e : ElementTable) (new : M
 
 -- a filter is refused where a new height is out of range, at the first such position
 abbrev pub IsFilterRefusal : Filter → Map → ElementTable → EditError → Type 0
-IsFilterRefusal filter m e Memory = ⊥
-IsFilterRefusal filter m e (Outside p) = ⊥
 IsFilterRefusal filter m e (HeightRange p) = IsOutOfRange filter m e p
-IsFilterRefusal filter m e EmptyRect = ⊥
-IsFilterRefusal filter m e NoElement = ⊥
+IsFilterRefusal filter m e error = ⊥
 
 -- the outcome of a filter by an element: without one it is refused
 abbrev pub IsFilteredBy : Filter → Map → Option ElementTable → Result Map EditError → Type 0

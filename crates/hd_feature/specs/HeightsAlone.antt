@@ -1,7 +1,7 @@
 -- Notations that ask for neither the points nor the edges of a region.
 use Rattle.std.specs.Prelude.{◌&&◌, Bool, true, false, not, None}
 use Rattle.hd_feature.specs.declared.notation.Attribute.{Attribute}
-use Rattle.hd_feature.specs.declared.notation.Attribute.TheVariants.{Lpvh, Count, AreaE}
+use Rattle.hd_feature.specs.declared.notation.Attribute.TheVariants.{AreaE}
 use Rattle.hd_feature.specs.declared.notation.Notation.{Notation}
 use Rattle.hd_feature.specs.declared.notation.Significance.{Significance}
 use Rattle.hd_feature.specs.declared.notation.Significance.TheVariants as significance
@@ -9,17 +9,14 @@ use Rattle.hd_feature.specs.declared.region.Region.{Region}
 
 -- whether a significance asks for edge points
 abbrev pub asks_for_edges : Significance → Bool
-asks_for_edges significance.All = false
-asks_for_edges (significance.Top n) = false
-asks_for_edges (significance.Bot n) = false
 asks_for_edges (significance.Closed c) = true
 asks_for_edges (significance.Open c) = true
+asks_for_edges other = false
 
 -- whether an attribute asks for the number of points
 abbrev pub asks_for_points : Attribute → Bool
-asks_for_points Lpvh = false
-asks_for_points Count = false
 asks_for_points AreaE = true
+asks_for_points attribute = false
 
 -- whether the pits and the local heights of the regions serve a notation
 abbrev pub heights_serve : Notation → Bool

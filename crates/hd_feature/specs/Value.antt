@@ -11,7 +11,7 @@ use Rattle.hd_feature.specs.declared.notation.Notation.{Notation}
 use Rattle.hd_feature.specs.declared.notation.Significance.{Significance}
 use Rattle.hd_feature.specs.declared.notation.Significance.TheVariants as significance
 use Rattle.hd_feature.specs.declared.notation.Statistic.{Statistic}
-use Rattle.hd_feature.specs.declared.notation.Statistic.TheVariants.{Mean, Max, Min, Sum, Density}
+use Rattle.hd_feature.specs.declared.notation.Statistic.TheVariants.{Mean, Max, Min, Density}
 use Rattle.hd_feature.specs.declared.region.Region.{Region}
 use Rattle.hd_feature.specs.Notation.{takes_hills}
 
@@ -70,19 +70,15 @@ least (x ∷ xs) = fold int_min x xs
 
 -- a statistic of some numbers is this over
 abbrev pub over : Statistic → List ℤ → ℤ
-over Mean values = total values
 over Max values = greatest values
 over Min values = least values
-over Sum values = total values
-over Density values = total values
+over statistic values = total values
 
 -- that; the definition area is a number of points
 abbrev pub under : Statistic → List ℤ → ℕ → ℕ
 under Mean values area = length values
-under Max values area = 1
-under Min values area = 1
-under Sum values area = 1
 under Density values area = area
+under statistic values area = 1
 
 -- the fraction is the statistic of some numbers on a surface with points
 pub record IsStatistic (statistic : Statistic) (values : List ℤ) (area : ℕ) (f : Frac) : Type 0 where

@@ -31,8 +31,7 @@ Completes words surface script stays s status old new = (o : Outcome) × IsTheOu
 -- this is the text of the answers to the first few lines of a request, which a run alone has
 abbrev pub AnswersFew : Request → List ℕ → List ℕ → List ℕ → Type 0
 AnswersFew (Run run) surface script text = IsBegun run surface script text
-AnswersFew (Check check) surface script text = ⊥
-AnswersFew (Demonstrate demo) surface script text = ⊥
+AnswersFew request surface script text = ⊥
 
 -- the words have their form, and this is the text of the answers to the first few lines
 abbrev pub AnswersSome : List (List ℕ) → List ℕ → List ℕ → List ℕ → Type 0

@@ -32,14 +32,9 @@ places_line places = codes "places " ++ decimal places ++ 10 ∷ []
 
 -- the line of the decimal places, for a type of decimals alone
 abbrev pub places_lines : DataType → List ℕ
-places_lines U8 = []
-places_lines U16 = []
-places_lines U32 = []
-places_lines I8 = []
-places_lines I16 = []
-places_lines I32 = []
 places_lines (Single places) = places_line places
 places_lines (Double places) = places_line places
+places_lines type = []
 
 -- `present N`
 abbrev pub present_line : ℕ → List ℕ

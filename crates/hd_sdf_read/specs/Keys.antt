@@ -47,34 +47,22 @@ form_of key = form_in known_keys key
 -- a whole number from 1 to 65,535
 abbrev pub extent_in : Whole → Option ℕ
 extent_in (Is (pos n)) = if is_in_range 1 65535 n then Some n else None
-extent_in (Is (negsuc n)) = None
-extent_in Outside = None
-extent_in Not = None
+extent_in number = None
 
 abbrev pub extent_of : List ℕ → Option ℕ
 extent_of value = extent_in (whole_of value)
 
 -- the data of the type are decimals
 abbrev pub has_decimals : DataType → Bool
-has_decimals U8 = false
-has_decimals U16 = false
-has_decimals U32 = false
-has_decimals I8 = false
-has_decimals I16 = false
-has_decimals I32 = false
 has_decimals (Single places) = true
 has_decimals (Double places) = true
+has_decimals type = false
 
 -- the type with so many places, where its data are decimals
 abbrev pub with_places : DataType → ℕ → DataType
-with_places U8 places = U8
-with_places U16 places = U16
-with_places U32 places = U32
-with_places I8 places = I8
-with_places I16 places = I16
-with_places I32 places = I32
 with_places (Single before) places = Single places
 with_places (Double before) places = Double places
+with_places type places = type
 
 -- the type of the heights, by its code; decimals have no places yet
 abbrev pub type_by_code : ℕ → Option DataType
@@ -82,9 +70,7 @@ type_by_code code = find (λ t. code == code_of t) (U8 ∷ U16 ∷ U32 ∷ Singl
 
 abbrev pub type_in : Whole → Option DataType
 type_in (Is (pos n)) = type_by_code n
-type_in (Is (negsuc n)) = None
-type_in Outside = None
-type_in Not = None
+type_in number = None
 
 abbrev pub type_of : List ℕ → Option DataType
 type_of value = type_in (whole_of value)
@@ -99,9 +85,7 @@ judge_zero Not = Wrong
 -- a whole number from 0 to 7
 abbrev pub judge_type : Whole → ValueVerdict
 judge_type (Is (pos n)) = if nat_lt 7 n then Wrong else Right
-judge_type (Is (negsuc n)) = Wrong
-judge_type Outside = Wrong
-judge_type Not = Wrong
+judge_type number = Wrong
 
 -- what a value is for a form
 abbrev pub judge : Form → List ℕ → ValueVerdict

@@ -30,10 +30,8 @@ over (Smr c) heights = pos (at_least c heights)
 
 -- that
 abbrev pub under : HeightName → List ℤ → ℕ
-under Sp heights = length heights
-under Sv heights = length heights
 under Sa heights = length heights * length heights
-under (Smr c) heights = length heights
+under name heights = length heights
 
 -- the fraction is the height parameter of some heights
 pub record IsHeightParameter (name : HeightName) (heights : List ℤ) (f : Frac) : Type 0 where

@@ -44,8 +44,7 @@ second_name (Demonstrate demo) = None
 -- the name to save under, where there is one
 abbrev pub save_name : Request → Option (List ℕ)
 save_name (Run run) = run.save
-save_name (Check check) = None
-save_name (Demonstrate demo) = None
+save_name request = None
 
 -- the command of a run: without a script, `dales`
 abbrev pub run_command : Option (List ℕ) → ℕ → Command

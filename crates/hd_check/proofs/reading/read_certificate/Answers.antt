@@ -1,7 +1,7 @@
 use Rattle.std.proofs.Common.{inl, inr, Err, sym, ap, ◌∙◌}
-use Rattle.hd_check.specs.Reading.{after_head, after_from, after_to, after_saddle, after_path, after_cut, value_of}
+use Rattle.hd_check.specs.Reading.{value_of}
 use Rattle.std.proofs.lemmas.Result.{err_from_is_err_and}
-use Rattle.hd_check.proofs.ReadingSteps.{and_then-goes_on, and_then-stops}
+use Rattle.hd_check.proofs.ReadingSteps.{after_cut, after_from, after_head, after_path, after_saddle, after_to, and_then-goes_on, and_then-stops}
 use Rattle.hd_check.proofs.reading.read_certificate.Goals as goal
 
 pub returns-in_err-head : goal.returns-in_err-head
