@@ -159,7 +159,8 @@ module _ (side : SideName) (pool : Pool) where
           omega (arith, k, few, e));
     }
       where
-        number-known : (place : ℕ) (n : Node) → slice_get (all_nodes pool.parts) place ≡ Some n → slice_index roots.numbers place ≢ unknown → (o : Option Pos) → n.flows ≡ o → IsPitNumber side pool roots.pits n (slice_index roots.numbers place)
+        number-known : (place : ℕ) (n : Node) → slice_get (all_nodes pool.parts) place ≡ Some n → slice_index roots.numbers place ≢ unknown → (o : Option Pos) → n.flows ≡ o
+            → IsPitNumber side pool roots.pits n (slice_index roots.numbers place)
         number-known place n at known (Some q) e = absurd (known ((are.numbers place n at).onward (λ none. (let x : Some q ≡ None = sym e ∙ none in absurd cc))))
         number-known place n at known None e = λ m whole of. (
             let k = slice_index roots.numbers place in
@@ -232,7 +233,8 @@ number-read : (numbers : List ℕ) (place k x : ℕ) → k ≡ place → place <
 number-read numbers place k x same inside read = read ∙ ap (λ j. get_or numbers j x) same ∙ get_or_default_zero numbers place x inside
 
 -- what is read for a node is its number
-pub read-here : (parts : List Part) (roots : Rooted) → AreFirsts parts roots.firsts → length roots.numbers ≡ length (all_nodes parts) → (firsts numbers : List ℕ) → firsts ≡ roots.firsts → numbers ≡ roots.numbers
+pub read-here : (parts : List Part) (roots : Rooted) → AreFirsts parts roots.firsts → length roots.numbers ≡ length (all_nodes parts) → (firsts numbers : List ℕ) → firsts ≡ roots.firsts
+    → numbers ≡ roots.numbers
     → (s : Spot) (n : Node) → node_named parts s ≡ Some n → (x k : ℕ) → x ≡ get_or firsts s.tile x → k ≡ get_or numbers (x + s.number) k
     → (x + s.number ≡ place_of_node parts s) × (k ≡ slice_index roots.numbers (place_of_node parts s))
 read-here parts roots are whole firsts numbers is_firsts is_numbers s n at x k first read =
@@ -256,7 +258,8 @@ lies-in side pool roots are firsts numbers is_firsts is_numbers tile number part
     (subst (IsNumberOf m side roots.pits n.0.low) (sym r.1) (are.numbers (place_of_node pool.parts s) n.0 (spot-place pool.parts s n.0 n.1) m whole of)))
 
 -- and it is read in the list
-pub read-inside : (parts : List Part) (roots : Rooted) → AreFirsts parts roots.firsts → length roots.numbers ≡ length (all_nodes parts) → (firsts numbers : List ℕ) → firsts ≡ roots.firsts → numbers ≡ roots.numbers
+pub read-inside : (parts : List Part) (roots : Rooted) → AreFirsts parts roots.firsts → length roots.numbers ≡ length (all_nodes parts) → (firsts numbers : List ℕ) → firsts ≡ roots.firsts
+    → numbers ≡ roots.numbers
     → (tile number : ℕ) (part : Part) → slice_get parts tile ≡ Some part → number < length part.nodes → (x : ℕ) → x ≡ get_or firsts tile x → x + number < length numbers
 read-inside parts roots are whole firsts numbers is_firsts is_numbers tile number part at below x first =
     let s : Spot = record { tile = tile; number = number } in

@@ -129,7 +129,8 @@ listed-more parts k part firsts old before at so_far new after adds =
     let long : length (firsts ++ length before ∷ []) ≡ length firsts + 1 = length-append firsts (length before ∷ []) in
     let count = so_far.whole in
     let piece : part.nodes ≡ nodes_in (get_or parts k part) = ap (λ (p : Part). p.nodes) (sym (get_or_from_slice_get parts k part part at)) in
-    let flat : all_nodes (take k parts) ++ part.nodes ≡ all_nodes (take (k + 1) parts) = flat-more nodes_in [] (all_nodes (take k parts)) (all_nodes (take k parts) ++ part.nodes) parts k part part.nodes inside piece refl refl in
+    let flat : all_nodes (take k parts) ++ part.nodes ≡ all_nodes (take (k + 1) parts) =
+    flat-more nodes_in [] (all_nodes (take k parts)) (all_nodes (take k parts) ++ part.nodes) parts k part part.nodes inside piece refl refl in
     record {
       whole = long ∙ ap (λ n. n + 1) count;
       each = λ tile below. elim (cases_lt tile (length firsts)) [

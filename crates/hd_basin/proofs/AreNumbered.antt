@@ -80,7 +80,8 @@ module _ (nodes : List Node) (raw placed : List PlacedPit) (old : List ℕ) (are
   pub places-apart : AllPairs (λ (p q : PlacedPit). p.place ≢ q.place) placed
   places-apart =
       let place : PlacedPit → ℕ = λ p. p.place in
-      pairs-from_map place placed (AllPairs-from_IsDistinct Decides-eqb (map place placed) (IsDistinct-IsPermutation _ nat_eq_equiv.symm (map place raw) (map place placed) (IsPermutation-map place raw placed same)
+      pairs-from_map place placed (AllPairs-from_IsDistinct Decides-eqb (map place placed)
+      (IsDistinct-IsPermutation _ nat_eq_equiv.symm (map place raw) (map place placed) (IsPermutation-map place raw placed same)
       (IsDistinct-from_AllPairs Decides-eqb (map place raw) (pairs-of_map place raw are.apart))))
 
   pub places-inside : (p : PlacedPit) → Contains placed p → p.place < length old
@@ -127,7 +128,8 @@ module _ (nodes : List Node) (raw placed : List PlacedPit) (old : List ℕ) (are
 
     in_order : AllPairs (λ a b. a.index < b.index) (map pit_of placed)
     in_order = AllPairs-map pit_of (λ (p : PlacedPit) (q : PlacedPit). p.pit.index < q.pit.index) (λ (a : Rank) (b : Rank). a.index < b.index) placed (λ p q hp hq less. less)
-        (λ i j d less inside. at_least (get_or placed i d).pit.index (get_or placed j d).pit.index (sorted_far comes_first position-order placed sorted i j d (omega (arith, less)) inside) (indexes-apart i j d less inside))
+        (λ i j d less inside. at_least (get_or placed i d).pit.index (get_or placed j d).pit.index (sorted_far comes_first position-order placed sorted i j d (omega (arith, less)) inside)
+        (indexes-apart i j d less inside))
 
     pub pits-numbered : AreNumberedPits parts (record { pits = map pit_of placed; firsts = firsts; numbers = new })
     pits-numbered = record {

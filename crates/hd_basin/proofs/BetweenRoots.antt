@@ -65,11 +65,24 @@ between-turned side a b w apart = elim (below_by side a b) as (λ v. below_by si
 module _ (m : Map) (side : SideName) (p : Pass) where
   -- so it is put at the same roots
   adds-turned : (old new : List Pass) → AddsBetweenRoots m side p old new → AddsBetweenRoots m side (record { a = p.b; b = p.a; at = p.at }) old new
-  adds-turned old new (inl (q, is, e)) = inl (q, record { a = is.b; b = is.a; from = is.to; to = is.from; apart = λ same. is.apart (sym same); is = is.is ∙ between-turned side is.a is.b p.at is.apart }, e)
+  adds-turned old new (inl (q, is, e)) = inl (
+    q,
+    record {
+      a = is.b;
+      b = is.a;
+      from = is.to;
+      to = is.from;
+      apart = λ same. is.apart
+          (sym same);
+      is = is.is ∙ between-turned side is.a is.b p.at is.apart;
+    },
+    e,
+  )
   adds-turned old new (inr (one, e)) = inr (record { root = one.root; from = one.to; to = one.from }, e)
 
   pub adds-ordered : (old new : List Pass) → AddsBetweenRoots m side p old new → AddsBetweenRoots m side (in_order side p) old new
-  adds-ordered old new adds = elim (below_by side p.b p.a) as (λ v. AddsBetweenRoots m side (cond v (record { a = p.b; b = p.a; at = p.at }) p) old new) [ true ↦ adds-turned old new adds | false ↦ adds ]
+  adds-ordered old new adds = elim (below_by side p.b p.a) as
+      (λ v. AddsBetweenRoots m side (cond v (record { a = p.b; b = p.a; at = p.at }) p) old new) [ true ↦ adds-turned old new adds | false ↦ adds ]
 
 -- pits of different numbers are different
 pits-apart : (pits : List Rank) → AllPairs (λ a b. a.index < b.index) pits → (i j : ℕ) (p q : Rank) → i ≢ j → slice_get pits i ≡ Some p → slice_get pits j ≡ Some q → p ≢ q
@@ -82,27 +95,28 @@ module _ (side : SideName) (pool : Pool) (pits : List Rank) (rise : AllPairs (λ
   -- the link of a pass between basins
   link-roots : (m : Map) (p : Pass) (a b : ℕ) (old : List Link) → IsNumberOf m side pits p.a a → IsNumberOf m side pits p.b b
       → AddsBetweenRoots m side p (passes_of side pits old) (passes_of side pits (old ++ link_between a b p.at))
-  link-roots m p a b old from to = elim (nat_eq a b) as (λ v. nat_eq a b ≡ v → AddsBetweenRoots m side p (passes_of side pits old) (passes_of side pits (old ++ cond v [] (record { a = a; b = b; at = p.at } ∷ [])))) [
-    | true ↦ λ e. (
-        let same : a ≡ b = eqb-true a b e in
-        inr (
-          record { root = pit_at pits a; from = from.root; to = (subst (λ k. IsNumberOf m side pits p.b k) (sym same) to).root },
-          ap (passes_of side pits) (append-nil old),
-        ))
-    | false ↦ λ e. inl (
-      pass_of side pits (record { a = a; b = b; at = p.at }),
-      record {
-        a = pit_at pits a;
-        b = pit_at pits b;
-        from = from.root;
-        to = to.root;
-        apart = pits-apart pits rise a b (pit_at pits a) (pit_at pits b) (eqb-false a b e)
-            (slice_get-get_or pits a (record { height = pos 0; index = 0 }) from.inside) (slice_get-get_or pits b (record { height = pos 0; index = 0 }) to.inside);
-        is = refl;
-      },
-      map-append (pass_of side pits) old (record { a = a; b = b; at = p.at } ∷ []),
-    )
-  ] refl
+  link-roots m p a b old from to = elim (nat_eq a b) as (λ v. nat_eq a b ≡ v → AddsBetweenRoots m side p (passes_of side pits old)
+      (passes_of side pits (old ++ cond v [] (record { a = a; b = b; at = p.at } ∷ [])))) [
+        | true ↦ λ e. (
+            let same : a ≡ b = eqb-true a b e in
+            inr (
+              record { root = pit_at pits a; from = from.root; to = (subst (λ k. IsNumberOf m side pits p.b k) (sym same) to).root },
+              ap (passes_of side pits) (append-nil old),
+            ))
+        | false ↦ λ e. inl (
+          pass_of side pits (record { a = a; b = b; at = p.at }),
+          record {
+            a = pit_at pits a;
+            b = pit_at pits b;
+            from = from.root;
+            to = to.root;
+            apart = pits-apart pits rise a b (pit_at pits a) (pit_at pits b) (eqb-false a b e)
+                (slice_get-get_or pits a (record { height = pos 0; index = 0 }) from.inside) (slice_get-get_or pits b (record { height = pos 0; index = 0 }) to.inside);
+            is = refl;
+          },
+          map-append (pass_of side pits) old (record { a = a; b = b; at = p.at } ∷ []),
+        )
+      ] refl
 
   link-ends : (m : Map) (x y at : Rank) (a b : ℕ) → IsNumberOf m side pits x a → IsNumberOf m side pits y b → All (HasPits pits) (link_between a b at)
   link-ends m x y at a b from to = elim (nat_eq a b) as (λ v. All (HasPits pits) (cond v [] (record { a = a; b = b; at = at } ∷ []))) [

@@ -76,8 +76,10 @@ module _ (m : Map) (side : SideName) (t : ℕ) where
     )
     pit-gathered (Some o) e with old = (
       with.pit ∙ old.0,
-      sums-by (Either (InBasins m side t nodes pit) (λ x. IsSinkOf m side t x n.low)) (InBasins m side t (nodes ++ n ∷ []) pit) (IsEdge m) (basins-more nodes n pit root) e.points e.high e.least e.edge_low e.edge_high
-          (sums-both (InBasins m side t nodes pit) (λ x. IsSinkOf m side t x n.low) (IsEdge m) (λ p a b. fresh a.node a.among (sink-unique m side t p a.node.low n.low a.sink b)) o e n with old.1 is.sums),
+      sums-by (Either (InBasins m side t nodes pit) (λ x. IsSinkOf m side t x n.low)) (InBasins m side t (nodes ++ n ∷ []) pit) (IsEdge m)
+          (basins-more nodes n pit root) e.points e.high e.least e.edge_low e.edge_high
+          (sums-both (InBasins m side t nodes pit) (λ x. IsSinkOf m side t x n.low) (IsEdge m)
+          (λ p a b. fresh a.node a.among (sink-unique m side t p a.node.low n.low a.sink b)) o e n with old.1 is.sums),
     )
 
     other-gathered : (other : Rank) (o : Option Extent) → (other ≡ pit → ⊥) → IsGathered m side t nodes other o → IsGathered m side t (nodes ++ n ∷ []) other o
@@ -101,12 +103,15 @@ module _ (m : Map) (side : SideName) (t : ℕ) where
           each = λ k p at. elim (cases_eq k number) [
             | inl same ↦ (
                 let one : p ≡ pit = same_Some p pit (sym at ∙ ap (slice_get pits) same ∙ named) in
-                let read : slice_index_or new k None ≡ Some adds.extent = ap (λ (es : List (Option Extent)). slice_index_or es k None) adds.is ∙ get_or-set_at old number k (Some adds.extent) None same inside in
+                let read : slice_index_or new k None ≡ Some adds.extent =
+                ap (λ (es : List (Option Extent)). slice_index_or es k None) adds.is ∙ get_or-set_at old number k (Some adds.extent) None same inside in
                 subst (λ (r : Rank). IsGathered m side t (nodes ++ n ∷ []) r (slice_index_or new k None)) (sym one)
                 (subst (IsGathered m side t (nodes ++ n ∷ []) pit) (sym read) (pit-gathered (slice_index_or old number None) adds.extent adds.with (before.each number pit named))))
             | inr apart ↦ (
-                let read : slice_index_or new k None ≡ slice_index_or old k None = ap (λ (es : List (Option Extent)). slice_index_or es k None) adds.is ∙ get_or-set_other old number k (Some adds.extent) None apart in
-                subst (IsGathered m side t (nodes ++ n ∷ []) p) (sym read) (other-gathered p (slice_index_or old k None) (λ same. apart-pits pits in_order k number p apart at (named ∙ ap (λ (r : Rank). Some r) (sym same))) (before.each k p at)))
+                let read : slice_index_or new k None ≡ slice_index_or old k None =
+                ap (λ (es : List (Option Extent)). slice_index_or es k None) adds.is ∙ get_or-set_other old number k (Some adds.extent) None apart in
+                subst (IsGathered m side t (nodes ++ n ∷ []) p) (sym read)
+                (other-gathered p (slice_index_or old k None) (λ same. apart-pits pits in_order k number p apart at (named ∙ ap (λ (r : Rank). Some r) (sym same))) (before.each k p at)))
           ];
         }
       where
@@ -120,7 +125,8 @@ module _ (m : Map) (side : SideName) (t : ℕ) where
 pub gathered-none : (m : Map) (side : SideName) (t : ℕ) (pits : List Rank) (n : ℕ) → n ≡ length pits → AreGathered m side t pits [] (replicate n None)
 gathered-none m side t pits n count = record {
   whole = length-replicate n None ∙ count;
-  each = λ number pit at. subst (IsGathered m side t [] pit) (sym (get_or-replicate n number None None (subst (λ k. number < k) (sym count) (slice_get_within pits number pit at)))) (λ u has root. Contains-none u has);
+  each = λ number pit at. subst (IsGathered m side t [] pit) (sym (get_or-replicate n number None None (subst (λ k. number < k) (sym count) (slice_get_within pits number pit at))))
+      (λ u has root. Contains-none u has);
 }
 
 module _ (side : SideName) (pool : Pool) (roots : Rooted) (are : AreRoots side pool roots) where
@@ -137,7 +143,8 @@ module _ (side : SideName) (pool : Pool) (roots : Rooted) (are : AreRoots side p
     nodes-different i j d less below same = all-apart side pool (record { map = m; whole = whole; pool_of = of }) i j d less below (ap (λ (r : Rank). r.index) same)
 
     -- one node more is gathered
-    pub gathered-step : (k : ℕ) (n : Node) → slice_get nodes k ≡ Some n → (number : ℕ) → number ≡ slice_index roots.numbers k → (pit : Rank) → pit ≡ pit_at roots.pits number → (old new : List (Option Extent)) → AddsBasin old new number pit n
+    pub gathered-step : (k : ℕ) (n : Node) → slice_get nodes k ≡ Some n → (number : ℕ) → number ≡ slice_index roots.numbers k → (pit : Rank) → pit ≡ pit_at roots.pits number
+        → (old new : List (Option Extent)) → AddsBasin old new number pit n
         → AreGathered m side pool.side roots.pits (take k nodes) old → AreGathered m side pool.side roots.pits (take (k + 1) nodes) new
     gathered-step k n at number number_is pit pit_is old new adds before =
         let inside : k < length nodes = slice_get_within nodes k n at in
@@ -152,7 +159,8 @@ module _ (side : SideName) (pool : Pool) (roots : Rooted) (are : AreRoots side p
         pit root roots.pits (are.pits m whole of).in_order number named old new adds before)
 
     -- a region has few points
-    pub gathered-few : (k : ℕ) (n : Node) → slice_get nodes k ≡ Some n → (number : ℕ) → number < length roots.pits → (extents : List (Option Extent)) → AreGathered m side pool.side roots.pits (take k nodes) extents
+    pub gathered-few : (k : ℕ) (n : Node) → slice_get nodes k ≡ Some n → (number : ℕ) → number < length roots.pits → (extents : List (Option Extent))
+        → AreGathered m side pool.side roots.pits (take k nodes) extents
         → (e : Extent) → slice_index_or extents number None ≡ Some e → e.points + n.points < 2 ^ 64
     gathered-few k n at number inside extents gathered e is =
         let none : Rank = record { height = pos 0; index = 0 } in
@@ -204,7 +212,8 @@ module _ (side : SideName) (pool : Pool) (roots : Rooted) (are : AreRoots side p
             let r : Rank = record { height = pos 0; index = 0 } in
             let pit : Rank = get_or roots.pits k r in
             let named = slice_get-get_or roots.pits k r inside in
-            let read : slice_index_or extents k None ≡ Some e = ap (λ (es : List (Option Extent)). slice_index_or es k None) (sym listed) ∙ get_or_from_slice_get (map Some list) k (Some e) None (get-map Some list k e at) in
+            let read : slice_index_or extents k None ≡ Some e =
+            ap (λ (es : List (Option Extent)). slice_index_or es k None) (sym listed) ∙ get_or_from_slice_get (map Some list) k (Some e) None (get-map Some list k e at) in
             (pit, named, subst (IsGathered m side pool.side nodes pit) read (gathered.each k pit named))
 
         each-extent : (e : Extent) → Contains list e → IsExtent m side e

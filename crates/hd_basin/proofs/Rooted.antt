@@ -48,7 +48,8 @@ turned : (m : Map) (side : SideName) (In : Rank → Rank → Type 0) (a b w : Ra
 turned m side In a b w h = record { from = h.to; to = h.from; near = near-sym m h.from h.to h.near; from_in = h.to_in; to_in = h.from_in; higher = h.higher ∙ higher-sym side h.from h.to }
 
 -- a meeting of two, as the pass of the two has its ends
-between-meets : (m : Map) (side : SideName) (In : Rank → Rank → Type 0) (a b w : Rank) → IsMeeting m side In a b w → IsMeeting m side In (pass_between side a b w).a (pass_between side a b w).b (pass_between side a b w).at
+between-meets : (m : Map) (side : SideName) (In : Rank → Rank → Type 0) (a b w : Rank) → IsMeeting m side In a b w
+    → IsMeeting m side In (pass_between side a b w).a (pass_between side a b w).b (pass_between side a b w).at
 between-meets m side In a b w h = elim (below_by side a b) as (λ v. IsMeeting m side In (named a b w v).a (named a b w v).b (named a b w v).at) [
   | true ↦ h
   | false ↦ turned m side In a b w h

@@ -28,7 +28,8 @@ module _ (parts : List Part) (tile number : ℕ) (part : Part) (n : Node) (at : 
       let item : get_or parts tile part ≡ part = get_or_from_slice_get parts tile part part at in
       let below : number < length part.nodes = slice_get_within part.nodes number n has in
       let below' : number < length (nodes_in (get_or parts tile part)) = subst (λ (p : Part). number < length p.nodes) (sym item) below in
-      let read : get_or (all_nodes parts) (nodes_before parts tile + number) n ≡ get_or (nodes_in (get_or parts tile part)) number n = get_or-flat_map nodes_in parts tile number part n inside below' in
+      let read : get_or (all_nodes parts) (nodes_before parts tile + number) n ≡ get_or (nodes_in (get_or parts tile part)) number n =
+      get_or-flat_map nodes_in parts tile number part n inside below' in
       let room = length-flat_map-take nodes_in parts tile part inside in
       slice_get-get_or (all_nodes parts) (nodes_before parts tile + number) n (omega (arith, room, below'))
       ∙ ap (λ (u : Node). Some u) (read ∙ ap (λ (p : Part). get_or p.nodes number n) item ∙ get_or_from_slice_get part.nodes number n n has)
@@ -38,7 +39,8 @@ pub before-more : (parts : List Part) (tile : ℕ) (part : Part) → slice_get p
 before-more parts tile part at =
     let inside : tile < length parts = slice_get_within parts tile part at in
     let piece : part.nodes ≡ nodes_in (get_or parts tile part) = ap (λ (p : Part). p.nodes) (sym (get_or_from_slice_get parts tile part part at)) in
-    let flat : all_nodes (take tile parts) ++ part.nodes ≡ all_nodes (take (tile + 1) parts) = flat-more nodes_in [] (all_nodes (take tile parts)) (all_nodes (take tile parts) ++ part.nodes) parts tile part part.nodes inside piece refl refl in
+    let flat : all_nodes (take tile parts) ++ part.nodes ≡ all_nodes (take (tile + 1) parts) =
+    flat-more nodes_in [] (all_nodes (take tile parts)) (all_nodes (take tile parts) ++ part.nodes) parts tile part part.nodes inside piece refl refl in
     ap length (sym flat) ∙ length-append (all_nodes (take tile parts)) part.nodes
 
 module _ (parts : List Part) (s : Spot) (n : Node) (is : node_named parts s ≡ Some n) where
@@ -64,7 +66,8 @@ all-listed parts tile n h = flat-Contains nodes_in parts tile h.part n h.at h.ha
 pub first-read : (parts : List Part) (firsts : List ℕ) → AreFirsts parts firsts → (tile x : ℕ) → tile < length parts → x ≡ get_or firsts tile x → x ≡ nodes_before parts tile
 first-read parts firsts are tile x inside read = read ∙ get_or_default_zero firsts tile x (subst (λ n. tile < n) (sym are.whole) inside) ∙ are.each tile inside
 
-pub spot-read : (parts : List Part) (firsts : List ℕ) → AreFirsts parts firsts → (s : Spot) (n : Node) → node_named parts s ≡ Some n → (x : ℕ) → x ≡ get_or firsts s.tile x → x + s.number ≡ place_of_node parts s
+pub spot-read : (parts : List Part) (firsts : List ℕ) → AreFirsts parts firsts → (s : Spot) (n : Node) → node_named parts s ≡ Some n → (x : ℕ) → x ≡ get_or firsts s.tile x
+    → x + s.number ≡ place_of_node parts s
 spot-read parts firsts are s n is x read =
     let p = spot-part parts s n is in
     ap (λ k. k + s.number) (first-read parts firsts are s.tile x (slice_get_within parts s.tile p.0 p.1) read)
@@ -77,6 +80,7 @@ spot-inside parts s n is = slice_get_within (all_nodes parts) (place_of_node par
 pub named-of : (parts : List Part) (tile number : ℕ) (part : Part) → slice_get parts tile ≡ Some part → number < length part.nodes → IsSpot parts (record { tile = tile; number = number })
 named-of parts tile number part at below = node-of part.nodes below (λ n e. ap (λ (o : Option Part). node_in o number) at ∙ e)
   where
-    node-of : (nodes : List Node) → number < length nodes → ((n : Node) → slice_get nodes number ≡ Some n → node_in (slice_get parts tile) number ≡ Some n) → IsSpot parts (record { tile = tile; number = number })
+    node-of : (nodes : List Node) → number < length nodes → ((n : Node) → slice_get nodes number ≡ Some n → node_in (slice_get parts tile) number ≡ Some n)
+        → IsSpot parts (record { tile = tile; number = number })
     node-of [] less read = absurd (omega arith)
     node-of (n ∷ nodes) less read = (get_or (n ∷ nodes) number n, read (get_or (n ∷ nodes) number n) (slice_get-get_or (n ∷ nodes) number n less))

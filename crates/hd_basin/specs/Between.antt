@@ -33,12 +33,15 @@ pub record HasOneRoot (m : Map) (side : SideName) (p : Pass) : Type 0 where
 
 -- one more pass is put at the roots of its ends, or left out where these are one
 abbrev pub AddsBetweenRoots : Map → SideName → Pass → List Pass → List Pass → Type 0
-AddsBetweenRoots m side p old new = ((q : Pass) × IsBetweenRoots m side p q × (new ≡ old ++ q ∷ [])) ⊎ (HasOneRoot m side p × (new ≡ old))
+AddsBetweenRoots m side p old new = ((q : Pass) × IsBetweenRoots m side p q × (new ≡ old ++ q ∷ []))
+    ⊎ (HasOneRoot m side p × (new ≡ old))
 
 -- the passes, put at the roots of their ends, without those whose ends have one root
 pub record AreBetweenRoots (m : Map) (side : SideName) (passes between : List Pass) : Type 0 where
-  pub each : (q : Pass) → Contains between q → (p : Pass) × Contains passes p × IsBetweenRoots m side p q
-  pub all : (p : Pass) → Contains passes p → ((q : Pass) × Contains between q × IsBetweenRoots m side p q) ⊎ HasOneRoot m side p
+  pub each : (q : Pass) → Contains between q
+      → (p : Pass) × Contains passes p × IsBetweenRoots m side p q
+  pub all : (p : Pass) → Contains passes p
+      → ((q : Pass) × Contains between q × IsBetweenRoots m side p q) ⊎ HasOneRoot m side p
 
 -- the link of two pits by their numbers, and none of a pit with itself
 abbrev pub link_between : ℕ → ℕ → Rank → List Link
@@ -46,17 +49,21 @@ link_between a b at = if nat_eq a b then [] else (record { a = a; b = b; at = at
 
 -- the point lies in the region of the pit of this number, in each map that the pool is that of
 abbrev pub LiesIn : SideName → Pool → List Rank → Rank → ℕ → Type 0
-LiesIn side pool pits x number = (m : Map) → IsMap m → IsPoolOf m side pool → IsNumberOf m side pits x number
+LiesIn side pool pits x number = (m : Map) → IsMap m → IsPoolOf m side pool
+    → IsNumberOf m side pits x number
 
 -- the passes between basins are put, as links, at the pits of their ends
-pub record AddsLinks (side : SideName) (pool : Pool) (pits : List Rank) (passes : List Pass) (old new : List Link) : Type 0 where
+pub record AddsLinks (side : SideName) (pool : Pool) (pits : List Rank) (passes : List Pass)
+    (old new : List Link) : Type 0 where
   pub ends : All (HasPits pits) old → All (HasPits pits) new
-  pub between : (m : Map) → IsMap m → IsPoolOf m side pool → (before : List Pass) → AreBetweenRoots m side before (passes_of side pits old)
+  pub between : (m : Map) → IsMap m → IsPoolOf m side pool → (before : List Pass)
+      → AreBetweenRoots m side before (passes_of side pits old)
       → AreBetweenRoots m side (before ++ passes) (passes_of side pits new)
 
 -- those within a tile
 abbrev pub AddsInside : SideName → Pool → List Rank → ℕ → List Link → List Link → Type 0
-AddsInside side pool pits tile old new = (part : Part) → slice_get pool.parts tile ≡ Some part → AddsLinks side pool pits (map (in_order side) (inner_passes part)) old new
+AddsInside side pool pits tile old new = (part : Part) → slice_get pool.parts tile ≡ Some part
+    → AddsLinks side pool pits (map (in_order side) (inner_passes part)) old new
 
 -- those of its seams that are not void
 abbrev pub AddsAcross : SideName → Pool → List Rank → ℕ → List Link → List Link → Type 0
@@ -69,4 +76,5 @@ IsNodeLow parts low = (tile : ℕ) × (n : Node) × HasNode parts tile n × (n.l
 
 -- a seam that is not void is between two nodes
 abbrev pub EndInNodes : List Part → Seam → Type 0
-EndInNodes parts seam = was_seen_with (slice_get parts seam.with) seam.stamp ≡ true → IsNodeLow parts seam.pass.a × IsNodeLow parts seam.pass.b
+EndInNodes parts seam = was_seen_with (slice_get parts seam.with) seam.stamp ≡ true
+    → IsNodeLow parts seam.pass.a × IsNodeLow parts seam.pass.b

@@ -42,7 +42,8 @@ IsExtentWith None pit n new = new ≡ extent_of pit n
 IsExtentWith (Some old) pit n new = JoinsBasin old n new
 
 -- the basin of a node is added to the region of the pit of this number
-pub record AddsBasin (old new : List (Option Extent)) (number : ℕ) (pit : Rank) (n : Node) : Type 0 where
+pub record AddsBasin (old new : List (Option Extent)) (number : ℕ) (pit : Rank) (n : Node)
+    : Type 0 where
   pub extent : Extent
   pub with : IsExtentWith (slice_index_or old number None) pit n extent
   pub is : new ≡ slice_set old number (Some extent)

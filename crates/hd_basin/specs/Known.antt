@@ -13,14 +13,16 @@ use Rattle.hd_basin.specs.Placed.{unknown}
 use Rattle.hd_basin.specs.Roots.{AreFirsts, IsPitNumber, Rooted, all_nodes}
 use Rattle.hd_basin.specs.Spots.{IsSpot, node_named}
 
--- the pits, and the number of its pit for each node of which it is known, which it is for each that is a pit
+-- the pits, and the number of its pit for each node of which it is known: each that is a pit is one
 pub record AreKnown (side : SideName) (pool : Pool) (roots : Rooted) : Type 0 where
   pub firsts : AreFirsts pool.parts roots.firsts
   pub whole : length roots.numbers ≡ length (all_nodes pool.parts)
   pub pits : (m : Map) → IsMap m → IsPoolOf m side pool → ArePits m side roots.pits
-  pub each : (place : ℕ) (n : Node) → slice_get (all_nodes pool.parts) place ≡ Some n → slice_index roots.numbers place ≢ unknown
+  pub each : (place : ℕ) (n : Node) → slice_get (all_nodes pool.parts) place ≡ Some n
+      → slice_index roots.numbers place ≢ unknown
       → IsPitNumber side pool roots.pits n (slice_index roots.numbers place)
-  pub ends : (place : ℕ) (n : Node) → slice_get (all_nodes pool.parts) place ≡ Some n → n.flows ≡ None → slice_index roots.numbers place ≢ unknown
+  pub ends : (place : ℕ) (n : Node) → slice_get (all_nodes pool.parts) place ≡ Some n → n.flows ≡ None
+      → slice_index roots.numbers place ≢ unknown
 
 -- at the first places each number is known
 abbrev pub AreKnownTo : List ℕ → ℕ → Type 0
@@ -40,7 +42,8 @@ pub record FlowsOn (pool : Pool) (n : Node) (next : Spot) : Type 0 where
 -- the nodes at these places have the pit of this number
 abbrev pub LeadTo : SideName → Pool → List Rank → ℕ → List ℕ → Type 0
 LeadTo side pool pits number places = (place : ℕ) → Contains places place
-    → (n : Node) × (slice_get (all_nodes pool.parts) place ≡ Some n) × IsPitNumber side pool pits n number
+    → (n : Node) × (slice_get (all_nodes pool.parts) place ≡ Some n)
+    × IsPitNumber side pool pits n number
 
 -- the number stands at these places, and all else is as it was
 pub record AreNoted (places : List ℕ) (number : ℕ) (old new : List ℕ) : Type 0 where

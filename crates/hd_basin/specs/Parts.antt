@@ -36,7 +36,8 @@ node_at (Some part) place = slice_get part.nodes (slice_index_or part.labels.ite
 -- the number of the node that the label at a place of the tile names, and none where there is no label
 abbrev pub NumberIs : Part → ℕ → Option ℕ → Type 0
 NumberIs part place result = MatchOption result (node_at (Some part) place ≡ None)
-    (λ number. (number < length part.nodes) × (slice_get part.nodes number ≡ node_at (Some part) place))
+    (λ number. (number < length part.nodes)
+    × (slice_get part.nodes number ≡ node_at (Some part) place))
 
 -- the node that the pool has for a position
 abbrev pub node_of : Size → ℕ → List Part → Pos → Option Node

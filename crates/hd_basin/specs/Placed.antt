@@ -28,7 +28,8 @@ pub record IsPlaced (nodes : List Node) (p : PlacedPit) : Type 0 where
 -- of these nodes each that flows nowhere has its pit with its place, once, and no number is known
 pub record AreListed (nodes : List Node) (pits : List PlacedPit) (numbers : List ℕ) : Type 0 where
   pub each : (p : PlacedPit) → Contains pits p → IsPlaced nodes p
-  pub all : (place : ℕ) (n : Node) → slice_get nodes place ≡ Some n → n.flows ≡ None → (p : PlacedPit) × Contains pits p × (p.place ≡ place)
+  pub all : (place : ℕ) (n : Node) → slice_get nodes place ≡ Some n → n.flows ≡ None
+      → (p : PlacedPit) × Contains pits p × (p.place ≡ place)
   pub apart : AllPairs (λ (p q : PlacedPit). p.place ≢ q.place) pits
   pub whole : length numbers ≡ length nodes
   pub none : (place : ℕ) → place < length numbers → slice_index numbers place ≡ unknown
@@ -40,10 +41,12 @@ pub record IsListing (parts : List Part) (l : Listing) : Type 0 where
 -- at the place of each pit stands its number in the list, and all else is as it was
 pub record AreNumbered (placed : List PlacedPit) (old new : List ℕ) : Type 0 where
   pub whole : length new ≡ length old
-  pub each : (number : ℕ) (p : PlacedPit) → slice_get placed number ≡ Some p → slice_index new p.place ≡ number
-  pub others : (place : ℕ) → ((p : PlacedPit) → Contains placed p → p.place ≢ place) → slice_index new place ≡ slice_index old place
+  pub each : (number : ℕ) (p : PlacedPit) → slice_get placed number ≡ Some p
+      → slice_index new p.place ≡ number
+  pub others : (place : ℕ) → ((p : PlacedPit) → Contains placed p → p.place ≢ place)
+      → slice_index new place ≡ slice_index old place
 
--- the number of a node that flows nowhere is that of its sink among the pits, and no number of another node is known
+-- the number of a node that flows nowhere is that of its sink among the pits; no other node has one
 pub record HasNumber (pits : List Rank) (n : Node) (number : ℕ) : Type 0 where
   pub ends : n.flows ≡ None → slice_get pits number ≡ Some n.low
   pub onward : (n.flows ≡ None → ⊥) → number ≡ unknown
@@ -53,6 +56,8 @@ pub record AreNumberedPits (parts : List Part) (roots : Rooted) : Type 0 where
   pub firsts : AreFirsts parts roots.firsts
   pub whole : length roots.numbers ≡ length (all_nodes parts)
   pub few : length roots.pits < unknown
-  pub each : (p : Rank) → Contains roots.pits p → (n : Node) × Contains (all_nodes parts) n × (n.flows ≡ None) × (n.low ≡ p)
+  pub each : (p : Rank) → Contains roots.pits p
+      → (n : Node) × Contains (all_nodes parts) n × (n.flows ≡ None) × (n.low ≡ p)
   pub in_order : AllPairs (λ a b. a.index < b.index) roots.pits
-  pub numbers : (place : ℕ) (n : Node) → slice_get (all_nodes parts) place ≡ Some n → HasNumber roots.pits n (slice_index roots.numbers place)
+  pub numbers : (place : ℕ) (n : Node) → slice_get (all_nodes parts) place ≡ Some n
+      → HasNumber roots.pits n (slice_index roots.numbers place)

@@ -12,7 +12,8 @@ use Rattle.hd_basin.specs.Extents.{nodes_in}
 use Rattle.hd_basin.specs.InStep.{IsPoolOf}
 use Rattle.hd_basin.specs.Parts.{Pool}
 
--- the pits; by tile the place of its first node; by place of a node the number of the pit in whose region its basin lies
+-- the pits; by tile the place of its first node; by place of a node the number of the pit in whose region
+-- its basin lies
 pub record Rooted : Type 0 where
   pub pits : List Rank
   pub firsts : List ℕ
@@ -31,9 +32,10 @@ pub record AreFirsts (parts : List Part) (firsts : List ℕ) : Type 0 where
   pub whole : length firsts ≡ length parts
   pub each : (tile : ℕ) → tile < length parts → slice_index firsts tile ≡ nodes_before parts tile
 
--- the basin of the node lies in the region of the pit of this number, in each map that the pool is that of
+-- the basin of the node lies in the region of the pit of this number, in each map of which the pool is
 abbrev pub IsPitNumber : SideName → Pool → List Rank → Node → ℕ → Type 0
-IsPitNumber side pool pits n number = (m : Map) → IsMap m → IsPoolOf m side pool → IsNumberOf m side pits n.low number
+IsPitNumber side pool pits n number = (m : Map) → IsMap m → IsPoolOf m side pool
+    → IsNumberOf m side pits n.low number
 
 -- the pits in position order, and for each node the number of its pit
 pub record AreRoots (side : SideName) (pool : Pool) (roots : Rooted) : Type 0 where

@@ -26,4 +26,5 @@ place_of_node parts s = nodes_before parts s.tile + s.number
 -- it is the node that the pool has for a position, and none where the pool has none
 abbrev pub SpotIs : Pool → Pos → Option Spot → Type 0
 SpotIs pool p result = MatchOption result (node_of pool.size pool.side pool.parts p ≡ None)
-    (λ s. IsSpot pool.parts s × (node_named pool.parts s ≡ node_of pool.size pool.side pool.parts p))
+    (λ s. IsSpot pool.parts s
+    × (node_named pool.parts s ≡ node_of pool.size pool.side pool.parts p))

@@ -231,7 +231,8 @@ impl<S: Side> Basins<S> {
         requires known { AreKnown S.NAME self.now roots.old }
         requires before { AreKnownTo roots.old.numbers (nodes_before self.now.parts tile) }
         ensures known { OnOk result (AreKnown S.NAME self.now roots.new) }
-        ensures through { OnOk result (AreKnownTo roots.new.numbers (nodes_before self.now.parts (tile + 1))) }
+        ensures through { OnOk result (AreKnownTo roots.new.numbers
+            (nodes_before self.now.parts (tile + 1))) }
     {
         let count = self.stock.part(tile).count();
         'numbers: for number in 0..count {
@@ -247,7 +248,8 @@ impl<S: Side> Basins<S> {
         requires known { AreKnown S.NAME self.now roots.old }
         ensures known { OnOk result (AreKnown S.NAME self.now roots.new) }
         ensures kept { OnOk result (KeepsKnown roots.old.numbers roots.new.numbers) }
-        ensures numbered { OnOk result (slice_index roots.new.numbers (place_of_node self.now.parts spot) ≢ unknown) }
+        ensures numbered { OnOk result
+            (slice_index roots.new.numbers (place_of_node self.now.parts spot) ≢ unknown) }
     {
         way.clear();
         let number = self.follow(roots, way, spot)?;
@@ -261,7 +263,8 @@ impl<S: Side> Basins<S> {
         requires spot { IsSpot self.now.parts spot }
         requires known { AreKnown S.NAME self.now roots.now }
         requires empty { way.old.items ≡ [] }
-        ensures way { IfOk result (λ number. LeadTo S.NAME self.now roots.now.pits number way.new.items) }
+        ensures way { IfOk result
+            (λ number. LeadTo S.NAME self.now roots.now.pits number way.new.items) }
         ensures known { IfOk result (λ number. number ≢ unknown) }
         ensures begins { OnOk result (Contains way.new.items (place_of_node self.now.parts spot)
             ⊎ (slice_index roots.now.numbers (place_of_node self.now.parts spot) ≢ unknown)) }
@@ -330,7 +333,8 @@ impl<S: Side> Basins<S> {
         requires map { HasMap S.NAME self.now }
         requires roots { AreRoots S.NAME self.now roots.now }
         requires tile { tile < length self.now.parts }
-        ensures { OnOk result (AddsInside S.NAME self.now roots.now.pits tile links.old.items links.new.items) }
+        ensures { OnOk result
+            (AddsInside S.NAME self.now roots.now.pits tile links.old.items links.new.items) }
     {
         let part = self.stock.part(tile);
         let first = roots.firsts[tile];
@@ -348,7 +352,8 @@ impl<S: Side> Basins<S> {
         requires map { HasMap S.NAME self.now }
         requires roots { AreRoots S.NAME self.now roots.now }
         requires tile { tile < length self.now.parts }
-        ensures { OnOk result (AddsAcross S.NAME self.now roots.now.pits tile links.old.items links.new.items) }
+        ensures { OnOk result
+            (AddsAcross S.NAME self.now roots.now.pits tile links.old.items links.new.items) }
     {
         let part = self.stock.part(tile);
         let seams = part.seams();
@@ -363,7 +368,8 @@ impl<S: Side> Basins<S> {
         requires map { HasMap S.NAME self.now }
         requires roots { AreRoots S.NAME self.now roots.now }
         requires ends { EndInNodes self.now.parts seam }
-        ensures { OnOk result (AddsLinks S.NAME self.now roots.now.pits (pass_of S.NAME self.now.parts seam) links.old.items links.new.items) }
+        ensures { OnOk result (AddsLinks S.NAME self.now roots.now.pits
+            (pass_of S.NAME self.now.parts seam) links.old.items links.new.items) }
     {
         if was_seen_with(&self.stock, seam.with, seam.stamp) {
             let a = self.pit_number(roots, seam.pass.a);
@@ -436,8 +442,10 @@ impl<S: Side> Basins<S> {
         requires map { HasMap S.NAME self.now }
         requires roots { AreRoots S.NAME self.now roots.now }
         requires tile { tile < length self.now.parts }
-        requires before { AreGatheredTo S.NAME self.now roots.now.pits (nodes_before self.now.parts tile) extents.old.items }
-        ensures { AreGatheredTo S.NAME self.now roots.now.pits (nodes_before self.now.parts (tile + 1)) extents.new.items }
+        requires before { AreGatheredTo S.NAME self.now roots.now.pits
+            (nodes_before self.now.parts tile) extents.old.items }
+        ensures { AreGatheredTo S.NAME self.now roots.now.pits
+            (nodes_before self.now.parts (tile + 1)) extents.new.items }
     {
         let part = self.stock.part(tile);
         let pits = roots.pits();

@@ -13,7 +13,8 @@ use std::alloc::Global;
 /// Adds the basin of a node to the region of the pit of a number.
 pub fn add_basin(extents: &mut Vec<Option<Extent>>, number: u32, pit: Rank, node: Node)
     requires inside { number < length extents.old.items }
-    requires few { ForSome (slice_index_or extents.old.items number None) (λ e. e.points + node.points < 2 ^ 64) }
+    requires few { ForSome (slice_index_or extents.old.items number None)
+        (λ e. e.points + node.points < 2 ^ 64) }
     ensures { AddsBasin extents.old.items extents.new.items number pit node }
 {
     let number = number as usize;

@@ -23,7 +23,11 @@ impl Model for Roots {
 
     ghost Value = { Rooted };
 
-    ghost view = { λ r. record { pits = r.pits; firsts = r.firsts.items; numbers = r.numbers.items } };
+    ghost view = { λ r. record {
+      pits = r.pits;
+      firsts = r.firsts.items;
+      numbers = r.numbers.items;
+    } };
 }
 
 impl Roots {

@@ -25,7 +25,8 @@ listed-requires g c =
     let count : c.count-tiles.result ≡ length pool.parts = c.count-tiles.ensures ∙ ap (λ (p : Pool). length p.parts) c.self.view_is in
     let past = c.tiles-test.false in
     let all : take (length (all_nodes (take c.tiles.tile pool.parts))) (all_nodes pool.parts) ≡ all_nodes pool.parts =
-    ap (λ (ps : List Part). take (length (all_nodes ps)) (all_nodes pool.parts)) (take_all c.tiles.tile pool.parts (omega (arith, count, past))) ∙ take_all (length (all_nodes pool.parts)) (all_nodes pool.parts) (omega arith) in
+    ap (λ (ps : List Part). take (length (all_nodes ps)) (all_nodes pool.parts)) (take_all c.tiles.tile pool.parts (omega (arith, count, past))) ∙ take_all (length (all_nodes pool.parts))
+    (all_nodes pool.parts) (omega arith) in
     let gathered = subst (λ (ns : List Node). AreGathered has.map g.S.Side.NAME pool.side c.args.roots.now.pits ns c.tiles.extents.items) all (c.tiles.invariant has.map has.whole has.pool_of) in
     subst (All (λ (e : Option Extent). e ≢ None)) (sym c.deref.ensures.value)
     (all-known g.S.Side.NAME pool c.args.roots.now c.requires.roots has.map has.whole has.pool_of c.tiles.extents.items gathered)
@@ -36,7 +37,8 @@ returns g c =
     let count : c.count-tiles.result ≡ length pool.parts = c.count-tiles.ensures ∙ ap (λ (p : Pool). length p.parts) c.self.view_is in
     let past = c.tiles-test.false in
     let all : take (length (all_nodes (take c.tiles.tile pool.parts))) (all_nodes pool.parts) ≡ all_nodes pool.parts =
-    ap (λ (ps : List Part). take (length (all_nodes ps)) (all_nodes pool.parts)) (take_all c.tiles.tile pool.parts (omega (arith, count, past))) ∙ take_all (length (all_nodes pool.parts)) (all_nodes pool.parts) (omega arith) in
+    ap (λ (ps : List Part). take (length (all_nodes ps)) (all_nodes pool.parts)) (take_all c.tiles.tile pool.parts (omega (arith, count, past))) ∙ take_all (length (all_nodes pool.parts))
+    (all_nodes pool.parts) (omega arith) in
     IfOk-weaker c.listed.result _ _
     (λ list listed m whole of. extents-right g.S.Side.NAME pool c.args.roots.now c.requires.roots m whole of c.tiles.extents.items
     (subst (λ (ns : List Node). AreGathered m g.S.Side.NAME pool.side c.args.roots.now.pits ns c.tiles.extents.items) all (c.tiles.invariant m whole of))

@@ -45,7 +45,8 @@ seams-preserved g c =
     let k = c.seams.seam-index in
     let before : List Pass = flat_map (pass_of side pool.parts) (take k seams) in
     let one : List Pass = pass_of side pool.parts (get_or seams k none) in
-    let more : before ++ one ≡ flat_map (pass_of side pool.parts) (take (k + 1) seams) = flat-more (pass_of side pool.parts) [] before (before ++ one) seams k none one c.seams-test.true refl refl refl in
+    let more : before ++ one ≡ flat_map (pass_of side pool.parts) (take (k + 1) seams) =
+    flat-more (pass_of side pool.parts) [] before (before ++ one) seams k none one c.seams-test.true refl refl refl in
     subst (λ (ps : List Pass). AddsLinks side pool pits ps c.args.links.now.items c.link_seam.new.links.items) more
     (adds-more side pool pits before one c.args.links.now.items c.seams.links.items c.link_seam.new.links.items c.seams.invariant c.in_ok-link_seam.ensures)
 

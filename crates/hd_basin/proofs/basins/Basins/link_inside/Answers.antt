@@ -106,7 +106,8 @@ joins-preserved g c = λ named is. (
     let before : List Pass = map f (take c.joins.join-index c.joins-joins.result.now) in
     let more : before ++ in_order side p ∷ [] ≡ map f (take (c.joins.join-index + 1) c.joins-joins.result.now) =
     map-more f [] before (before ++ in_order side p ∷ []) c.joins-joins.result.now c.joins.join-index none (in_order side p) c.joins-test.true refl refl refl in
-    subst (λ (q : Part). AddsLinks side pool pits (map (λ x. in_order side (pass_named q.nodes x)) (take (c.joins.join-index + 1) c.joins-joins.result.now)) c.args.links.now.items c.push_link.new.links.items)
+    subst (λ (q : Part). AddsLinks side pool pits (map (λ x. in_order side (pass_named q.nodes x))
+    (take (c.joins.join-index + 1) c.joins-joins.result.now)) c.args.links.now.items c.push_link.new.links.items)
     (same_Some part named (sym at ∙ is))
     (subst (λ (ps : List Pass). AddsLinks side pool pits ps c.args.links.now.items c.push_link.new.links.items) more
     (adds-more side pool pits before (in_order side p ∷ []) c.args.links.now.items c.joins.links.items c.push_link.new.links.items (c.joins.invariant part at) one)))

@@ -42,7 +42,8 @@ tiles-preserved g c =
     (ap (passes_in side pool.parts) (sym (get_or_from_slice_get pool.parts k part part here.1))) refl refl in
     subst (λ (ps : List Pass). AddsLinks side pool pits ps [] c.link_across.new.links.items) more
     (adds-more side pool pits before (passes_in side pool.parts part) [] c.tiles.links.items c.link_across.new.links.items c.tiles.invariant
-    (adds-more side pool pits inside across c.tiles.links.items c.link_inside.new.links.items c.link_across.new.links.items (c.in_ok-link_inside.ensures part here.1) (c.in_ok-link_across.ensures part here.1)))
+    (adds-more side pool pits inside across c.tiles.links.items c.link_inside.new.links.items c.link_across.new.links.items (c.in_ok-link_inside.ensures part here.1)
+    (c.in_ok-link_across.ensures part here.1)))
 
 pub returns-clause-ends : goal.returns-clause-ends
 returns-clause-ends g c = c.tiles.invariant.ends (All-nil (HasPits c.args.roots.now.pits))
@@ -60,6 +61,7 @@ returns-clause-crossings g c = λ m whole of labels regions. (
     let is = pool-graph m side pool of sound in
     let all : take c.tiles.tile pool.parts ≡ pool.parts = take_all c.tiles.tile pool.parts (omega (arith, count, past)) in
     let between : AreBetweenRoots m side net.passes (passes_of side pits c.tiles.links.items) =
-    subst (λ (ps : List Part). AreBetweenRoots m side (flat_map (passes_in side pool.parts) ps) (passes_of side pits c.tiles.links.items)) all (c.tiles.invariant.between m whole of [] (between-none m side)) in
+    subst (λ (ps : List Part). AreBetweenRoots m side (flat_map (passes_in side pool.parts) ps) (passes_of side pits c.tiles.links.items)) all
+    (c.tiles.invariant.between m whole of [] (between-none m side)) in
     between-crossings m side (IsSinkOf m side t) is.basins (λ x a r own root. (sink-root m side t x a r own).1 root) (λ x a r own root. (sink-root m side t x a r own).0 root)
     labels regions net.passes (passes_of side pits c.tiles.links.items) (graph-crossings m side t net is) between)

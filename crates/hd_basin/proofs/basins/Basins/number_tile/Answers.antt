@@ -17,7 +17,8 @@ number_node-requires-clause-spot g c =
 pub numbers-preserved : goal.numbers-preserved
 numbers-preserved g c = (
   c.in_ok-number_node.ensures.known,
-  λ place below. known-more c.numbers.roots.numbers c.number_node.new.roots.numbers (nodes_before c.args.self.now.parts c.args.tile + c.numbers.number) c.numbers.invariant.1 c.in_ok-number_node.ensures.kept c.in_ok-number_node.ensures.numbered place (omega (arith, below)),
+  λ place below. known-more c.numbers.roots.numbers c.number_node.new.roots.numbers
+      (nodes_before c.args.self.now.parts c.args.tile + c.numbers.number) c.numbers.invariant.1 c.in_ok-number_node.ensures.kept c.in_ok-number_node.ensures.numbered place (omega (arith, below)),
 )
 
 pub returns-clause-through : goal.returns-clause-through

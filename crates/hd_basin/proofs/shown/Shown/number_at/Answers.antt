@@ -14,7 +14,8 @@ returns-then-label-len c =
     let look = c.in_ok-label.ensures.lookup in
     let same : labels ≡ c.args.self.now.labels.items = c.deref.ensures.value ∙ ap (λ (p : Part). p.labels.items) c.self.view_is in
     let at : slice_get labels c.args.place ≡ Some label = slice_get_read labels (length labels) c.args.place label refl look.3.0 look.1 in
-    let read : get_or c.args.self.now.labels.items c.args.place (length nodes) ≡ label = ap (λ (ls : List ℕ). get_or ls c.args.place (length nodes)) (sym same) ∙ get_or_from_slice_get labels c.args.place label (length nodes) at in
+    let read : get_or c.args.self.now.labels.items c.args.place (length nodes) ≡ label =
+    ap (λ (ls : List ℕ). get_or ls c.args.place (length nodes)) (sym same) ∙ get_or_from_slice_get labels c.args.place label (length nodes) at in
     let long = shown-length s.nodes.now s.kept.now c.self.invariant c.args.self.now c.self.view_is in
     let less = c.if-label-len.true in
     let count = c.len.ensures in
@@ -30,7 +31,8 @@ returns-else-label-len c =
     let look = c.in_ok-label.ensures.lookup in
     let same : labels ≡ c.args.self.now.labels.items = c.deref.ensures.value ∙ ap (λ (p : Part). p.labels.items) c.self.view_is in
     let at : slice_get labels c.args.place ≡ Some label = slice_get_read labels (length labels) c.args.place label refl look.3.0 look.1 in
-    let read : get_or c.args.self.now.labels.items c.args.place (length nodes) ≡ label = ap (λ (ls : List ℕ). get_or ls c.args.place (length nodes)) (sym same) ∙ get_or_from_slice_get labels c.args.place label (length nodes) at in
+    let read : get_or c.args.self.now.labels.items c.args.place (length nodes) ≡ label =
+    ap (λ (ls : List ℕ). get_or ls c.args.place (length nodes)) (sym same) ∙ get_or_from_slice_get labels c.args.place label (length nodes) at in
     let long = shown-length s.nodes.now s.kept.now c.self.invariant c.args.self.now c.self.view_is in
     let less = c.if-label-len.false in
     let count = c.len.ensures in
