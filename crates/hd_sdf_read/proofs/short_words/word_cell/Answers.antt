@@ -11,7 +11,7 @@ returns-in-Some-clause-datum c =
 
 pub returns-in-Some-leading_over-clause-datum : goal.returns-in-Some-leading_over-clause-datum
 returns-in-Some-leading_over-clause-datum c =
-    height_datum (signed_number true c.args.below) (pos c.args.greatest) c.args.word.now c.in-Some-leading_over.rest.now (Height (height_over c.args.below c.in-Some-leading_over.over))
+    IsDatum-height (signed_number true c.args.below) (pos c.args.greatest) c.args.word.now c.in-Some-leading_over.rest.now (Height (height_over c.args.below c.in-Some-leading_over.over))
     c.in-Some-leading_over.ensures.cell c.in-Some-leading_over.ensures.left
 
 pub returns-clause-datum : goal.returns-clause-datum
