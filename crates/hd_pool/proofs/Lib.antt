@@ -5,5 +5,6 @@ mod EdgePoints
 mod EdgeHeights
 mod Extents
 mod Presences
+mod ByIndex
 mod Touched
 pub mod Following

@@ -3,3 +3,4 @@ pub mod Told
 pub mod Outlay
 pub mod Following
 pub mod View
+pub mod ByIndex

@@ -5,6 +5,7 @@
 //! it says what else holds then.
 #![tactic(auto)]
 
+mod by_index;
 mod outlay;
 mod pool_view;
 mod side_pool;

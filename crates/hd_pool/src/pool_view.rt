@@ -3,6 +3,7 @@ ghost use Rattle.std.specs.Prelude.{◌≡◌, IfOk};
 ghost use Rattle.hd_map.specs.Presence.{IsPresence, present_heights};
 ghost use Rattle.hd_basin.specs.InStep.{IsPoolOf};
 
+use crate::by_index::by_index;
 use crate::told::{presence_told, sizes_told, tallies_told};
 use hd_basin::{Basins, Extent, Roots};
 use hd_list::{List, Memory};
@@ -96,6 +97,7 @@ impl<'a, S: Side, G: Heights> SideView<S> for PoolView<'a, S, G> {
 
     fn merges(&self) -> Result<PitMerges, Memory> {
         let links = self.pool.links(&self.roots)?;
+        let links = by_index(self.alloc, links)?;
         merges_of_crossings::<S, G>(self.alloc, self.grid, self.roots.pits(), links)
     }
 
