@@ -1,5 +1,10 @@
 pub mod Lists
 mod Inside
+pub mod Given
+mod EdgePoints
+pub mod EdgeHeights
+pub mod Members
+mod ByRoots
 mod Sums
 pub mod Found
 pub mod RootedPoints
