@@ -2,6 +2,7 @@ pub mod Lists
 mod Inside
 pub mod Given
 mod EdgePoints
+pub mod HeightRanges
 pub mod EdgeHeights
 pub mod Members
 mod ByRoots

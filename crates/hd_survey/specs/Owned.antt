@@ -1,5 +1,7 @@
 -- The places of kept pits, and the tallies of what they own.
-use Rattle.std.specs.Prelude.{◌≡◌, ◌<◌, ℕ, Bool, List, [], ◌∷◌, length, map, Option, None, nat_eq, slice_index_or, if◌then◌else◌}
+use Rattle.std.specs.Prelude.{◌≡◌, ◌<◌, ℕ, Bool, false, List, [], ◌∷◌, length, map, filter, Option, Some, None, nat_eq, slice_index_or, if◌then◌else◌}
+use Rattle.std.specs.List.{range_with_len}
+use Rattle.hd_map.specs.declared.types.Rank.{Rank}
 use Rattle.hd_map.specs.declared.types.RegionSize.{RegionSize}
 use Rattle.hd_map.specs.declared.types.SideName.{SideName}
 use Rattle.hd_map.specs.Map.{Map, cell_count}
@@ -7,7 +9,7 @@ use Rattle.hd_map.specs.Region.{AreRegions}
 use Rattle.hd_prune.specs.declared.step.Kept.{Kept}
 use Rattle.hd_prune.specs.declared.step.Owned.{Owned}
 use Rattle.hd_regions.specs.declared.tally.Tally.{Tally}
-use Rattle.hd_survey.specs.Regions.{pit_ranks, points_of}
+use Rattle.hd_survey.specs.Regions.{pit_ranks, points_of, rank_at}
 use Rattle.hd_survey.specs.Tallies.{joined, no_tally}
 pub use Rattle.hd_regions.specs.Owned.{ArePrunedRegions}
 
