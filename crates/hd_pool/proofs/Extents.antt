@@ -1,7 +1,6 @@
 -- The extents of all regions tell their sizes and their tallies.
 use Rattle.std.proofs.Common.{◌≡◌, ◌<◌, ◌^◌, ◌∙◌, ℕ, ℤ, List, [], ◌∷◌, length, get_or, map, Option, Some, None, refl, sym, ap, subst, arith}
 use Rattle.std.specs.Prelude.{All, Contains}
-use Rattle.std.specs.Option.{option_map}
 use Rattle.std.proofs.lemmas.List.Elements.{Contains-get_or}
 use Rattle.std.proofs.lemmas.Simd.{map-map}
 use Rattle.hd_basin.specs.declared.extent.Extent.{Extent}
@@ -10,18 +9,19 @@ use Rattle.hd_basin.proofs.ExtentSums.{count-few}
 use Rattle.hd_map.specs.declared.height_range.HeightRange.{HeightRange}
 use Rattle.hd_map.specs.declared.types.Rank.{Rank}
 use Rattle.hd_map.specs.declared.types.SideName.{SideName}
+use Rattle.hd_map.specs.EdgePoint.{IsEdge}
 use Rattle.hd_map.specs.Map.{Map, IsMap}
 use Rattle.hd_map.specs.Pruning.{ArePits}
 use Rattle.hd_map.specs.Region.{AreRegions, IsPit, IsRoot}
+use Rattle.hd_map.specs.Sums.{EdgeMember}
 use Rattle.hd_map.proofs.Items.{Contains-head, Contains-tail}
 use Rattle.hd_map.proofs.Prunings.{pits-unique}
 use Rattle.hd_regions.specs.declared.tally.Tally.{Tally}
-use Rattle.hd_map.specs.EdgePoint.{IsEdge}
-use Rattle.hd_map.specs.Sums.{EdgeMember}
 use Rattle.hd_regions.proofs.Sums.{count-unique, greatest-unique, least-unique}
 use Rattle.hd_survey.specs.Regions.{AreSizesByRoots, names, pit_ranks, points_of, region_size}
 use Rattle.hd_survey.specs.Tallies.{AreRegionTallies, region_tally}
 use Rattle.hd_survey.proofs.EdgeHeights.{AreMembers, greatest-edge, least-edge}
+use Rattle.hd_survey.proofs.HeightRanges.{greatest_end, least_end}
 use Rattle.hd_survey.proofs.Members.{are-members, members, members-count, rooted-point, tells-region}
 use Rattle.hd_survey.proofs.OwnedTallies.{points_rooted}
 use Rattle.hd_survey.proofs.Lists.{AllPairs-map, Contains-map, map-Contains}
@@ -37,11 +37,10 @@ map-on f g (x ∷ xs) same = ap (λ y. y ∷ map f xs) (same x (Contains-head x 
 abbrev pit_told : Extent → Rank
 pit_told e = e.pit
 
--- the range from the least to the greatest
-range-told : (low high : Option ℤ) (range : Option HeightRange) → low ≡ option_map {T = HeightRange} {U = ℤ} (λ r. r.least) range
-    → high ≡ option_map {T = HeightRange} {U = ℤ} (λ r. r.greatest) range → range_between low high ≡ range
-range-told low high None a b = ap (λ o. range_between o high) a
-range-told low high (Some r) a b = ap (λ o. range_between o high) a ∙ ap (range_between (Some r.least)) b
+-- a range is the one from its least to its greatest
+pub range_between-ends : (low high : Option ℤ) (range : Option HeightRange) → low ≡ least_end range → high ≡ greatest_end range → range_between low high ≡ range
+range_between-ends low high None a b = ap (λ o. range_between o high) a
+range_between-ends low high (Some r) a b = ap (λ o. range_between o high) a ∙ ap (range_between (Some r.least)) b
 
 module _ (m : Map) (whole : IsMap m) (side : SideName) (extents : List Extent) (are : AreExtents m side extents) where
   told-pits : ArePits m side (map pit_told extents)
@@ -98,7 +97,7 @@ module _ (m : Map) (whole : IsMap m) (side : SideName) (extents : List Extent) (
     regions = regions;
     are = told-as tally_told (region_tally m roots) (λ e is. same_tally _ _ _ _
         (counted-as e is (region_tally m roots e.pit).points refl)
-        (range-told e.edge_low e.edge_high _
+        (range_between-ends e.edge_low e.edge_high _
         (least-unique (EdgeMember (In e) (IsEdge m)) e.edge_low _ (is.sums).lowest_edge (least-edge m (In e) (region e is) (region-members e is)))
         (greatest-unique (EdgeMember (In e) (IsEdge m)) e.edge_high _ (is.sums).highest_edge (greatest-edge m (In e) (region e is) (region-members e is)))));
   }

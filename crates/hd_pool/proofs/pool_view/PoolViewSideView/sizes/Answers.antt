@@ -39,7 +39,7 @@ returns g c =
     let side = g.S.Side.NAME in
     let whole = g.met.G.Heights.whole c.self.inside.grid.now in
     IfOk-weaker c.sizes_told-2.result _ _
-    (λ list are. subst (λ grid. AreRegionSizes (g.G.Heights.map grid) side list) c.self.view_is
-    (subst (λ (xs : List RegionSize). AreRegionSizes m side xs) (sym (are ∙ ap (map size_told) c.as_slice-2.ensures))
+    (λ list are. subst (λ grid. AreSizesByRoots (g.G.Heights.map grid) side list) c.self.view_is
+    (subst (λ (xs : List RegionSize). AreSizesByRoots m side xs) (sym (are ∙ ap (map size_told) c.as_slice-2.ensures))
     (sizes-told m whole side c.in_ok-extents.extents (c.in_ok-extents.ensures m whole c.self.invariant.is_pool))))
     c.sizes_told-2.ensures
