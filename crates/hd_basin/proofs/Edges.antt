@@ -1,5 +1,5 @@
 -- Edge points by the nine ranks round them.
-use Rattle.std.proofs.Common.{◌≡◌, ◌<◌, ◌≤◌, ◌+◌, ◌-◌, ◌*◌, ◌/◌, ◌%◌, ◌||◌, ℕ, true, false, List, inl, inr, refl, sym, ap, subst, arith}
+use Rattle.std.proofs.Common.{◌≡◌, ◌≤◌, ◌+◌, ◌-◌, ◌*◌, ◌||◌, ℕ, true, false, List, inl, inr, sym, ap, subst, arith}
 use Rattle.std.proofs.lemmas.Bool.{cases_eq, cases_lt, or_cases, or_parts}
 use Rattle.hd_map.specs.declared.types.Pos.{Pos}
 use Rattle.hd_map.specs.declared.types.Rank.{Rank}
@@ -7,41 +7,15 @@ use Rattle.hd_map.specs.declared.types.SideName.{SideName}
 use Rattle.hd_map.specs.Map.{Map, IsMap, Present}
 use Rattle.hd_map.specs.Rank.{rank}
 use Rattle.hd_map.proofs.Gather.{same_pos}
-use Rattle.hd_map.proofs.Points.{same_point}
 use Rattle.hd_steep.specs.Lowest.{missing, IsAtPlace, IsLow}
 use Rattle.hd_steep.specs.Rows.{rank_in}
 use Rattle.hd_basin.specs.declared.frame.Frame.{Frame}
-use Rattle.hd_basin.specs.Edge.{IsEdge, HasAbsentBeside, OnBorder}
+use Rattle.hd_map.specs.EdgePoint.{IsEdge}
+use Rattle.hd_map.proofs.EdgePoint.{edge-absent_beside, edge-on, no_edge}
 use Rattle.hd_basin.specs.Frames.{InFrame}
 use Rattle.hd_basin.specs.Round.{AreRanks, is_missing, lacks_one}
 use Rattle.hd_basin.proofs.AreLinks.{low-absent, told-apart}
 use Rattle.hd_basin.proofs.LowRound.{entry-at}
-
--- where all nine are present, no position beside is without a present point
-pub none_absent_beside : (m : Map) (p : Pos) → 0 < p.x → 0 < p.y → ((k : ℕ) → k < 9 → Present m (record { x = p.x + k % 3 - 1; y = p.y + k / 3 - 1 })) → HasAbsentBeside m p → ⊥
-none_absent_beside m p left top all missing =
-    let k : ℕ = 3 * (missing.at.y + 1 - p.y) + (missing.at.x + 1 - p.x) in
-    let c = missing.columns in
-    let r = missing.rows in
-    let below : k < 9 = omega (arith, c.0, c.1, r.0, r.1, left, top) in
-    let x : p.x + k % 3 - 1 ≡ missing.at.x = omega (arith, c.0, c.1, r.0, r.1, left, top) in
-    let y : p.y + k / 3 - 1 ≡ missing.at.y = omega (arith, c.0, c.1, r.0, r.1, left, top) in
-    missing.absent (subst (Present m) (same_pos (record { x = p.x + k % 3 - 1; y = p.y + k / 3 - 1 }) missing.at x y) (all k below))
-
--- an edge point is told by its position
-pub edge-on : (m : Map) (p : Pos) → Present m p → OnBorder m.size p → IsEdge m (rank m p)
-edge-on m p here border = record { at = p; present = here; rank_is = refl; open_side = inl border }
-
-pub edge-absent_beside : (m : Map) (p : Pos) → Present m p → HasAbsentBeside m p → IsEdge m (rank m p)
-edge-absent_beside m p here missing = record { at = p; present = here; rank_is = refl; open_side = inr missing }
-
-pub no_edge : (m : Map) (p : Pos) → Present m p → (OnBorder m.size p → ⊥) → (HasAbsentBeside m p → ⊥) → IsEdge m (rank m p) → ⊥
-no_edge m p here inner closed edge =
-    let same : edge.at ≡ p = same_point m edge.at p edge.present here (sym edge.rank_is) in
-    elim edge.open_side [
-      | inl border ↦ inner (subst (OnBorder m.size) same border)
-      | inr missing ↦ closed (subst (HasAbsentBeside m) same missing)
-    ]
 
 module _ (m : Map) (side : SideName) (whole : IsMap m) (p : Pos) (here : Present m p) where
   -- a place round the point where no point is present

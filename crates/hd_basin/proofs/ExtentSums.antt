@@ -12,7 +12,7 @@ use Rattle.hd_basin.specs.declared.extent.Extent.{Extent}
 use Rattle.hd_basin.specs.declared.node.Node.{Node}
 use Rattle.hd_basin.specs.Adding.{IsGreater, IsLesser}
 use Rattle.hd_basin.specs.Extents.{IsOfBoth, JoinsBasin}
-use Rattle.hd_basin.specs.Sums.{IsCount, IsGreatest, IsLeast, EdgeMember, AreSums}
+use Rattle.hd_map.specs.Sums.{IsCount, IsGreatest, IsLeast, EdgeMember, AreSums}
 use Rattle.hd_basin.proofs.Sums.{Either, count-merge, greatest-first, greatest-second, least-first, least-second, greatest-by, least-by}
 
 -- the least height of edge points, and the greatest, where there are such points

@@ -18,13 +18,13 @@ use Rattle.hd_steep.specs.Crossings.{pit_at}
 use Rattle.hd_basin.specs.declared.extent.Extent.{Extent}
 use Rattle.hd_basin.specs.declared.node.Node.{Node}
 use Rattle.hd_basin.specs.Basin.{IsNode, IsSinkOf, tile_at}
-use Rattle.hd_basin.specs.Edge.{IsEdge}
+use Rattle.hd_map.specs.EdgePoint.{IsEdge}
 use Rattle.hd_basin.specs.Extents.{AddsBasin, AreGathered, InBasins, IsExtentWith, IsGathered, nodes_in}
 use Rattle.hd_basin.specs.InStep.{IsPoolOf}
 use Rattle.hd_basin.specs.Parts.{Pool}
 use Rattle.hd_basin.specs.Reading.{AreExtents, IsExtent}
 use Rattle.hd_basin.specs.Roots.{AreRoots, Rooted, all_nodes}
-use Rattle.hd_basin.specs.Sums.{AreSums}
+use Rattle.hd_map.specs.Sums.{AreSums}
 use Rattle.hd_basin.proofs.AreKnown.{all-apart}
 use Rattle.hd_basin.proofs.AreListed.{only}
 use Rattle.hd_basin.proofs.AreNumbered.{before-apart, get-map}

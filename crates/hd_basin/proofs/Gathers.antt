@@ -17,12 +17,12 @@ use Rattle.hd_basin.specs.declared.frame.Frame.{Frame}
 use Rattle.hd_basin.specs.declared.node.Node.{Node}
 use Rattle.hd_basin.specs.Basin.{IsSink, IsSinkOf, FlowsTo, tile_at}
 use Rattle.hd_map.specs.Region.{IsPit}
-use Rattle.hd_basin.specs.Edge.{IsEdge}
+use Rattle.hd_map.specs.EdgePoint.{IsEdge}
 use Rattle.hd_basin.specs.Frames.{InFrame}
 use Rattle.hd_basin.specs.Gathering.{IsTaken, Gathers, home_of, IsGatheredNode, IsNamed, IsGathered, TellsEdge, StartsNode, AddsToNode}
 use Rattle.hd_basin.specs.Parts.{place_in_tile}
 use Rattle.hd_basin.specs.Sinks.{IsArea, at_place, no_node}
-use Rattle.hd_basin.specs.Sums.{EdgeMember, AreSums}
+use Rattle.hd_map.specs.Sums.{EdgeMember, AreSums}
 use Rattle.hd_basin.proofs.Areas.{area-in, area-one, area-tile, area-below, place-one, tile-of_point}
 use Rattle.hd_basin.proofs.Frames.{step-in_frame, frame_step}
 use Rattle.hd_basin.proofs.Lists.{get-push_left, get-push_last, get-push_cases}

@@ -16,7 +16,7 @@ use Rattle.hd_basin.specs.declared.part.Part.{Part}
 use Rattle.hd_basin.specs.Basin.{IsSink, IsSinkOf, IsNode, IsLabel, AreNextsInside, tile_at}
 use Rattle.hd_basin.specs.Built.{HasPasses, IsNoded}
 use Rattle.hd_basin.specs.Inside.{AreNamed, place_of_frame}
-use Rattle.hd_basin.specs.Edge.{IsEdge}
+use Rattle.hd_map.specs.EdgePoint.{IsEdge}
 use Rattle.hd_basin.specs.Gathering.{IsTaken, Gathers, home_of, IsNamed, IsGathered}
 use Rattle.hd_basin.specs.Parts.{JoinBelow, low_of, node_at, pass_named, place_in_tile}
 use Rattle.hd_basin.specs.Sinks.{IsArea, at_place, no_node}

@@ -10,7 +10,7 @@ use Rattle.std.proofs.lemmas.List.Elements.{Contains-append_left, Contains-appen
 use Rattle.hd_map.specs.declared.types.Rank.{Rank}
 use Rattle.hd_basin.specs.declared.node.Node.{Node}
 use Rattle.hd_basin.specs.Adding.{IsGreater, IsLesser, GoesOn, AddsPoint}
-use Rattle.hd_basin.specs.Sums.{IsCount, IsGreatest, IsLeast, EdgeMember, AreSums}
+use Rattle.hd_map.specs.Sums.{IsCount, IsGreatest, IsLeast, EdgeMember, AreSums}
 
 -- sums depend on the members, and on which of them are edge points
 module _ (Member Other Edge OtherEdge : Rank → Type 0) (same : (r : Rank) → Member r ↔ Other r) (edges : (r : Rank) → Member r → Edge r ↔ OtherEdge r) where

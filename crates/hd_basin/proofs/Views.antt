@@ -14,7 +14,7 @@ use Rattle.hd_map.specs.Rank.{IsPoint, Near, rank}
 use Rattle.hd_tiles.specs.Tile.{tile_of, IsRound, Agree}
 use Rattle.hd_basin.specs.Basin.{tile_at, IsSink, AreNextsInside, IsSinkOf, FlowsTo, IsNode, IsBasinMeeting, IsBasinPass, IsLabel}
 use Rattle.hd_basin.specs.Views.{ShowSame}
-use Rattle.hd_basin.specs.Edge.{IsEdge, OnBorder, HasAbsentBeside}
+use Rattle.hd_map.specs.EdgePoint.{IsEdge, OnBorder, HasAbsentBeside}
 use Rattle.hd_map.specs.declared.types.SideName.{SideName}
 use Rattle.hd_map.specs.Region.{LowerNeighbour, IsNext, IsPit}
 use Rattle.hd_basin.specs.declared.node.Node.{Node}

@@ -11,8 +11,8 @@ use Rattle.hd_map.specs.Rank.{rank, below_by, IsPoint}
 use Rattle.hd_map.specs.Region.{IsNext, IsPit}
 use Rattle.hd_tiles.specs.Tile.{tile_of}
 use Rattle.hd_basin.specs.declared.node.Node.{Node}
-use Rattle.hd_basin.specs.Edge.{IsEdge}
-use Rattle.hd_basin.specs.Sums.{AreSums}
+use Rattle.hd_map.specs.EdgePoint.{IsEdge}
+use Rattle.hd_map.specs.Sums.{AreSums}
 
 -- the number of the tile that the point of a rank lies in
 abbrev pub tile_at : Size → ℕ → Rank → ℕ

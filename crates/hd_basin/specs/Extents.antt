@@ -9,8 +9,8 @@ use Rattle.hd_basin.specs.declared.node.Node.{Node}
 use Rattle.hd_basin.specs.declared.part.Part.{Part}
 use Rattle.hd_basin.specs.Adding.{IsGreater, IsLesser}
 use Rattle.hd_basin.specs.Basin.{IsSinkOf}
-use Rattle.hd_basin.specs.Edge.{IsEdge}
-use Rattle.hd_basin.specs.Sums.{AreSums}
+use Rattle.hd_map.specs.EdgePoint.{IsEdge}
+use Rattle.hd_map.specs.Sums.{AreSums}
 
 -- the nodes of a tile
 abbrev pub nodes_in : Part → List Node

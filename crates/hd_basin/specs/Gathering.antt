@@ -10,10 +10,10 @@ use Rattle.hd_basin.specs.declared.frame.Frame.{Frame}
 use Rattle.hd_basin.specs.declared.node.Node.{Node}
 use Rattle.hd_basin.specs.Adding.{AddsPoint}
 use Rattle.hd_basin.specs.Basin.{IsSink, IsSinkOf, FlowsTo, tile_at}
-use Rattle.hd_basin.specs.Edge.{IsEdge}
+use Rattle.hd_map.specs.EdgePoint.{IsEdge}
 use Rattle.hd_basin.specs.Parts.{place_in_tile}
 use Rattle.hd_basin.specs.Sinks.{at_place, no_node}
-use Rattle.hd_basin.specs.Sums.{AreSums}
+use Rattle.hd_map.specs.Sums.{AreSums}
 
 -- the point is that of one of the first places
 pub record IsTaken (m : Map) (f : Frame) (k : ℕ) (r : Rank) : Type 0 where

@@ -1,6 +1,4 @@
 -- Definitions that the contracts cite.
-pub mod Edge
-pub mod Sums
 pub mod Adding
 pub mod Basin
 pub mod Pool

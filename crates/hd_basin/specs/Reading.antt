@@ -12,9 +12,9 @@ use Rattle.hd_graph.specs.Graph.{Net}
 use Rattle.hd_basin.specs.declared.node.Node.{Node}
 use Rattle.hd_basin.specs.declared.extent.Extent.{Extent}
 use Rattle.hd_basin.specs.Basin.{IsSinkOf}
-use Rattle.hd_basin.specs.Edge.{IsEdge}
+use Rattle.hd_map.specs.EdgePoint.{IsEdge}
 use Rattle.hd_basin.specs.Parts.{Pool, HasNode}
-use Rattle.hd_basin.specs.Sums.{AreSums}
+use Rattle.hd_map.specs.Sums.{AreSums}
 
 -- the root of the point at a position, and none where no point is present
 abbrev pub RootIs : Map → SideName → Pos → Option Pos → Type 0

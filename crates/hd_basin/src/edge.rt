@@ -3,7 +3,7 @@ ghost use Rattle.std.specs.Prelude.{◌≡◌, ◌<◌, ◌≤◌, ◌+◌, ◌*
 ghost use Rattle.std.specs.Bool.{OnTrue};
 ghost use Rattle.hd_map.specs.Map.{Present};
 ghost use Rattle.hd_map.specs.Rank.{rank};
-ghost use Rattle.hd_basin.specs.Edge.{IsEdge};
+ghost use Rattle.hd_map.specs.EdgePoint.{IsEdge};
 ghost use Rattle.hd_basin.specs.Frames.{InFrame};
 ghost use Rattle.hd_basin.specs.Round.{AreAllPoints, AreRanks, lacks_one};
 

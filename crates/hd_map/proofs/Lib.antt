@@ -25,3 +25,4 @@ mod Filled
 pub mod Sets
 pub mod PackedPoints
 mod HeightsSet
+pub mod EdgePoint

@@ -29,3 +29,5 @@ pub mod Crossings
 pub mod Shown
 pub mod HeightRange
 pub mod Presence
+pub mod EdgePoint
+pub mod Sums

@@ -1,8 +1,4 @@
-mod Given
 mod Labels
-mod Members
-mod EdgePoints
-mod EdgeHeights
 mod Extents
 mod Presences
 mod ByIndex

@@ -8,7 +8,6 @@ use Rattle.std.proofs.lemmas.Int.{fold-int_max_bounds, fold-int_max_reached, fol
 use Rattle.std.proofs.lemmas.List.{length_push}
 use Rattle.hd_basin.specs.declared.extent.Extent.{Extent}
 use Rattle.hd_basin.specs.Reading.{AreExtents, IsExtent}
-use Rattle.hd_basin.specs.Sums.{IsCount, IsGreatest, IsLeast}
 use Rattle.hd_basin.proofs.ExtentSums.{count-few}
 use Rattle.hd_basin.proofs.Sums.{Either, count-merge, count-one, greatest-by, greatest-first, greatest-second, least-by, least-first, least-second}
 use Rattle.hd_map.specs.declared.height_range.HeightRange.{HeightRange}
@@ -21,17 +20,19 @@ use Rattle.hd_map.specs.Map.{Map, IsMap, Present, cell_at, cell_count, height_at
 use Rattle.hd_map.specs.Presence.{IsPresence, heights_below, present_heights}
 use Rattle.hd_map.specs.Rank.{IsPoint, rank}
 use Rattle.hd_map.specs.Region.{IsRoot}
+use Rattle.hd_map.specs.Sums.{GreatestIs, IsCount, IsGreatest, IsLeast, LeastIs}
 use Rattle.hd_map.proofs.Items.{AllPairs-first, AllPairs-tail, Contains-cases, Contains-head, Contains-none, Contains-tail}
 use Rattle.hd_map.proofs.Nexts.{root-is_pit, root-unique}
 use Rattle.hd_map.proofs.Points.{point_at, point_inside, position_at-inside, position_at-of, position_at-place, present_or_not, same_index, shown_of}
 use Rattle.hd_map.proofs.Presences.{heights_more}
 use Rattle.hd_prune.proofs.Existing.{root_of}
 use Rattle.hd_prune.proofs.Spans.{height_in, point_of}
-use Rattle.hd_steep.proofs.Once.{length-from_once}
+use Rattle.hd_regions.proofs.Sums.{count-unique, greatest-unique, least-unique}
+use Rattle.hd_survey.proofs.HeightRanges.{greatest_end, greatest-range, least_end, least-range}
+use Rattle.hd_survey.proofs.Members.{rooted-point}
 use Rattle.hd_survey.proofs.RootedPoints.{unshown}
 use Rattle.hd_pool.specs.Told.{presence_told, presence_with, range_with, seen_none}
-use Rattle.hd_pool.proofs.EdgeHeights.{range-of_bounds}
-use Rattle.hd_pool.proofs.Members.{rooted-point}
+use Rattle.hd_pool.proofs.Extents.{range_between-ends}
 
 -- of the same members there are as many
 count-by : (P Q : Rank → Type 0) → ((x : Rank) → P x ↔ Q x) → (n : ℕ) → IsCount P n → IsCount Q n
@@ -47,12 +48,6 @@ count-none P none = record {
   lists = record { all = λ r. (λ h. absurd (Contains-none r h), λ p. absurd (none r p)); once = λ i j d less below e. absurd (omega arith) };
   count_is = refl;
 }
-
--- a set has one number of members
-count-unique : (P : Rank → Type 0) (n k : ℕ) → IsCount P n → IsCount P k → n ≡ k
-count-unique P n k one other =
-    one.count_is ∙ length-from_once one.ranks other.ranks one.lists.once other.lists.once
-    (λ z. (λ h. (other.lists.all z).1 ((one.lists.all z).0 h), λ h. (one.lists.all z).1 ((other.lists.all z).0 h))) ∙ sym other.count_is
 
 -- the least and the greatest height of some members, where there are any
 abbrev Spans : (Rank → Type 0) → Option HeightRange → Type 0
@@ -223,20 +218,30 @@ module _ (m : Map) (whole : IsMap m) (side : SideName) where
   points-counted : IsCount (IsPoint m) (length (present_heights m))
   points-counted = count-by (Below (cell_count m.size)) (IsPoint m) (λ r. (λ b. b.0, λ point. (point, point_inside m r point))) (length (present_heights m)) (count-below (cell_count m.size) (omega arith))
 
-  range-told : (o : Option HeightRange) → Spans (IsPoint m) o → o ≡ range_of (present_heights m)
-  range-told None none = range-of_bounds (present_heights m) None None
-      (λ h at. (let r = point_of m (cell_count m.size) h whole (omega arith) at in none r.0 r.1))
-      (λ h at. (let r = point_of m (cell_count m.size) h whole (omega arith) at in none r.0 r.1))
-  range-told (Some g) spans =
-      let least = spans.0 in
-      let most = spans.1 in
-      range-of_bounds (present_heights m) (Some g.least) (Some g.greatest) (
-        subst (Contains (present_heights m)) (sym least.height_is) (height_in m (cell_count m.size) least.of least.member (point_inside m least.of least.member)),
-        λ h at. (let r = point_of m (cell_count m.size) h whole (omega arith) at in subst (λ x. g.least ≤ℤ x) r.2 (least.bound r.0 r.1)),
-      ) (
-        subst (Contains (present_heights m)) (sym most.height_is) (height_in m (cell_count m.size) most.of most.member (point_inside m most.of most.member)),
-        λ h at. (let r = point_of m (cell_count m.size) h whole (omega arith) at in subst (λ x. x ≤ℤ g.greatest) r.2 (most.bound r.0 r.1)),
-      )
+  abbrev heights : List ℤ
+  heights = present_heights m
+
+  -- the heights are those of the points
+  height-point : (h : ℤ) → Contains heights h → (r : Rank) × IsPoint m r × (h ≡ r.height)
+  height-point h at = (let r = point_of m (cell_count m.size) h whole (omega arith) at in (r.0, r.1, sym r.2))
+
+  point-height : (r : Rank) → IsPoint m r → Contains heights r.height
+  point-height r point = height_in m (cell_count m.size) r point (point_inside m r point)
+
+  range-told : (o : Option HeightRange) → Spans (IsPoint m) o → o ≡ range_of heights
+  range-told o spans =
+      sym (range_between-ends _ _ o refl refl)
+      ∙ range_between-ends (least_end o) (greatest_end o) (range_of heights)
+      (least-unique (IsPoint m) (least_end o) (least_end (range_of heights)) (lowest o spans) (least-range heights (IsPoint m) height-point point-height))
+      (greatest-unique (IsPoint m) (greatest_end o) (greatest_end (range_of heights)) (highest o spans) (greatest-range heights (IsPoint m) height-point point-height))
+    where
+      lowest : (o : Option HeightRange) → Spans (IsPoint m) o → LeastIs (IsPoint m) (least_end o)
+      lowest None none = none
+      lowest (Some g) is = is.0
+
+      highest : (o : Option HeightRange) → Spans (IsPoint m) o → GreatestIs (IsPoint m) (greatest_end o)
+      highest None none = none
+      highest (Some g) is = is.1
 
   -- they tell how many points of the map are present, and the range of their heights
   pub presence-told : (es : List Extent) → AreExtents m side es → IsPresence (present_heights m) (presence_told es)

@@ -1,6 +1,5 @@
 -- A parameter and a notation have one value on a map.
-use Rattle.std.proofs.Common.{◌≡◌, ◌<◌, ◌*◌, ℕ, ℤ, zero, suc, List, [], ◌∷◌, length, map, Option, Some, None, refl, sym, ap, ◌∙◌, subst, arith}
-use Rattle.std.specs.Prelude.{Contains}
+use Rattle.std.proofs.Common.{◌≡◌, ◌<◌, ◌*◌, ℕ, ℤ, zero, suc, List, length, Option, Some, None, refl, sym, ap, ◌∙◌, subst, arith}
 use Rattle.hd_feature.specs.declared.notation.Notation.{Notation}
 use Rattle.hd_feature.specs.declared.notation.Parameter.{Parameter}
 use Rattle.hd_feature.specs.declared.notation.Parameter.TheVariants.{One, Sum}
@@ -9,18 +8,21 @@ use Rattle.hd_feature.specs.Value.{AreSameValues, IsValue}
 use Rattle.hd_feature.proofs.Values.{IsValue-unique}
 use Rattle.hd_map.specs.declared.types.Rank.{Rank}
 use Rattle.hd_map.specs.declared.types.SideName.{SideName}
+use Rattle.hd_map.specs.EdgePoint.{IsEdge}
+use Rattle.hd_map.specs.HeightRange.{range_of}
 use Rattle.hd_map.specs.Map.{Map, IsMap}
 use Rattle.hd_map.specs.NearestSaddle.{NearestSaddleIs}
 use Rattle.hd_map.specs.Pruning.{Leaving, IsPruning}
-use Rattle.hd_map.specs.Region.{AreRegions}
 use Rattle.hd_map.specs.SideLaws.{below_by-order}
-use Rattle.hd_map.proofs.Levels.{Contains-head, Contains-tail}
+use Rattle.hd_map.specs.Sums.{EdgeMember, GreatestIs, IsCount, LeastIs}
+use Rattle.hd_lines.specs.Lines.{IsOwnedBy}
+use Rattle.hd_regions.proofs.Sums.{count-unique, greatest-unique, least-unique, same-by}
 use Rattle.hd_num.specs.declared.frac.Frac.{Frac}
 use Rattle.hd_num.specs.Frac.{IsFraction, sum_over_product}
 use Rattle.hd_prune.specs.declared.step.Kept.{Kept}
-use Rattle.hd_prune.specs.Kept.{AreKept, pits_kept}
+use Rattle.hd_prune.specs.Kept.{AreKept}
 use Rattle.hd_prune.specs.Staying.{AreKeptAlone}
-use Rattle.hd_regions.specs.Features.{AreFeatures, feature_of}
+use Rattle.hd_regions.specs.Features.{AreFeatures, IsFeature, feature_pits, lpvh}
 use Rattle.hd_map.specs.Presence.{present_heights}
 use Rattle.hd_regions.specs.Values.{IsNotationValue, IsParameterValue, IsSum, side_of}
 
@@ -36,22 +38,31 @@ module _ (m : Map) (side : SideName) (last : List Rank) where
   same_kept : (p q : Rank) (s t : Option Rank) → p ≡ q → s ≡ t → ◌≡◌ {A = Kept} (record { pit = p; nearest = s }) (record { pit = q; nearest = t })
   same_kept p q s t e f = cc
 
-  first_same : (p q : Rank) (ps qs : List Rank) → p ∷ ps ≡ q ∷ qs → (p ≡ q) × (ps ≡ qs)
-  first_same p q ps qs e = (cc, cc)
-
-  none_some : (p : Rank) (ps : List Rank) → [] ≡ p ∷ ps → ⊥
-  none_some p ps e = cc
-
   -- the kept pits with their nearest saddles are determined by the set
-  kept-same : (a b : List Kept) → pits_kept a ≡ pits_kept b → ((k : Kept) → Contains a k → NearestSaddleIs m side last k.pit k.nearest) → ((k : Kept) → Contains b k → NearestSaddleIs m side last k.pit k.nearest) → a ≡ b
-  kept-same [] [] pits x y = refl
-  kept-same [] (k ∷ ks) pits x y = absurd (none_some k.pit (pits_kept ks) pits)
-  kept-same (k ∷ ks) [] pits x y = absurd (none_some k.pit (pits_kept ks) (sym pits))
-  kept-same (k ∷ ks) (l ∷ ls) pits x y =
-      let e = first_same k.pit l.pit (pits_kept ks) (pits_kept ls) pits in
-      let nearest : k.nearest ≡ l.nearest = nearest-one k.pit k.nearest l.nearest (x k (Contains-head k ks)) (subst (λ (p : Rank). NearestSaddleIs m side last p l.nearest) (sym e.0) (y l (Contains-head l ls))) in
-      let one : k ≡ l = same_kept k.pit l.pit k.nearest l.nearest e.0 nearest in
-      ap (λ (z : Kept). z ∷ ks) one ∙ ap (λ (zs : List Kept). l ∷ zs) (kept-same ks ls e.1 (λ z h. x z (Contains-tail k z ks h)) (λ z h. y z (Contains-tail l z ls h)))
+  kept-same : (a b : List Kept) → AreKept m side last a → AreKept m side last b → a ≡ b
+  kept-same a b x y = same-by (λ (k : Kept). k.pit) a b (x.pits ∙ sym y.pits) (λ k l h i e. same_kept k.pit l.pit k.nearest l.nearest e
+      (nearest-one k.pit k.nearest l.nearest (x.nearest k h) (subst (λ (p : Rank). NearestSaddleIs m side last p l.nearest) (sym e) (y.nearest l i))))
+
+  module _ (owner : Rank → Rank) where
+    same_feature : (p q : Rank) (h i : ℤ) (a b : ℕ) (l n u v : Option ℤ) → p ≡ q → h ≡ i → a ≡ b → l ≡ n → u ≡ v
+        → ◌≡◌ {A = Region} (record { pit = p; lpvh = h; points = a; edge_low = l; edge_high = u }) (record { pit = q; lpvh = i; points = b; edge_low = n; edge_high = v })
+    same_feature p q h i a b l n u v c d e f g = cc
+
+    abbrev Owned : Rank → Rank → Type 0
+    Owned pit p = IsOwnedBy m side owner p pit
+
+    abbrev OwnedEdge : Rank → Rank → Type 0
+    OwnedEdge pit = EdgeMember (Owned pit) (IsEdge m)
+
+    -- a kept pit has one region
+    feature-one : (r s : Region) → IsFeature m side owner last r → IsFeature m side owner last s → r.pit ≡ s.pit → r ≡ s
+    feature-one r s x y e =
+        let nearest = nearest-one r.pit x.nearest y.nearest x.is_nearest (subst (λ (p : Rank). NearestSaddleIs m side last p y.nearest) (sym e) y.is_nearest) in
+        same_feature r.pit s.pit r.lpvh s.lpvh r.points s.points r.edge_low s.edge_low r.edge_high s.edge_high e
+        (x.height ∙ ap (λ p. lpvh side (range_of (present_heights m)) p x.nearest) e ∙ ap (lpvh side (range_of (present_heights m)) s.pit) nearest ∙ sym y.height)
+        (count-unique (Owned r.pit) r.points s.points x.points (subst (λ p. IsCount (Owned p) s.points) (sym e) y.points))
+        (least-unique (OwnedEdge r.pit) r.edge_low s.edge_low x.edge_low (subst (λ p. LeastIs (OwnedEdge p) s.edge_low) (sym e) y.edge_low))
+        (greatest-unique (OwnedEdge r.pit) r.edge_high s.edge_high x.edge_high (subst (λ p. GreatestIs (OwnedEdge p) s.edge_high) (sym e) y.edge_high))
 
 -- what is known of prunings
 abbrev pub OnePruning : Type 0
@@ -62,29 +73,17 @@ OnePruning = (m : Map) (side : SideName) (thousandths : ℕ) (xs ys : List Leavi
 pub kept-one : OnePruning → (m : Map) (side : SideName) (thousandths : ℕ) (a b : List Kept) → AreKeptAlone m side thousandths a → AreKeptAlone m side thousandths b → a ≡ b
 kept-one one m side thousandths a b x y =
     let same = one m side thousandths x.steps y.steps x.last y.last x.owner y.owner x.pruning y.pruning in
-    let mine : AreKept m side y.last a = subst (λ (last : List Rank). AreKept m side last a) same.1 x.are_kept in
-    kept-same m side y.last a b (mine.pits ∙ sym y.are_kept.pits) mine.nearest y.are_kept.nearest
-
--- what is known of regions
-abbrev pub OneRegions : Type 0
-OneRegions = (m : Map) (side : SideName) (a b : List (Option ℕ)) → IsMap m → AreRegions m side a → AreRegions m side b → a ≡ b
-
-alone : (m : Map) (side : SideName) (thousandths : ℕ) (features : List Region) → (f : AreFeatures m side thousandths features) → AreKeptAlone m side thousandths f.kept
-alone m side thousandths features f = record { steps = f.steps; last = f.last; owner = f.owner; pruning = f.pruning; are_kept = f.are_kept }
+    kept-same m side y.last a b (subst (λ (last : List Rank). AreKept m side last a) same.1 x.are_kept) y.are_kept
 
 -- a pruning leaves one list of regions
-pub features-one : OneRegions → OnePruning → (m : Map) (side : SideName) (thousandths : ℕ) (a b : List Region) → IsMap m → AreFeatures m side thousandths a → AreFeatures m side thousandths b → a ≡ b
-features-one one prunings m side thousandths a b whole x y =
-    let roots : x.roots ≡ y.roots = one m side x.roots y.roots whole x.regions y.regions in
-    let same = prunings m side thousandths x.steps y.steps x.last y.last x.owner y.owner x.pruning y.pruning in
-    let kept : x.kept ≡ y.kept = kept-one prunings m side thousandths x.kept y.kept (alone m side thousandths a x) (alone m side thousandths b y) in
-    x.are ∙ ap (λ (rs : List (Option ℕ)). map (feature_of m side x.owner rs) x.kept) roots
-    ∙ ap (λ (of : Rank → Rank). map (feature_of m side of y.roots) x.kept) same.2
-    ∙ ap (λ (ks : List Kept). map (feature_of m side y.owner y.roots) ks) kept ∙ sym y.are
+pub features-one : OnePruning → (m : Map) (side : SideName) (thousandths : ℕ) (a b : List Region) → AreFeatures m side thousandths a → AreFeatures m side thousandths b → a ≡ b
+features-one one m side thousandths a b x y =
+    let same = one m side thousandths x.steps y.steps (feature_pits a) (feature_pits b) x.owner y.owner x.pruning y.pruning in
+    same-by (λ (r : Region). r.pit) a b same.1 (λ r s h i. feature-one m side (feature_pits a) x.owner r s (x.each r h)
+    (subst (λ (of : Rank → Rank). IsFeature m side of (feature_pits a) s) (sym same.2) (subst (λ (last : List Rank). IsFeature m side y.owner last s) (sym same.1) (y.each s i))))
 
 -- what the layers below determine
 pub record ValueLaws : Type 0 where
-  pub regions : OneRegions
   pub prunings : OnePruning
   pub fractions : (n : ℤ) (d : ℕ) (a : ℤ) (b : ℕ) (c : ℤ) (e : ℕ) → 0 < d → IsFraction n d a b → IsFraction n d c e → (a ≡ c) × (b ≡ e)
 
@@ -101,7 +100,7 @@ module _ (laws : ValueLaws) where
     -- a notation has one value
     pub notation_value-one : (n : Notation) (a b : Option Frac) → IsNotationValue m n a → IsNotationValue m n b → AreSameValues a b
     notation_value-one n a b x y =
-        let same : y.features ≡ x.features = features-one laws.regions laws.prunings m (side_of n.kind) n.percent.thousandths y.features x.features whole y.are x.are in
+        let same : y.features ≡ x.features = features-one laws.prunings m (side_of n.kind) n.percent.thousandths y.features x.features y.are x.are in
         IsValue-unique n x.features (length (present_heights m)) a b x.is (subst (λ (rs : List Region). IsValue n rs (length (present_heights m)) b) same y.is)
 
     none_same : (c d : Option Frac) → c ≡ None → d ≡ None → AreSameValues c d

@@ -1,6 +1,4 @@
 pub mod Regions
-pub mod Edges
-pub mod Tallies
 pub mod Owned
 pub mod Lines
 pub mod Features

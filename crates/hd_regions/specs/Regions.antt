@@ -1,40 +1,19 @@
 -- The regions of a map, with the numbers of their points.
-use Rattle.std.specs.Prelude.{◌≡◌, ℕ, Bool, false, List, map, filter, count_by, Option, Some, None, nat_eq, slice_index_or}
-use Rattle.std.specs.List.{enumerate_from}
-use Rattle.hd_map.specs.declared.types.Cell.TheVariants.{Bad}
+use Rattle.std.specs.Prelude.{List, map, Contains}
 use Rattle.hd_map.specs.declared.types.Rank.{Rank}
 use Rattle.hd_map.specs.declared.types.RegionSize.{RegionSize}
 use Rattle.hd_map.specs.declared.types.SideName.{SideName}
-use Rattle.hd_map.specs.Map.{Map, height_or_zero}
-use Rattle.hd_map.specs.Region.{AreRegions}
+use Rattle.hd_map.specs.Map.{Map}
+use Rattle.hd_map.specs.Pruning.{ArePits}
+use Rattle.hd_map.specs.Region.{IsRoot}
+use Rattle.hd_map.specs.Sums.{IsCount}
 
--- whether a point has this root
-abbrev pub names : Option ℕ → ℕ → Bool
-names (Some root) index = nat_eq root index
-names None index = false
+-- the pits of regions
+abbrev pub region_pits : List RegionSize → List Rank
+region_pits sizes = map {A = RegionSize} {B = Rank} (λ size. size.pit) sizes
 
--- the indexes of the pits in position order: those of the points that are their own root
-abbrev pub pits_of : List (Option ℕ) → List ℕ
-pits_of roots = map (λ entry. entry.0) (filter (λ entry. names entry.1 entry.0) (enumerate_from 0 roots))
-
--- how many points have this root
-abbrev pub points_of : List (Option ℕ) → ℕ → ℕ
-points_of roots pit = count_by (λ root. names root pit) roots
-
--- the rank of the measured point of an index
-abbrev pub rank_at : Map → ℕ → Rank
-rank_at m index = record { height = height_or_zero (slice_index_or m.cells index Bad); index = index }
-
--- the pits in position order
-abbrev pub pit_ranks : Map → List (Option ℕ) → List Rank
-pit_ranks m roots = map (rank_at m) (pits_of roots)
-
--- the region of a pit, with the number of the points that have it as their root
-abbrev pub region_size : List (Option ℕ) → Rank → RegionSize
-region_size roots pit = record { pit = pit; points = points_of roots pit.index }
-
--- the regions of a map on a side, in position order of their pits
+-- the regions of a map on a side, in position order of their pits, each with the number of the points whose root is
+-- its pit
 pub record AreRegionSizes (m : Map) (side : SideName) (sizes : List RegionSize) : Type 0 where
-  pub roots : List (Option ℕ)
-  pub regions : AreRegions m side roots
-  pub are : sizes ≡ map (region_size roots) (pit_ranks m roots)
+  pub pits : ArePits m side (region_pits sizes)
+  pub points : (size : RegionSize) → Contains sizes size → IsCount (λ p. IsRoot m side p size.pit) size.points

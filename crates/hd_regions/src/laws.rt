@@ -21,21 +21,17 @@ ghost use Rattle.hd_regions.specs.Values.{IsNotationValue, IsParameterValue};
 use hd_lines::border_lines_are_determined;
 use hd_map::pruning_is_determined;
 use hd_num::reduced_fraction_is_determined;
-use hd_steep::regions_are_determined;
 
 /// A map has one list of regions on a side.
 pub fn region_sizes_are_determined()
     ensures { (m : Map) (side : SideName) (a b : List RegionSize) → IsMap m → AreRegionSizes m side a → AreRegionSizes m side b → a ≡ b }
-{
-    regions_are_determined();
-}
+{}
 
 /// A pruning of a map on a side at a percent has one list of steps, and leaves one list of regions.
 pub fn pruned_regions_are_determined()
     ensures { (m : Map) (side : SideName) (thousandths : ℕ) (xs ys : List Leaving) (a b : List RegionSize) → IsMap m
         → ArePrunedRegions m side thousandths xs a → ArePrunedRegions m side thousandths ys b → (xs ≡ ys) × (a ≡ b) }
 {
-    regions_are_determined();
     pruning_is_determined();
 }
 
@@ -59,7 +55,6 @@ pub fn kept_pits_are_determined()
 pub fn features_are_determined()
     ensures { (m : Map) (side : SideName) (thousandths : ℕ) (a b : List Region) → IsMap m → AreFeatures m side thousandths a → AreFeatures m side thousandths b → a ≡ b }
 {
-    regions_are_determined();
     pruning_is_determined();
 }
 
@@ -68,7 +63,6 @@ pub fn values_are_determined()
     ensures notations { (m : Map) (n : Notation) (a b : Option Frac) → IsMap m → IsNotationValue m n a → IsNotationValue m n b → AreSameValues a b }
     ensures parameters { (m : Map) (p : Parameter) (a b : Option Frac) → IsMap m → IsParameterValue m p a → IsParameterValue m p b → AreSameValues a b }
 {
-    regions_are_determined();
     pruning_is_determined();
     reduced_fraction_is_determined();
 }

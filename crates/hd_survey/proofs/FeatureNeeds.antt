@@ -30,6 +30,7 @@ use Rattle.hd_survey.specs.Owned.{AreOwnedTallies, owned_points}
 use Rattle.hd_survey.specs.Sums.{IsSmall}
 use Rattle.hd_survey.specs.Tallies.{AreRegionTallies, no_tally, tally_of}
 use Rattle.hd_survey.specs.Values.{AreServing, IsNotationValue}
+use Rattle.hd_survey.proofs.ByRoots.{features_by_roots}
 use Rattle.hd_survey.proofs.FeatureLists.{features_are, features_heights, features_points, heights_are, no_kept}
 use Rattle.hd_survey.proofs.FeaturePoints.{kept_heights, kept_inside, kept_ordered}
 use Rattle.hd_survey.proofs.Lists.{rising_few}
@@ -57,17 +58,8 @@ module _ (m : Map) (side : SideName) (thousandths : ℕ) (whole : IsMap m) (step
       owned.each i d k below ∙ owned_whole m side thousandths whole steps kept owners pruned tallies regions (get_or kept i k).pit.index in
       let most = (pruned_inside m side thousandths whole steps kept owners pruned (cell_count m.size) refl).few in
       record {
-        are = record {
-          roots = regions.roots;
-          regions = regions.regions;
-          steps = leavings_of steps;
-          last = pruned.last;
-          owner = pruned.owner;
-          pruning = pruned.pruning;
-          kept = kept;
-          are_kept = pruned.are_kept;
-          are = features_are m side pruned.owner regions.roots kept all list tallied made;
-        };
+        are = features_by_roots m side thousandths whole (leavings_of steps) pruned.last pruned.owner pruned.pruning regions.roots regions.regions kept pruned.are_kept list
+            (features_are m side pruned.owner regions.roots kept all list tallied made);
         points = features_points side (range_of (present_heights m)) kept all list (cell_count m.size) owned.whole (λ i d below.
             let pit = (get_or kept i no_kept).pit.index in
             let e = ap (λ (t : Tally). t.points) (tallied i d no_kept (subst (λ n. i < n) owned.whole below)) in
@@ -104,17 +96,8 @@ module _ (m : Map) (side : SideName) (thousandths : ℕ) (whole : IsMap m) (root
       record {
         are = (
           map (feature_of m side alone.owner roots) kept,
-          record {
-            roots = roots;
-            regions = regions;
-            steps = alone.steps;
-            last = alone.last;
-            owner = alone.owner;
-            pruning = alone.pruning;
-            kept = kept;
-            are_kept = alone.are_kept;
-            are = refl;
-          },
+          features_by_roots m side thousandths whole alone.steps alone.last alone.owner alone.pruning roots regions kept alone.are_kept
+              (map (feature_of m side alone.owner roots) kept) refl,
           heights_are m side alone.owner roots kept none list (λ i below. none_at i no_tally below) made,
         );
         points = features_points side (range_of (present_heights m)) kept none list 0 long

@@ -1,5 +1,11 @@
 pub mod Lists
 mod Inside
+pub mod Given
+mod EdgePoints
+pub mod HeightRanges
+pub mod EdgeHeights
+pub mod Members
+mod ByRoots
 mod Sums
 pub mod Found
 pub mod RootedPoints

@@ -16,7 +16,7 @@ use Rattle.hd_prune.specs.Answer.{IsPruned}
 use Rattle.hd_prune.specs.Pruned.{leavings_of, owned_by}
 use Rattle.hd_regions.specs.declared.tally.Tally.{Tally}
 use Rattle.hd_survey.specs.Owned.{AreKeptPlaces, AreOwnedTallies, ArePlacedTallies, AreSized, HavePoints, is_owned, is_placed, joined_of, owned_points, owned_size, plain_tally}
-use Rattle.hd_survey.specs.Regions.{AreRegionSizes, pit_ranks, points_of, region_size}
+use Rattle.hd_survey.specs.Regions.{AreSizesByRoots, pit_ranks, points_of, region_size}
 use Rattle.hd_survey.specs.Tallies.{AreRegionTallies, joined, no_tally, region_tally, tally_of}
 use Rattle.hd_survey.proofs.FeaturePoints.{kept_inside, kept_ordered, owners_owned}
 use Rattle.hd_survey.proofs.Lists.{map_same, rising_few, same_lists}
@@ -61,14 +61,14 @@ abbrev size_points : RegionSize → ℕ
 size_points size = size.points
 
 -- the numbers of points in the sizes of regions, and in their tallies
-pub sizes_have : (m : Map) (side : SideName) (sizes : List RegionSize) → AreRegionSizes m side sizes → HavePoints m side (map size_points sizes)
+pub sizes_have : (m : Map) (side : SideName) (sizes : List RegionSize) → AreSizesByRoots m side sizes → HavePoints m side (map size_points sizes)
 sizes_have m side sizes are = record {
   roots = are.roots;
   regions = are.regions;
   are = ap (map size_points) are.are ∙ map-map size_points (region_size are.roots) (pit_ranks m are.roots);
 }
 
-pub plain_have : (m : Map) (side : SideName) (sizes : List RegionSize) → AreRegionSizes m side sizes → HavePoints m side (map points_in (map plain_tally sizes))
+pub plain_have : (m : Map) (side : SideName) (sizes : List RegionSize) → AreSizesByRoots m side sizes → HavePoints m side (map points_in (map plain_tally sizes))
 plain_have m side sizes are = record {
   roots = are.roots;
   regions = are.regions;

@@ -22,7 +22,7 @@ use Rattle.hd_survey.specs.Features.{AreFeatures}
 use Rattle.hd_survey.specs.Heights.{farthest_apart}
 use Rattle.hd_survey.specs.Inside.{IsStepOn}
 use Rattle.hd_survey.specs.Owned.{ArePrunedRegions}
-use Rattle.hd_survey.specs.Regions.{AreRegionSizes}
+use Rattle.hd_survey.specs.Regions.{AreRegionSizes, AreSizesByRoots}
 
 -- the pits of the map in position order, and their merges
 pub record ArePitMerges (m : Map) (side : SideName) (x : PitMerges) : Type 0 where
@@ -34,6 +34,7 @@ pub record ArePitMerges (m : Map) (side : SideName) (x : PitMerges) : Type 0 whe
 -- the regions of the map, whose pits are points of it
 pub record AreSizes (m : Map) (side : SideName) (sizes : List RegionSize) : Type 0 where
   pub are : AreRegionSizes m side sizes
+  pub by_roots : AreSizesByRoots m side sizes
   pub inside : All (λ size. size.pit.index < cell_count m.size) sizes
 
 -- the pits that the pruning of the map at a percent keeps, which are points of it

@@ -6,12 +6,16 @@ use Rattle.hd_map.specs.declared.height_range.HeightRange.{HeightRange}
 use Rattle.hd_map.specs.declared.types.Rank.{Rank}
 use Rattle.hd_map.specs.declared.types.SideName.{SideName}
 use Rattle.hd_map.specs.Map.{Map, cell_count}
-use Rattle.hd_map.specs.HeightRange.{widened}
+use Rattle.hd_map.specs.HeightRange.{range_of, widened}
 use Rattle.hd_map.specs.Region.{AreRegions}
 use Rattle.hd_steep.specs.Numbering.{Numbering}
 use Rattle.hd_regions.specs.declared.tally.Tally.{Tally}
+use Rattle.hd_survey.specs.Edges.{edge_heights}
 use Rattle.hd_survey.specs.Regions.{names, pit_ranks}
-pub use Rattle.hd_regions.specs.Tallies.{tally_of}
+
+-- the number of these points, and the range of the heights of the edge points among them
+abbrev pub tally_of : Map → List ℕ → Tally
+tally_of m points = record { points = length points; edge = range_of (edge_heights m points) }
 
 -- of the points with an index below n, those with this root
 abbrev pub rooted_below : List (Option ℕ) → ℕ → ℕ → List ℕ

@@ -2,7 +2,7 @@
 ghost use Rattle.std.specs.Prelude.{◌≡◌, IfOk};
 ghost use Rattle.hd_steep.specs.Numbering.{AreNumbered};
 ghost use Rattle.hd_survey.specs.Findings.{ArePitMerges};
-ghost use Rattle.hd_survey.specs.Regions.{AreRegionSizes};
+ghost use Rattle.hd_survey.specs.Regions.{AreSizesByRoots};
 
 use crate::merges::{PitMerges, into_merges, merges_of_regions};
 use crate::roots::root_at;
@@ -59,7 +59,7 @@ impl<'a, S: Side, G: Heights> GridView<'a, S, G> {
     /// The regions with the numbers of their points, in position order of their pits. The view is given up, and
     /// nothing by point is kept while the list is made.
     pub fn into_sizes(self) -> Result<List<RegionSize>, Memory>
-        ensures { IfOk result (AreRegionSizes (G.map self.entry) S.NAME) }
+        ensures { IfOk result (AreSizesByRoots (G.map self.entry) S.NAME) }
     {
         let GridView { alloc, regions, .. } = self;
         into_sizes(alloc, regions)

@@ -6,7 +6,7 @@ ghost use Rattle.hd_map.specs.Presence.{present_heights};
 ghost use Rattle.hd_map.specs.HeightRange.{range_of};
 ghost use Rattle.hd_prune.specs.Answer.{IsPruned};
 ghost use Rattle.hd_survey.specs.Findings.{AreFindings, ArePitMerges, TellsPruning};
-ghost use Rattle.hd_survey.specs.Regions.{AreRegionSizes};
+ghost use Rattle.hd_survey.specs.Regions.{AreSizesByRoots};
 
 use crate::falls::Falls;
 use crate::findings::Findings;
@@ -80,7 +80,7 @@ pub fn regions_left<S: Side, G: Heights>(
     percent: Percent,
 ) -> Result<PrunedRegions, Memory>
     requires pruned { IsPruned (G.map grid.now) S.NAME percent.thousandths pruned.steps pruned.kept pruned.owners }
-    requires sizes { AreRegionSizes (G.map grid.now) S.NAME sizes.now }
+    requires sizes { AreSizesByRoots (G.map grid.now) S.NAME sizes.now }
     ensures percent { IfOk result (λ left. left.percent ≡ percent) }
     ensures left { IfOk result (TellsPruning (G.map grid.now) S.NAME percent.thousandths) }
 {

@@ -11,7 +11,7 @@ pub trait SideView<S: Side> {
     ghost use Rattle.hd_map.specs.Rank.{rank};
     ghost use Rattle.hd_map.specs.Region.{IsRoot};
     ghost use Rattle.hd_survey.specs.Findings.{ArePitMerges};
-    ghost use Rattle.hd_survey.specs.Regions.{AreRegionSizes};
+    ghost use Rattle.hd_survey.specs.Regions.{AreSizesByRoots};
     ghost use Rattle.hd_survey.specs.Tallies.{AreRegionTallies};
 
     /// The map.
@@ -29,7 +29,7 @@ pub trait SideView<S: Side> {
 
     /// The regions with the numbers of their points, in position order of their pits.
     fn sizes(&self) -> Result<List<RegionSize>, Memory>
-        ensures { IfOk result (AreRegionSizes (map self.now) S.NAME) };
+        ensures { IfOk result (AreSizesByRoots (map self.now) S.NAME) };
 
     /// The tallies of the regions, in position order of their pits.
     fn tallies(&self) -> Result<List<Tally>, Memory>

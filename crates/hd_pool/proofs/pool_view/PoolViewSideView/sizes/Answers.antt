@@ -3,7 +3,7 @@ use Rattle.std.specs.Prelude.{All}
 use Rattle.std.proofs.lemmas.Result.{IfOk-weaker}
 use Rattle.hd_basin.specs.declared.extent.Extent.{Extent}
 use Rattle.hd_map.specs.declared.types.RegionSize.{RegionSize}
-use Rattle.hd_survey.specs.Regions.{AreRegionSizes}
+use Rattle.hd_survey.specs.Regions.{AreSizesByRoots}
 use Rattle.hd_pool.specs.Told.{size_told}
 use Rattle.hd_pool.proofs.Extents.{points-few, sizes-told}
 use Rattle.hd_pool.proofs.pool_view.PoolViewSideView.sizes.Goals as goal
@@ -21,8 +21,8 @@ returns-in-Some g c =
     let side = g.S.Side.NAME in
     let whole = g.met.G.Heights.whole c.self.inside.grid.now in
     IfOk-weaker c.sizes_told.result _ _
-    (λ list are. subst (λ grid. AreRegionSizes (g.G.Heights.map grid) side list) c.self.view_is
-    (subst (λ (xs : List RegionSize). AreRegionSizes m side xs) (sym (are ∙ ap (map size_told) c.as_slice.ensures))
+    (λ list are. subst (λ grid. AreSizesByRoots (g.G.Heights.map grid) side list) c.self.view_is
+    (subst (λ (xs : List RegionSize). AreSizesByRoots m side xs) (sym (are ∙ ap (map size_told) c.as_slice.ensures))
     (sizes-told m whole side c.in-Some.extents (c.self.invariant.are_extents c.in-Some.extents c.in-Some.is))))
     c.sizes_told.ensures
 
@@ -39,7 +39,7 @@ returns g c =
     let side = g.S.Side.NAME in
     let whole = g.met.G.Heights.whole c.self.inside.grid.now in
     IfOk-weaker c.sizes_told-2.result _ _
-    (λ list are. subst (λ grid. AreRegionSizes (g.G.Heights.map grid) side list) c.self.view_is
-    (subst (λ (xs : List RegionSize). AreRegionSizes m side xs) (sym (are ∙ ap (map size_told) c.as_slice-2.ensures))
+    (λ list are. subst (λ grid. AreSizesByRoots (g.G.Heights.map grid) side list) c.self.view_is
+    (subst (λ (xs : List RegionSize). AreSizesByRoots m side xs) (sym (are ∙ ap (map size_told) c.as_slice-2.ensures))
     (sizes-told m whole side c.in_ok-extents.extents (c.in_ok-extents.ensures m whole c.self.invariant.is_pool))))
     c.sizes_told-2.ensures

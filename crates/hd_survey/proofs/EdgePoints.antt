@@ -13,8 +13,8 @@ use Rattle.hd_map.specs.Neighbour.{IsNear}
 use Rattle.hd_map.specs.Rank.{rank}
 use Rattle.hd_map.proofs.Gather.{same_pos}
 use Rattle.hd_map.proofs.Points.{present_or_not, shown_of}
-use Rattle.hd_basin.specs.Edge.{HasAbsentBeside, IsEdge, OnBorder}
-use Rattle.hd_basin.proofs.Edges.{edge-absent_beside, edge-on, no_edge, none_absent_beside}
+use Rattle.hd_map.specs.EdgePoint.{HasAbsentBeside, IsEdge, OnBorder}
+use Rattle.hd_map.proofs.EdgePoint.{edge-absent_beside, edge-on, no_edge, none_absent_beside}
 use Rattle.hd_survey.specs.Edges.{at as place_at, beside, is_border, is_edge, is_here}
 use Rattle.hd_survey.proofs.RootedPoints.{inside_test, unshown}
 
